@@ -1,0 +1,21 @@
+pub mod RoundingLemmas
+pub mod SizeLemmas
+pub mod SearchLemmas
+pub mod EntryLemmas
+pub mod PlaceLemmas
+pub mod CursorLemmas
+pub mod AllocLemmas
+pub mod UsedLemmas
+pub mod NewBlockLemmas
+pub mod ReturnLemmas
+pub mod MoveLemmas
+pub mod ResetLemmas
+pub mod RefusalLemmas
+pub mod CauseLemmas
+mod Rows
+pub mod NumberLemmas
+pub mod LineLemmas
+pub mod TextLemmas
+pub mod ReadingLemmas
+pub mod TextRows
+pub mod MapLemmas

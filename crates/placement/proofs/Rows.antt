@@ -1,0 +1,116 @@
+-- Worked rows of the rules, computed.
+use Rattle.std.proofs.Common.{◌≡◌, ℕ, ◌+◌, ◌-◌, ◌*◌, ◌^◌, refl, true, Option, Some, None, List, [], ◌∷◌}
+use Rattle.placement.specs.Rounding.{up, down, is_power_among}
+use Rattle.placement.specs.State.{State}
+use Rattle.placement.specs.Search.{place_below, doubled, power_at_least, size_for, halves, possible, entries, asked_above, asked}
+use Rattle.placement.specs.Moves.{Outcome, alloc, dealloc, shrink, grow, stays, placed, fails}
+
+fresh : ℕ → State
+fresh m = record { min_align = m; is_growing = true; generation = 0; chunks = [] }
+
+-- with the first chunk, and the cursor there
+first_chunk : ℕ → State
+first_chunk p = record { min_align = 1; is_growing = true; generation = 0; chunks = record { base = 4096; size = 16320; cursor = p } ∷ [] }
+
+-- what one allocation after another answers, where each first request is granted
+follow : Option Outcome → (State → List (Option ℕ)) → List (Option ℕ)
+follow None next = []
+follow (Some outcome) next = outcome.answer ∷ next outcome.state
+
+places : List (ℕ × ℕ) → State → List (Option ℕ)
+unfolding follow
+places [] state = []
+places (layout ∷ rest) state = follow (alloc state layout.0 layout.1 0) (places rest)
+
+-- ---- The bump step
+
+aligned_place : place_below 4096 8192 32 1 1 ≡ Some 8160
+unfolding down
+aligned_place = refl
+
+rounded_place : place_below 4096 4151 16 8 1 ≡ Some 4128
+unfolding down
+rounded_place = refl
+
+no_room_once_rounded : place_below 4112 4115 4 16 1 ≡ None
+unfolding down
+no_room_once_rounded = refl
+
+no_room_below_small_addresses : place_below 16 48 4 64 1 ≡ None
+unfolding down
+no_room_below_small_addresses = refl
+
+empty_place_in_full_chunk : place_below 4096 4096 0 1 1 ≡ Some 4096
+unfolding down
+empty_place_in_full_chunk = refl
+
+size_past_the_cursor : place_below 4096 4096 (2 ^ 63 - 15) 1 16 ≡ None
+unfolding down
+size_past_the_cursor = refl
+
+-- ---- Allocations
+
+first_block : alloc (fresh 1) 5 1 0 ≡ Some (placed (first_chunk 20416) 20411)
+unfolding alloc asked asked_above entries possible halves size_for is_power_among power_at_least doubled up down fresh first_chunk
+first_block = refl
+
+-- without a chunk, an empty block lies at 16
+empty_block : alloc (fresh 1) 0 16 0 ≡ Some (stays (fresh 1) 16)
+unfolding alloc down fresh
+empty_block = refl
+
+-- first more than twice the newest chunk is asked for, and then half of it
+second_chunk_asked : asked (first_chunk 20288) 16320 1 ≡ (20464, 32704) ∷ (20464, 16320) ∷ []
+unfolding asked asked_above entries possible halves size_for is_power_among power_at_least doubled up down first_chunk
+second_chunk_asked = refl
+
+largest_layout_asks_nothing : asked (fresh 1) 9223372036854775807 1 ≡ []
+unfolding asked asked_above entries possible halves size_for is_power_among power_at_least doubled up down fresh
+largest_layout_asks_nothing = refl
+
+largest_layout_fails : alloc (fresh 1) 9223372036854775807 1 0 ≡ Some (fails (fresh 1))
+unfolding alloc asked asked_above entries possible halves size_for is_power_among power_at_least doubled up down fresh
+largest_layout_fails = refl
+
+largest_alignment_asks_nothing : asked (fresh 1) 0 9223372036854775808 ≡ []
+unfolding asked asked_above entries possible halves size_for is_power_among power_at_least doubled up down fresh
+largest_alignment_asks_nothing = refl
+
+-- chunks at multiples of a large alignment, until none is left below the last address
+large_alignments :
+    places ((0, 2 ^ 62) ∷ (1, 1) ∷ (0, 2 ^ 62) ∷ (1, 1) ∷ (0, 2 ^ 62) ∷ (1, 1) ∷ (0, 2 ^ 62) ∷ []) (fresh 1)
+    ≡ Some (2 ^ 62) ∷ Some (2 ^ 62 + 49071) ∷ Some (2 ^ 63) ∷ Some (2 ^ 63 + 196527) ∷ Some (3 * 2 ^ 62) ∷ Some (3 * 2 ^ 62 + 786351) ∷ None ∷ []
+unfolding places alloc asked asked_above entries possible halves size_for is_power_among power_at_least doubled up down fresh
+large_alignments = refl
+
+-- ---- Sizes of chunks
+
+size_below_a_page : size_for 10 10 1 ≡ Some 64
+unfolding size_for is_power_among power_at_least doubled up
+size_below_a_page = refl
+
+size_of_pages : size_for 4095 1 1 ≡ Some 8128
+unfolding size_for is_power_among power_at_least doubled up
+size_of_pages = refl
+
+size_of_more_pages : size_for 16321 1 1 ≡ Some 20416
+unfolding size_for is_power_among power_at_least doubled up
+size_of_more_pages = refl
+
+-- ---- Blocks that shrink, grow and are given back
+
+shrink_by_less_than_half : shrink (first_chunk 20316) 20316 100 1 51 1 0 ≡ Some (stays (first_chunk 20316) 20316)
+unfolding shrink up down first_chunk
+shrink_by_less_than_half = refl
+
+shrink_by_half : shrink (first_chunk 20316) 20316 100 1 50 1 0 ≡ Some (placed (first_chunk 20316) 20366)
+unfolding shrink up down first_chunk
+shrink_by_half = refl
+
+grow_downwards : grow (first_chunk 20406) 20406 10 1 11 1 0 ≡ Some (placed (first_chunk 20406) 20405)
+unfolding grow is_power_among up down first_chunk
+grow_downwards = refl
+
+give_back_the_last_block : dealloc (first_chunk 20412) 20412 4 ≡ first_chunk 20416
+unfolding dealloc up first_chunk
+give_back_the_last_block = refl

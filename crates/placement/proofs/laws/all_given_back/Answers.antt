@@ -1,0 +1,11 @@
+use Rattle.std.proofs.Common.{refl, arith}
+use Rattle.placement.proofs.ResetLemmas.{reset_unused}
+use Rattle.placement.proofs.laws.all_given_back.Goals as goal
+
+pub returns : goal.returns
+returns c = record {
+  min_align = λ state. refl;
+  is_growing = λ state. refl;
+  generation = λ state more. omega arith;
+  unused = reset_unused;
+}

@@ -1,0 +1,9 @@
+pub mod Rounding
+pub mod State
+pub mod Search
+pub mod Moves
+pub mod Blocks
+pub mod Causes
+pub mod Machine
+pub mod Grammar
+pub mod Replies

@@ -1,0 +1,129 @@
+-- The placement machine: calls by name, one after another, each told how many of its requests were refused.
+use Rattle.std.specs.Prelude.{◌≡◌, ◌≢◌, ℕ, ◌+◌, ◌%◌, ◌<◌, ◌≤◌, ◌⊎◌, nat_lt, ◌==◌, Bool, ◌||◌, not, if◌then◌else◌, Option, Some, None, List, [], ◌∷◌, ◌++◌, length, take, drop, replicate, map, IsTrue}
+use Rattle.std.specs.Ordering.{nat_cmp}
+use Rattle.std.specs.Option.{option_map, option_and_then}
+use Rattle.std.specs.FinMap as map
+use Rattle.placement.specs.Rounding.{is_layout}
+use Rattle.placement.specs.State.{State, used_bytes, allocated_bytes, is_range_used}
+use Rattle.placement.specs.Moves.{Outcome, alloc, dealloc}
+use Rattle.placement.specs.declared.place.Place.{Place}
+use Rattle.placement.specs.declared.calls.Call.{Call}
+use Rattle.placement.specs.declared.calls.Call.TheVariants.{Alloc, Dealloc, Write, Read, Used, Allocated}
+use Rattle.placement.specs.declared.calls.Reply.{Reply}
+use Rattle.placement.specs.declared.calls.Reply.TheVariants.{Placed, Done, Bytes, Number, AllocErr, NoSuchName, NameTaken, BadLayout, OutOfRange}
+
+-- the places of the blocks that names hold, and the bytes of each name
+abbrev pub Held : Type 0
+Held = map.FinMap nat_cmp Place
+
+abbrev pub Contents : Type 0
+Contents = map.FinMap nat_cmp (List ℕ)
+
+pub record Machine : Type 0 where
+  pub state : State
+  pub held : Held
+  pub bytes : Contents
+
+-- a machine that holds no name
+abbrev pub fresh : State → Machine
+fresh state = record { state = state; held = map.empty; bytes = map.empty }
+
+-- ---- One call
+
+-- what a call answers, and the machine after it
+abbrev pub Next : Type 0
+Next = Reply × Machine
+
+-- a call that asks for nothing has a step for no refusals alone
+abbrev pub answers : ℕ → Reply → Machine → Option Next
+answers k reply m = if k == 0 then Some (reply, m) else None
+
+-- the name holds this place, with these bytes
+abbrev pub holds : Machine → State → ℕ → Place → List ℕ → Machine
+holds m state name place bytes = record { state = state; held = map.insert m.held name place; bytes = map.insert m.bytes name bytes }
+
+-- the name holds nothing any more
+abbrev pub lets_go : Machine → State → ℕ → Machine
+lets_go m state name = record { state = state; held = map.remove m.held name; bytes = map.remove m.bytes name }
+
+-- what a call that places answers, by where the block came to lie
+abbrev pub settles : Machine → ℕ → ℕ → ℕ → ℕ → List ℕ → State → Option ℕ → Next
+settles m k name size align bytes state (Some addr) =
+    (Placed addr k, holds m state name (record { addr = addr; size = size; align = align }) bytes)
+settles m k name size align bytes state None = (AllocErr k, record m { state = state })
+
+-- a call on the block of a name
+abbrev pub at_found : Option Place → Option (List ℕ) → Option Next → (Place → List ℕ → Option Next) → Option Next
+at_found (Some place) (Some bytes) missing go = go place bytes
+at_found (Some place) None missing go = None
+at_found None bytes missing go = missing
+
+abbrev pub at_name : Machine → ℕ → ℕ → (Place → List ℕ → Option Next) → Option Next
+at_name m name k go = at_found (map.get m.held name) (map.get m.bytes name) (answers k NoSuchName m) go
+
+-- a list with new items in place of those from this index on
+abbrev pub splice : List ℕ → ℕ → List ℕ → List ℕ
+splice old at new = take at old ++ new ++ drop (at + length new) old
+
+-- What a call answers, where k of its requests were refused, and the machine after it. Refusals come in the order of the cases.
+unfoldable pub step : Call → ℕ → Machine → Option Next
+step (Alloc name size align fill) k m =
+    if map.contains_key m.held name then answers k NameTaken m
+    else (if not (is_layout size align) then answers k BadLayout m
+    else option_map (λ (o : Outcome). settles m k name size align (replicate size fill) o.state o.answer) (alloc m.state size align k))
+step (Dealloc name) k m =
+    at_name m name k (λ place bytes. answers k Done (lets_go m (dealloc m.state place.addr place.size) name))
+step (Write name at new) k m = at_name m name k (λ place bytes.
+    if nat_lt place.size (at + length new) then answers k OutOfRange m
+    else answers k Done (record m { bytes = map.insert m.bytes name (splice bytes at new) }))
+step (Read name) k m = at_name m name k (λ place bytes. answers k (Bytes bytes) m)
+step Used k m = answers k (Number (used_bytes m.state)) m
+step Allocated k m = answers k (Number (allocated_bytes m.state)) m
+
+-- ---- A whole run
+
+-- a reply before those of the calls that follow
+abbrev pub reply_first : Reply → List Reply × Machine → List Reply × Machine
+reply_first reply rest = (reply ∷ rest.0, rest.1)
+
+-- The replies of the calls and the machine after them, where each call has a step for its number.
+unfoldable pub run_from : Machine → List Call → List ℕ → Option (List Reply × Machine)
+run_from m [] [] = Some ([], m)
+run_from m [] (k ∷ ks) = None
+run_from m (call ∷ calls) [] = None
+run_from m (call ∷ calls) (k ∷ ks) =
+    option_and_then (λ next. option_map (reply_first next.0) (run_from next.1 calls ks)) (step call k m)
+
+-- A run begins with no names.
+abbrev pub run : State → List Call → List ℕ → Option (List Reply × Machine)
+run state calls ks = run_from (fresh state) calls ks
+
+-- the refusals that a reply tells
+abbrev pub refused_of : Reply → ℕ
+refused_of (Placed addr refused) = refused
+refused_of (AllocErr refused) = refused
+refused_of Done = 0
+refused_of (Bytes bytes) = 0
+refused_of (Number n) = 0
+refused_of NoSuchName = 0
+refused_of NameTaken = 0
+refused_of BadLayout = 0
+refused_of OutOfRange = 0
+
+abbrev pub told : List Reply → List ℕ
+told replies = map refused_of replies
+
+-- ---- What held blocks are to each other and to the state
+
+abbrev pub AreApart : Place → Place → Type 0
+AreApart p q = 0 < p.size → 0 < q.size → (p.addr + p.size ≤ q.addr) ⊎ (q.addr + q.size ≤ p.addr)
+
+-- the addresses of a place, if it has any, lie in the used part of one chunk
+abbrev pub is_place_used : State → Place → Bool
+is_place_used state place = place.size == 0 || is_range_used state.chunks place.addr place.size
+
+-- Each held block is aligned and lies in the used part of a chunk, and no two have an address in common.
+pub record IsSound (state : State) (held : Held) : Type 0 where
+  pub aligned : (name : ℕ) (p : Place) → map.get held name ≡ Some p → p.addr % p.align ≡ 0
+  pub used : (name : ℕ) (p : Place) → map.get held name ≡ Some p → IsTrue (is_place_used state p)
+  pub apart : (m n : ℕ) (p q : Place) → m ≢ n → map.get held m ≡ Some p → map.get held n ≡ Some q → AreApart p q

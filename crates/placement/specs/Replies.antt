@@ -1,0 +1,38 @@
+-- The lines of replies.
+use Rattle.std.specs.Prelude.{ℕ, List, [], ◌∷◌, ◌++◌, codes}
+use Rattle.std.specs.List.{flat_map, AllByRecursion}
+use Rattle.placement.specs.Grammar.{fields, hex, IsByte}
+use Rattle.placement.specs.declared.calls.Reply.{Reply}
+use Rattle.placement.specs.declared.calls.Reply.TheVariants.{Placed, Done, Bytes, Number, AllocErr, NoSuchName, NameTaken, BadLayout, OutOfRange}
+
+-- a line without its line feed
+abbrev pub reply_line : Reply → List ℕ
+reply_line (Placed addr refused) = codes "placed" ++ fields (addr ∷ []) ++ codes " refused" ++ fields (refused ∷ [])
+reply_line Done = codes "done"
+reply_line (Bytes bytes) = codes "bytes " ++ hex bytes
+reply_line (Number n) = codes "number" ++ fields (n ∷ [])
+reply_line (AllocErr refused) = codes "allocerr refused" ++ fields (refused ∷ [])
+reply_line NoSuchName = codes "no such name"
+reply_line NameTaken = codes "name taken"
+reply_line BadLayout = codes "bad layout"
+reply_line OutOfRange = codes "out of range"
+
+-- a line with the line feed that ends it
+abbrev pub with_feed : Reply → List ℕ
+with_feed reply = reply_line reply ++ 10 ∷ []
+
+-- the text of replies, a line for each
+abbrev pub text_of : List Reply → List ℕ
+text_of replies = flat_map with_feed replies
+
+-- a reply's bytes are from 0 to 255
+abbrev pub HasBytes : Reply → Type 0
+HasBytes (Bytes bytes) = AllByRecursion IsByte bytes
+HasBytes (Placed addr refused) = Unit {0}
+HasBytes Done = Unit {0}
+HasBytes (Number n) = Unit {0}
+HasBytes (AllocErr refused) = Unit {0}
+HasBytes NoSuchName = Unit {0}
+HasBytes NameTaken = Unit {0}
+HasBytes BadLayout = Unit {0}
+HasBytes OutOfRange = Unit {0}
