@@ -1,0 +1,31 @@
+//! Layouts, and where a bump arena places blocks and chunks. Every call is pure and takes no memory.
+#![tactic(auto)]
+
+mod layout;
+mod placing;
+mod rounding;
+
+pub use layout::Layout;
+pub use placing::{chunk_data_size, next_base, place};
+pub use rounding::{is_aligned_to, round_down_to, round_up_to, round_up_to_unchecked};
+
+/// Bases and data sizes of chunks are multiples of this.
+pub const CHUNK_ALIGN: u64 = 16;
+
+/// So many addresses stand between the data end of a chunk and the next chunk.
+pub const CHUNK_FOOTER_SIZE: u64 = 48;
+
+/// What the data size of a chunk lacks to a power of two, or to whole pages.
+pub const OVERHEAD: u64 = 64;
+
+/// The first chunk begins at this address, and larger chunks are whole pages of this size, less the overhead.
+pub const TYPICAL_PAGE_SIZE: u64 = 4096;
+
+/// The size of the first chunk with its overhead.
+pub const FIRST_ALLOCATION_GOAL: u64 = 16384;
+
+/// The least data size that is tried for a chunk.
+pub const DEFAULT_CHUNK_SIZE_WITHOUT_FOOTER: u64 = FIRST_ALLOCATION_GOAL - OVERHEAD;
+
+#[cfg(test)]
+mod tests;

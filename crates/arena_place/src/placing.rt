@@ -1,0 +1,72 @@
+// The place of a block, and the size and base of a chunk.
+ghost use Rattle.std.specs.Prelude.{◌≡◌, ◌≢◌, ◌+◌, ◌-◌, ◌%◌, ◌^◌, ◌<◌, ◌≤◌, ◌↔◌, IsTrue, IfSome};
+ghost use Rattle.std.specs.Option.{SomeIff, option_map_or};
+ghost use Rattle.placement.specs.Rounding.{is_power};
+ghost use Rattle.placement.specs.State.{is_min_align};
+ghost use Rattle.placement.specs.Search.{place_below, rounded_size, size_for, next_base};
+
+use crate::layout::Layout;
+use crate::rounding::{round_down_to, round_up_to, round_up_to_unchecked};
+use crate::{CHUNK_ALIGN, CHUNK_FOOTER_SIZE, OVERHEAD, TYPICAL_PAGE_SIZE};
+
+/// Where a block is placed below the cursor, or none where that would be below the start.
+#[inline(always)]
+pub fn place(start: u64, cursor: u64, layout: Layout, min_align: u64) -> Option<u64>
+    requires start { 0 < start }
+    requires ordered { start ≤ cursor }
+    requires near { cursor - start ≤ 2 ^ 63 - 1 }
+    requires min_align { IsTrue (is_min_align min_align) }
+    ensures { result ≡ place_below start cursor layout.size layout.align min_align }
+{
+    // A size past the cursor wraps to an address far above it, which the distance test refuses.
+    let p = round_down_to(
+        cursor.wrapping_sub(layout.size),
+        layout.align.max(min_align),
+    );
+    if cursor.wrapping_sub(p) <= cursor - start {
+        Some(p)
+    } else {
+        None
+    }
+}
+
+const LARGEST_WANTED: u64 = (1 << 63) - OVERHEAD;
+
+fn rounded(wanted: u64) -> Option<u64>
+    ensures value { result ≡ rounded_size wanted }
+    ensures small { IfSome result (λ size. size < 2 ^ 63 + 8192) }
+{
+    if wanted < TYPICAL_PAGE_SIZE {
+        return Some((wanted + OVERHEAD).next_power_of_two() - OVERHEAD);
+    }
+    if wanted <= LARGEST_WANTED {
+        return Some(round_up_to_unchecked(wanted + OVERHEAD, TYPICAL_PAGE_SIZE) - OVERHEAD);
+    }
+    None
+}
+
+/// The data size of a chunk for a tried size and a block, or none where no layout is that large.
+pub fn chunk_data_size(n: u64, layout: Layout) -> Option<u64>
+    ensures { result ≡ size_for n layout.size layout.align }
+{
+    let align = layout.align.max(CHUNK_ALIGN);
+    let wanted = n.max(round_up_to_unchecked(layout.size, align));
+    match rounded(wanted) {
+        Some(size) if Layout::is_valid(size + CHUNK_FOOTER_SIZE, align) => Some(size),
+        _ => None,
+    }
+}
+
+/// The base of a chunk whose newest neighbour has its data end there, or of the first chunk; none where it passes
+/// the last address.
+pub fn next_base(end: Option<u64>, align: u64) -> Option<u64>
+    requires power { IsTrue (is_power align) }
+    requires chunk { 16 ≤ align }
+    ensures { let base = next_base (option_map_or (λ e. e + 48) end 4096) align in SomeIff result (base < 2 ^ 64) base }
+{
+    let floor = match end {
+        None => TYPICAL_PAGE_SIZE,
+        Some(end) => end.checked_add(CHUNK_FOOTER_SIZE)?,
+    };
+    round_up_to(floor, align)
+}
