@@ -1,0 +1,15 @@
+-- The ends of chunks and the sums over all chunks fit 64 bits.
+use Rattle.std.proofs.Common.{ℕ, zero, suc, ◌<◌, ◌≤◌, arith, List, [], ◌∷◌, map}
+use Rattle.std.specs.Prelude.{sum, All}
+use Rattle.std.proofs.lemmas.List.Sums.{sum-map, sum_by-cons}
+use Rattle.placement.specs.State.{Chunk, IsChunk, AreChunks, floor_of, data_end}
+
+pub sum_below : (m : ℕ) (f : Chunk → ℕ) → (chunks : List Chunk) → ((c : Chunk) → IsChunk m c → f c ≤ c.size) → AreChunks m chunks → sum (map f chunks) ≤ floor_of chunks
+sum_below m f [] each valid = omega arith
+sum_below m f (newest ∷ older) each valid =
+    omega (arith, each newest valid.0, sum_below m f older each valid.2, valid.1, sum-map f (newest ∷ older), sum-map f older, sum_by-cons f newest older)
+
+pub ends_below : (m top : ℕ) → (chunks : List Chunk) → AreChunks m chunks → floor_of chunks < top → All (λ c. (c.cursor ≤ data_end c) × (data_end c < top)) chunks
+ends_below m top [] valid below k d low = absurd (omega arith)
+ends_below m top (newest ∷ older) valid below zero d low = (valid.0.cursor_high, omega arith)
+ends_below m top (newest ∷ older) valid below (suc k) d low = ends_below m top older valid.2 (omega (arith, valid.0.cursor_low, valid.0.cursor_high, valid.1)) k d (omega arith)

@@ -1,0 +1,38 @@
+use Rattle.std.proofs.Common.{◌≡◌, ◌≢◌, ℕ, arith, refl, sym, ap, ne_eqb, length, List, Option}
+use Rattle.std.specs.Prelude.{slice_get}
+use Rattle.placement.specs.Search.{asked}
+use Rattle.placement.specs.Moves.{alloc}
+use Rattle.placement.proofs.RoundingLemmas.{layout_power}
+use Rattle.placement.proofs.AllocLemmas.{entry_of, valid_grown, alloc_refused}
+use Rattle.plain_machine.proofs.state.PlainState.alloc_in_new.Goals as goal
+
+-- the entry of a list that equals what was asked
+entry : (all items now : List (ℕ × ℕ)) (k : ℕ) (r o : Option (ℕ × ℕ)) → items ≡ all → now ≡ items → r ≡ slice_get now k → r ≡ o → slice_get all k ≡ o
+entry all items now k r o asked same read is = cc (ap (λ (l : List (ℕ × ℕ)). slice_get l k) same, ap (λ (l : List (ℕ × ℕ)). slice_get l k) asked)
+
+pub alloc_in_chunk-requires : goal.alloc_in_chunk-requires
+alloc_in_chunk-requires c =
+    let asked = c.in_ok-asked.ensures in
+    let power = layout_power _ _ c.args.layout.valid in
+    let at = entry _ _ _ c.args.refused _ _ asked.value c.deref.ensures.value c.entry_at.ensures c.in-Some.is in
+    valid_grown c.args.self.now c.args.layout.size c.args.layout.align (c.in-Some.base, c.in-Some.size) asked.valid asked.growing power
+    (entry_of c.args.self.now c.args.layout.size c.args.layout.align c.args.refused (c.in-Some.base, c.in-Some.size) asked.growing power at)
+
+pub returns-in-Some-clause-step : goal.returns-in-Some-clause-step
+unfolding alloc
+returns-in-Some-clause-step c =
+    let at = entry _ _ _ c.args.refused _ _ c.in_ok-asked.ensures.value c.deref.ensures.value c.entry_at.ensures c.in-Some.is in
+    rw (c.requires, at) c.alloc_in_chunk.ensures.step
+
+pub returns-then-len-refused-clause-step : goal.returns-then-len-refused-clause-step
+returns-then-len-refused-clause-step c =
+    let whole = ap length c.in_ok-asked.ensures.value in
+    sym (alloc_refused c.args.self.now c.args.layout.size c.args.layout.align c.args.refused c.requires (omega (arith, whole, c.in_ok-asked.asked.ok)))
+
+pub returns-clause-step : goal.returns-clause-step
+unfolding alloc
+returns-clause-step c =
+    let at = entry _ _ _ c.args.refused _ _ c.in_ok-asked.ensures.value c.deref.ensures.value c.entry_at.ensures c.in_default.is in
+    let whole = ap length c.in_ok-asked.ensures.value in
+    let other : c.args.refused ≢ length (asked c.args.self.now c.args.layout.size c.args.layout.align) = omega (arith, whole, c.in_ok-asked.asked.ok) in
+    rw (c.requires, at, ne_eqb _ _ other) refl

@@ -1,0 +1,25 @@
+use Rattle.std.proofs.Common.{◌+◌, ◌∙◌, ap, refl, sym, subst}
+use Rattle.placement.specs.Rounding.{up}
+use Rattle.placement.specs.State.{State, IsValid}
+use Rattle.placement.proofs.RoundingLemmas.{min_align_power}
+use Rattle.placement.proofs.ReturnLemmas.{is_return, dealloc_at, dealloc_elsewhere}
+use Rattle.plain_machine.proofs.state.PlainState.dealloc.Goals as goal
+
+pub round_up_to_unchecked-end-requires-clause-power :
+    goal.round_up_to_unchecked-end-requires-clause-power
+round_up_to_unchecked-end-requires-clause-power c = min_align_power c.self.inside.min_align c.self.invariant.min_align
+
+pub set_cursor-requires : goal.set_cursor-requires
+set_cursor-requires c =
+    let at = c.if-addr-cursor.true ∙ c.cursor.ensures in
+    let end = c.round_up_to_unchecked-end.ensures ∙ ap (λ (s : State). up (c.args.addr + c.args.size) s.min_align) c.self.view_is in
+    (is_return c.args.self.now c.args.addr c.args.size c.round_up_to_unchecked-end.result (subst IsValid c.self.view_is c.self.invariant) at c.requires end).valid
+
+pub returns-then-addr-cursor : goal.returns-then-addr-cursor
+returns-then-addr-cursor c =
+    let at = c.if-addr-cursor.true ∙ c.cursor.ensures in
+    let end = c.round_up_to_unchecked-end.ensures ∙ ap (λ (s : State). up (c.args.addr + c.args.size) s.min_align) c.self.view_is in
+    rw (c.set_cursor.ensures, end, dealloc_at c.args.self.now c.args.addr c.args.size at) refl
+
+pub returns-else-addr-cursor : goal.returns-else-addr-cursor
+returns-else-addr-cursor c = sym (dealloc_elsewhere c.args.self.now c.args.addr c.args.size (λ same. c.if-addr-cursor.false (same ∙ sym c.cursor.ensures)))

@@ -1,0 +1,52 @@
+// The bytes of a block.
+ghost use Rattle.std.specs.Prelude.{◌≡◌, ◌+◌, ◌^◌, ◌<◌, IfOk, replicate, nat_lt, length, drop};
+ghost use Rattle.placement.specs.Machine as machine;
+
+use placement::{Bytes, OutOfMemory};
+use std::alloc::Global;
+
+pub(crate) fn filled(alloc: Global, size: u64, fill: u8) -> Result<Bytes, OutOfMemory>
+    ensures { IfOk result (λ bytes. bytes ≡ replicate size fill) }
+{
+    match vec![in alloc; fill; size as usize] {
+        Ok(items) => Ok(Bytes::from_vec(items)),
+        Err(_) => Err(OutOfMemory),
+    }
+}
+
+// So many bytes from this one on pass the end of a block.
+pub(crate) fn is_past(size: u64, at: u64, n: u64) -> bool
+    ensures { result ≡ nat_lt size (at + n) }
+{
+    match at.checked_add(n) {
+        Some(end) => size < end,
+        None => true,
+    }
+}
+
+// The old bytes with new ones in place of those from this one on.
+pub(crate) fn splice(alloc: Global, old: &[u8], at: u64, new: &[u8]) -> Result<Bytes, OutOfMemory>
+    requires { at + length new.now < 2 ^ 64 }
+    ensures { IfOk result (λ bytes. bytes ≡ machine.splice old.now at new.now) }
+{
+    let Ok(mut all) = Vec::from_slice(alloc, old) else {
+        return Err(OutOfMemory);
+    };
+    all.truncate(at as usize);
+    let rest = from(old, at + new.len() as u64);
+    if all.extend_from_slice(new).is_err() || all.extend_from_slice(rest).is_err() {
+        return Err(OutOfMemory);
+    }
+    Ok(Bytes::from_vec(all))
+}
+
+// The bytes from this one on.
+fn from(bytes: &[u8], at: u64) -> &[u8]
+    ensures { result.now ≡ drop at bytes.now }
+{
+    if at < bytes.len() as u64 {
+        &bytes[at as usize..]
+    } else {
+        &[]
+    }
+}

@@ -1,0 +1,16 @@
+//! The placement machine as a plain program: numbers and lists, with no arena behind it. The contract of each call is
+//! the definition itself, so a test can compute what the definitions say, beside what an arena does.
+#![tactic(auto)]
+
+mod bytes;
+mod chunk;
+mod machine;
+mod names;
+mod run;
+mod search;
+mod state;
+
+pub use machine::PlainMachine;
+
+#[cfg(test)]
+mod tests;

@@ -1,0 +1,191 @@
+// The machine: calls by name, one after another.
+#![tactic(auto, unfolding(placement::specs::Machine::step))]
+
+ghost use Rattle.std.specs.Prelude.{◌≡◌, ◌==◌, ◌+◌, ◌≤◌, IfOk, OnOk, IfNone, IsTrue, if◌then◌else◌, []};
+ghost use Rattle.placement.specs.State.{is_min_align, top_of};
+ghost use Rattle.placement.specs.Machine as machine;
+ghost use Rattle.plain_machine.specs.Answers.{growing_state, gives};
+
+use crate::bytes::{filled, is_past, splice};
+use crate::names::Names;
+use crate::state::PlainState;
+use arena_place::Layout;
+use placement::{Bytes, Call, OutOfMemory, Place, Reply};
+use std::alloc::Global;
+use std::marker::Model;
+
+/// The machine of the definitions.
+#[derive(Drop, Debug)]
+pub struct PlainMachine {
+    state: PlainState,
+    held: Names<Place>,
+    bytes: Names<Bytes>,
+}
+
+impl Model for PlainMachine {
+    ghost use Rattle.placement.specs.Machine.{Machine};
+    ghost use Rattle.plain_machine.specs.Holding.{EndBelow, held_code, contents_code};
+    ghost use Rattle.std.specs.Coded.{codes};
+
+    ghost Value = { Machine };
+
+    ghost coded = { Prim.hlevel (codes, held_code, contents_code) };
+
+    ghost view = { λ m. record { state = m.state; held = m.held; bytes = m.bytes } };
+
+    ghost invariant = { λ m. EndBelow m.state m.held };
+}
+
+impl PlainMachine {
+    /// A machine with no chunk that holds no name.
+    pub fn new(alloc: Global, min_align: u64) -> PlainMachine
+        requires { IsTrue (is_min_align min_align) }
+        ensures { result ≡ machine.fresh (growing_state min_align []) }
+    {
+        PlainMachine {
+            state: PlainState::new(alloc, min_align),
+            held: Names::new(alloc),
+            bytes: Names::new(alloc),
+        }
+    }
+
+    /// What the call answers where so many of its requests are refused, or none where there is no such step. Where
+    /// memory is wanting, what the machine holds is open.
+    pub fn step(
+        &mut self,
+        alloc: Global,
+        call: &Call,
+        refused: u32,
+    ) -> Result<Option<Reply>, OutOfMemory>
+        ensures step { IfOk result (λ reply. gives self.new reply ≡ machine.step call.now refused self.old) }
+        ensures none { IfOk result (λ reply. IfNone reply (self.new ≡ self.old)) }
+    {
+        match call {
+            Call::Alloc {
+                name,
+                size,
+                align,
+                fill,
+            } => self.alloc(alloc, *name, *size, *align, *fill, refused),
+            Call::Dealloc { name } => Ok(self.dealloc(*name, refused)),
+            Call::Write { name, at, bytes } => self.write(alloc, *name, *at, bytes, refused),
+            Call::Read { name } => self.read(alloc, *name, refused),
+            Call::Used => Ok(self.used(refused)),
+            Call::Allocated => Ok(self.allocated(refused)),
+        }
+    }
+
+    fn alloc(
+        &mut self,
+        alloc: Global,
+        name: u32,
+        size: u64,
+        align: u64,
+        fill: u8,
+        refused: u32,
+    ) -> Result<Option<Reply>, OutOfMemory>
+        ensures step { IfOk result (λ reply. gives self.new reply ≡ machine.step (Call.Alloc name size align fill) refused self.old) }
+        ensures none { IfOk result (λ reply. IfNone reply (self.new ≡ self.old)) }
+    {
+        if self.held.contains(name) {
+            return Ok(answers(refused, Reply::NameTaken));
+        }
+        let Some(layout) = Layout::new(size, align) else {
+            return Ok(answers(refused, Reply::BadLayout));
+        };
+        let Some(answer) = self.state.alloc(alloc, layout, refused)? else {
+            return Ok(None);
+        };
+        let Some(addr) = answer else {
+            return Ok(Some(Reply::AllocErr { refused }));
+        };
+        let bytes = filled(alloc, size, fill)?;
+        self.holds(name, Place { addr, size, align }, bytes)?;
+        Ok(Some(Reply::Placed { addr, refused }))
+    }
+
+    fn dealloc(&mut self, name: u32, refused: u32) -> Option<Reply>
+        ensures step { gives self.new result ≡ machine.step (Call.Dealloc name) refused self.old }
+        ensures none { IfNone result (self.new ≡ self.old) }
+    {
+        let Some(place) = self.held.get(name).copied() else {
+            return answers(refused, Reply::NoSuchName);
+        };
+        if refused > 0 || !self.bytes.contains(name) {
+            return None;
+        }
+        self.state.dealloc(place.addr, place.size);
+        self.held.remove(name);
+        self.bytes.remove(name);
+        Some(Reply::Done)
+    }
+
+    fn write(
+        &mut self,
+        alloc: Global,
+        name: u32,
+        at: u64,
+        new: &Bytes,
+        refused: u32,
+    ) -> Result<Option<Reply>, OutOfMemory>
+        ensures step { IfOk result (λ reply. gives self.new reply ≡ machine.step (Call.Write name at new.now) refused self.old) }
+        ensures none { IfOk result (λ reply. IfNone reply (self.new ≡ self.old)) }
+    {
+        let Some(place) = self.held.get(name).copied() else {
+            return Ok(answers(refused, Reply::NoSuchName));
+        };
+        let Some(old) = self.bytes.get(name) else {
+            return Ok(None);
+        };
+        if is_past(place.size, at, new.len()) {
+            return Ok(answers(refused, Reply::OutOfRange));
+        }
+        if refused > 0 {
+            return Ok(None);
+        }
+        let bytes = splice(alloc, old.as_slice(), at, new.as_slice())?;
+        self.bytes.insert(name, bytes)?;
+        Ok(Some(Reply::Done))
+    }
+
+    fn read(&self, alloc: Global, name: u32, refused: u32) -> Result<Option<Reply>, OutOfMemory>
+        ensures { IfOk result (λ reply. gives self.now reply ≡ machine.step (Call.Read name) refused self.now) }
+    {
+        if !self.held.contains(name) {
+            return Ok(answers(refused, Reply::NoSuchName));
+        }
+        let Some(bytes) = self.bytes.get(name) else {
+            return Ok(None);
+        };
+        let bytes = Bytes::of(alloc, bytes.as_slice())?;
+        Ok(answers(refused, Reply::Bytes(bytes)))
+    }
+
+    fn used(&self, refused: u32) -> Option<Reply>
+        ensures { gives self.now result ≡ machine.step Call.Used refused self.now }
+    {
+        answers(refused, Reply::Number(self.state.used_bytes()))
+    }
+
+    fn allocated(&self, refused: u32) -> Option<Reply>
+        ensures { gives self.now result ≡ machine.step Call.Allocated refused self.now }
+    {
+        answers(refused, Reply::Number(self.state.allocated_bytes()))
+    }
+
+    // The name holds this block.
+    fn holds(&mut self, name: u32, place: Place, bytes: Bytes) -> Result<(), OutOfMemory>
+        requires { place.addr + place.size ≤ top_of self.old.state.chunks }
+        ensures { OnOk result (self.new ≡ machine.holds self.old self.old.state name place bytes) }
+    {
+        self.held.insert(name, place)?;
+        self.bytes.insert(name, bytes)
+    }
+}
+
+// A call that asks for nothing has a step for no refusals alone.
+fn answers(refused: u32, reply: Reply) -> Option<Reply>
+    ensures { result ≡ (if refused == 0 then Some reply else None) }
+{
+    if refused == 0 { Some(reply) } else { None }
+}

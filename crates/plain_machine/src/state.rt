@@ -1,0 +1,233 @@
+// The state: chunks, newest first.
+ghost use Rattle.std.specs.Prelude.{◌≡◌, ◌+◌, ◌^◌, ◌<◌, ◌≤◌, IfOk, OnErr, IfNone, IsTrue, true, [], All, sum, map};
+ghost use Rattle.std.specs.Option.{option_map, option_map_or};
+ghost use Rattle.placement.specs.State.{IsValid, is_min_align, start_of, cursor_of, newest_size, used_bytes, allocated_bytes, floor_of, top_of, with_cursor, data_end, used_length};
+ghost use Rattle.placement.specs.Search.{place, asked};
+ghost use Rattle.placement.specs.Moves as moves;
+ghost use Rattle.plain_machine.specs.Answers.{growing_state, leaves};
+
+use crate::chunk::PlainChunk;
+use crate::search::{entries, entry_at};
+use arena_place::{
+    CHUNK_ALIGN, DEFAULT_CHUNK_SIZE_WITHOUT_FOOTER, Layout, next_base, place, round_up_to_unchecked,
+};
+use placement::OutOfMemory;
+use std::alloc::Global;
+use std::marker::Model;
+
+/// An address, or none where a call fails.
+pub(crate) type Answer = Option<u64>;
+
+/// The chunks of a growing arena, newest first.
+#[derive(Drop, Debug)]
+pub(crate) struct PlainState {
+    min_align: u64,
+    chunks: Vec<PlainChunk>,
+}
+
+impl Model for PlainState {
+    ghost use Rattle.placement.specs.State.{State, IsValid};
+    ghost use Rattle.plain_machine.specs.Answers.{growing_state};
+
+    ghost Value = { State };
+
+    ghost view = { λ s. growing_state s.min_align s.chunks.items };
+
+    ghost invariant = { λ s. IsValid (growing_state s.min_align s.chunks.items) };
+}
+
+impl PlainState {
+    /// A state with no chunk.
+    pub(crate) fn new(alloc: Global, min_align: u64) -> PlainState
+        requires { IsTrue (is_min_align min_align) }
+        ensures { result ≡ growing_state min_align [] }
+    {
+        PlainState {
+            min_align,
+            chunks: Vec::new(alloc),
+        }
+    }
+
+    fn start(&self) -> u64
+        ensures { result ≡ start_of self.now.chunks }
+    {
+        match self.chunks.first() {
+            None => 16,
+            Some(newest) => newest.base,
+        }
+    }
+
+    fn cursor(&self) -> u64
+        ensures { result ≡ cursor_of self.now.chunks }
+    {
+        match self.chunks.first() {
+            None => 16,
+            Some(newest) => newest.cursor,
+        }
+    }
+
+    fn newest_size(&self) -> u64
+        ensures value { result ≡ newest_size self.now.chunks }
+        ensures small { result < 2 ^ 63 }
+    {
+        match self.chunks.first() {
+            None => 0,
+            Some(newest) => newest.size,
+        }
+    }
+
+    // The data end of the newest chunk.
+    fn end(&self) -> Option<u64>
+        ensures floor { option_map_or (λ e. e + 48) result 4096 ≡ floor_of self.now.chunks }
+        ensures valid { IsValid self.now }
+        ensures growing { self.now.is_growing ≡ true }
+    {
+        match self.chunks.first() {
+            None => None,
+            Some(newest) => Some(newest.base + newest.size),
+        }
+    }
+
+    fn place(&self, layout: Layout) -> Option<u64>
+        ensures valid { IsValid self.now }
+        ensures value { result ≡ place self.now layout.size layout.align }
+    {
+        place(self.start(), self.cursor(), layout, self.min_align)
+    }
+
+    // The chunks that are asked for one after another.
+    fn asked(&self, alloc: Global, layout: Layout) -> Result<Vec<(u64, u64)>, OutOfMemory>
+        ensures value { IfOk result (λ all. all.items ≡ asked self.now layout.size layout.align) }
+        ensures valid { IsValid self.now }
+        ensures growing { self.now.is_growing ≡ true }
+    {
+        let least = layout.size.max(DEFAULT_CHUNK_SIZE_WITHOUT_FOOTER);
+        let first = least.max(2 * self.newest_size());
+        match next_base(self.end(), layout.align.max(CHUNK_ALIGN)) {
+            Some(base) => entries(alloc, base, layout, first, least),
+            None => Ok(Vec::new(alloc)),
+        }
+    }
+
+    // The newest chunk gets another cursor.
+    fn set_cursor(&mut self, addr: u64)
+        requires { IsValid (with_cursor addr self.old) }
+        ensures { self.new ≡ with_cursor addr self.old }
+    {
+        if let Some(newest) = self.chunks.first_mut() {
+            newest.cursor = addr;
+        }
+    }
+
+    // A new block in this chunk, which becomes the newest.
+    fn alloc_in_chunk(
+        &mut self,
+        base: u64,
+        size: u64,
+        layout: Layout,
+    ) -> Result<Option<Answer>, OutOfMemory>
+        requires { IsValid (moves.with_chunk (base, size) self.old) }
+        ensures step { IfOk result (λ answer. leaves self.new answer ≡ option_map (moves.placed (moves.with_chunk (base, size) self.old))
+            (place (moves.with_chunk (base, size) self.old) layout.size layout.align)) }
+        ensures err { OnErr result (self.new ≡ self.old) }
+        ensures none { IfOk result (λ answer. IfNone answer (self.new ≡ self.old)) }
+    {
+        let min_align = self.min_align;
+        let Some(cursor) = place(base, base + size, layout, min_align) else {
+            return Ok(None);
+        };
+        if self
+            .chunks
+            .insert(0, PlainChunk { base, size, cursor })
+            .is_err()
+        {
+            return Err(OutOfMemory);
+        }
+        Ok(Some(Some(cursor)))
+    }
+
+    // A new block where there is no place in the newest chunk.
+    fn alloc_in_new(
+        &mut self,
+        alloc: Global,
+        layout: Layout,
+        refused: u32,
+    ) -> Result<Option<Answer>, OutOfMemory>
+        requires { place self.old layout.size layout.align ≡ None }
+        ensures step { IfOk result (λ answer. leaves self.new answer ≡ moves.alloc self.old layout.size layout.align refused) }
+        ensures err { OnErr result (self.new ≡ self.old) }
+        ensures none { IfOk result (λ answer. IfNone answer (self.new ≡ self.old)) }
+    {
+        let asked = self.asked(alloc, layout)?;
+        if let Some((base, size)) = entry_at(&asked, refused) {
+            return self.alloc_in_chunk(base, size, layout);
+        }
+        if asked.len() == refused as usize {
+            return Ok(Some(None));
+        }
+        Ok(None)
+    }
+
+    /// A new block, where so many requests are refused. There may be no step.
+    pub(crate) fn alloc(
+        &mut self,
+        alloc: Global,
+        layout: Layout,
+        refused: u32,
+    ) -> Result<Option<Answer>, OutOfMemory>
+        ensures valid { IsValid self.old }
+        ensures step { IfOk result (λ answer. leaves self.new answer ≡ moves.alloc self.old layout.size layout.align refused) }
+        ensures err { OnErr result (self.new ≡ self.old) }
+        ensures none { IfOk result (λ answer. IfNone answer (self.new ≡ self.old)) }
+    {
+        let Some(addr) = self.place(layout) else {
+            return self.alloc_in_new(alloc, layout, refused);
+        };
+        if refused > 0 {
+            return Ok(None);
+        }
+        self.set_cursor(addr);
+        Ok(Some(Some(addr)))
+    }
+
+    /// A block is given back.
+    pub(crate) fn dealloc(&mut self, addr: u64, size: u64)
+        requires { addr + size ≤ top_of self.old.chunks }
+        ensures { self.new ≡ moves.dealloc self.old addr size }
+    {
+        if addr == self.cursor() {
+            let end = round_up_to_unchecked(addr + size, self.min_align);
+            self.set_cursor(end);
+        }
+    }
+
+    pub(crate) fn used_bytes(&self) -> u64
+        ensures { result ≡ used_bytes self.now }
+    {
+        sum_of_used(&self.chunks)
+    }
+
+    pub(crate) fn allocated_bytes(&self) -> u64
+        ensures { result ≡ allocated_bytes self.now }
+    {
+        sum_of_sizes(&self.chunks)
+    }
+}
+
+fn sum_of_used(chunks: &[PlainChunk]) -> u64
+    requires chunks { All (λ c. (c.cursor ≤ data_end c) × (data_end c < 2 ^ 64)) chunks.now }
+    requires fits { sum (map used_length chunks.now) < 2 ^ 64 }
+    ensures { result ≡ sum (map used_length chunks.now) }
+{
+    chunks
+        .iter()
+        .map(|chunk| chunk.base + chunk.size - chunk.cursor)
+        .sum()
+}
+
+fn sum_of_sizes(chunks: &[PlainChunk]) -> u64
+    requires { sum (map (λ c. c.size) chunks.now) < 2 ^ 64 }
+    ensures { result ≡ sum (map (λ c. c.size) chunks.now) }
+{
+    chunks.iter().map(|chunk| chunk.size).sum()
+}
