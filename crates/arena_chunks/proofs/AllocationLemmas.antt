@@ -1,0 +1,116 @@
+-- What an arena shows of a block that was placed.
+use Rattle.std.proofs.Common.{◌≡◌, ℕ, ◌+◌, ◌-◌, ◌≤◌, max, inl, inr, ap, sym, refl, subst, arith, List, [], ◌∷◌, true, false, IsTrue, Some, None, Option, Err, eq-eqb}
+use Rattle.std.specs.Prelude.{nat_le, ◌==◌, ◌&&◌}
+use Rattle.std.proofs.lemmas.Bool.{cases_lt, or_left, or_right}
+use Rattle.std.proofs.lemmas.Bool.Decides.{nat_tests}
+use Rattle.placement.specs.Rounding.{down, is_layout}
+use Rattle.placement.specs.State.{State, IsValid, is_used, is_range_used, start_of, cursor_of, with_cursor}
+use Rattle.placement.specs.Search.{place, place_below}
+use Rattle.placement.specs.Moves.{alloc}
+use Rattle.placement.proofs.RoundingLemmas.{layout_power}
+use Rattle.placement.proofs.PlaceLemmas.{IsPlace, is_place}
+use Rattle.placement.proofs.CursorLemmas.{start_positive, cursor_within, valid_moved}
+use Rattle.placement.proofs.UsedLemmas.{used_under}
+use Rattle.placement.proofs.AllocLemmas.{alloc_placed, alloc_refused, IsGranted, is_granted}
+use Rattle.placement.proofs.NewBlockLemmas.{is_new_block, alloc_valid}
+use Rattle.arena_chunks.specs.Memory.{Memory, image, is_readable, one_allocation}
+use Rattle.arena_chunks.specs.Frame.{Frame}
+use Rattle.arena_chunks.specs.Answers.{IsBlockOf, IsAdded, AddsChunk, Allocates, Tells, TellsPlace}
+use Rattle.arena_chunks.specs.declared.block.ArenaErr.{ArenaErr}
+use Rattle.arena_chunks.specs.declared.block.ArenaErr.TheVariants.{AllocErr, OutOfMemory}
+use Rattle.arena_chunks.specs.declared.block.Block.{Block}
+use Rattle.arena_chunks.proofs.FrameLemmas.{byte_moved, frame_new}
+use Rattle.arena_chunks.proofs.StoredLemmas.{IsCursor}
+
+-- a cursor may move down to a place
+pub place_cursor : (state : State) (size align p : ℕ) → IsValid state → IsTrue (is_layout size align) → place state size align ≡ Some p → IsCursor state p
+place_cursor state size align p valid layout found =
+    let at = is_place (start_of state.chunks) (cursor_of state.chunks) size align state.min_align p (start_positive state valid) (layout_power size align layout) valid.min_align found in
+    record {
+      low = at.low;
+      high = omega (arith, at.high, cursor_within state valid);
+      valid = valid_moved state p valid at.low (omega (arith, at.high)) at.min_aligned;
+    }
+
+-- a placed block at address p, and the arena with it
+abbrev pub with_block : Memory → ℕ → Memory
+with_block memory p = record { state = with_cursor p memory.state; statistics = one_allocation memory.statistics; bytes = memory.bytes }
+
+-- an allocation with its step, which changed no byte in use
+pub record IsPlacing (old new : Memory) (size align k p : ℕ) : Type 0 where
+  pub step : alloc old.state size align k ≡ Some (record { answer = Some p; state = new.state })
+  pub statistics : new.statistics ≡ one_allocation old.statistics
+  pub bytes : (a : ℕ) → IsTrue (is_used old.state a) → image new a ≡ image old a
+
+pub placing_here : (memory : Memory) (size align p : ℕ) → place memory.state size align ≡ Some p → IsPlacing memory (with_block memory p) size align 0 p
+placing_here memory size align p found = record {
+  step = alloc_placed memory.state size align p found;
+  statistics = refl;
+  bytes = λ a used. byte_moved p memory.state.chunks memory.bytes a;
+}
+
+place_is : (start cursor size align m p : ℕ) → IsPlace start cursor size align m p → place_below start cursor size align m ≡ Some p
+place_is start cursor size align m p at =
+    let low : start ≤ down (cursor - size) (max align m) = omega (arith, at.low, at.is) in
+    let test : nat_le start (down (cursor - size) (max align m)) ≡ true = grind (arith, nat_tests) in
+    rw test (ap Some (sym at.is))
+
+-- the chunk that was added has the place, and is valid
+pub added_granted : (old new : Memory) (size align k p : ℕ) → IsTrue (is_layout size align) → place old.state size align ≡ None → (added : IsAdded old new size align k p)
+    → IsGranted old.state size align k added.entry p
+added_granted old new size align k p layout none added =
+    is_granted old.state size align k added.entry p added.valid added.growing (layout_power size align layout) none added.asked added.place
+
+pub added_place : (old new : Memory) (size align k p : ℕ) → IsTrue (is_layout size align) → place old.state size align ≡ None → IsAdded old new size align k p
+    → place new.state size align ≡ Some p
+added_place old new size align k p layout none added =
+    let at = (added_granted old new size align k p layout none added).place in
+    subst (λ (w : Memory). place w.state size align ≡ Some p) (sym added.memory) (place_is added.entry.0 (added.entry.0 + added.entry.1) size align old.state.min_align p at)
+
+pub placing_in_new : (old mid : Memory) (size align k p : ℕ) → IsTrue (is_layout size align) → place old.state size align ≡ None → IsAdded old mid size align k p
+    → IsPlacing old (with_block mid p) size align k p
+placing_in_new old mid size align k p layout none added =
+    let granted = added_granted old mid size align k p layout none added in
+    subst (λ (m : Memory). IsPlacing old (with_block m p) size align k p) (sym added.memory) (record {
+      step = granted.step;
+      statistics = refl;
+      bytes = λ a used.
+          let under = used_under old.state.min_align a 1 old.state.chunks added.valid.chunks (omega arith) used in
+          let above = granted.valid.chunks.1 in
+          let test : nat_le added.entry.0 a ≡ false = grind (arith, nat_tests) in
+          rw test refl;
+    })
+
+pub record IsBlockPlaced (old new : Memory) (size align k : ℕ) (b : Block) : Type 0 where
+  pub step : alloc old.state size align k ≡ Some (record { answer = Some b.addr; state = new.state })
+  pub block : IsBlockOf new.state size align b
+  pub readable : IsTrue (is_readable new.state b)
+  pub frame : Frame old new [] (b ∷ [])
+  pub valid : IsValid new.state
+
+pub block_placed : (old new : Memory) (size align k p : ℕ) (b : Block) → IsValid old.state → IsTrue (is_layout size align) → IsPlacing old new size align k p
+    → b ≡ record { generation = old.state.generation; addr = p; size = size; align = align } → IsBlockPlaced old new size align k b
+block_placed old new size align k p b valid layout placing is =
+    let fresh = is_new_block old.state size align k p new.state valid (layout_power size align layout) placing.step in
+    subst (IsBlockPlaced old new size align k) (sym is) (record {
+      step = placing.step;
+      block = (sym fresh.generation, refl, refl);
+      readable = elim (cases_lt 0 size) [
+        | inr none ↦ or_left (size == 0) (old.state.generation == new.state.generation && is_range_used new.state.chunks p size) (eq-eqb _ _ (omega arith))
+        | inl some ↦ or_right (size == 0) (old.state.generation == new.state.generation && is_range_used new.state.chunks p size)
+            (rw (eq-eqb _ _ (sym fresh.generation)) (fresh.used some))
+      ];
+      frame = frame_new old new size align (record { generation = old.state.generation; addr = p; size = size; align = align }) valid fresh refl placing.bytes;
+      valid = alloc_valid old.state size align k (record { answer = Some p; state = new.state }) valid (layout_power size align layout) placing.step;
+    })
+
+-- All that was asked for was refused.
+pub all_refused : (old new : Memory) (size align before after : ℕ) (told_before told_after : Option (List (ℕ × ℕ))) (e : ArenaErr) → place old.state size align ≡ None → new ≡ old
+    → TellsPlace (Err e) (λ k answer. AddsChunk old new size align k answer before after told_before told_after)
+    → Tells (Err e) (λ k answer. Allocates old.state new.state size align k answer before after told_before told_after)
+all_refused old new size align before after told_before told_after (AllocErr k) none same added = record {
+  step = subst (λ (w : Memory). alloc old.state size align k ≡ Some (record { answer = None; state = w.state })) (sym same) (alloc_refused old.state size align k none added.added);
+  refusals = added.refusals;
+  requests = rw none added.requests;
+}
+all_refused old new size align before after told_before told_after OutOfMemory none same added = tt

@@ -1,0 +1,53 @@
+-- The last block placed, and its return.
+use Rattle.std.proofs.Common.{◌≡◌, ℕ, ◌+◌, ◌-◌, ◌<◌, ◌≤◌, ◌^◌, ◌∙◌, ap, sym, subst, arith, refl, [], ◌∷◌, IsTrue, Bool, true, false}
+use Rattle.std.specs.Prelude.{◌||◌, ◌&&◌, ◌==◌}
+use Rattle.placement.specs.Rounding.{up}
+use Rattle.placement.specs.State.{IsValid, cursor_of, top_of, is_range_used, with_cursor}
+use Rattle.placement.proofs.RoundingLemmas.{min_align_le}
+use Rattle.placement.proofs.CursorLemmas.{top_le}
+use Rattle.placement.proofs.ReturnLemmas.{IsReturn, is_return, block_end}
+use Rattle.arena_chunks.specs.Memory.{Memory, is_readable}
+use Rattle.arena_chunks.specs.Frame.{Frame, padded}
+use Rattle.arena_chunks.specs.declared.block.Block.{Block}
+use Rattle.arena_chunks.specs.declared.arena.Arena.TheInside.{Inside}
+use Rattle.arena_chunks.proofs.StoredLemmas.{view_of, Stands, cursor_stored, cursor_view}
+use Rattle.arena_chunks.proofs.FrameLemmas.{byte_moved, frame_dealloc}
+
+-- a block at the cursor
+pub record IsLast (m : ℕ) (memory : Memory) (block : Block) : Type 0 where
+  pub valid : IsValid memory.state
+  pub at : block.addr ≡ cursor_of memory.state.chunks
+  pub ends : block.addr + block.size ≤ top_of memory.state.chunks
+  pub fits : block.addr + block.size + (m - 1) < 2 ^ 64
+  pub unit : m ≡ memory.state.min_align
+
+pub is_last : (m : ℕ) (a : Inside m) (memory : Memory) (block : Block) → Stands m a → view_of m a ≡ memory → IsTrue (is_readable memory.state block) → block.addr ≡ a.newest.cursor
+    → IsLast m memory block
+is_last m a memory block stands view readable here =
+    let valid = subst (λ (w : Memory). IsValid w.state) view stands.valid in
+    let at = here ∙ cursor_stored m a memory stands view in
+    let used = either (block.size == 0) (block.generation == memory.state.generation) (is_range_used memory.state.chunks block.addr block.size) readable in
+    let ends = block_end memory.state (record { addr = block.addr; size = block.size; align = block.align }) valid used at in
+    record {
+      valid = valid;
+      at = at;
+      ends = ends;
+      fits = omega (arith, ends, top_le memory.state valid, min_align_le m stands.valid.min_align);
+      unit = ap (λ (w : Memory). w.state.min_align) view;
+    }
+  where
+    either : (a b c : Bool) → IsTrue (a || (b && c)) → IsTrue (a || c)
+    either true b c h = refl
+    either false true c h = h
+    either false false c h = cc
+
+-- the cursor moves to where it goes if the block is given back
+pub last_returned : (m : ℕ) (memory : Memory) (block : Block) (q : ℕ) → IsLast m memory block → q ≡ up (block.addr + block.size) m → IsReturn memory.state block.addr block.size q
+last_returned m memory block q last is = is_return memory.state block.addr block.size q last.valid last.at last.ends (is ∙ ap (up (block.addr + block.size)) last.unit)
+
+pub frame_returned : (m : ℕ) (a : Inside m) (memory : Memory) (block : Block) (q : ℕ) → view_of m a ≡ memory → IsLast m memory block → q ≡ up (block.addr + block.size) m
+    → Frame memory (view_of m (record a { newest = record a.newest { cursor = q } })) (padded memory.state.min_align block ∷ []) []
+frame_returned m a memory block q view last is =
+    let moved : Memory = record { state = with_cursor q memory.state; statistics = memory.statistics; bytes = memory.bytes } in
+    rw (cursor_view m a memory q view)
+    (frame_dealloc memory moved block last.valid (sym (last_returned m memory block q last is).step) (λ p. byte_moved q memory.state.chunks memory.bytes p))

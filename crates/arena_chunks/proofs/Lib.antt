@@ -1,0 +1,13 @@
+pub mod HeldLemmas
+pub mod WrittenLemmas
+pub mod ServingLemmas
+pub mod RunLemmas
+pub mod Asking
+pub mod BytesLemmas
+pub mod TableLemmas
+pub mod StoredLemmas
+pub mod FrameLemmas
+pub mod AllocationLemmas
+pub mod GrowthLemmas
+pub mod LastLemmas
+pub mod PartLemmas

@@ -1,0 +1,210 @@
+-- The chunk of an arena that has a range in use.
+use Rattle.std.proofs.Common.{◌≡◌, ℕ, ◌+◌, ◌-◌, ◌<◌, ◌≤◌, ◌^◌, ap, sym, refl, subst, ◌∙◌, arith, IsTrue, List, [], ◌∷◌, ◌++◌, false, Bool, length, reverse, take, drop, get_or, inl, inr, append_assoc}
+use Rattle.std.specs.Prelude.{nat_le, ◌==◌, ◌||◌, ◌&&◌, slice_set}
+use Rattle.std.specs.List.{list_any, All, AllByRecursion}
+use Rattle.std.specs.List.Sorted.{IsNonDecreasingBy}
+use Rattle.std.proofs.lemmas.Bool.{cases_Bool, or_cases, or_left, or_right}
+use Rattle.std.proofs.lemmas.Bool.Decides.{nat_tests}
+use Rattle.std.proofs.lemmas.List.{reverse-append, reverse-reverse, set_at, length-append}
+use Rattle.std.proofs.lemmas.List.Elements.{All-nil, All-head, All-tail, All-push, All-from_recursion, recursion_from_All}
+use Rattle.std.proofs.Math.Seq.{get_or-append_seam}
+use Rattle.placement.specs.Machine.{splice}
+use Rattle.placement.specs.State.{State, Chunk, IsValid, AreChunks, floor_of, is_used_by, is_range_used}
+use Rattle.placement.proofs.UsedLemmas.{used_under}
+use Rattle.arena_chunks.specs.Memory.{Memory, image, is_readable, bytes_from, written, Writes}
+use Rattle.arena_chunks.specs.Stored.{stored_chunk, IsStored, IsSearchable, IsLastBelow, IsEdited}
+use Rattle.arena_chunks.specs.declared.block.Block.{Block}
+use Rattle.arena_chunks.specs.declared.chunk.StoredChunk.{StoredChunk}
+use Rattle.arena_chunks.specs.declared.arena.Arena.TheInside.{Inside}
+use Rattle.arena_chunks.proofs.TableLemmas.{chunks_in, bytes_in, table_rises, some_below, range_held, range_bytes, IsSplice, same_chunk, same_chunks, range_written}
+use Rattle.arena_chunks.proofs.StoredLemmas.{view_with, view_of, Stands, differs}
+
+-- ---- A range of a readable block is in use
+
+used_part : (addr n p k : ℕ) → (chunks : List Chunk) → IsTrue (is_range_used chunks addr n) → addr ≤ p → p + k ≤ addr + n → IsTrue (is_range_used chunks p k)
+used_part addr n p k [] used low high = used
+used_part addr n p k (newest ∷ older) used low high = elim (or_cases (is_used_by addr n newest) (is_range_used older addr n) used) [
+  | inl here ↦ or_left (is_used_by p k newest) (is_range_used older p k) (grind (arith, nat_tests))
+  | inr there ↦ or_right (is_used_by p k newest) (is_range_used older p k) (used_part addr n p k older there low high)
+]
+
+readable_part : (state : State) (block : Block) (p n : ℕ) → IsTrue (is_readable state block) → block.addr ≤ p → p + n ≤ block.addr + block.size → 0 < n → IsTrue (is_range_used state.chunks p n)
+readable_part state block p n readable low high some =
+    used_part block.addr block.size p n state.chunks
+    (filled block.size (block.generation == state.generation) (is_range_used state.chunks block.addr block.size) (omega arith) readable) low high
+  where
+    filled : (n : ℕ) (b c : Bool) → 0 < n → IsTrue (n == 0 || (b && c)) → IsTrue c
+    filled n b c some readable = grind (arith, nat_tests)
+
+-- ---- Lists, and the element that was looked up
+
+all_reversed : {X : Type 0} (P : X → Type 0) → (xs : List X) → All P xs → All P (reverse xs)
+all_reversed P [] all = All-nil P
+all_reversed P (x ∷ xs) all = subst (All P) (sym (reverse-append (x ∷ []) xs)) (All-push P (reverse xs) x (all_reversed P xs (All-tail P x xs all)) (All-head P x xs all))
+
+reverse_split : (before : List StoredChunk) (chunk : StoredChunk) (after : List StoredChunk) → reverse (before ++ chunk ∷ after) ≡ reverse after ++ chunk ∷ reverse before
+reverse_split before chunk after = reverse-append before (chunk ∷ after) ∙ ap (λ (l : List StoredChunk). l ++ reverse before) (reverse-append (chunk ∷ []) after) ∙ append_assoc (reverse after) (chunk ∷ []) (reverse before)
+
+pub last_within : (older : List StoredChunk) (addr i : ℕ) → IsLastBelow older addr i → i < length older
+last_within older addr i last = omega (arith, ap length last.split, length-append last.before (last.chunk ∷ last.after), last.at)
+
+last_is : (older : List StoredChunk) (addr i : ℕ) (r : StoredChunk) → (last : IsLastBelow older addr i) → r ≡ get_or older i r → last.chunk ≡ r
+last_is older addr i r last is =
+    sym (is ∙ ap (λ (l : List StoredChunk). get_or l i r) last.split ∙ ap (λ (k : ℕ). get_or (last.before ++ last.chunk ∷ last.after) k r) (sym last.at)
+    ∙ get_or-append_seam last.before last.chunk last.after r)
+
+-- ---- The chunk that has it
+
+module _ (m : ℕ) (a : Inside m) (memory : Memory) where
+  -- a range in use in an open arena
+  pub record IsRange (addr n : ℕ) : Type 0 where
+    pub some : 0 < n
+    pub stands : Stands m a
+    pub view : view_of m a ≡ memory
+    pub chunk : (a.newest.base == 16) ≡ false
+    pub valid : AreChunks m (chunks_in (a.newest ∷ reverse a.older.items))
+    pub used : IsTrue (is_range_used (chunks_in (a.newest ∷ reverse a.older.items)) addr n)
+
+  is_range : (addr n : ℕ) → Stands m a → view_of m a ≡ memory → 0 < n → IsTrue (is_range_used memory.state.chunks addr n) → IsRange addr n
+  is_range addr n stands view some used =
+      let here = subst (λ (w : Memory). IsTrue (is_range_used w.state.chunks addr n)) (sym view) used in
+      elim (cases_Bool (a.newest.base == 16)) [
+        | inl none ↦ absurd (none_used (rw none at here))
+        | inr chunk ↦ record { some = some; stands = stands; view = view; chunk = chunk; valid = rw chunk at stands.valid.chunks; used = rw chunk at here }
+      ]
+    where
+      none_used : IsTrue false → ⊥
+      none_used no_way = cc
+
+  pub block_range : (block : Block) (addr n : ℕ) → Stands m a → view_of m a ≡ memory → IsTrue (is_readable memory.state block) → block.addr ≤ addr → addr + n ≤ block.addr + block.size
+      → (n ≡ 0 → ⊥) → IsRange addr n
+  block_range block addr n stands view readable low high some =
+      let more : 0 < n = omega (arith, some) in
+      is_range addr n stands view more (readable_part memory.state block addr n readable low high more)
+
+  pub range_fits : (addr n : ℕ) → IsRange addr n → addr < 2 ^ 64
+  range_fits addr n range =
+      let top : floor_of (chunks_in (a.newest ∷ reverse a.older.items)) ≤ 2 ^ 64 - 1 = rw range.chunk at range.stands.valid.top in
+      omega (arith, used_under m addr n (chunks_in (a.newest ∷ reverse a.older.items)) range.valid range.some range.used, top)
+
+  -- the chunk, and those that are newer and older
+  pub record IsPart (addr n : ℕ) (newer : List StoredChunk) (chunk : StoredChunk) (rest : List StoredChunk) : Type 0 where
+    pub range : IsRange addr n
+    pub split : a.newest ∷ reverse a.older.items ≡ newer ++ chunk ∷ rest
+    pub low : chunk.base ≤ addr
+    pub high : addr + n ≤ chunk.base + length chunk.bytes.items
+    pub bytes : take n (drop (addr - chunk.base) chunk.bytes.items) ≡ bytes_from (image memory) addr n
+
+  by_image : (addr n : ℕ) → IsRange addr n → bytes_in (a.newest ∷ reverse a.older.items) ≡ image memory
+  by_image addr n range = subst (λ (w : Memory). bytes_in (a.newest ∷ reverse a.older.items) ≡ image w) range.view (rw range.chunk refl)
+
+  is_part : (addr n : ℕ) (newer : List StoredChunk) (chunk : StoredChunk) (rest : List StoredChunk) → IsRange addr n
+      → a.newest ∷ reverse a.older.items ≡ newer ++ chunk ∷ rest → AllByRecursion (λ (c : StoredChunk). addr < c.base) newer → chunk.base ≤ addr → IsPart addr n newer chunk rest
+  is_part addr n newer chunk rest range split above low =
+      let valid = subst (λ (l : List StoredChunk). AreChunks m (chunks_in l)) split range.valid in
+      let used = subst (λ (l : List StoredChunk). IsTrue (is_range_used (chunks_in l) addr n)) split range.used in
+      let high = range_held m addr n newer chunk rest valid range.some above low used in
+      record {
+        range = range;
+        split = split;
+        low = low;
+        high = high;
+        bytes = range_bytes m addr n newer chunk rest valid low high ∙ ap (λ (f : ℕ → ℕ). bytes_from f addr n) (ap bytes_in (sym split) ∙ by_image addr n range);
+      }
+
+  pub newest_part : (addr n : ℕ) → IsRange addr n → a.newest.base ≤ addr → IsPart addr n [] a.newest (reverse a.older.items)
+  newest_part addr n range above = is_part addr n [] a.newest (reverse a.older.items) range refl tt above
+
+  older_part : (addr n i : ℕ) → IsRange addr n → addr < a.newest.base → (last : IsLastBelow a.older.items addr i)
+      → IsPart addr n (a.newest ∷ reverse last.after) last.chunk (reverse last.before)
+  older_part addr n i range below last =
+      is_part addr n (a.newest ∷ reverse last.after) last.chunk (reverse last.before) range
+      (ap (λ (l : List StoredChunk). a.newest ∷ l) (ap reverse last.split ∙ reverse_split last.before last.chunk last.after))
+      (below, recursion_from_All (λ (c : StoredChunk). addr < c.base) (reverse last.after) (all_reversed (λ (c : StoredChunk). addr < c.base) last.after (All-from_recursion (λ (c : StoredChunk). addr < c.base) last.after last.above)))
+      last.low
+
+  -- what the binary search asks of the table
+  table_sorted : (addr n : ℕ) → IsRange addr n → IsNonDecreasingBy (λ c. c.base) a.older.items
+  table_sorted addr n range = subst (IsNonDecreasingBy (λ (c : StoredChunk). c.base)) (reverse-reverse a.older.items) (table_rises m (reverse a.older.items) range.valid.2)
+
+  table_some : (addr n : ℕ) → IsRange addr n → addr < a.newest.base → IsTrue (list_any (λ c. nat_le c.base addr) a.older.items)
+  table_some addr n range below =
+      subst (λ (l : List StoredChunk). IsTrue (list_any (λ c. nat_le c.base addr) l)) (reverse-reverse a.older.items)
+      (some_below m addr n (reverse a.older.items) range.valid.2 (elim (or_cases (is_used_by addr n (stored_chunk a.newest)) (is_range_used (chunks_in (reverse a.older.items)) addr n) range.used) [
+        | inl here ↦ let from : a.newest.cursor ≤ addr = grind (arith, nat_tests) in absurd (omega (arith, range.valid.0.cursor_low))
+        | inr there ↦ there
+      ]))
+
+  pub searchable : (addr n : ℕ) → IsRange addr n → addr < a.newest.base → IsSearchable a.older.items addr
+  searchable addr n range below = record { sorted = table_sorted addr n range; some = table_some addr n range below }
+
+  -- an older chunk that was looked up has the range
+  pub record IsOlder (addr n i : ℕ) (chunk : StoredChunk) : Type 0 where
+    pub before : List StoredChunk
+    pub after : List StoredChunk
+    pub table : a.older.items ≡ before ++ chunk ∷ after
+    pub at : length before ≡ i
+    pub part : IsPart addr n (a.newest ∷ reverse after) chunk (reverse before)
+
+  pub is_older : (addr n i : ℕ) (table : List StoredChunk) (r : StoredChunk) → IsRange addr n → addr < a.newest.base → table ≡ a.older.items
+      → IsLastBelow table addr i → r ≡ get_or a.older.items i r → IsOlder addr n i r
+  is_older addr n i table r range below same found is =
+      let last = subst (λ (l : List StoredChunk). IsLastBelow l addr i) same found in
+      subst (IsOlder addr n i) (last_is a.older.items addr i r last is)
+      (record { before = last.before; after = last.after; table = last.split; at = last.at; part = older_part addr n i range below last })
+
+  -- ---- A range of it written
+
+  pub record IsWritten (addr n : ℕ) (list : List ℕ) (newest : StoredChunk) (older : List StoredChunk) : Type 0 where
+    pub stored : IsStored (view_with m a newest older) newest older
+    pub state : (view_with m a newest older).state ≡ memory.state
+    pub image : Writes memory (view_with m a newest older) addr list
+    pub sized : length list ≡ n
+
+  by_state : (addr n : ℕ) → IsRange addr n
+      → record { min_align = m; is_growing = a.is_growing; generation = a.generation; chunks = chunks_in (a.newest ∷ reverse a.older.items) } ≡ memory.state
+  by_state addr n range =
+      subst (λ (w : Memory). record { min_align = m; is_growing = a.is_growing; generation = a.generation; chunks = chunks_in (a.newest ∷ reverse a.older.items) } ≡ w.state) range.view (rw range.chunk refl)
+
+  -- the chunk is replaced by another, in which the range is edited
+  part_written : (addr n : ℕ) (newer : List StoredChunk) (chunk : StoredChunk) (rest : List StoredChunk) (gives : List ℕ → List ℕ) (new newest : StoredChunk) (older : List StoredChunk)
+      → IsPart addr n newer chunk rest → newest ∷ reverse older ≡ newer ++ new ∷ rest → newest.base ≡ a.newest.base → IsEdited chunk new addr n gives
+      → IsWritten addr n (gives (bytes_from (image memory) addr n)) newest older
+  part_written addr n newer chunk rest gives new newest older part split base edited =
+      let list = gives (bytes_from (image memory) addr n) in
+      let sized : length list ≡ n = ap (λ (l : List ℕ). length (gives l)) (sym part.bytes) ∙ edited.sized in
+      let is : IsSplice chunk new addr list = record {
+        base = edited.base;
+        cursor = edited.cursor;
+        low = part.low;
+        high = omega (arith, part.high, sized);
+        bytes = edited.bytes ∙ ap (λ (l : List ℕ). splice chunk.bytes.items (addr - chunk.base) (gives l)) part.bytes;
+      } in
+      let test : (newest.base == 16) ≡ false = ap (λ (b : ℕ). b == 16) base ∙ part.range.chunk in
+      let chunks : chunks_in (newest ∷ reverse older) ≡ chunks_in (a.newest ∷ reverse a.older.items) =
+      ap chunks_in split ∙ same_chunks newer rest chunk new (same_chunk chunk new addr list is) ∙ sym (ap chunks_in part.split) in
+      let valid = subst (λ (l : List StoredChunk). AreChunks m (chunks_in l)) part.split part.range.valid in
+      let state : (view_with m a newest older).state ≡ memory.state =
+      rw test (ap (λ (l : List Chunk). record { min_align = m; is_growing = a.is_growing; generation = a.generation; chunks = l }) chunks ∙ by_state addr n part.range) in
+      record {
+        stored = record {
+          valid = subst IsValid (sym state) (subst (λ (w : Memory). IsValid w.state) part.range.view part.range.stands.valid);
+          none = λ same. absurd (differs newest.base test same);
+        };
+        state = state;
+        image = λ p. rw test (ap (λ (l : List StoredChunk). bytes_in l p) split ∙ range_written m p addr list newer chunk new rest valid is
+            ∙ ap (λ (f : ℕ → ℕ). written f addr list p) (ap bytes_in (sym part.split) ∙ by_image addr n part.range));
+        sized = sized;
+      }
+
+  pub newest_written : (addr n : ℕ) (gives : List ℕ → List ℕ) (new : StoredChunk) → IsRange addr n → a.newest.base ≤ addr → IsEdited a.newest new addr n gives
+      → IsWritten addr n (gives (bytes_from (image memory) addr n)) new a.older.items
+  newest_written addr n gives new range above edited =
+      part_written addr n [] a.newest (reverse a.older.items) gives new new a.older.items (newest_part addr n range above) refl edited.base edited
+
+  pub older_written : (addr n i : ℕ) (chunk : StoredChunk) (gives : List ℕ → List ℕ) (new : StoredChunk) → IsOlder addr n i chunk → IsEdited chunk new addr n gives
+      → IsWritten addr n (gives (bytes_from (image memory) addr n)) a.newest (slice_set a.older.items i new)
+  older_written addr n i chunk gives new old edited =
+      let table : slice_set a.older.items i new ≡ old.before ++ new ∷ old.after = ap (λ (l : List StoredChunk). slice_set l i new) old.table ∙ set_at old.before chunk old.after new i old.at in
+      part_written addr n (a.newest ∷ reverse old.after) chunk (reverse old.before) gives new a.newest (slice_set a.older.items i new) old.part
+      (ap (λ (l : List StoredChunk). a.newest ∷ l) (ap reverse table ∙ reverse_split old.before new old.after)) refl edited

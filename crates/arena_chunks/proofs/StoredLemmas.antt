@@ -1,0 +1,171 @@
+-- What the fields of an arena stand for.
+use Rattle.std.proofs.Common.{◌≡◌, ℕ, ◌+◌, ◌<◌, ◌≤◌, ◌^◌, ap, sym, refl, subst, ◌∙◌, arith, List, [], ◌∷◌, false, Bool, length, eqb-true, map, reverse, inl, inr, ◌⊎◌, sum, sum_by, take, get_or, Option, true}
+use Rattle.std.specs.Prelude.{◌==◌, ◌||◌}
+use Rattle.std.specs.List.{All, list_any}
+use Rattle.std.proofs.lemmas.Bool.{cases_Bool}
+use Rattle.std.proofs.lemmas.Bool.Decides.{nat_tests}
+use Rattle.std.proofs.lemmas.List.Sums.{sum-map, sum_by-cons, sum_by_more_le}
+use Rattle.std.proofs.lemmas.List.{reverse-append, reverse-reverse}
+use Rattle.std.proofs.lemmas.List.Elements.{All-nil, All-push}
+use Rattle.std.proofs.lemmas.List.Sorted.{sum_by-IsPermutation, list_any-IsPermutation, IsPermutation-reverse}
+use Rattle.placement.specs.State.{State, Chunk, AreChunks, IsChunk, IsValid, start_of, cursor_of, top_of, floor_of, with_cursor, used_length, is_used_by, is_range_used}
+use Rattle.placement.specs.Search.{place, place_below}
+use Rattle.arena_chunks.specs.Memory.{Memory}
+use Rattle.arena_chunks.specs.Stored.{stored_chunk, memory_of, IsNone, IsStored, IsOrdered}
+use Rattle.arena_chunks.specs.declared.chunk.StoredChunk.{StoredChunk}
+use Rattle.arena_chunks.specs.declared.arena.Arena.TheInside.{Inside}
+use Rattle.arena_chunks.proofs.TableLemmas.{chunks_in}
+
+-- the memory of an open arena, also with other chunks
+abbrev pub view_with : (m : ℕ) → Inside m → StoredChunk → List StoredChunk → Memory
+view_with m a newest older = memory_of m a.is_growing a.generation a.allocations a.reallocations newest older
+
+abbrev pub view_of : (m : ℕ) → Inside m → Memory
+view_of m a = view_with m a a.newest a.older.items
+
+abbrev pub Stands : (m : ℕ) → Inside m → Type 0
+Stands m a = IsStored (view_of m a) a.newest a.older.items
+
+chunks_ordered : (m : ℕ) (chunks : List StoredChunk) → AreChunks m (chunks_in chunks) → floor_of (chunks_in chunks) < 2 ^ 64 → All IsOrdered (reverse chunks)
+chunks_ordered m [] valid below = All-nil IsOrdered
+chunks_ordered m (newest ∷ older) valid below =
+    subst (All IsOrdered) (sym (reverse-append (newest ∷ []) older))
+    (All-push IsOrdered (reverse older) newest (chunks_ordered m older valid.2 (omega (arith, valid.1, valid.0.cursor_low, valid.0.cursor_high)))
+    (record { low = valid.0.cursor_low; high = valid.0.cursor_high; fits = omega arith }))
+
+sum_mapped : (f : Chunk → ℕ) (chunks : List StoredChunk) → sum_by f (chunks_in chunks) ≡ sum_by (λ c. f (stored_chunk c)) chunks
+sum_mapped f [] = refl
+sum_mapped f (x ∷ xs) =
+    sum_by-cons f (stored_chunk x) (chunks_in xs) ∙ ap (λ (n : ℕ). f (stored_chunk x) + n) (sum_mapped f xs) ∙ sym (sum_by-cons (λ (c : StoredChunk). f (stored_chunk c)) x xs)
+
+-- a sum of what is at most the sizes has 64 bits
+sum_fits : (f : Chunk → ℕ) (memory : Memory) → IsValid memory.state → ((c : Chunk) → IsChunk memory.state.min_align c → f c ≤ c.size) → sum (map f memory.state.chunks) < 2 ^ 64
+sum_fits f memory valid small = omega (arith, sum-map f memory.state.chunks, go memory.state.chunks valid.chunks, valid.top)
+  where
+    go : (chunks : List Chunk) → AreChunks memory.state.min_align chunks → sum_by f chunks ≤ floor_of chunks
+    go [] fine = omega arith
+    go (newest ∷ older) fine = omega (arith, sum_by-cons f newest older, go older fine.2, small newest fine.0, fine.1)
+
+any_mapped : (p : Chunk → Bool) (chunks : List StoredChunk) → list_any p (chunks_in chunks) ≡ list_any (λ c. p (stored_chunk c)) chunks
+any_mapped p [] = refl
+any_mapped p (x ∷ xs) = ap (λ (b : Bool). p (stored_chunk x) || b) (any_mapped p xs)
+
+-- where the newest cursor may be
+pub record IsCursor (state : State) (q : ℕ) : Type 0 where
+  pub low : start_of state.chunks ≤ q
+  pub high : q ≤ top_of state.chunks
+  pub valid : IsValid (with_cursor q state)
+
+pub differs : (n : ℕ) → (n == 16) ≡ false → n ≡ 16 → ⊥
+differs n test same = grind (arith, nat_tests)
+
+module _ (m : ℕ) (a : Inside m) where
+  -- whether there is a chunk
+  pub kind : Stands m a → (((a.newest.base == 16) ≡ true) × (a.newest.base ≡ 16) × IsNone a.newest a.older.items) ⊎ ((a.newest.base == 16) ≡ false)
+  kind stands = elim (cases_Bool (a.newest.base == 16)) [
+    | inl none ↦ inl (none, eqb-true _ _ none, stands.none (eqb-true _ _ none))
+    | inr chunk ↦ inr chunk
+  ]
+
+  -- ---- Each chunk's numbers are in order
+
+  pub newest_ordered : Stands m a → IsOrdered a.newest
+  newest_ordered stands = elim (kind stands) [
+    | inl none ↦
+        let size : length a.newest.bytes.items ≡ 0 = ap length none.2.bytes in
+        record { low = omega (arith, none.1, none.2.cursor); high = omega (arith, none.1, none.2.cursor); fits = omega (arith, none.1) }
+    | inr some ↦
+        let valid = rw some at stands.valid in
+        record { low = valid.chunks.0.cursor_low; high = valid.chunks.0.cursor_high; fits = omega (arith, valid.top) }
+  ]
+
+  pub older_ordered : Stands m a → All IsOrdered a.older.items
+  older_ordered stands = elim (kind stands) [
+    | inl none ↦ subst (All IsOrdered) (sym none.2.older) (All-nil IsOrdered)
+    | inr some ↦
+        let valid = rw some at stands.valid in
+        subst (All IsOrdered) (reverse-reverse a.older.items) (chunks_ordered m (reverse a.older.items) valid.chunks.2 (omega (arith, valid.top, valid.chunks.1, valid.chunks.0.cursor_low, valid.chunks.0.cursor_high)))
+  ]
+
+  -- ---- Sums over all chunks
+
+  -- a sum over all chunks is that of the newest and of the table
+  pub sum_all : (memory : Memory) (f : Chunk → ℕ) → Stands m a → view_of m a ≡ memory → (a.newest.base ≡ 16 → f (stored_chunk a.newest) ≡ 0)
+      → f (stored_chunk a.newest) + sum_by (λ c. f (stored_chunk c)) a.older.items ≡ sum (map f memory.state.chunks)
+  sum_all memory f stands view zero = subst (λ (w : Memory). f (stored_chunk a.newest) + sum_by (λ c. f (stored_chunk c)) a.older.items ≡ sum (map f w.state.chunks)) view
+      (elim (kind stands) [
+        | inl none ↦ rw (none.0, none.2.older) (omega (arith, zero none.1))
+        | inr some ↦
+            let same = sum_by-IsPermutation (λ (c : StoredChunk). f (stored_chunk c)) a.older.items (reverse a.older.items) (IsPermutation-reverse a.older.items) in
+            rw some (sym (sum-map f (chunks_in (a.newest ∷ reverse a.older.items)) ∙ sum_mapped f (a.newest ∷ reverse a.older.items) ∙ sum_by-cons (λ (c : StoredChunk). f (stored_chunk c)) a.newest (reverse a.older.items)
+            ∙ ap (λ (n : ℕ). f (stored_chunk a.newest) + n) same))
+      ])
+
+  -- so has each sum on the way, over the newest and a first part of the table
+  pub sum_on_way : (f : Chunk → ℕ) (items : List StoredChunk) (i : ℕ) (c : StoredChunk) → Stands m a → (a.newest.base ≡ 16 → f (stored_chunk a.newest) ≡ 0)
+      → ((c : Chunk) → IsChunk m c → f c ≤ c.size) → items ≡ a.older.items → i < length items → c ≡ get_or items i c
+      → f (stored_chunk a.newest) + sum_by (λ c. f (stored_chunk c)) (take i items) + f (stored_chunk c) < 2 ^ 64
+  sum_on_way f items i c stands none small is below at =
+      let all = sum_all (view_of m a) f stands refl none in
+      let next = sum_by_more_le (λ (c : StoredChunk). f (stored_chunk c)) items i c below in
+      omega (arith, all, sum_fits f (view_of m a) stands.valid small, next, ap (λ (c : StoredChunk). f (stored_chunk c)) at, ap (sum_by (λ (c : StoredChunk). f (stored_chunk c))) is)
+
+  pub item_ordered : (items : List StoredChunk) (i : ℕ) (c : StoredChunk) → Stands m a → items ≡ a.older.items → i < length items → c ≡ get_or items i c → IsOrdered c
+  item_ordered items i c stands is below at = subst IsOrdered (sym at) (subst (All IsOrdered) (sym is) (older_ordered stands) i c below)
+
+  pub none_used : Stands m a → a.newest.base ≡ 16 → used_length (stored_chunk a.newest) ≡ 0
+  none_used stands none = omega (arith, (stands.none none).cursor, ap length (stands.none none).bytes)
+
+  -- ---- Ranges in use
+
+  -- a range is used by the newest chunk or by one of the table
+  pub used_all : (memory : Memory) (addr n : ℕ) → Stands m a → view_of m a ≡ memory → 0 < n
+      → (is_used_by addr n (stored_chunk a.newest) || list_any (λ c. is_used_by addr n (stored_chunk c)) a.older.items) ≡ is_range_used memory.state.chunks addr n
+  used_all memory addr n stands view some =
+      subst (λ (w : Memory). (is_used_by addr n (stored_chunk a.newest) || list_any (λ c. is_used_by addr n (stored_chunk c)) a.older.items) ≡ is_range_used w.state.chunks addr n) view
+      (elim (kind stands) [
+        | inl none ↦
+            let empty : is_used_by addr n (stored_chunk a.newest) ≡ false = nothing none.1 none.2 in
+            rw (none.0, none.2.older, empty) refl
+        | inr chunk ↦
+            rw chunk (ap (λ (b : Bool). is_used_by addr n (stored_chunk a.newest) || b)
+            (list_any-IsPermutation (λ (c : StoredChunk). is_used_by addr n (stored_chunk c)) a.older.items (reverse a.older.items) (IsPermutation-reverse a.older.items) ∙ sym (any_mapped (is_used_by addr n) (reverse a.older.items))))
+      ])
+    where
+      nothing : a.newest.base ≡ 16 → IsNone a.newest a.older.items → is_used_by addr n (stored_chunk a.newest) ≡ false
+      nothing base is = let cursor = is.cursor in let size = ap length is.bytes in grind (arith, nat_tests)
+
+  -- ---- Moves
+
+  -- the place by the fields is the state's
+  pub place_stored : (memory : Memory) (size align : ℕ) (found : Option ℕ) → Stands m a → view_of m a ≡ memory
+      → found ≡ place_below a.newest.base a.newest.cursor size align m → place memory.state size align ≡ found
+  place_stored memory size align found stands view is = subst (λ (w : Memory). place w.state size align ≡ found) view
+      (elim (kind stands) [
+        | inl none ↦ rw (is, none.0, none.1, none.2.cursor) refl
+        | inr some ↦ rw (is, some) refl
+      ])
+
+  pub cursor_stored : (memory : Memory) → Stands m a → view_of m a ≡ memory → a.newest.cursor ≡ cursor_of memory.state.chunks
+  cursor_stored memory stands view = subst (λ (w : Memory). a.newest.cursor ≡ cursor_of w.state.chunks) view
+      (elim (kind stands) [
+        | inl none ↦ rw (none.0, none.2.cursor) refl
+        | inr some ↦ rw some refl
+      ])
+
+  -- the newest chunk with another cursor
+  pub cursor_moved : (memory : Memory) (q allocations : ℕ) → Stands m a → view_of m a ≡ memory → IsCursor memory.state q
+      → IsStored (memory_of m a.is_growing a.generation allocations a.reallocations (record a.newest { cursor = q }) a.older.items) (record a.newest { cursor = q }) a.older.items
+  cursor_moved memory q allocations stands view moved =
+      let at = subst (λ (w : Memory). IsCursor w.state q) (sym view) moved in
+      elim (kind stands) [
+        | inl none ↦
+            let here = rw none.0 at at in
+            record { valid = rw none.0 here.valid; none = λ same. record { cursor = omega (arith, here.low, here.high); bytes = none.2.bytes; older = none.2.older } }
+        | inr some ↦ let here = rw some at at in record { valid = rw some here.valid; none = λ same. absurd (differs a.newest.base some same) }
+      ]
+
+  pub cursor_view : (memory : Memory) (q : ℕ) → view_of m a ≡ memory
+      → view_of m (record a { newest = record a.newest { cursor = q } }) ≡ record { state = with_cursor q memory.state; statistics = memory.statistics; bytes = memory.bytes }
+  cursor_view memory q view = subst (λ (w : Memory). view_of m (record a { newest = record a.newest { cursor = q } }) ≡ record { state = with_cursor q w.state; statistics = w.statistics; bytes = w.bytes }) view
+      (elim (cases_Bool (a.newest.base == 16)) [ inl none ↦ rw none refl | inr some ↦ rw some refl ])

@@ -1,0 +1,40 @@
+-- The bytes of a range after some of them were written.
+use Rattle.std.proofs.Common.{◌≡◌, ℕ, ◌+◌, ◌-◌, ◌<◌, ◌≤◌, refl, sym, ◌∙◌, arith, List, true, length}
+use Rattle.std.specs.Prelude.{nat_le, nat_lt}
+use Rattle.std.proofs.lemmas.Bool.Decides.{nat_tests}
+use Rattle.std.proofs.lemmas.Grind.{same_number_lists}
+use Rattle.placement.specs.Machine.{splice}
+use Rattle.arena_chunks.specs.Memory.{bytes_from, written}
+use Rattle.arena_chunks.proofs.BytesLemmas.{length-bytes, byte-bytes, length-splice, splice_index}
+
+pub bytes_same : (f g : ℕ → ℕ) (addr n : ℕ) → ((i : ℕ) → i < n → f (addr + i) ≡ g (addr + i)) → bytes_from f addr n ≡ bytes_from g addr n
+bytes_same f g addr n same =
+    let sized = length-bytes f addr n in
+    same_number_lists (bytes_from f addr n) (bytes_from g addr n) (sized ∙ sym (length-bytes g addr n)) (λ i below.
+    let inside : i < n = omega arith in
+    byte-bytes f addr n i inside ∙ same i inside ∙ sym (byte-bytes g addr n i inside))
+
+-- A list that is written stands there.
+pub bytes_written : (f g : ℕ → ℕ) (addr : ℕ) (list : List ℕ) → ((a : ℕ) → g a ≡ written f addr list a) → bytes_from g addr (length list) ≡ list
+bytes_written f g addr list writes =
+    let sized = length-bytes g addr (length list) in
+    same_number_lists (bytes_from g addr (length list)) list sized (λ i below.
+    let low : nat_le addr (addr + i) ≡ true = grind (arith, nat_tests) in
+    let high : nat_lt (addr + i) (addr + length list) ≡ true = grind (arith, nat_tests) in
+    let index : addr + i - addr ≡ i = omega arith in
+    byte-bytes g addr (length list) i (omega arith) ∙ writes (addr + i) ∙ rw (low, high, index) refl)
+
+-- What stands in a range that has a written one.
+pub bytes_spliced : (f g : ℕ → ℕ) (addr n at : ℕ) (list : List ℕ) → at + length list ≤ n → ((a : ℕ) → g a ≡ written f (addr + at) list a)
+    → bytes_from g addr n ≡ splice (bytes_from f addr n) at list
+bytes_spliced f g addr n at list within writes =
+    let old = length-bytes f addr n in
+    let sized = length-splice (bytes_from f addr n) list at (omega arith) in
+    same_number_lists (bytes_from g addr n) (splice (bytes_from f addr n) at list) (length-bytes g addr n ∙ sym (sized ∙ old)) (λ i below.
+    let new = length-bytes g addr n in
+    let inside : i < n = omega arith in
+    let low : nat_le (addr + at) (addr + i) ≡ nat_le at i = grind (arith, nat_tests) in
+    let high : nat_lt (addr + i) (addr + at + length list) ≡ nat_lt i (at + length list) = grind (arith, nat_tests) in
+    let index : addr + i - (addr + at) ≡ i - at = omega arith in
+    byte-bytes g addr n i inside ∙ writes (addr + i)
+    ∙ rw (low, high, index) (sym (splice_index (bytes_from f addr n) list at i (omega arith) ∙ rw (byte-bytes f addr n i inside) refl)))

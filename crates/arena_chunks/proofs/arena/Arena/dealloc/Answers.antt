@@ -1,0 +1,48 @@
+use Rattle.std.proofs.Common.{◌∙◌, sym, ap, subst, arith}
+use Rattle.placement.specs.State.{IsValid}
+use Rattle.placement.proofs.RoundingLemmas.{min_align_power}
+use Rattle.placement.proofs.ReturnLemmas.{IsReturn, dealloc_elsewhere}
+use Rattle.arena_chunks.specs.Memory.{Memory}
+use Rattle.arena_chunks.proofs.StoredLemmas.{cursor_stored, cursor_moved, cursor_view}
+use Rattle.arena_chunks.proofs.LastLemmas.{IsLast, is_last, last_returned, frame_returned}
+use Rattle.arena_chunks.proofs.arena.Arena.dealloc.Given.{Over}
+use Rattle.arena_chunks.proofs.arena.Arena.dealloc.Goals as goal
+
+pub overflow_add-block : goal.overflow_add-block
+overflow_add-block g c =
+    let last = is_last g.row.MIN_ALIGN c.self.inside c.args.self.now c.args.block c.self.invariant c.self.view_is c.requires c.if-block-self.true in
+    omega (arith, last.fits)
+
+pub round_up_to_unchecked-self-inside-requires-clause-power : goal.round_up_to_unchecked-self-inside-requires-clause-power
+round_up_to_unchecked-self-inside-requires-clause-power g c = min_align_power g.row.MIN_ALIGN c.self.invariant.valid.min_align
+
+pub round_up_to_unchecked-self-inside-requires-clause-fits : goal.round_up_to_unchecked-self-inside-requires-clause-fits
+round_up_to_unchecked-self-inside-requires-clause-fits g c =
+    (is_last g.row.MIN_ALIGN c.self.inside c.args.self.now c.args.block c.self.invariant c.self.view_is c.requires c.if-block-self.true).fits
+
+last : (g : Over) (c : goal.After-self-1 g) → IsLast g.row.MIN_ALIGN c.args.self.now c.args.block
+last g c = is_last g.row.MIN_ALIGN c.self.inside c.args.self.now c.args.block c.self.invariant c.self.view_is c.requires c.if-block-self.true
+
+back : (g : Over) (c : goal.After-self-1 g) → IsReturn c.args.self.now.state c.args.block.addr c.args.block.size c.round_up_to_unchecked-self-inside.result
+back g c = last_returned g.row.MIN_ALIGN c.args.self.now c.args.block c.round_up_to_unchecked-self-inside.result (last g c) c.round_up_to_unchecked-self-inside.ensures
+
+pub invariant_of-self : goal.invariant_of-self
+invariant_of-self g c =
+    cursor_moved g.row.MIN_ALIGN c.self.inside c.args.self.now c.round_up_to_unchecked-self-inside.result c.self.inside.allocations c.self.invariant c.self.view_is
+    (record { low = (back g c).low; high = (back g c).high; valid = (back g c).valid })
+
+pub returns-then-block-self-clause-state : goal.returns-then-block-self-clause-state
+returns-then-block-self-clause-state g c =
+    ap (λ (w : Memory). w.state) (cursor_view g.row.MIN_ALIGN c.self.inside c.args.self.now c.round_up_to_unchecked-self-inside.result c.self.view_is) ∙ sym (back g c).step
+
+pub returns-then-block-self-clause-frame : goal.returns-then-block-self-clause-frame
+returns-then-block-self-clause-frame g c =
+    frame_returned g.row.MIN_ALIGN c.self.inside c.args.self.now c.args.block c.round_up_to_unchecked-self-inside.result c.self.view_is (last g c) c.round_up_to_unchecked-self-inside.ensures
+
+pub returns-then-block-self-clause-valid : goal.returns-then-block-self-clause-valid
+returns-then-block-self-clause-valid g c =
+    subst (λ (w : Memory). IsValid w.state) (sym (cursor_view g.row.MIN_ALIGN c.self.inside c.args.self.now c.round_up_to_unchecked-self-inside.result c.self.view_is)) (back g c).valid
+
+pub returns-else-block-self-clause-state : goal.returns-else-block-self-clause-state
+returns-else-block-self-clause-state g c =
+    sym (dealloc_elsewhere c.args.self.now.state c.args.block.addr c.args.block.size (λ same. c.if-block-self.false (same ∙ sym (cursor_stored g.row.MIN_ALIGN c.self.inside c.args.self.now c.self.invariant c.self.view_is))))

@@ -1,0 +1,75 @@
+use Rattle.std.proofs.Common.{ℕ, ◌+◌, ap, sym, ◌∙◌, arith, List, length}
+use Rattle.std.specs.Prelude.{slice_set}
+use Rattle.arena_chunks.specs.Memory.{Memory, image, bytes_from}
+use Rattle.arena_chunks.proofs.BytesLemmas.{no_bytes, written_none}
+use Rattle.arena_chunks.proofs.FrameLemmas.{frame_written}
+use Rattle.arena_chunks.proofs.PartLemmas.{block_range, range_fits, newest_part, searchable, is_older, IsWritten, newest_written, older_written}
+use Rattle.arena_chunks.proofs.arena.Arena.edit.Given.{Over}
+use Rattle.arena_chunks.proofs.arena.Arena.edit.Goals as goal
+
+pub returns-then-size-eq0-clause-bytes : goal.returns-then-size-eq0-clause-bytes
+returns-then-size-eq0-clause-bytes g c =
+    let none = no_bytes (image c.args.self.now) (c.args.block.addr + c.args.at) c.args.size c.if-size-eq0.true in
+    let sized = ap (λ (l : List ℕ). length (g.E.Edit.after c.args.e.now l)) none ∙ ap length (sym c.edit.ensures) ∙ c.edit.auto.place in
+    λ p. sym (written_none (image c.args.self.now) (c.args.block.addr + c.args.at) p _ sized)
+
+pub overflow_add-addr : goal.overflow_add-addr
+overflow_add-addr g c =
+    let range = block_range g.row.MIN_ALIGN c.self.inside c.args.self.now c.args.block (c.args.block.addr + c.args.at) c.args.size c.self.invariant c.self.view_is c.requires.readable (omega arith) (omega (arith, c.requires.range)) c.if-size-eq0.false in
+    omega (arith, range_fits _ _ _ _ _ range)
+
+-- ---- In the newest chunk
+
+pub edit_at-requires-clause-high : goal.edit_at-requires-clause-high
+edit_at-requires-clause-high g c =
+    let range = block_range g.row.MIN_ALIGN c.self.inside c.args.self.now c.args.block (c.args.block.addr + c.args.at) c.args.size c.self.invariant c.self.view_is c.requires.readable (omega arith) (omega (arith, c.requires.range)) c.if-size-eq0.false in
+    omega (arith, (newest_part _ _ _ _ _ range c.if-addr-newest.true).high, c.if-addr-newest.true)
+
+in_newest : (g : Over) (c : goal.After-edit_at g) → IsWritten g.row.MIN_ALIGN c.self.inside c.args.self.now (c.args.block.addr + c.args.at) c.args.size
+    (g.E.Edit.after c.args.e.now (bytes_from (image c.args.self.now) (c.args.block.addr + c.args.at) c.args.size)) c.edit_at.new.chunk c.self.inside.older.items
+in_newest g c =
+    let range = block_range g.row.MIN_ALIGN c.self.inside c.args.self.now c.args.block (c.args.block.addr + c.args.at) c.args.size c.self.invariant c.self.view_is c.requires.readable (omega arith) (omega (arith, c.requires.range)) c.if-size-eq0.false in
+    newest_written _ _ _ _ _ (g.E.Edit.after c.args.e.now) c.edit_at.new.chunk range c.if-addr-newest.true c.edit_at.ensures
+
+pub invariant_of-self : goal.invariant_of-self
+invariant_of-self g c = (in_newest g c).stored
+
+pub returns-then-addr-newest : goal.returns-then-addr-newest
+returns-then-addr-newest g c = record {
+  state = (in_newest g c).state;
+  statistics = ap (λ (w : Memory). w.statistics) c.self.view_is;
+  bytes = (in_newest g c).image;
+  frame = frame_written _ _ c.args.block c.args.at _ (in_newest g c).state (in_newest g c).image (omega (arith, (in_newest g c).sized, c.requires.range));
+}
+
+-- ---- In an older chunk
+
+pub find_chunk-i-requires : goal.find_chunk-i-requires
+find_chunk-i-requires g c =
+    let range = block_range g.row.MIN_ALIGN c.self.inside c.args.self.now c.args.block (c.args.block.addr + c.args.at) c.args.size c.self.invariant c.self.view_is c.requires.readable (omega arith) (omega (arith, c.requires.range)) c.if-size-eq0.false in
+    rw c.deref.ensures.value (searchable _ _ _ _ _ range c.if-addr-newest.false)
+
+pub edit_at-requires-else-addr-newest-clause-high : goal.edit_at-requires-else-addr-newest-clause-high
+edit_at-requires-else-addr-newest-clause-high g c =
+    let range = block_range g.row.MIN_ALIGN c.self.inside c.args.self.now c.args.block (c.args.block.addr + c.args.at) c.args.size c.self.invariant c.self.view_is c.requires.readable (omega arith) (omega (arith, c.requires.range)) c.if-size-eq0.false in
+    let older = is_older _ _ _ _ _ c.find_chunk-i.result c.deref.result.now c.index_mut.result.now range c.if-addr-newest.false c.deref.ensures.value c.find_chunk-i.ensures c.index_mut.ensures.value in
+    omega (arith, older.part.low, older.part.high)
+
+in_older : (g : Over) (c : goal.After-self-1 g) → IsWritten g.row.MIN_ALIGN c.self.inside c.args.self.now (c.args.block.addr + c.args.at) c.args.size
+    (g.E.Edit.after c.args.e.now (bytes_from (image c.args.self.now) (c.args.block.addr + c.args.at) c.args.size)) c.self.inside.newest
+    (slice_set c.self.inside.older.items c.find_chunk-i.result c.edit_at-else-addr-newest.new.chunk)
+in_older g c =
+    let range = block_range g.row.MIN_ALIGN c.self.inside c.args.self.now c.args.block (c.args.block.addr + c.args.at) c.args.size c.self.invariant c.self.view_is c.requires.readable (omega arith) (omega (arith, c.requires.range)) c.if-size-eq0.false in
+    let older = is_older _ _ _ _ _ c.find_chunk-i.result c.deref.result.now c.index_mut.result.now range c.if-addr-newest.false c.deref.ensures.value c.find_chunk-i.ensures c.index_mut.ensures.value in
+    older_written _ _ _ _ _ _ _ (g.E.Edit.after c.args.e.now) c.edit_at-else-addr-newest.new.chunk older c.edit_at-else-addr-newest.ensures
+
+pub invariant_of-self-else-addr-newest : goal.invariant_of-self-else-addr-newest
+invariant_of-self-else-addr-newest g c = (in_older g c).stored
+
+pub returns-else-addr-newest : goal.returns-else-addr-newest
+returns-else-addr-newest g c = record {
+  state = (in_older g c).state;
+  statistics = ap (λ (w : Memory). w.statistics) c.self.view_is;
+  bytes = (in_older g c).image;
+  frame = frame_written _ _ c.args.block c.args.at _ (in_older g c).state (in_older g c).image (omega (arith, (in_older g c).sized, c.requires.range));
+}

@@ -1,0 +1,10 @@
+use Rattle.std.proofs.Common.{◌≡◌, ◌≤◌, length, take, vec_len, vec_capacity}
+use Rattle.arena_chunks.proofs.RunLemmas.{IsRunning}
+use Rattle.arena_chunks.proofs.run.run_calls.Given as goal
+
+abbrev pub invariant-loop-done : goal.invariant-loop-done
+invariant-loop-done g l = record {
+  running : IsRunning l.initial.arena l.arena l.names (take l.done l.calls) l.replies.items (g.C.ChunkSource.refusals l.initial.chunks) (g.C.ChunkSource.refusals l.chunks);
+  room : length l.calls ≤ vec_capacity l.replies;
+  filled : vec_len l.replies ≡ l.done;
+}

@@ -1,0 +1,30 @@
+-- What a call that works on some blocks leaves of the rest of an arena.
+use Rattle.std.specs.Prelude.{◌≡◌, ℕ, ◌+◌, ◌-◌, ◌<◌, ◌&&◌, ◌||◌, nat_le, nat_lt, Bool, true, false, List, [], ◌∷◌, IsTrue}
+use Rattle.placement.specs.Rounding.{up}
+use Rattle.placement.specs.State.{is_used, is_range_used}
+use Rattle.arena_chunks.specs.Memory.{Memory, image}
+use Rattle.arena_chunks.specs.declared.block.Block.{Block}
+
+-- the address is one of the block's bytes
+abbrev pub in_block : ℕ → Block → Bool
+in_block p b = nat_le b.addr p && nat_lt p (b.addr + b.size)
+
+abbrev pub in_blocks : ℕ → List Block → Bool
+in_blocks p [] = false
+in_blocks p (b ∷ bs) = in_block p b || in_blocks p bs
+
+-- none of the n addresses is a byte of the blocks
+abbrev pub Misses : ℕ → ℕ → List Block → Type 0
+Misses addr n blocks = (i : ℕ) → i < n → in_blocks (addr + i) blocks ≡ false
+
+-- A call that had the blocks before and has the blocks after kept all that was in use beside the blocks before, and took
+-- for the blocks after none but their addresses and free ones.
+pub record Frame (old new : Memory) (before after : List Block) : Type 0 where
+  pub generation : new.state.generation ≡ old.state.generation
+  pub kept : (addr n : ℕ) → 0 < n → IsTrue (is_range_used old.state.chunks addr n) → Misses addr n before → IsTrue (is_range_used new.state.chunks addr n)
+  pub bytes : (p : ℕ) → IsTrue (is_used old.state p) → in_blocks p before ≡ false → image new p ≡ image old p
+  pub fresh : (p : ℕ) → in_blocks p after ≡ true → in_blocks p before ≡ false → is_used old.state p ≡ false
+
+-- a block with the addresses up to the next multiple of the least alignment
+abbrev pub padded : ℕ → Block → Block
+padded m b = record b { size = up (b.addr + b.size) m - b.addr }

@@ -1,0 +1,64 @@
+-- How an arena stores its chunks: the newest in a field of its own, the others in a table, oldest first.
+use Rattle.std.specs.Prelude.{◌≡◌, ℕ, ◌+◌, ◌-◌, ◌^◌, ◌<◌, ◌≤◌, ◌==◌, Bool, List, [], ◌∷◌, ◌++◌, length, map, reverse, IsTrue, nat_le, take, drop, if◌then◌else◌}
+use Rattle.std.specs.List.{AllByRecursion, list_any}
+use Rattle.std.specs.List.Sorted.{IsNonDecreasingBy}
+use Rattle.placement.specs.State.{Chunk, IsValid}
+use Rattle.placement.specs.Machine.{splice}
+use Rattle.arena_chunks.specs.Memory.{Memory}
+use Rattle.arena_chunks.specs.declared.chunk.StoredChunk.{StoredChunk}
+
+abbrev pub stored_chunk : StoredChunk → Chunk
+stored_chunk c = record { base = c.base; size = length c.bytes.items; cursor = c.cursor }
+
+abbrev pub stored_bytes : StoredChunk → List ℕ
+stored_bytes c = c.bytes.items
+
+-- all chunks, newest first: none where the newest begins at 16, which stands for no chunk
+abbrev pub all_chunks : StoredChunk → List StoredChunk → List StoredChunk
+all_chunks newest older = if newest.base == 16 then [] else newest ∷ reverse older
+
+abbrev pub memory_of : ℕ → Bool → ℕ → ℕ → ℕ → StoredChunk → List StoredChunk → Memory
+memory_of min_align is_growing generation allocations reallocations newest older = record {
+  state = record { min_align = min_align; is_growing = is_growing; generation = generation; chunks = map stored_chunk (all_chunks newest older) };
+  statistics = record { allocations = allocations; reallocations = reallocations };
+  bytes = map stored_bytes (all_chunks newest older);
+}
+
+-- what stands for no chunk has no bytes, and no older ones
+pub record IsNone (newest : StoredChunk) (table : List StoredChunk) : Type 0 where
+  pub cursor : newest.cursor ≡ 16
+  pub bytes : newest.bytes.items ≡ []
+  pub older : table ≡ []
+
+-- the fields stand for a valid state
+pub record IsStored (memory : Memory) (newest : StoredChunk) (older : List StoredChunk) : Type 0 where
+  pub valid : IsValid memory.state
+  pub none : newest.base ≡ 16 → IsNone newest older
+
+-- the cursor lies in the chunk, and the chunk below 2 ^ 64
+pub record IsOrdered (chunk : StoredChunk) : Type 0 where
+  pub low : chunk.base ≤ chunk.cursor
+  pub high : chunk.cursor ≤ chunk.base + length chunk.bytes.items
+  pub fits : chunk.base + length chunk.bytes.items < 2 ^ 64
+
+-- what a search in the table asks: it rises, and some chunk begins at or below the address
+pub record IsSearchable (chunks : List StoredChunk) (addr : ℕ) : Type 0 where
+  pub sorted : IsNonDecreasingBy (λ (c : StoredChunk). c.base) chunks
+  pub some : IsTrue (list_any (λ (c : StoredChunk). nat_le c.base addr) chunks)
+
+-- the chunk at this index is the last that begins at or below the address
+pub record IsLastBelow (chunks : List StoredChunk) (addr i : ℕ) : Type 0 where
+  pub before : List StoredChunk
+  pub chunk : StoredChunk
+  pub after : List StoredChunk
+  pub split : chunks ≡ before ++ chunk ∷ after
+  pub at : length before ≡ i
+  pub low : chunk.base ≤ addr
+  pub above : AllByRecursion (λ (c : StoredChunk). addr < c.base) after
+
+-- n bytes of the chunk from this address on are replaced by a function of them
+pub record IsEdited (old new : StoredChunk) (addr n : ℕ) (gives : List ℕ → List ℕ) : Type 0 where
+  pub base : new.base ≡ old.base
+  pub cursor : new.cursor ≡ old.cursor
+  pub sized : length (gives (take n (drop (addr - old.base) old.bytes.items))) ≡ n
+  pub bytes : new.bytes.items ≡ splice old.bytes.items (addr - old.base) (gives (take n (drop (addr - old.base) old.bytes.items)))

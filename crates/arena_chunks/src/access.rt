@@ -1,0 +1,84 @@
+// How the bytes of blocks are read and written.
+ghost use Rattle.std.specs.Prelude.{◌≡◌, ◌+◌, ◌≤◌, IsTrue, [], ◌∷◌, length, replicate};
+
+use crate::arena::Arena;
+use crate::block::Block;
+use crate::chunk::{find_chunk, part_at, some_has};
+use crate::edit::{Edit, Fill, Put, edit_at};
+
+impl<const MIN_ALIGN: usize> Arena<MIN_ALIGN> {
+    ghost use Rattle.arena_chunks.specs.Memory.{Memory, is_readable, image, bytes_from, Writes};
+    ghost use Rattle.arena_chunks.specs.Frame.{Frame};
+
+    /// Whether a block is readable: it is empty, or of the arena's generation with its bytes in one chunk's used part.
+    /// Of a block that was placed in this arena this tells whether a reset ended it.
+    pub fn is_held_place(&self, block: Block) -> bool
+        ensures { result ≡ is_readable self.now.state block }
+    {
+        block.size == 0
+            || block.generation == self.generation
+                && (self.newest.has(block) || some_has(&self.older, block))
+    }
+
+    /// The bytes of a block.
+    pub fn read(&self, block: Block) -> &[u8]
+        requires { IsTrue (is_readable self.now.state block) }
+        ensures { result.now ≡ bytes_from (image self.now) block.addr block.size }
+    {
+        if block.size == 0 {
+            return &[];
+        }
+        if block.addr >= self.newest.base {
+            return part_at(&self.newest, block.addr, block.size);
+        }
+        let chunk = &self.older[find_chunk(&self.older, block.addr)];
+        part_at(chunk, block.addr, block.size)
+    }
+
+    /// Replaces a range of a block's bytes.
+    pub fn write(&mut self, block: Block, at: u64, bytes: &[u8])
+        requires readable { IsTrue (is_readable self.old.state block) }
+        requires range { at + length bytes.now ≤ block.size }
+        ensures state { self.new.state ≡ self.old.state }
+        ensures statistics { self.new.statistics ≡ self.old.statistics }
+        ensures bytes { Writes self.old self.new (block.addr + at) bytes.now }
+        ensures frame { Frame self.old self.new (block ∷ []) (block ∷ []) }
+    {
+        self.edit(block, at, bytes.len() as u64, &Put { bytes });
+    }
+
+    // Sets all bytes of a block.
+    pub(crate) fn fill(&mut self, block: Block, value: u8)
+        requires { IsTrue (is_readable self.old.state block) }
+        ensures state { self.new.state ≡ self.old.state }
+        ensures statistics { self.new.statistics ≡ self.old.statistics }
+        ensures bytes { Writes self.old self.new block.addr (replicate block.size value) }
+        ensures frame { Frame self.old self.new (block ∷ []) (block ∷ []) }
+    {
+        self.edit(block, 0, block.size, &Fill { value });
+    }
+
+    // Changes a range of a block's bytes.
+    fn edit<E: Edit>(&mut self, block: Block, at: u64, size: u64, e: &E)
+        requires readable { IsTrue (is_readable self.old.state block) }
+        requires range { at + size ≤ block.size }
+        requires suits { E.suits e.now size }
+        ensures state { self.new.state ≡ self.old.state }
+        ensures statistics { self.new.statistics ≡ self.old.statistics }
+        ensures bytes { Writes self.old self.new (block.addr + at) (E.after e.now (bytes_from (image self.old) (block.addr + at) size)) }
+        ensures frame { Frame self.old self.new (block ∷ []) (block ∷ []) }
+    {
+        if size == 0 {
+            e.edit(&mut []);
+            return;
+        }
+        let newest = self.newest.base;
+        let addr = block.addr + at;
+        if addr >= newest {
+            edit_at(&mut self.newest, addr, size, e);
+        } else {
+            let i = find_chunk(&self.older, addr);
+            edit_at(&mut self.older[i], addr, size, e);
+        }
+    }
+}

@@ -1,0 +1,35 @@
+// Blocks, and why there is none.
+ghost use Rattle.std.specs.Prelude.{◌≡◌};
+
+/// A block of an arena: the generation that it was placed in, its first address, its size and its alignment. It says
+/// nothing of whether the block is held.
+#[derive(Clone, Copy, PartialEq, Eq, Debug)]
+pub struct Block {
+    pub generation: u64,
+    pub addr: u64,
+    pub size: u64,
+    pub align: u64,
+}
+
+impl Block {
+    /// A block of no bytes, of generation 0, at the address that is its alignment.
+    pub fn empty(align: u64) -> Block
+        ensures { result ≡ record { generation = 0; addr = align; size = 0; align = align } }
+    {
+        Block {
+            generation: 0,
+            addr: align,
+            size: 0,
+            align,
+        }
+    }
+}
+
+/// Why a call placed no block.
+#[derive(Clone, Copy, PartialEq, Eq, Debug)]
+pub enum ArenaErr {
+    /// There is no place for the block: all requests for a chunk, so many, were refused.
+    AllocErr { refused: u32 },
+    /// Memory for the table of chunks is wanting. The source wasn't asked.
+    OutOfMemory,
+}

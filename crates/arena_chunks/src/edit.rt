@@ -1,0 +1,61 @@
+// Changes of the bytes that stand in one place.
+ghost use Rattle.std.specs.Prelude.{◌≡◌, ℕ, ◌+◌, ◌-◌, ◌≤◌, List, length, replicate};
+ghost use Rattle.arena_chunks.specs.Stored.{IsEdited};
+
+use crate::chunk::StoredChunk;
+
+/// A change of the bytes of a place, which keeps their number.
+pub(crate) trait Edit {
+    // Whether it suits a place of so many bytes.
+    ghost suits: { Self → ℕ → Type 0 };
+
+    // What stands there afterwards, by what stood there.
+    ghost after: { Self → List ℕ → List ℕ };
+
+    fn edit(&self, place: &mut [u8])
+        requires { suits self.now (length place.old) }
+        ensures { place.new ≡ after self.now place.old };
+}
+
+// Changes the part of a chunk's bytes at these addresses.
+pub(crate) fn edit_at<E: Edit>(chunk: &mut StoredChunk, addr: u64, size: u64, e: &E)
+    requires low { chunk.old.base ≤ addr }
+    requires high { addr - chunk.old.base + size ≤ length chunk.old.bytes.items }
+    requires suits { E.suits e.now size }
+    ensures { IsEdited chunk.old chunk.new addr size (E.after e.now) }
+{
+    let from = (addr - chunk.base) as usize;
+    e.edit(&mut chunk.bytes[from..from + size as usize]);
+}
+
+/// Puts these bytes in the place of others.
+#[derive(Drop)]
+pub(crate) struct Put<'a> {
+    pub(crate) bytes: &'a [u8],
+}
+
+impl Edit for Put<'_> {
+    ghost suits = { λ s n. n ≡ length s.bytes.now };
+
+    ghost after = { λ s old. s.bytes.now };
+
+    fn edit(&self, place: &mut [u8]) {
+        place.copy_from_slice(self.bytes);
+    }
+}
+
+/// Sets all bytes of the place.
+#[derive(Drop)]
+pub(crate) struct Fill {
+    pub(crate) value: u8,
+}
+
+impl Edit for Fill {
+    ghost suits = { λ s n. Unit {0} };
+
+    ghost after = { λ s old. replicate (length old) s.value };
+
+    fn edit(&self, place: &mut [u8]) {
+        place.fill(self.value);
+    }
+}

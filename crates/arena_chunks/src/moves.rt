@@ -1,0 +1,146 @@
+// Where an arena places blocks, and gives them back.
+ghost use Rattle.std.specs.Prelude.{◌≡◌, ℕ, ◌+◌, IfOk, OnErr, IsTrue, Some, None, [], ◌∷◌, true};
+
+use crate::arena::Arena;
+use crate::block::{ArenaErr, Block};
+use crate::chunk::install;
+use crate::search::{Granted, ask_above};
+use crate::source::ChunkSource;
+use arena_place::{Layout, place, round_down_to, round_up_to_unchecked};
+
+impl<const MIN_ALIGN: usize> Arena<MIN_ALIGN> {
+    ghost use Rattle.placement.specs.State.{IsValid, with_cursor};
+    ghost use Rattle.placement.specs.Search.{place};
+    ghost use Rattle.placement.specs.Moves.{dealloc};
+    ghost use Rattle.arena_chunks.specs.Memory.{Memory, is_readable, one_allocation};
+    ghost use Rattle.arena_chunks.specs.Frame.{Frame, padded};
+    ghost use Rattle.arena_chunks.specs.Answers.{Tells, TellsSome, TellsPlace, OnWant, Allocates, AddsChunk, IsBlockOf};
+
+    /// Places a block, in a new chunk where the newest has no place for it. No byte in use changes. Where there is a
+    /// place this takes no memory, and a few machine operations.
+    ///
+    /// # Errors
+    ///
+    /// `AllocErr` where the source refused all that were asked for, which leaves the arena as it was; `OutOfMemory`
+    /// where memory for the table of chunks is wanting, before the source is asked.
+    #[inline]
+    pub fn try_alloc_layout<C: ChunkSource>(
+        &mut self,
+        chunks: &mut C,
+        layout: Layout,
+    ) -> Result<Block, ArenaErr>
+        ensures step { TellsSome result (λ k answer. Allocates self.old.state self.new.state layout.size layout.align k answer
+            (C.refusals chunks.old) (C.refusals chunks.new) (C.asked chunks.old) (C.asked chunks.new)) }
+        ensures block { IfOk result (IsBlockOf self.new.state layout.size layout.align) }
+        ensures readable { IfOk result (λ block. IsTrue (is_readable self.new.state block)) }
+        ensures statistics { IfOk result (λ block. self.new.statistics ≡ one_allocation self.old.statistics) }
+        ensures frame { IfOk result (λ block. Frame self.old self.new [] (block ∷ [])) }
+        ensures err { OnErr result (self.new ≡ self.old) }
+
+        // Want of memory is of the table of chunks alone, before the source is asked.
+        ensures want { OnWant result ((place self.old.state layout.size layout.align ≡ None) × (self.old.state.is_growing ≡ true) × (chunks.new ≡ chunks.old)) }
+        ensures valid { IsValid self.new.state }
+    {
+        match self.alloc_counted(chunks, layout) {
+            Ok((block, _)) => Ok(block),
+            Err(e) => Err(e),
+        }
+    }
+
+    // The same, and how many requests were refused for the block.
+    #[inline]
+    pub(crate) fn alloc_counted<C: ChunkSource>(
+        &mut self,
+        chunks: &mut C,
+        layout: Layout,
+    ) -> Result<(Block, u32), ArenaErr>
+        ensures step { Tells result (λ k answer. Allocates self.old.state self.new.state layout.size layout.align k answer
+            (C.refusals chunks.old) (C.refusals chunks.new) (C.asked chunks.old) (C.asked chunks.new)) }
+        ensures block { IfOk result (λ placed. IsBlockOf self.new.state layout.size layout.align placed.0) }
+        ensures readable { IfOk result (λ placed. IsTrue (is_readable self.new.state placed.0)) }
+        ensures statistics { IfOk result (λ placed. self.new.statistics ≡ one_allocation self.old.statistics) }
+        ensures frame { IfOk result (λ placed. Frame self.old self.new [] (placed.0 ∷ [])) }
+        ensures err { OnErr result (self.new ≡ self.old) }
+        ensures want { OnWant result ((place self.old.state layout.size layout.align ≡ None) × (self.old.state.is_growing ≡ true) × (chunks.new ≡ chunks.old)) }
+        ensures valid { IsValid self.new.state }
+    {
+        match place(
+            self.newest.base,
+            self.newest.cursor,
+            layout,
+            MIN_ALIGN as u64,
+        ) {
+            Some(addr) => Ok((self.place_at(addr, layout), 0)),
+            None => match self.add_chunk(chunks, layout) {
+                Ok((addr, refused)) => Ok((self.place_at(addr, layout), refused)),
+                Err(e) => Err(e),
+            },
+        }
+    }
+
+    // The block at its place in the newest chunk.
+    #[inline]
+    fn place_at(&mut self, addr: u64, layout: Layout) -> Block
+        requires { place self.old.state layout.size layout.align ≡ Some addr }
+        ensures memory { self.new ≡ record {
+          state = with_cursor addr self.old.state;
+          statistics = one_allocation self.old.statistics;
+          bytes = self.old.bytes;
+        } }
+        ensures block { result ≡ record { generation = self.old.state.generation; addr = addr; size = layout.size; align = layout.align } }
+    {
+        self.newest.cursor = addr;
+        self.allocations = self.allocations.saturating_add(1);
+        Block {
+            generation: self.generation,
+            addr,
+            size: layout.size,
+            align: layout.align,
+        }
+    }
+
+    // A chunk for the block becomes the newest. Answers the block's place in it, and how many requests were refused.
+    fn add_chunk<C: ChunkSource>(
+        &mut self,
+        chunks: &mut C,
+        layout: Layout,
+    ) -> Result<(u64, u32), ArenaErr>
+        ensures added { TellsPlace result (λ k answer. AddsChunk self.old self.new layout.size layout.align k answer
+            (C.refusals chunks.old) (C.refusals chunks.new) (C.asked chunks.old) (C.asked chunks.new)) }
+        ensures err { OnErr result (self.new ≡ self.old) }
+        ensures want { OnWant result ((self.old.state.is_growing ≡ true) × (chunks.new ≡ chunks.old)) }
+    {
+        if !self.is_growing {
+            return Err(ArenaErr::AllocErr { refused: 0 });
+        }
+        if self.older.reserve(1).is_err() {
+            return Err(ArenaErr::OutOfMemory);
+        }
+        let Granted {
+            base,
+            chunk,
+            refused,
+        } = ask_above(chunks, self.newest.end(), self.newest.size(), layout);
+        let Some(bytes) = chunk else {
+            return Err(ArenaErr::AllocErr { refused });
+        };
+        install(&mut self.newest, &mut self.older, base, bytes);
+        let last = self.newest.cursor - layout.size;
+        let addr = round_down_to(last, layout.align.max(MIN_ALIGN as u64));
+        Ok((addr, refused))
+    }
+
+    /// Gives a block back. Only where it is the last one placed does the cursor move, so that its bytes are used
+    /// again; otherwise they stay dead until the arena is reset.
+    pub fn dealloc(&mut self, block: Block)
+        requires { IsTrue (is_readable self.old.state block) }
+        ensures state { self.new.state ≡ dealloc self.old.state block.addr block.size }
+        ensures statistics { self.new.statistics ≡ self.old.statistics }
+        ensures frame { Frame self.old self.new (padded self.old.state.min_align block ∷ []) [] }
+        ensures valid { IsValid self.new.state }
+    {
+        if block.addr == self.newest.cursor {
+            self.newest.cursor = round_up_to_unchecked(block.addr + block.size, MIN_ALIGN as u64);
+        }
+    }
+}

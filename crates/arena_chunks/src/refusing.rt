@@ -1,0 +1,76 @@
+// A source that refuses when it is told to, for tests of what an arena does then.
+ghost use Rattle.std.specs.Prelude.{◌≡◌, ℕ, List, [], ◌∷◌, Option, Some, None, if◌then◌else◌, IfSome, IfNone};
+ghost use Rattle.placement.specs.Causes.{TellsRequests};
+
+use crate::source::ChunkSource;
+use std::alloc::Global;
+
+/// Chunks from memory, but for the requests whose numbers, from 1, are listed: these it refuses. It tells its
+/// requests. One that it can't note for want of memory it refuses, and from then on it tells none.
+#[derive(Drop)]
+pub struct RefusingChunks {
+    alloc: Global,
+    refuse: Vec<u64>,
+    requests: u64,
+    refused: u64,
+    notes: Vec<(u64, u64)>,
+    is_telling: bool,
+}
+
+impl RefusingChunks {
+    /// A source that refuses the listed requests, and has had none. Takes no memory.
+    pub fn new(alloc: Global, refuse: Vec<u64>) -> RefusingChunks
+        ensures refusals { ⟦<RefusingChunks as ChunkSource>⟧.refusals result ≡ 0 }
+        ensures asked { ⟦<RefusingChunks as ChunkSource>⟧.asked result ≡ Some [] }
+    {
+        RefusingChunks {
+            alloc,
+            refuse,
+            requests: 0,
+            refused: 0,
+            notes: Vec::new(alloc),
+            is_telling: true,
+        }
+    }
+
+    /// All requests so far, as size and alignment, or none where one couldn't be noted.
+    pub fn requests(&self) -> Option<&[(u64, u64)]>
+        ensures told { IfSome result (λ all. ⟦<RefusingChunks as ChunkSource>⟧.asked self.now ≡ Some all.now) }
+        ensures untold { IfNone result (⟦<RefusingChunks as ChunkSource>⟧.asked self.now ≡ None) }
+    {
+        if self.is_telling {
+            Some(self.notes.as_slice())
+        } else {
+            None
+        }
+    }
+
+    // Notes a request, and answers whether it is to be served.
+    fn notes_and_serves(&mut self, size: u64, align: u64) -> bool
+        ensures refused { self.new.refused ≡ self.old.refused }
+        ensures told { TellsRequests (⟦<RefusingChunks as ChunkSource>⟧.asked self.old) (⟦<RefusingChunks as ChunkSource>⟧.asked self.new) ((size, align) ∷ []) }
+    {
+        self.requests = self.requests.saturating_add(1);
+        if self.notes.push((size, align)).is_err() {
+            self.is_telling = false;
+            return false;
+        }
+        !self.refuse.contains(&self.requests)
+    }
+}
+
+impl ChunkSource for RefusingChunks {
+    ghost refusals = { λ c. c.refused };
+
+    ghost asked = { λ c. if c.is_telling then Some c.notes.items else None };
+
+    fn request(&mut self, size: u64, align: u64) -> Option<Vec<u8>> {
+        if self.notes_and_serves(size, align)
+            && let Ok(chunk) = vec![in self.alloc; 0; size as usize]
+        {
+            return Some(chunk);
+        }
+        self.refused = self.refused.saturating_add(1);
+        None
+    }
+}

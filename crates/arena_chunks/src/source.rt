@@ -1,0 +1,71 @@
+// Where an arena's chunks come from.
+ghost use Rattle.std.specs.Prelude.{◌≡◌, ℕ, ◌+◌, ◌-◌, ◌^◌, ◌<◌, ◌≤◌, List, [], ◌∷◌, Option, None, IsTrue, IfSome, IfNone, OnSome, replicate};
+ghost use Rattle.placement.specs.Rounding.{is_layout};
+ghost use Rattle.placement.specs.Causes.{CountsRefusals, TellsRequests};
+
+use std::alloc::Global;
+
+/// A source of chunks. It may refuse a request, and counts that.
+pub trait ChunkSource {
+    // How often it has refused. At 2 ^ 64 - 1 the count stands.
+    ghost refusals: { Self → ℕ };
+
+    // All requests so far, as size and alignment, if it tells them.
+    ghost asked: { Self → Option (List (ℕ × ℕ)) };
+
+    /// A chunk of `size` zeros for an address that is a multiple of `align`, or none, which is a refusal. With 48
+    /// bytes more the two are still a layout.
+    fn request(&mut self, size: u64, align: u64) -> Option<Vec<u8>>
+        requires { IsTrue (is_layout (size + 48) align) }
+        ensures zeros { IfSome result (λ chunk. chunk.items ≡ replicate size 0) }
+        ensures granted { OnSome result (CountsRefusals (refusals self.old) (refusals self.new) 0) }
+        ensures refused { IfNone result (CountsRefusals (refusals self.old) (refusals self.new) 1) }
+        ensures told { TellsRequests (asked self.old) (asked self.new) ((size, align) ∷ []) };
+}
+
+/// Chunks from memory, up to a budget of bytes. It doesn't tell its requests. Chunks that an arena gives up aren't
+/// returned to the budget.
+#[derive(Drop)]
+pub struct MemoryChunks {
+    alloc: Global,
+    left: u64,
+    refused: u64,
+}
+
+impl MemoryChunks {
+    /// A source of at most `budget` bytes. Takes no memory.
+    pub fn new(alloc: Global, budget: u64) -> MemoryChunks
+        ensures refusals { ⟦<MemoryChunks as ChunkSource>⟧.refusals result ≡ 0 }
+        ensures budget { result.left ≡ budget }
+    {
+        MemoryChunks {
+            alloc,
+            left: budget,
+            refused: 0,
+        }
+    }
+}
+
+impl ChunkSource for MemoryChunks {
+    ghost refusals = { λ c. c.refused };
+
+    ghost asked = { λ _. None };
+
+    fn request(&mut self, size: u64, align: u64) -> Option<Vec<u8>>
+        ensures zeros { IfSome result (λ chunk. chunk.items ≡ replicate size 0) }
+        ensures granted { OnSome result (CountsRefusals self.old.refused self.new.refused 0) }
+        ensures refused { IfNone result (CountsRefusals self.old.refused self.new.refused 1) }
+        ensures within { OnSome result (self.new.left + size ≡ self.old.left) }
+        ensures kept { IfNone result (self.new.left ≡ self.old.left) }
+    {
+        let _ = align;
+        if size <= self.left
+            && let Ok(chunk) = vec![in self.alloc; 0; size as usize]
+        {
+            self.left -= size;
+            return Some(chunk);
+        }
+        self.refused = self.refused.saturating_add(1);
+        None
+    }
+}
