@@ -1,0 +1,8 @@
+// Reads the lines of calls.
+mod call;
+mod hex;
+mod number;
+mod parse;
+mod word;
+
+pub use parse::{LinesErr, parse_calls};
