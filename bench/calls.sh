@@ -2,7 +2,7 @@
 # Measures `arena_run calls` on a million lines: the best wall time of five runs, lines a second, and peak memory; beside
 # `cat` of the same file, and beside the program of the words in BASELINE, if set, as in
 #     BASELINE="/tmp/native-out/target/release/native calls" bench/calls.sh [SEED] [LINES]
-# The lines are a seeded mix of all calls, with sizes to 511 and 256 names.
+# The lines are a seeded mix of all calls, with sizes to 511 and 256 names, and a reset in each 65,536th line.
 set -euo pipefail
 here=$(dirname "$(readlink -f "$0")")
 seed=${1:-1}
@@ -16,9 +16,12 @@ awk -v x="$seed" -v lines="$lines" '
         split("1 2 4 8 16", aligns, " ")
         for (i = 0; i < lines; i++) {
             kind = draw(16); name = draw(256)
-            if (kind < 5) print "alloc", name, draw(512), aligns[1 + draw(5)], draw(256)
-            else if (kind < 8) print "dealloc", name
-            else if (kind < 11) printf "write %d %d %02x\n", name, draw(512), draw(256)
+            if (i % 65536 == 65535) print "reset"
+            else if (kind < 4) print "alloc", name, draw(512), aligns[1 + draw(5)], draw(256)
+            else if (kind < 6) print "grow", name, draw(512), aligns[1 + draw(5)], draw(256)
+            else if (kind < 8) print "shrink", name, draw(512), aligns[1 + draw(5)]
+            else if (kind < 10) print "dealloc", name
+            else if (kind < 12) printf "write %d %d %02x\n", name, draw(512), draw(256)
             else if (kind < 15) print "read", name
             else print (draw(2) ? "used" : "allocated")
         }

@@ -1,5 +1,5 @@
 -- Bytes that stand one after another, and a range of a list replaced.
-use Rattle.std.proofs.Common.{◌≡◌, ℕ, zero, suc, ◌+◌, ◌-◌, ◌<◌, ◌≤◌, ap, sym, refl, ◌∙◌, arith, List, [], false, length, take, drop, get_or, inl, inr, replicate, add-zero}
+use Rattle.std.proofs.Common.{◌≡◌, ℕ, zero, suc, ◌+◌, ◌-◌, ◌<◌, ◌≤◌, ap, sym, refl, ◌∙◌, arith, List, [], false, length, take, drop, get_or, inl, inr, replicate}
 use Rattle.std.specs.Prelude.{nat_le, nat_lt, ◌&&◌, slice_index, if◌then◌else◌}
 use Rattle.std.proofs.lemmas.Bool.{cases_lt, cases_Bool}
 use Rattle.std.proofs.lemmas.Bool.Decides.{nat_tests}
@@ -64,5 +64,5 @@ pub written_none : (f : ℕ → ℕ) (from a : ℕ) (list : List ℕ) → length
 written_none f from a list none = written_beside f from a list (grind (arith, nat_tests))
 
 -- a whole place filled
-pub filled : (f : ℕ → ℕ) (addr n value a : ℕ) → written f (addr + 0) (replicate (length (bytes_from f (addr + 0) n)) value) a ≡ written f addr (replicate n value) a
-filled f addr n value a = ap (λ (k : ℕ). written f (addr + 0) (replicate k value) a) (length-bytes f (addr + 0) n) ∙ ap (λ (p : ℕ). written f p (replicate n value) a) (add-zero addr)
+pub filled : (f : ℕ → ℕ) (addr n value a : ℕ) → written f addr (replicate (length (bytes_from f addr n)) value) a ≡ written f addr (replicate n value) a
+filled f addr n value a = ap (λ (k : ℕ). written f addr (replicate k value) a) (length-bytes f addr n)

@@ -15,15 +15,18 @@ use Rattle.arena_chunks.specs.Frame.{in_block, in_blocks, Misses, Frame, padded}
 use Rattle.arena_chunks.specs.declared.block.Block.{Block}
 use Rattle.arena_chunks.proofs.BytesLemmas.{written_beside}
 
-unless : (b : Bool) → (b ≡ true → ⊥) → b ≡ false
+pub unless : (b : Bool) → (b ≡ true → ⊥) → b ≡ false
 unless true no_way = absurd (no_way refl)
 unless false no_way = refl
 
 -- the bytes don't depend on the cursor
+pub bytes_moved : (p : ℕ) → (chunks : List Chunk) (bytes : List (List ℕ)) → byte_in (with_newest_cursor p chunks) bytes ≡ byte_in chunks bytes
+bytes_moved p [] bytes = refl
+bytes_moved p (newest ∷ older) [] = refl
+bytes_moved p (newest ∷ older) (list ∷ bytes) = refl
+
 pub byte_moved : (p : ℕ) → (chunks : List Chunk) (bytes : List (List ℕ)) (a : ℕ) → byte_in (with_newest_cursor p chunks) bytes a ≡ byte_in chunks bytes a
-byte_moved p [] bytes a = refl
-byte_moved p (newest ∷ older) [] a = refl
-byte_moved p (newest ∷ older) (list ∷ bytes) a = refl
+byte_moved p chunks bytes a = ap (λ (f : ℕ → ℕ). f a) (bytes_moved p chunks bytes)
 
 -- a block is new
 pub frame_new : (old new : Memory) (size align : ℕ) (b : Block) → IsValid old.state → IsNewBlock old.state size align b.addr new.state → b.size ≡ size
@@ -46,7 +49,7 @@ frame_new old new size align b valid is sized bytes = record {
         ]
 
 -- an address at or above a block that isn't in it lies behind it
-behind : (b : Block) (a : ℕ) → b.addr ≤ a → (in_block a b || false) ≡ false → b.addr + b.size ≤ a
+pub behind : (b : Block) (a : ℕ) → b.addr ≤ a → (in_block a b || false) ≡ false → b.addr + b.size ≤ a
 behind b a low outside = grind (arith, nat_tests)
 
 -- a block is given back, with the addresses up to the next multiple of the least alignment

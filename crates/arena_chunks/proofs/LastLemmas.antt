@@ -2,7 +2,7 @@
 use Rattle.std.proofs.Common.{◌≡◌, ℕ, ◌+◌, ◌-◌, ◌<◌, ◌≤◌, ◌^◌, ◌∙◌, ap, sym, subst, arith, refl, [], ◌∷◌, IsTrue, Bool, true, false}
 use Rattle.std.specs.Prelude.{◌||◌, ◌&&◌, ◌==◌}
 use Rattle.placement.specs.Rounding.{up}
-use Rattle.placement.specs.State.{IsValid, cursor_of, top_of, is_range_used, with_cursor}
+use Rattle.placement.specs.State.{State, IsValid, cursor_of, top_of, is_range_used, with_cursor}
 use Rattle.placement.proofs.RoundingLemmas.{min_align_le}
 use Rattle.placement.proofs.CursorLemmas.{top_le}
 use Rattle.placement.proofs.ReturnLemmas.{IsReturn, is_return, block_end}
@@ -21,13 +21,22 @@ pub record IsLast (m : ℕ) (memory : Memory) (block : Block) : Type 0 where
   pub fits : block.addr + block.size + (m - 1) < 2 ^ 64
   pub unit : m ≡ memory.state.min_align
 
+pub last_ends : (state : State) (block : Block) → IsValid state → IsTrue (is_readable state block) → block.addr ≡ cursor_of state.chunks → block.addr + block.size ≤ top_of state.chunks
+last_ends state block valid readable at =
+    block_end state (record { addr = block.addr; size = block.size; align = block.align }) valid
+    (either (block.size == 0) (block.generation == state.generation) (is_range_used state.chunks block.addr block.size) readable) at
+  where
+    either : (a b c : Bool) → IsTrue (a || (b && c)) → IsTrue (a || c)
+    either true b c h = refl
+    either false true c h = h
+    either false false c h = cc
+
 pub is_last : (m : ℕ) (a : Inside m) (memory : Memory) (block : Block) → Stands m a → view_of m a ≡ memory → IsTrue (is_readable memory.state block) → block.addr ≡ a.newest.cursor
     → IsLast m memory block
 is_last m a memory block stands view readable here =
     let valid = subst (λ (w : Memory). IsValid w.state) view stands.valid in
     let at = here ∙ cursor_stored m a memory stands view in
-    let used = either (block.size == 0) (block.generation == memory.state.generation) (is_range_used memory.state.chunks block.addr block.size) readable in
-    let ends = block_end memory.state (record { addr = block.addr; size = block.size; align = block.align }) valid used at in
+    let ends = last_ends memory.state block valid readable at in
     record {
       valid = valid;
       at = at;
@@ -35,11 +44,6 @@ is_last m a memory block stands view readable here =
       fits = omega (arith, ends, top_le memory.state valid, min_align_le m stands.valid.min_align);
       unit = ap (λ (w : Memory). w.state.min_align) view;
     }
-  where
-    either : (a b c : Bool) → IsTrue (a || (b && c)) → IsTrue (a || c)
-    either true b c h = refl
-    either false true c h = h
-    either false false c h = cc
 
 -- the cursor moves to where it goes if the block is given back
 pub last_returned : (m : ℕ) (memory : Memory) (block : Block) (q : ℕ) → IsLast m memory block → q ≡ up (block.addr + block.size) m → IsReturn memory.state block.addr block.size q

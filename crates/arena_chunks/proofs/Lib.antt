@@ -11,3 +11,5 @@ pub mod AllocationLemmas
 pub mod GrowthLemmas
 pub mod LastLemmas
 pub mod PartLemmas
+pub mod ResizedLemmas
+pub mod ResizeSteps

@@ -3,35 +3,28 @@ use Rattle.std.proofs.Common.{◌≡◌, ℕ, ◌+◌, ◌-◌, ◌<◌, ◌≤�
 use Rattle.std.specs.Prelude.{nat_le, ◌==◌, ◌||◌, ◌&&◌, slice_set}
 use Rattle.std.specs.List.{list_any, All, AllByRecursion}
 use Rattle.std.specs.List.Sorted.{IsNonDecreasingBy}
-use Rattle.std.proofs.lemmas.Bool.{cases_Bool, or_cases, or_left, or_right}
+use Rattle.std.proofs.lemmas.Bool.{cases_Bool, or_cases}
 use Rattle.std.proofs.lemmas.Bool.Decides.{nat_tests}
 use Rattle.std.proofs.lemmas.List.{reverse-append, reverse-reverse, set_at, length-append}
 use Rattle.std.proofs.lemmas.List.Elements.{All-nil, All-head, All-tail, All-push, All-from_recursion, recursion_from_All}
 use Rattle.std.proofs.Math.Seq.{get_or-append_seam}
 use Rattle.placement.specs.Machine.{splice}
-use Rattle.placement.specs.State.{State, Chunk, IsValid, AreChunks, floor_of, is_used_by, is_range_used}
-use Rattle.placement.proofs.UsedLemmas.{used_under}
+use Rattle.placement.specs.State.{State, Chunk, IsValid, AreChunks, floor_of, is_used_by, is_range_used, start_of}
+use Rattle.placement.proofs.UsedLemmas.{used_under, used_part}
 use Rattle.arena_chunks.specs.Memory.{Memory, image, is_readable, bytes_from, written, Writes}
 use Rattle.arena_chunks.specs.Stored.{stored_chunk, IsStored, IsSearchable, IsLastBelow, IsEdited}
 use Rattle.arena_chunks.specs.declared.block.Block.{Block}
 use Rattle.arena_chunks.specs.declared.chunk.StoredChunk.{StoredChunk}
 use Rattle.arena_chunks.specs.declared.arena.Arena.TheInside.{Inside}
 use Rattle.arena_chunks.proofs.TableLemmas.{chunks_in, bytes_in, table_rises, some_below, range_held, range_bytes, IsSplice, same_chunk, same_chunks, range_written}
-use Rattle.arena_chunks.proofs.StoredLemmas.{view_with, view_of, Stands, differs}
+use Rattle.arena_chunks.proofs.StoredLemmas.{view_with, view_of, Stands, differs, start_stored}
 
 -- ---- A range of a readable block is in use
 
-used_part : (addr n p k : ℕ) → (chunks : List Chunk) → IsTrue (is_range_used chunks addr n) → addr ≤ p → p + k ≤ addr + n → IsTrue (is_range_used chunks p k)
-used_part addr n p k [] used low high = used
-used_part addr n p k (newest ∷ older) used low high = elim (or_cases (is_used_by addr n newest) (is_range_used older addr n) used) [
-  | inl here ↦ or_left (is_used_by p k newest) (is_range_used older p k) (grind (arith, nat_tests))
-  | inr there ↦ or_right (is_used_by p k newest) (is_range_used older p k) (used_part addr n p k older there low high)
-]
-
-readable_part : (state : State) (block : Block) (p n : ℕ) → IsTrue (is_readable state block) → block.addr ≤ p → p + n ≤ block.addr + block.size → 0 < n → IsTrue (is_range_used state.chunks p n)
+pub readable_part : (state : State) (block : Block) (p n : ℕ) → IsTrue (is_readable state block) → block.addr ≤ p → p + n ≤ block.addr + block.size → 0 < n → IsTrue (is_range_used state.chunks p n)
 readable_part state block p n readable low high some =
-    used_part block.addr block.size p n state.chunks
-    (filled block.size (block.generation == state.generation) (is_range_used state.chunks block.addr block.size) (omega arith) readable) low high
+    used_part block.addr block.size p n state.chunks low high
+    (filled block.size (block.generation == state.generation) (is_range_used state.chunks block.addr block.size) (omega arith) readable)
   where
     filled : (n : ℕ) (b c : Bool) → 0 < n → IsTrue (n == 0 || (b && c)) → IsTrue c
     filled n b c some readable = grind (arith, nat_tests)
@@ -65,7 +58,7 @@ module _ (m : ℕ) (a : Inside m) (memory : Memory) where
     pub valid : AreChunks m (chunks_in (a.newest ∷ reverse a.older.items))
     pub used : IsTrue (is_range_used (chunks_in (a.newest ∷ reverse a.older.items)) addr n)
 
-  is_range : (addr n : ℕ) → Stands m a → view_of m a ≡ memory → 0 < n → IsTrue (is_range_used memory.state.chunks addr n) → IsRange addr n
+  pub is_range : (addr n : ℕ) → Stands m a → view_of m a ≡ memory → 0 < n → IsTrue (is_range_used memory.state.chunks addr n) → IsRange addr n
   is_range addr n stands view some used =
       let here = subst (λ (w : Memory). IsTrue (is_range_used w.state.chunks addr n)) (sym view) used in
       elim (cases_Bool (a.newest.base == 16)) [
@@ -208,3 +201,25 @@ module _ (m : ℕ) (a : Inside m) (memory : Memory) where
       let table : slice_set a.older.items i new ≡ old.before ++ new ∷ old.after = ap (λ (l : List StoredChunk). slice_set l i new) old.table ∙ set_at old.before chunk old.after new i old.at in
       part_written addr n (a.newest ∷ reverse old.after) chunk (reverse old.before) gives new a.newest (slice_set a.older.items i new) old.part
       (ap (λ (l : List StoredChunk). a.newest ∷ l) (ap reverse table ∙ reverse_split old.before new old.after)) refl edited
+
+  -- ---- Bytes moved into a range of the newest chunk
+
+  pub record IsMove (from to n : ℕ) : Type 0 where
+    pub source : IsRange from n
+    pub target : IsRange to n
+    pub above : a.newest.base ≤ to
+
+  pub is_move : (from to n : ℕ) → Stands m a → view_of m a ≡ memory → (0 < n → IsTrue (is_range_used memory.state.chunks from n)) → (0 < n → IsTrue (is_range_used memory.state.chunks to n))
+      → start_of memory.state.chunks ≤ to → (n ≡ 0 → ⊥) → IsMove from to n
+  is_move from to n stands view source target above some =
+      let more : 0 < n = omega (arith, some) in
+      record {
+        source = is_range from n stands view more (source more);
+        target = is_range to n stands view more (target more);
+        above = omega (arith, above, start_stored m a memory stands view);
+      }
+
+  pub newest_moved : (from to n : ℕ) (list : List ℕ) (new : StoredChunk) → IsMove from to n → list ≡ bytes_from (image memory) from n → IsEdited a.newest new to n (λ _. list)
+      → IsWritten to n (bytes_from (image memory) from n) new a.older.items
+  newest_moved from to n list new move is edited =
+      newest_written to n (λ _. bytes_from (image memory) from n) new move.target move.above (subst (λ (l : List ℕ). IsEdited a.newest new to n (λ _. l)) is edited)

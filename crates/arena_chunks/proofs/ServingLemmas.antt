@@ -1,46 +1,100 @@
 -- What a call on one name's block does to an arena and its names.
-use Rattle.std.proofs.Common.{◌≡◌, ◌≢◌, ℕ, ◌+◌, ◌%◌, ◌<◌, ◌≤◌, ◌⊎◌, inl, inr, ap, refl, sym, subst, ◌∙◌, arith, List, [], ◌∷◌, Bool, true, false, Option, Some, None, IsTrue, length, replicate, eq-eqb}
-use Rattle.std.specs.Prelude.{◌==◌, ◌||◌, nat_lt}
+use Rattle.std.proofs.Common.{◌≡◌, ◌≢◌, ℕ, ◌+◌, ◌-◌, ◌%◌, ◌<◌, ◌≤◌, ◌⊎◌, inl, inr, ap, refl, sym, subst, ◌∙◌, arith, List, [], ◌∷◌, Bool, true, false, Option, Some, None, IsTrue, length, replicate, eq-eqb}
+use Rattle.std.specs.Prelude.{◌==◌, ◌||◌, ◌&&◌, nat_le, nat_lt}
 use Rattle.std.specs.Option.{is_some}
 use Rattle.std.specs.FinMap as finite
-use Rattle.std.proofs.lemmas.Bool.{cases_eq, cases_lt, or_cases, or_left, or_right}
+use Rattle.std.specs.FinMap.{get-empty}
+use Rattle.std.specs.Ordering.{nat_cmp}
+use Rattle.std.proofs.lemmas.Bool.{cases_eq, cases_lt, or_left, or_right}
 use Rattle.std.proofs.lemmas.Bool.Decides.{nat_tests}
 use Rattle.std.proofs.lemmas.Option.{same_Some, none-some}
 use Rattle.std.proofs.lemmas.List.{length-replicate}
 use Rattle.placement.specs.Rounding.{up, is_layout}
-use Rattle.placement.specs.State.{State, Chunk, IsValid, is_used, is_used_by, is_range_used}
-use Rattle.placement.specs.Moves.{alloc, dealloc}
-use Rattle.placement.specs.Machine.{Held, Contents, Next, AreApart, is_place_used, at_name, step, splice}
+use Rattle.placement.specs.State.{State, IsValid, is_used, is_range_used}
+use Rattle.placement.specs.Blocks.{IsBlock, IsMovedBlock}
+use Rattle.placement.specs.Moves.{dealloc, grow, shrink, reset}
+use Rattle.placement.specs.Requests.{call_requests, grow_requests, shrink_requests}
+use Rattle.placement.specs.Machine.{Held, Contents, Next, AreApart, is_place_used, at_name, step, splice, refused_of}
 use Rattle.placement.specs.declared.place.Place.{Place}
 use Rattle.placement.specs.declared.calls.Call.{Call}
-use Rattle.placement.specs.declared.calls.Call.TheVariants.{Alloc, Dealloc, Write}
+use Rattle.placement.specs.declared.calls.Call.TheVariants.{Alloc, Grow, Shrink, Dealloc, Write, Reset}
 use Rattle.placement.specs.declared.calls.Reply.{Reply}
-use Rattle.placement.specs.declared.calls.Reply.TheVariants.{Placed, AllocErr, Done, NoSuchName}
+use Rattle.placement.specs.declared.calls.Reply.TheVariants.{Placed, Done, NoSuchName}
 use Rattle.placement.proofs.RoundingLemmas.{up_ge, up_same, up_least, min_align_positive, layout_power}
-use Rattle.placement.proofs.NewBlockLemmas.{is_new_block, alloc_valid}
-use Rattle.placement.proofs.ReturnLemmas.{dealloc_min_align}
+use Rattle.placement.proofs.UsedLemmas.{used_part}
+use Rattle.placement.proofs.ReturnLemmas.{dealloc_min_align, used_filled}
+use Rattle.placement.proofs.MoveLemmas.{moved_anew, grow_moved, shrink_moved}
+use Rattle.placement.proofs.CauseLemmas.{counts_none, tells_none}
 use Rattle.arena_chunks.specs.Memory.{Memory, Writes, image, bytes_from, is_readable}
 use Rattle.arena_chunks.specs.Frame.{Frame, padded, in_blocks}
-use Rattle.arena_chunks.specs.Runs.{HoldsBytes, block_at}
-use Rattle.arena_chunks.specs.Serving.{machine_of, Holds, IsHeld, IsBeside, Keeps, Serves}
+use Rattle.arena_chunks.specs.Answers.{Allocates, Takes}
+use Rattle.arena_chunks.specs.Runs.{HoldsBytes, Source, block_at}
+use Rattle.arena_chunks.specs.Serving.{machine_of, Holds, IsBeside, Keeps, Asks, Serves}
 use Rattle.arena_chunks.specs.declared.block.Block.{Block}
 use Rattle.arena_chunks.proofs.HeldLemmas.{get-inserted, get-insert_other, get-removed, get-remove_other}
-use Rattle.arena_chunks.proofs.BytesLemmas.{written_beside}
-use Rattle.arena_chunks.proofs.WrittenLemmas.{bytes_same, bytes_written, bytes_spliced}
+use Rattle.arena_chunks.proofs.BytesLemmas.{no_bytes, written_beside}
+use Rattle.arena_chunks.proofs.WrittenLemmas.{bytes_same, bytes_spliced, bytes_filled, take_bytes}
 
--- ---- A change at one place
+-- ---- Beside a place
 
--- What lies beside the padded place stays in use, with its bytes; so do the other names' places lie, and what was in use at
--- an entry from which all is kept. The names after it are the others as they were, and the changed one, if it holds the place.
-record IsChange (old new : Memory) (names after : Held) (name : ℕ) (b : Place) : Type 0 where
+-- a part of a range that lies beside a place does too
+beside_part : (m : ℕ) (b : Place) (addr n i : ℕ) → i < n → IsBeside m b addr n → IsBeside m b (addr + i) 1
+beside_part m b addr n i below beside = λ filled. elim (beside filled) [ inl above ↦ inl (omega arith) | inr under ↦ inr (omega arith) ]
+
+up_empty : (m : ℕ) (b : Place) → 0 < m → b.addr % m ≡ 0 → b.size ≡ 0 → up (b.addr + b.size) m ≡ b.addr
+up_empty m b positive aligned none =
+    let here : b.addr + b.size ≡ b.addr = omega arith in
+    ap (λ (x : ℕ). up x m) here ∙ up_same b.addr m positive aligned
+
+-- an address that lies beside an empty place at a multiple is above or below it
+lies_beside : (m : ℕ) (b : Place) (addr : ℕ) → 0 < m → b.addr % m ≡ 0 → IsBeside m b addr 1 → (up (b.addr + b.size) m ≤ addr) ⊎ (addr + 1 ≤ b.addr)
+lies_beside m b addr positive aligned beside = elim (cases_lt 0 b.size) [
+  | inl filled ↦ beside filled
+  | inr none ↦
+      let empty = up_empty m b positive aligned (omega arith) in
+      elim (cases_lt addr b.addr) [ inl under ↦ inr (omega arith) | inr above ↦ inl (omega arith) ]
+]
+
+-- an address beside a place is none of n addresses in it
+outside : (m : ℕ) (b : Place) (addr from n : ℕ) → b.addr ≤ from → from + n ≤ up (b.addr + b.size) m → (b.size ≡ 0 → n ≡ 0) → IsBeside m b addr 1
+    → (nat_le from addr && nat_lt addr (from + n)) ≡ false
+outside m b addr from n low high empty beside = elim (cases_lt 0 b.size) [
+  | inl filled ↦ elim (beside filled) [ inl above ↦ grind (arith, nat_tests) | inr under ↦ grind (arith, nat_tests) ]
+  | inr none ↦ let no : n ≡ 0 = empty (omega arith) in grind (arith, nat_tests)
+]
+
+used_place : (state : State) (p : Place) → (0 < p.size → IsTrue (is_range_used state.chunks p.addr p.size)) → IsTrue (is_place_used state p)
+used_place state p used = elim (cases_lt 0 p.size) [
+  | inl some ↦ or_right (p.size == 0) (is_range_used state.chunks p.addr p.size) (used some)
+  | inr none ↦ or_left (p.size == 0) (is_range_used state.chunks p.addr p.size) (eq-eqb _ _ (omega arith))
+]
+
+turned : (p q : Place) → AreApart p q → AreApart q p
+turned p q apart = λ first second. elim (apart second first) [ inl above ↦ inr above | inr under ↦ inl under ]
+
+-- other names' places lie beside a held one
+others_beside : (state : State) (names : Held) (name : ℕ) (b : Place) → Holds state names → finite.get names name ≡ Some b
+    → (q : ℕ) (p : Place) → q ≢ name → finite.get names q ≡ Some p → 0 < p.size → IsBeside state.min_align b p.addr p.size
+others_beside state names name b holds found q p other at some = λ filled.
+    let positive = min_align_positive state.min_align holds.valid.min_align in
+    elim (holds.apart name q b p (λ same. other (sym same)) found at filled some) [
+      | inl above ↦ inl (up_least (b.addr + b.size) state.min_align p.addr positive (holds.each q p at).min_aligned above)
+      | inr under ↦ inr under
+    ]
+
+-- ---- A change of one name's block
+
+-- The name's block at a, where it isn't empty, goes, and one at b comes. What was in use beside the first stays so, with its
+-- bytes, and lies beside the second. The names afterwards are the others as they were, and this one, if it holds b.
+record IsChange (old new : Memory) (names after : Held) (name : ℕ) (a b : Place) : Type 0 where
   valid : IsValid new.state
   min_align : new.state.min_align ≡ old.state.min_align
-  used : (addr n : ℕ) → 0 < n → IsTrue (is_range_used old.state.chunks addr n) → IsBeside old.state.min_align b addr n → IsTrue (is_range_used new.state.chunks addr n)
-  bytes : (addr : ℕ) → IsTrue (is_used old.state addr) → IsBeside old.state.min_align b addr 1 → image new addr ≡ image old addr
-  others : (q : ℕ) (p : Place) → q ≢ name → finite.get names q ≡ Some p → 0 < p.size → IsBeside old.state.min_align b p.addr p.size
-  entries : (entry : Memory) → Keeps entry old names → (addr : ℕ) → IsTrue (is_used entry.state addr) → IsBeside old.state.min_align b addr 1
+  used : (addr n : ℕ) → 0 < n → IsTrue (is_range_used old.state.chunks addr n) → IsBeside old.state.min_align a addr n → IsTrue (is_range_used new.state.chunks addr n)
+  bytes : (addr : ℕ) → IsTrue (is_used old.state addr) → IsBeside old.state.min_align a addr 1 → image new addr ≡ image old addr
+  gone : 0 < a.size → finite.get names name ≡ Some a
+  beside : (addr : ℕ) → IsTrue (is_used old.state addr) → IsBeside old.state.min_align a addr 1 → IsBeside old.state.min_align b addr 1
   rest : (q : ℕ) → q ≢ name → finite.get after q ≡ finite.get names q
-  own : (p : Place) → finite.get after name ≡ Some p → (b ≡ p) × IsHeld new.state b
+  own : (p : Place) → finite.get after name ≡ Some p → (b ≡ p) × IsBlock new.state b
 
 -- the step of a call, with the bytes after it
 record IsStep (call : Call) (k : ℕ) (reply : Reply) (old new : Memory) (names after : Held) (name : ℕ) (b : Place) (bytes : Contents) : Type 0 where
@@ -49,60 +103,54 @@ record IsStep (call : Call) (k : ℕ) (reply : Reply) (old new : Memory) (names 
   rest : (q : ℕ) → q ≢ name → finite.get next q ≡ finite.get bytes q
   own : finite.get after name ≡ Some b → finite.get next name ≡ Some (bytes_from (image new) b.addr b.size)
 
-filled_used : (n : ℕ) (used : Bool) → 0 < n → IsTrue (n == 0 || used) → IsTrue used
-filled_used n used some either = grind (arith, nat_tests)
-
-used_part : (addr n i : ℕ) → (chunks : List Chunk) → i < n → IsTrue (is_range_used chunks addr n) → IsTrue (is_range_used chunks (addr + i) 1)
-used_part addr n i [] below used = used
-used_part addr n i (chunk ∷ chunks) below used = elim (or_cases (is_used_by addr n chunk) (is_range_used chunks addr n) used) [
-  | inl here ↦ or_left (is_used_by (addr + i) 1 chunk) (is_range_used chunks (addr + i) 1) (grind (arith, nat_tests))
-  | inr there ↦ or_right (is_used_by (addr + i) 1 chunk) (is_range_used chunks (addr + i) 1) (used_part addr n i chunks below there)
-]
-
--- a part of a range that lies beside a place does too
-beside_part : (m : ℕ) (b : Place) (addr n i : ℕ) → i < n → IsBeside m b addr n → IsBeside m b (addr + i) 1
-beside_part m b addr n i below beside = λ filled. elim (beside filled) [ inl above ↦ inl (omega arith) | inr under ↦ inr (omega arith) ]
-
-turned : (p q : Place) → AreApart p q → AreApart q p
-turned p q apart = λ first second. elim (apart second first) [ inl above ↦ inr above | inr under ↦ inl under ]
-
-module _ (old new : Memory) (names after : Held) (name : ℕ) (b : Place) (holds : Holds old.state names) (change : IsChange old new names after name b) where
+module _ (old new : Memory) (names after : Held) (name : ℕ) (a b : Place) (holds : Holds old.state names) (change : IsChange old new names after name a b) where
   -- a held place is the changed name's, or another's that was held before
-  held_cases : (q : ℕ) (p : Place) → finite.get after q ≡ Some p → ((q ≡ name) × (b ≡ p) × IsHeld new.state b) ⊎ ((q ≢ name) × (finite.get names q ≡ Some p))
+  held_cases : (q : ℕ) (p : Place) → finite.get after q ≡ Some p → ((q ≡ name) × (b ≡ p) × IsBlock new.state b) ⊎ ((q ≢ name) × (finite.get names q ≡ Some p))
   held_cases q p at = elim (cases_eq q name) [
     | inl same ↦ let own = change.own p (ap (finite.get after) (sym same) ∙ at) in inl (same, own.0, own.1)
     | inr other ↦ inr (other, sym (change.rest q other) ∙ at)
   ]
 
-  range_used : (q : ℕ) (p : Place) → finite.get names q ≡ Some p → 0 < p.size → IsTrue (is_range_used old.state.chunks p.addr p.size)
-  range_used q p at some = filled_used p.size (is_range_used old.state.chunks p.addr p.size) some (holds.each q p at).used
+  others : (q : ℕ) (p : Place) → q ≢ name → finite.get names q ≡ Some p → 0 < p.size → IsBeside old.state.min_align a p.addr p.size
+  others q p other at some = λ filled. others_beside old.state names name a holds (change.gone filled) q p other at some filled
 
-  place_stays : (q : ℕ) (p : Place) → q ≢ name → finite.get names q ≡ Some p → IsTrue (is_place_used new.state p)
-  place_stays q p other at = elim (cases_lt 0 p.size) [
-    | inl some ↦ or_right (p.size == 0) (is_range_used new.state.chunks p.addr p.size) (change.used p.addr p.size some (range_used q p at some) (change.others q p other at some))
-    | inr none ↦ or_left (p.size == 0) (is_range_used new.state.chunks p.addr p.size) (eq-eqb _ _ (omega arith))
-  ]
+  -- each address of another name's place is in use, beside the place that goes
+  others_part : (q : ℕ) (p : Place) → q ≢ name → finite.get names q ≡ Some p → (i : ℕ) → i < p.size
+      → IsTrue (is_used old.state (p.addr + i)) × IsBeside old.state.min_align a (p.addr + i) 1
+  others_part q p other at i below =
+      let some : 0 < p.size = omega arith in (
+        used_part p.addr p.size (p.addr + i) 1 old.state.chunks (omega arith) (omega arith) (used_filled old.state p some (holds.each q p at).used),
+        beside_part old.state.min_align a p.addr p.size i below (others q p other at some),
+      )
 
   bytes_stay : (q : ℕ) (p : Place) → q ≢ name → finite.get names q ≡ Some p → bytes_from (image new) p.addr p.size ≡ bytes_from (image old) p.addr p.size
   bytes_stay q p other at = bytes_same (image new) (image old) p.addr p.size (λ i below.
-      let some : 0 < p.size = omega arith in
-      change.bytes (p.addr + i) (used_part p.addr p.size i old.state.chunks below (range_used q p at some))
-      (beside_part old.state.min_align b p.addr p.size i below (change.others q p other at some)))
+      let part = others_part q p other at i below in
+      change.bytes (p.addr + i) part.0 part.1)
 
   away : (q : ℕ) (p : Place) → q ≢ name → finite.get names q ≡ Some p → AreApart b p
-  away q p other at = λ filled some. elim (change.others q p other at some filled) [
-    | inl above ↦ inl (omega (arith, up_ge (b.addr + b.size) old.state.min_align (min_align_positive old.state.min_align holds.valid.min_align)))
-    | inr under ↦ inr under
-  ]
+  away q p other at = λ filled some.
+      let ends = up_ge (b.addr + b.size) old.state.min_align (min_align_positive old.state.min_align holds.valid.min_align) in
+      elim (cases_lt (b.addr - p.addr) p.size) [
+        | inl below ↦
+            let part = others_part q p other at (b.addr - p.addr) below in
+            elim (change.beside (p.addr + (b.addr - p.addr)) part.0 part.1 filled) [ inl above ↦ inl (omega arith) | inr under ↦ absurd (omega arith) ]
+        | inr past ↦ inr (omega arith)
+      ]
 
   holds_changed : Holds new.state after
   holds_changed = record {
     valid = change.valid;
     each = λ q p at. elim (held_cases q p at) [
-      | inl own ↦ subst (IsHeld new.state) own.1 own.2
+      | inl own ↦ subst (IsBlock new.state) own.1 own.2
       | inr other ↦
           let held = holds.each q p other.1 in
-          record { aligned = held.aligned; min_aligned = rw change.min_align held.min_aligned; used = place_stays q p other.0 other.1 }
+          record {
+            layout = held.layout;
+            aligned = held.aligned;
+            min_aligned = rw change.min_align held.min_aligned;
+            used = used_place new.state p (λ some. change.used p.addr p.size some (used_filled old.state p some held.used) (others q p other.0 other.1 some));
+          }
     ];
     apart = λ m n p q differ first second. elim (held_cases m p first) [
       | inl left ↦ elim (held_cases n q second) [
@@ -117,16 +165,18 @@ module _ (old new : Memory) (names after : Held) (name : ℕ) (b : Place) (holds
   }
 
   keeps_changed : (entry : Memory) → Keeps entry old names → Keeps entry new after
-  keeps_changed entry keeps = record {
-    kept = record {
-      used = λ addr used. change.used addr 1 (omega arith) (keeps.kept.used addr used) (change.entries entry keeps addr used);
-      bytes = λ addr used. change.bytes addr (keeps.kept.used addr used) (change.entries entry keeps addr used) ∙ keeps.kept.bytes addr used;
-    };
-    beside = λ q p at addr used. rw change.min_align (elim (held_cases q p at) [
-      | inl own ↦ subst (λ (x : Place). IsBeside old.state.min_align x addr 1) own.1 (change.entries entry keeps addr used)
-      | inr other ↦ keeps.beside q p other.1 addr used
-    ]);
-  }
+  keeps_changed entry keeps =
+      let gone : (addr : ℕ) → IsTrue (is_used entry.state addr) → IsBeside old.state.min_align a addr 1 = λ addr used filled. keeps.beside name a (change.gone filled) addr used filled in
+      record {
+        kept = record {
+          used = λ addr used. change.used addr 1 (omega arith) (keeps.kept.used addr used) (gone addr used);
+          bytes = λ addr used. change.bytes addr (keeps.kept.used addr used) (gone addr used) ∙ keeps.kept.bytes addr used;
+        };
+        beside = λ q p at addr used. rw change.min_align (elim (held_cases q p at) [
+          | inl own ↦ subst (λ (x : Place). IsBeside old.state.min_align x addr 1) own.1 (change.beside addr (keeps.kept.used addr used) (gone addr used))
+          | inr other ↦ keeps.beside q p other.1 addr used
+        ]);
+      }
 
   bytes_changed : (call : Call) (k : ℕ) (reply : Reply) (bytes : Contents) → HoldsBytes old names bytes → (stepped : IsStep call k reply old new names after name b bytes) → HoldsBytes new after stepped.next
   bytes_changed call k reply bytes held stepped = record {
@@ -138,32 +188,91 @@ module _ (old new : Memory) (names after : Held) (name : ℕ) (b : Place) (holds
     ];
   }
 
-  serves_changed : (call : Call) (k : ℕ) (reply : Reply) → ((bytes : Contents) → HoldsBytes old names bytes → IsStep call k reply old new names after name b bytes)
-      → Serves call k reply old names new after
-  serves_changed call k reply steps = record {
-    steps = λ bytes held. ((steps bytes held).next, (steps bytes held).step, bytes_changed call k reply bytes held (steps bytes held));
+  serves_changed : (call : Call) (reply : Reply) (before later : Source) → ((bytes : Contents) → HoldsBytes old names bytes → IsStep call (refused_of reply) reply old new names after name b bytes)
+      → Asks call (refused_of reply) old names before later → Serves call reply old names new after before later
+  serves_changed call reply before later steps asks = record {
+    steps = λ bytes held. ((steps bytes held).next, (steps bytes held).step, bytes_changed call (refused_of reply) reply bytes held (steps bytes held));
+    asks = asks;
     holds = holds_changed;
-    keeps = keeps_changed;
+    keeps = λ kept. keeps_changed;
   }
 
--- other names' places lie beside a held one
-others_beside : (state : State) (names : Held) (name : ℕ) (b : Place) → Holds state names → finite.get names name ≡ Some b
-    → (q : ℕ) (p : Place) → q ≢ name → finite.get names q ≡ Some p → 0 < p.size → IsBeside state.min_align b p.addr p.size
-others_beside state names name b holds found q p other at some = λ filled.
-    let positive = min_align_positive state.min_align holds.valid.min_align in
-    elim (holds.apart name q b p (λ same. other (sym same)) found at filled some) [
-      | inl above ↦ inl (up_least (b.addr + b.size) state.min_align p.addr positive (holds.each q p at).min_aligned above)
-      | inr under ↦ inr under
-    ]
+-- A change after which bytes were written in the block that came.
+change_written : (old mid new : Memory) (names after : Held) (name : ℕ) (a b : Place) (at : ℕ) (list : List ℕ) → IsValid old.state → IsChange old mid names after name a b
+    → at + length list ≤ b.size → new.state ≡ mid.state → Writes mid new (b.addr + at) list → IsChange old new names after name a b
+change_written old mid new names after name a b at list valid change within same writes =
+    let ends = up_ge (b.addr + b.size) old.state.min_align (min_align_positive old.state.min_align valid.min_align) in
+    record {
+      valid = subst IsValid (sym same) change.valid;
+      min_align = ap (λ (s : State). s.min_align) same ∙ change.min_align;
+      used = λ addr n some used beside. subst (λ (s : State). IsTrue (is_range_used s.chunks addr n)) (sym same) (change.used addr n some used beside);
+      bytes = λ addr used beside. writes addr
+          ∙ written_beside (image mid) (b.addr + at) addr list
+          (outside old.state.min_align b addr (b.addr + at) (length list) (omega arith) (omega arith) (λ none. omega arith) (change.beside addr used beside))
+          ∙ change.bytes addr used beside;
+      gone = change.gone;
+      beside = change.beside;
+      rest = change.rest;
+      own = λ p is. ((change.own p is).0, subst (λ (s : State). IsBlock s b) (sym same) (change.own p is).1);
+    }
 
--- A call that changes nothing.
-pub serves_still : (call : Call) (k : ℕ) (reply : Reply) (memory : Memory) (names : Held) → Holds memory.state names
-    → ((bytes : Contents) → HoldsBytes memory names bytes → step call k (machine_of memory names bytes) ≡ Some (reply, machine_of memory names bytes))
-    → Serves call k reply memory names memory names
-serves_still call k reply memory names holds steps = record {
+-- A block was placed for a name, in place of the one that it had, or of none.
+change_placed : (old new : Memory) (names : Held) (name size align p : ℕ) (a : Place) (before blocks : List Block) → Holds old.state names
+    → (0 < a.size → finite.get names name ≡ Some a) → a.addr % old.state.min_align ≡ 0 → true ≡ is_layout size align → IsMovedBlock old.state a size align p new.state → IsValid new.state
+    → Frame old new before blocks → ((addr : ℕ) → IsBeside old.state.min_align a addr 1 → in_blocks addr before ≡ false)
+    → IsChange old new names (finite.insert names name (record { addr = p; size = size; align = align })) name a (record { addr = p; size = size; align = align })
+change_placed old new names name size align p a before blocks holds gone aligned good moved valid frame misses =
+    let m : ℕ = old.state.min_align in
+    let b : Place = record { addr = p; size = size; align = align } in
+    record {
+      valid = valid;
+      min_align = moved.min_align;
+      used = λ addr n some used beside. frame.kept addr n some used (λ i below. misses (addr + i) (beside_part m a addr n i below beside));
+      bytes = λ addr used beside. frame.bytes addr used (misses addr beside);
+      gone = gone;
+      beside = λ addr used beside filled. moved.beside addr 1 (omega arith) used (lies_beside m a addr (min_align_positive m holds.valid.min_align) aligned beside);
+      rest = λ q other. get-insert_other names name q b other;
+      own = λ o is. (
+        same_Some b o (sym (get-inserted names name b) ∙ is),
+        record { layout = sym good; aligned = moved.aligned; min_aligned = rw moved.min_align moved.min_aligned; used = used_place new.state b moved.used },
+      );
+    }
+
+-- ---- Calls that change nothing, or give all blocks back
+
+pub asks_none : (call : Call) (memory : Memory) (names : Held) (source : Source) → ((bytes : Contents) → call_requests call 0 (machine_of memory names bytes) ≡ [])
+    → Asks call 0 memory names source source
+asks_none call memory names source none = record { refusals = counts_none source.refusals; requests = λ bytes. rw (none bytes) (tells_none source.asked) }
+
+pub serves_still : (call : Call) (reply : Reply) (memory : Memory) (names : Held) (before later : Source) → Holds memory.state names
+    → ((bytes : Contents) → HoldsBytes memory names bytes → step call (refused_of reply) (machine_of memory names bytes) ≡ Some (reply, machine_of memory names bytes))
+    → Asks call (refused_of reply) memory names before later → Serves call reply memory names memory names before later
+serves_still call reply memory names before later holds steps asks = record {
   steps = λ bytes held. (bytes, steps bytes held, held);
+  asks = asks;
   holds = holds;
-  keeps = λ entry keeps. keeps;
+  keeps = λ kept entry keeps. keeps;
+}
+
+no_name : {P : Type 0} (q : ℕ) (p : Place) → finite.get (finite.empty {X = Place} {R = nat_cmp}) q ≡ Some p → P
+no_name q p at = absurd (none-some p (sym (get-empty nat_cmp q) ∙ at))
+
+pub holds_none : (state : State) → IsValid state → Holds state finite.empty
+holds_none state valid = record { valid = valid; each = λ q p at. no_name q p at; apart = λ q r p o differ at _. no_name q p at }
+
+pub no_bytes_held : (memory : Memory) (bytes : Contents) → HoldsBytes memory finite.empty bytes
+no_bytes_held memory bytes = record { each = λ q p at. no_name q p at }
+
+pub none_kept : (memory : Memory) → Keeps memory memory finite.empty
+none_kept memory = record { kept = record { used = λ addr used. used; bytes = λ addr used. refl }; beside = λ q p at. no_name q p at }
+
+pub serves_reset : (old new : Memory) (names : Held) (source : Source) → new.state ≡ reset old.state → IsValid new.state → Serves Reset Done old names new finite.empty source source
+unfolding step call_requests
+serves_reset old new names source same valid = record {
+  steps = λ bytes held. (finite.empty, rw same refl, no_bytes_held new finite.empty);
+  asks = asks_none Reset old names source (λ bytes. refl);
+  holds = holds_none new.state valid;
+  keeps = λ kept. absurd (cc);
 }
 
 pub none_of : {X : Type 0} → (o : Option X) → false ≡ is_some o → o ≡ None
@@ -184,114 +293,130 @@ pub absent_at : (memory : Memory) (names : Held) (bytes : Contents) (name : ℕ)
 absent_at memory names bytes name go none = rw none refl
 
 -- Bytes are written in a name's block.
-pub serves_write : (old new : Memory) (names : Held) (name at : ℕ) (list : List ℕ) (b : Place) → Holds old.state names → finite.get names name ≡ Some b → at + length list ≤ b.size
-    → new.state ≡ old.state → Writes old new (b.addr + at) list → Serves (Write name at list) 0 Done old names new names
-unfolding step
-serves_write old new names name at list b holds found within same writes =
-    let positive = min_align_positive old.state.min_align holds.valid.min_align in
-    let ends = up_ge (b.addr + b.size) old.state.min_align positive in
+pub serves_write : (old new : Memory) (names : Held) (name at : ℕ) (list : List ℕ) (b : Place) (source : Source) → Holds old.state names → finite.get names name ≡ Some b
+    → at + length list ≤ b.size → new.state ≡ old.state → Writes old new (b.addr + at) list → Serves (Write name at list) Done old names new names source source
+unfolding step call_requests
+serves_write old new names name at list b source holds found within same writes =
     let range : nat_lt b.size (at + length list) ≡ false = grind (arith, nat_tests) in
-    serves_changed old new names names name b holds (record {
-      valid = subst IsValid (sym same) holds.valid;
-      min_align = ap (λ (s : State). s.min_align) same;
-      used = λ addr n some used beside. subst (λ (s : State). IsTrue (is_range_used s.chunks addr n)) (sym same) used;
-      bytes = λ addr used beside. writes addr ∙ written_beside (image old) (b.addr + at) addr list (elim (cases_lt 0 b.size) [
-        | inl filled ↦ elim (beside filled) [ inl above ↦ grind (arith, nat_tests) | inr under ↦ grind (arith, nat_tests) ]
-        | inr none ↦ grind (arith, nat_tests)
-      ]);
-      others = others_beside old.state names name b holds found;
-      entries = λ entry keeps. keeps.beside name b found;
+    let change = change_written old old new names names name b b at list holds.valid (record {
+      valid = holds.valid;
+      min_align = refl;
+      used = λ addr n some used beside. used;
+      bytes = λ addr used beside. refl;
+      gone = λ filled. found;
+      beside = λ addr used beside. beside;
       rest = λ q other. refl;
-      own = λ p is. (same_Some b p (sym found ∙ is), subst (λ (s : State). IsHeld s b) (sym same) (holds.each name b found));
-    }) (Write name at list) 0 Done (λ bytes held. record {
+      own = λ p is. (same_Some b p (sym found ∙ is), holds.each name b found);
+    }) within same writes in
+    serves_changed old new names names name b b holds change (Write name at list) Done source source (λ bytes held. record {
       next = finite.insert bytes name (splice (bytes_from (image old) b.addr b.size) at list);
       step = found_at old names bytes name 0 b _ held found ∙ rw (range, same) refl;
       rest = λ q other. get-insert_other bytes name q _ other;
       own = λ _. get-inserted bytes name _ ∙ ap Some (sym (bytes_spliced (image old) (image new) b.addr b.size at list within writes));
-    })
-
-missed : (m g : ℕ) (b : Place) (addr : ℕ) → 0 < m → b.addr % m ≡ 0 → IsBeside m b addr 1 → in_blocks addr (padded m (block_at g b) ∷ []) ≡ false
-missed m g b addr positive aligned beside = elim (cases_lt 0 b.size) [
-  | inl filled ↦ elim (beside filled) [ inl above ↦ grind (arith, nat_tests) | inr under ↦ grind (arith, nat_tests) ]
-  | inr none ↦
-      let here : b.addr + b.size ≡ b.addr = omega arith in
-      let empty : up (b.addr + b.size) m ≡ b.addr = ap (λ (x : ℕ). up x m) here ∙ up_same b.addr m positive aligned in
-      grind (arith, nat_tests)
-]
+    }) (asks_none (Write name at list) old names source (λ bytes. refl))
 
 -- A name's block is given back.
-pub serves_dealloc : (old new : Memory) (names : Held) (name : ℕ) (b : Place) → Holds old.state names → finite.get names name ≡ Some b → IsValid new.state
+pub serves_dealloc : (old new : Memory) (names : Held) (name : ℕ) (b : Place) (source : Source) → Holds old.state names → finite.get names name ≡ Some b → IsValid new.state
     → new.state ≡ dealloc old.state b.addr b.size → Frame old new (padded old.state.min_align (block_at old.state.generation b) ∷ []) []
-    → Serves (Dealloc name) 0 Done old names new (finite.remove names name)
-unfolding step
-serves_dealloc old new names name b holds found valid same frame =
+    → Serves (Dealloc name) Done old names new (finite.remove names name) source source
+unfolding step call_requests
+serves_dealloc old new names name b source holds found valid same frame =
     let m : ℕ = old.state.min_align in
     let positive = min_align_positive m holds.valid.min_align in
-    let miss = λ (addr : ℕ). missed m old.state.generation b addr positive ((holds.each name b found).min_aligned) in
+    let ends = up_ge (b.addr + b.size) m positive in
+    let empty = up_empty m b positive (holds.each name b found).min_aligned in
+    let misses : (addr : ℕ) → IsBeside m b addr 1 → in_blocks addr (padded m (block_at old.state.generation b) ∷ []) ≡ false =
+    λ addr beside. ap (λ (t : Bool). t || false) (outside m b addr b.addr (up (b.addr + b.size) m - b.addr) (omega arith) (omega arith) (λ none. omega (arith, empty none)) beside) in
     let none : (p : Place) → finite.get (finite.remove names name) name ≡ Some p → ⊥ = λ p is. none-some p (sym (get-removed names name) ∙ is) in
-    serves_changed old new names (finite.remove names name) name b holds (record {
+    serves_changed old new names (finite.remove names name) name b b holds (record {
       valid = valid;
       min_align = ap (λ (s : State). s.min_align) same ∙ dealloc_min_align old.state b.addr b.size;
-      used = λ addr n some used beside. frame.kept addr n some used (λ i below. miss (addr + i) (beside_part m b addr n i below beside));
-      bytes = λ addr used beside. frame.bytes addr used (miss addr beside);
-      others = others_beside old.state names name b holds found;
-      entries = λ entry keeps. keeps.beside name b found;
+      used = λ addr n some used beside. frame.kept addr n some used (λ i below. misses (addr + i) (beside_part m b addr n i below beside));
+      bytes = λ addr used beside. frame.bytes addr used (misses addr beside);
+      gone = λ filled. found;
+      beside = λ addr used beside. beside;
       rest = λ q other. get-remove_other names name q other;
       own = λ p is. absurd (none p is);
-    }) (Dealloc name) 0 Done (λ bytes held. record {
+    }) (Dealloc name) Done source source (λ bytes held. record {
       next = finite.remove bytes name;
       step = found_at old names bytes name 0 b _ held found ∙ rw same refl;
       rest = λ q other. get-remove_other bytes name q other;
       own = λ is. absurd (none b is);
-    })
+    }) (asks_none (Dealloc name) old names source (λ bytes. refl))
 
--- ---- A block for a name
+-- ---- Calls that place a block for a name
 
--- A block was placed, and all its bytes were set.
-pub serves_placed : (old mid new : Memory) (names : Held) (name size align fill k p : ℕ) (blocks : List Block) → Holds old.state names → finite.get names name ≡ None → true ≡ is_layout size align
-    → alloc old.state size align k ≡ Some (record { answer = Some p; state = mid.state }) → Frame old mid [] blocks
-    → new.state ≡ mid.state → Writes mid new p (replicate size fill)
-    → Serves (Alloc name size align fill) k (Placed p k) old names new (finite.insert names name (record { addr = p; size = size; align = align }))
-unfolding step
-serves_placed old mid new names name size align fill k p blocks holds none good stepped frame same writes =
-    let power = layout_power size align (sym good) in
-    let block = is_new_block old.state size align k p mid.state holds.valid power stepped in
-    let valid = alloc_valid old.state size align k (record { answer = Some p; state = mid.state }) holds.valid power stepped in
-    let b : Place = record { addr = p; size = size; align = align } in
-    let sized = length-replicate size fill in
-    let ends = up_ge (p + size) old.state.min_align (min_align_positive old.state.min_align holds.valid.min_align) in
-    serves_changed old new names (finite.insert names name b) name b holds (record {
-      valid = subst IsValid (sym same) valid;
-      min_align = ap (λ (s : State). s.min_align) same ∙ block.min_align;
-      used = λ addr n some used beside. subst (λ (s : State). IsTrue (is_range_used s.chunks addr n)) (sym same) (block.keeps addr n used);
-      bytes = λ addr used beside. writes addr ∙ written_beside (image mid) p addr (replicate size fill) (elim (block.beside addr 1 (omega arith) used) [
-        | inl above ↦ grind (arith, nat_tests)
-        | inr under ↦ grind (arith, nat_tests)
-      ]) ∙ frame.bytes addr used refl;
-      others = λ q o other at some filled. block.beside o.addr o.size some (filled_used o.size (is_range_used old.state.chunks o.addr o.size) some (holds.each q o at).used);
-      entries = λ entry keeps addr used filled. block.beside addr 1 (omega arith) (keeps.kept.used addr used);
-      rest = λ q other. get-insert_other names name q b other;
-      own = λ o is. (
-        same_Some b o (sym (get-inserted names name b) ∙ is),
-        subst (λ (s : State). IsHeld s b) (sym same) (record {
-          aligned = block.aligned;
-          min_aligned = rw block.min_align block.min_aligned;
-          used = elim (cases_lt 0 size) [
-            | inl some ↦ or_right (size == 0) (is_range_used mid.state.chunks p size) (block.used some)
-            | inr empty ↦ or_left (size == 0) (is_range_used mid.state.chunks p size) (eq-eqb _ _ (omega arith))
-          ];
-        }),
-      );
-    }) (Alloc name size align fill) k (Placed p k) (λ bytes held. record {
-      next = finite.insert bytes name (replicate size fill);
-      step = rw (none, ← good, stepped, same) refl;
+-- The name holds a place, with what stands there.
+serves_placed : (call : Call) (k : ℕ) (old new : Memory) (names : Held) (name : ℕ) (a b : Place) (before later : Source) → Holds old.state names
+    → IsChange old new names (finite.insert names name b) name a b
+    → ((bytes : Contents) → HoldsBytes old names bytes → step call k (machine_of old names bytes)
+    ≡ Some (Placed b.addr k, machine_of new (finite.insert names name b) (finite.insert bytes name (bytes_from (image new) b.addr b.size))))
+    → Asks call k old names before later → Serves call (Placed b.addr k) old names new (finite.insert names name b) before later
+serves_placed call k old new names name a b before later holds change steps asks =
+    serves_changed old new names (finite.insert names name b) name a b holds change call (Placed b.addr k) before later (λ bytes held. record {
+      next = finite.insert bytes name (bytes_from (image new) b.addr b.size);
+      step = steps bytes held;
       rest = λ q other. get-insert_other bytes name q _ other;
-      own = λ _. get-inserted bytes name _ ∙ ap Some (sym (rw sized at (bytes_written (image mid) (image new) p (replicate size fill) writes)));
-    })
+      own = λ _. get-inserted bytes name _;
+    }) asks
 
--- Nothing was placed.
-pub serves_failed : (memory : Memory) (names : Held) (name size align fill k : ℕ) → Holds memory.state names → finite.get names name ≡ None → true ≡ is_layout size align
-    → alloc memory.state size align k ≡ Some (record { answer = None; state = memory.state }) → Serves (Alloc name size align fill) k (AllocErr k) memory names memory names
-unfolding step
-serves_failed memory names name size align fill k holds none good stepped =
-    serves_still (Alloc name size align fill) k (AllocErr k) memory names holds (λ bytes held. rw (none, ← good, stepped) refl)
+pub serves_alloc : (old mid new : Memory) (names : Held) (name size align fill k p : ℕ) (blocks : List Block) (before later : Source) → Holds old.state names → finite.get names name ≡ None
+    → true ≡ is_layout size align → Allocates old.state mid.state size align k (Some p) before.refusals later.refusals before.asked later.asked → IsValid mid.state → Frame old mid [] blocks
+    → new.state ≡ mid.state → Writes mid new (p + 0) (replicate (size - 0) fill)
+    → Serves (Alloc name size align fill) (Placed p k) old names new (finite.insert names name (record { addr = p; size = size; align = align })) before later
+unfolding step call_requests
+serves_alloc old mid new names name size align fill k p blocks before later holds none good takes valid frame same writes =
+    let b : Place = record { addr = p; size = size; align = align } in
+    let nothing : Place = record { addr = 0; size = 0; align = 1 } in
+    let sized = length-replicate (size - 0) fill in
+    let all : size - 0 ≡ size = omega arith in
+    let moved = moved_anew old.state nothing size align k (record { answer = Some p; state = mid.state }) holds.valid (layout_power size align (sym good)) takes.step in
+    let placed = change_placed old mid names name size align p nothing [] blocks holds (λ filled. absurd (omega arith)) (omega arith) good moved valid frame (λ addr beside. refl) in
+    serves_placed (Alloc name size align fill) k old new names name nothing b before later holds
+    (change_written old mid new names _ name nothing b 0 (replicate (size - 0) fill) holds.valid placed (omega arith) same writes)
+    (λ bytes held. rw (none, ← good, takes.step, bytes_filled (image mid) (image new) p size 0 fill (omega arith) writes, no_bytes (image mid) p 0 refl, all, same) refl)
+    (record { refusals = takes.refusals; requests = λ bytes. rw (none, ← good) takes.requests })
+
+-- a block in place of the name's
+change_moved : (old new : Memory) (names : Held) (name size align p : ℕ) (a : Place) (blocks : List Block) → Holds old.state names → finite.get names name ≡ Some a
+    → true ≡ is_layout size align → IsMovedBlock old.state a size align p new.state → IsValid new.state → Frame old new (block_at old.state.generation a ∷ []) blocks
+    → IsChange old new names (finite.insert names name (record { addr = p; size = size; align = align })) name a (record { addr = p; size = size; align = align })
+change_moved old new names name size align p a blocks holds found good moved valid frame =
+    let m : ℕ = old.state.min_align in
+    let ends = up_ge (a.addr + a.size) m (min_align_positive m holds.valid.min_align) in
+    change_placed old new names name size align p a (block_at old.state.generation a ∷ []) blocks holds (λ filled. found) (holds.each name a found).min_aligned good moved valid frame
+    (λ addr beside. ap (λ (t : Bool). t || false) (outside m a addr a.addr a.size (omega arith) (omega arith) (λ none. none) beside))
+
+pub serves_grow : (old mid new : Memory) (names : Held) (name size align fill k p : ℕ) (a : Place) (blocks : List Block) (before later : Source) → Holds old.state names
+    → finite.get names name ≡ Some a → true ≡ is_layout size align → a.size ≤ size
+    → Takes (grow old.state a.addr a.size a.align size align) (grow_requests old.state a.addr a.size a.align size align) mid.state k (Some p) before.refusals later.refusals before.asked later.asked
+    → IsValid mid.state → Frame old mid (block_at old.state.generation a ∷ []) blocks → bytes_from (image mid) p a.size ≡ bytes_from (image old) a.addr a.size
+    → new.state ≡ mid.state → Writes mid new (p + a.size) (replicate (size - a.size) fill)
+    → Serves (Grow name size align fill) (Placed p k) old names new (finite.insert names name (record { addr = p; size = size; align = align })) before later
+unfolding step call_requests
+serves_grow old mid new names name size align fill k p a blocks before later holds found good larger takes valid frame kept same writes =
+    let b : Place = record { addr = p; size = size; align = align } in
+    let range : nat_lt size a.size ≡ false = grind (arith, nat_tests) in
+    let sized = length-replicate (size - a.size) fill in
+    let moved = grow_moved old.state a size align k (record { answer = Some p; state = mid.state }) holds.valid (holds.each name a found) (layout_power size align (sym good)) takes.step in
+    serves_placed (Grow name size align fill) k old new names name a b before later holds
+    (change_written old mid new names _ name a b a.size (replicate (size - a.size) fill) holds.valid
+    (change_moved old mid names name size align p a blocks holds found good moved valid frame) (omega arith) same writes)
+    (λ bytes held. found_at old names bytes name k a _ held found
+    ∙ rw (← good, range, takes.step, bytes_filled (image mid) (image new) p size a.size fill larger writes, kept, same) refl)
+    (record { refusals = takes.refusals; requests = λ bytes. rw (found, ← good, range) takes.requests })
+
+pub serves_shrink : (old new : Memory) (names : Held) (name size align k p : ℕ) (a : Place) (blocks : List Block) (before later : Source) → Holds old.state names
+    → finite.get names name ≡ Some a → true ≡ is_layout size align → size ≤ a.size
+    → Takes (shrink old.state a.addr a.size a.align size align) (shrink_requests old.state a.addr a.align size align) new.state k (Some p) before.refusals later.refusals before.asked later.asked
+    → IsValid new.state → Frame old new (block_at old.state.generation a ∷ []) blocks → bytes_from (image new) p size ≡ bytes_from (image old) a.addr size
+    → Serves (Shrink name size align) (Placed p k) old names new (finite.insert names name (record { addr = p; size = size; align = align })) before later
+unfolding step call_requests
+serves_shrink old new names name size align k p a blocks before later holds found good smaller takes valid frame kept =
+    let b : Place = record { addr = p; size = size; align = align } in
+    let range : nat_lt a.size size ≡ false = grind (arith, nat_tests) in
+    let moved = shrink_moved old.state a size align k (record { answer = Some p; state = new.state }) holds.valid (holds.each name a found) smaller (layout_power size align (sym good)) takes.step in
+    serves_placed (Shrink name size align) k old new names name a b before later holds
+    (change_moved old new names name size align p a blocks holds found good moved valid frame)
+    (λ bytes held. found_at old names bytes name k a _ held found ∙ rw (← good, range, takes.step, kept, take_bytes (image old) a.addr a.size size smaller) refl)
+    (record { refusals = takes.refusals; requests = λ bytes. rw (found, ← good, range) takes.requests })

@@ -1,5 +1,5 @@
 -- What the fields of an arena stand for.
-use Rattle.std.proofs.Common.{◌≡◌, ℕ, ◌+◌, ◌<◌, ◌≤◌, ◌^◌, ap, sym, refl, subst, ◌∙◌, arith, List, [], ◌∷◌, false, Bool, length, eqb-true, map, reverse, inl, inr, ◌⊎◌, sum, sum_by, take, get_or, Option, true}
+use Rattle.std.proofs.Common.{◌≡◌, ℕ, ◌+◌, ◌-◌, ◌<◌, ◌≤◌, ◌^◌, min, ap, sym, refl, subst, ◌∙◌, arith, List, [], ◌∷◌, false, Bool, length, eqb-true, map, reverse, inl, inr, ◌⊎◌, sum, sum_by, take, get_or, Option, true}
 use Rattle.std.specs.Prelude.{◌==◌, ◌||◌}
 use Rattle.std.specs.List.{All, list_any}
 use Rattle.std.proofs.lemmas.Bool.{cases_Bool}
@@ -10,6 +10,7 @@ use Rattle.std.proofs.lemmas.List.Elements.{All-nil, All-push}
 use Rattle.std.proofs.lemmas.List.Sorted.{sum_by-IsPermutation, list_any-IsPermutation, IsPermutation-reverse}
 use Rattle.placement.specs.State.{State, Chunk, AreChunks, IsChunk, IsValid, start_of, cursor_of, top_of, floor_of, with_cursor, used_length, is_used_by, is_range_used}
 use Rattle.placement.specs.Search.{place, place_below}
+use Rattle.placement.proofs.ResetLemmas.{reset_valid}
 use Rattle.arena_chunks.specs.Memory.{Memory}
 use Rattle.arena_chunks.specs.Stored.{stored_chunk, memory_of, IsNone, IsStored, IsOrdered}
 use Rattle.arena_chunks.specs.declared.chunk.StoredChunk.{StoredChunk}
@@ -153,10 +154,17 @@ module _ (m : ℕ) (a : Inside m) where
         | inr some ↦ rw some refl
       ])
 
+  pub start_stored : (memory : Memory) → Stands m a → view_of m a ≡ memory → a.newest.base ≡ start_of memory.state.chunks
+  start_stored memory stands view = subst (λ (w : Memory). a.newest.base ≡ start_of w.state.chunks) view
+      (elim (kind stands) [
+        | inl none ↦ rw none.0 none.1
+        | inr some ↦ rw some refl
+      ])
+
   -- the newest chunk with another cursor
-  pub cursor_moved : (memory : Memory) (q allocations : ℕ) → Stands m a → view_of m a ≡ memory → IsCursor memory.state q
-      → IsStored (memory_of m a.is_growing a.generation allocations a.reallocations (record a.newest { cursor = q }) a.older.items) (record a.newest { cursor = q }) a.older.items
-  cursor_moved memory q allocations stands view moved =
+  pub cursor_moved : (memory : Memory) (q allocations reallocations : ℕ) → Stands m a → view_of m a ≡ memory → IsCursor memory.state q
+      → IsStored (memory_of m a.is_growing a.generation allocations reallocations (record a.newest { cursor = q }) a.older.items) (record a.newest { cursor = q }) a.older.items
+  cursor_moved memory q allocations reallocations stands view moved =
       let at = subst (λ (w : Memory). IsCursor w.state q) (sym view) moved in
       elim (kind stands) [
         | inl none ↦
@@ -169,3 +177,18 @@ module _ (m : ℕ) (a : Inside m) where
       → view_of m (record a { newest = record a.newest { cursor = q } }) ≡ record { state = with_cursor q memory.state; statistics = memory.statistics; bytes = memory.bytes }
   cursor_view memory q view = subst (λ (w : Memory). view_of m (record a { newest = record a.newest { cursor = q } }) ≡ record { state = with_cursor q w.state; statistics = w.statistics; bytes = w.bytes }) view
       (elim (cases_Bool (a.newest.base == 16)) [ inl none ↦ rw none refl | inr some ↦ rw some refl ])
+
+  -- ---- All blocks given back
+
+  -- the newest chunk alone, with nothing used
+  pub emptied_stored : (generation size : ℕ) (older : List StoredChunk) → Stands m a → generation ≡ min (a.generation + 1) (2 ^ 64 - 1) → size ≡ length a.newest.bytes.items → older ≡ []
+      → IsStored (memory_of m a.is_growing generation 0 0 (record a.newest { cursor = a.newest.base + size }) older) (record a.newest { cursor = a.newest.base + size }) older
+  emptied_stored generation size older stands next sized none =
+      let valid = reset_valid (view_of m a).state stands.valid in
+      rw (next, sized, none) (elim (kind stands) [
+        | inl empty ↦ record {
+          valid = rw empty.0 (rw empty.0 at valid);
+          none = λ same. record { cursor = omega (arith, same, ap length empty.2.bytes); bytes = empty.2.bytes; older = refl };
+        }
+        | inr some ↦ record { valid = rw some (rw some at valid); none = λ same. absurd (differs a.newest.base some same) }
+      ])

@@ -1,8 +1,9 @@
 -- The bytes of a range after some of them were written.
-use Rattle.std.proofs.Common.{◌≡◌, ℕ, ◌+◌, ◌-◌, ◌<◌, ◌≤◌, refl, sym, ◌∙◌, arith, List, true, length}
+use Rattle.std.proofs.Common.{◌≡◌, ℕ, zero, suc, ◌+◌, ◌-◌, ◌<◌, ◌≤◌, ap, refl, sym, ◌∙◌, arith, List, [], ◌∷◌, ◌++◌, true, length, take, drop, replicate, append-nil}
 use Rattle.std.specs.Prelude.{nat_le, nat_lt}
 use Rattle.std.proofs.lemmas.Bool.Decides.{nat_tests}
 use Rattle.std.proofs.lemmas.Grind.{same_number_lists}
+use Rattle.std.proofs.lemmas.List.{length-replicate, drop_all}
 use Rattle.placement.specs.Machine.{splice}
 use Rattle.arena_chunks.specs.Memory.{bytes_from, written}
 use Rattle.arena_chunks.proofs.BytesLemmas.{length-bytes, byte-bytes, length-splice, splice_index}
@@ -38,3 +39,19 @@ bytes_spliced f g addr n at list within writes =
     let index : addr + i - (addr + at) ≡ i - at = omega arith in
     byte-bytes g addr n i inside ∙ writes (addr + i)
     ∙ rw (low, high, index) (sym (splice_index (bytes_from f addr n) list at i (omega arith) ∙ rw (byte-bytes f addr n i inside) refl)))
+
+pub take_bytes : (f : ℕ → ℕ) (addr n k : ℕ) → k ≤ n → take k (bytes_from f addr n) ≡ bytes_from f addr k
+unfolding bytes_from
+take_bytes f addr n zero within = refl
+take_bytes f addr zero (suc k) within = absurd (omega arith)
+take_bytes f addr (suc n) (suc k) within = ap (λ (rest : List ℕ). f addr ∷ rest) (take_bytes f (addr + 1) n k (omega arith))
+
+-- What stands in a range whose last bytes were set.
+pub bytes_filled : (f g : ℕ → ℕ) (addr n at value : ℕ) → at ≤ n → ((a : ℕ) → g a ≡ written f (addr + at) (replicate (n - at) value) a)
+    → bytes_from g addr n ≡ bytes_from f addr at ++ replicate (n - at) value
+bytes_filled f g addr n at value within writes =
+    let list : List ℕ = replicate (n - at) value in
+    let sized : length list ≡ n - at = length-replicate (n - at) value in
+    let old = length-bytes f addr n in
+    let none : drop (at + length list) (bytes_from f addr n) ≡ [] = drop_all (at + length list) (bytes_from f addr n) (omega arith) in
+    bytes_spliced f g addr n at list (omega arith) writes ∙ rw (none, take_bytes f addr n at within) (append-nil (bytes_from f addr at ++ list))

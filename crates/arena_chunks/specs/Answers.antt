@@ -2,7 +2,7 @@
 use Rattle.std.specs.Prelude.{◌≡◌, ℕ, ◌+◌, ◌-◌, max, true, Option, Some, None, MatchOption, Result, Ok, Err, List, ◌∷◌, length, take, replicate, slice_get}
 use Rattle.placement.specs.Rounding.{down}
 use Rattle.placement.specs.State.{State, IsValid}
-use Rattle.placement.specs.Moves.{alloc, with_chunk}
+use Rattle.placement.specs.Moves.{Outcome, alloc, with_chunk}
 use Rattle.placement.specs.Search.{asked, requests, alloc_requests}
 use Rattle.arena_chunks.specs.Memory.{Memory}
 use Rattle.placement.specs.Causes.{CountsRefusals, TellsRequests}
@@ -39,6 +39,12 @@ pub record Allocates (old new : State) (size align k : ℕ) (answer : Option ℕ
   pub step : alloc old size align k ≡ Some (record { answer = answer; state = new })
   pub refusals : CountsRefusals before after k
   pub requests : TellsRequests told_before told_after (alloc_requests old size align k)
+
+-- A call that may place is a move, by the number of refusals; the source's count rose by k or more, and it tells these requests.
+pub record Takes (move : ℕ → Option Outcome) (asks : ℕ → List (ℕ × ℕ)) (new : State) (k : ℕ) (answer : Option ℕ) (before after : ℕ) (told_before told_after : Option (List (ℕ × ℕ))) : Type 0 where
+  pub step : move k ≡ Some (record { answer = answer; state = new })
+  pub refusals : CountsRefusals before after k
+  pub requests : TellsRequests told_before told_after (asks k)
 
 -- Of a valid arena that grows: a granted chunk is the newest now, with nothing used and zeros in it, and has a place for the block.
 pub record IsAdded (old new : Memory) (size align k p : ℕ) : Type 0 where

@@ -5,3 +5,4 @@ pub mod Runs
 pub mod Stored
 pub mod PlaceCode
 pub mod Serving
+pub mod Resizes

@@ -1,8 +1,10 @@
 -- What a run of calls over an arena shows.
-use Rattle.std.specs.Prelude.{◌≡◌, ℕ, ◌≤◌, Some, List, map, sum, take, length}
+use Rattle.std.specs.Prelude.{◌≡◌, false, ℕ, ◌≤◌, Option, Some, List, map, sum, take, length}
 use Rattle.std.specs.FinMap as finite
-use Rattle.placement.specs.Causes.{CountsRefusals}
-use Rattle.placement.specs.Machine.{Machine, Held, Contents, IsSound, run, told}
+use Rattle.std.specs.List.{list_any}
+use Rattle.placement.specs.Causes.{CountsRefusals, TellsRequests}
+use Rattle.placement.specs.Machine.{Machine, Held, Contents, IsSound, run, told, is_reset}
+use Rattle.placement.specs.Requests.{requests_of}
 use Rattle.placement.specs.declared.place.Place.{Place}
 use Rattle.placement.specs.declared.calls.Call.{Call}
 use Rattle.placement.specs.declared.calls.Reply.{Reply}
@@ -23,27 +25,39 @@ held_blocks generation held = map (λ (e : ℕ × Place). (e.0, block_at generat
 pub record HoldsBytes (memory : Memory) (held : Held) (bytes : Contents) : Type 0 where
   pub each : (name : ℕ) (p : Place) → finite.get held name ≡ Some p → finite.get bytes name ≡ Some (bytes_from (image memory) p.addr p.size)
 
+-- what a source shows: how often it has refused, and, if it tells them, all requests so far
+pub record Source : Type 0 where
+  pub refusals : ℕ
+  pub asked : Option (List (ℕ × ℕ))
+
+-- unless all blocks were given back in between
+abbrev pub KeepsUnlessReset : List Call → Memory → Memory → Type 0
+KeepsUnlessReset calls entry exit = list_any is_reset calls ≡ false → KeepsUsed entry exit
+
 -- The replies are the machine's, when it is told the refusals that they tell; the arena is in the machine's last state, and
--- holds its blocks with their bytes; the source refused as often, or more; what was used before is as it was.
-pub record Runs (entry exit : Memory) (before after : ℕ) (calls : List Call) (replies : List Reply) (blocks : List (ℕ × Block)) : Type 0 where
+-- holds its blocks with their bytes; the source refused as often, or more, and was asked for what the rules ask for; what was
+-- used before is as it was, unless all blocks were given back.
+pub record Runs (entry exit : Memory) (before after : Source) (calls : List Call) (replies : List Reply) (blocks : List (ℕ × Block)) : Type 0 where
   pub last : Machine
   pub ran : run entry.state calls (told replies) ≡ Some (replies, last)
   pub state : exit.state ≡ last.state
   pub held : blocks ≡ held_blocks last.state.generation last.held
   pub sound : IsSound last.state last.held
   pub bytes : HoldsBytes exit last.held last.bytes
-  pub refusals : CountsRefusals before after (sum (told replies))
-  pub kept : KeepsUsed entry exit
+  pub refusals : CountsRefusals before.refusals after.refusals (sum (told replies))
+  pub requests : TellsRequests before.asked after.asked (requests_of entry.state calls (told replies))
+  pub kept : KeepsUnlessReset calls entry exit
 
 -- The arena is as after the first calls, so many: they are a run of the machine, to the state that the arena is in.
-pub record RunsFirst (entry exit : Memory) (before after : ℕ) (calls : List Call) (done : ℕ) : Type 0 where
+pub record RunsFirst (entry exit : Memory) (before after : Source) (calls : List Call) (done : ℕ) : Type 0 where
   pub within : done ≤ length calls
   pub replies : List Reply
   pub last : Machine
   pub ran : run entry.state (take done calls) (told replies) ≡ Some (replies, last)
   pub state : exit.state ≡ last.state
-  pub refusals : CountsRefusals before after (sum (told replies))
-  pub kept : KeepsUsed entry exit
+  pub refusals : CountsRefusals before.refusals after.refusals (sum (told replies))
+  pub requests : TellsRequests before.asked after.asked (requests_of entry.state (take done calls) (told replies))
+  pub kept : KeepsUnlessReset (take done calls) entry exit
 
-abbrev pub Stops : Memory → Memory → ℕ → ℕ → List Call → Stopped → Type 0
+abbrev pub Stops : Memory → Memory → Source → Source → List Call → Stopped → Type 0
 Stops entry exit before after calls (OutOfMemory done) = RunsFirst entry exit before after calls done

@@ -1,30 +1,27 @@
 -- What one call after another does to an arena and its names.
-use Rattle.std.specs.Prelude.{◌≡◌, ◌≢◌, ℕ, ◌+◌, ◌%◌, ◌<◌, ◌≤◌, ◌⊎◌, Some, IsTrue}
+use Rattle.std.specs.Prelude.{◌≡◌, ◌≢◌, ℕ, ◌+◌, ◌<◌, ◌≤◌, ◌⊎◌, false, Some, IsTrue}
 use Rattle.std.specs.FinMap as finite
 use Rattle.placement.specs.Rounding.{up}
 use Rattle.placement.specs.State.{State, IsValid, is_used}
-use Rattle.placement.specs.Machine.{Machine, Held, Contents, AreApart, is_place_used, step}
+use Rattle.placement.specs.Blocks.{IsBlock}
+use Rattle.placement.specs.Causes.{CountsRefusals, TellsRequests}
+use Rattle.placement.specs.Machine.{Machine, Held, Contents, AreApart, step, refused_of, is_reset}
+use Rattle.placement.specs.Requests.{call_requests}
 use Rattle.placement.specs.declared.place.Place.{Place}
 use Rattle.placement.specs.declared.calls.Call.{Call}
 use Rattle.placement.specs.declared.calls.Reply.{Reply}
 use Rattle.arena_chunks.specs.Memory.{Memory, KeepsUsed}
-use Rattle.arena_chunks.specs.Runs.{HoldsBytes}
+use Rattle.arena_chunks.specs.Runs.{HoldsBytes, Source}
 
 -- the machine that an arena, its names and some bytes are
 abbrev pub machine_of : Memory → Held → Contents → Machine
 machine_of memory names bytes = record { state = memory.state; held = names; bytes = bytes }
 
--- The place is aligned and in use. That it lies at a multiple of the least alignment, too, keeps a cursor that moves up
--- from passing it.
-pub record IsHeld (state : State) (p : Place) : Type 0 where
-  pub aligned : p.addr % p.align ≡ 0
-  pub min_aligned : p.addr % state.min_align ≡ 0
-  pub used : IsTrue (is_place_used state p)
-
--- The names' blocks are so, and no two have an address in common.
+-- The names' blocks are aligned and in use, and no two have an address in common. That they lie at multiples of the least
+-- alignment, too, keeps a cursor that moves up from passing one.
 pub record Holds (state : State) (names : Held) : Type 0 where
   pub valid : IsValid state
-  pub each : (name : ℕ) (p : Place) → finite.get names name ≡ Some p → IsHeld state p
+  pub each : (name : ℕ) (p : Place) → finite.get names name ≡ Some p → IsBlock state p
   pub apart : (m n : ℕ) (p q : Place) → m ≢ n → finite.get names m ≡ Some p → finite.get names n ≡ Some q → AreApart p q
 
 -- The n addresses lie beside a place with the addresses up to the next multiple of the least alignment, if it isn't empty.
@@ -37,10 +34,16 @@ pub record Keeps (entry memory : Memory) (names : Held) : Type 0 where
   pub beside : (name : ℕ) (p : Place) → finite.get names name ≡ Some p → (addr : ℕ) → IsTrue (is_used entry.state addr)
       → IsBeside memory.state.min_align p addr 1
 
+-- In a call the source refused k requests or more, and was asked for what the rules ask for, whichever bytes the names have.
+pub record Asks (call : Call) (k : ℕ) (memory : Memory) (names : Held) (before after : Source) : Type 0 where
+  pub refusals : CountsRefusals before.refusals after.refusals k
+  pub requests : (bytes : Contents) → TellsRequests before.asked after.asked (call_requests call k (machine_of memory names bytes))
+
 -- The call is the machine's step, whichever bytes the arena holds for its names; the blocks stay sound, and what was kept
--- since any entry is kept.
-pub record Serves (call : Call) (k : ℕ) (reply : Reply) (old : Memory) (names : Held) (new : Memory) (after : Held) : Type 0 where
+-- since any entry is kept, unless all blocks are given back.
+pub record Serves (call : Call) (reply : Reply) (old : Memory) (names : Held) (new : Memory) (held : Held) (before after : Source) : Type 0 where
   pub steps : (bytes : Contents) → HoldsBytes old names bytes
-      → (next : Contents) × (step call k (machine_of old names bytes) ≡ Some (reply, machine_of new after next)) × HoldsBytes new after next
-  pub holds : Holds new.state after
-  pub keeps : (entry : Memory) → Keeps entry old names → Keeps entry new after
+      → (next : Contents) × (step call (refused_of reply) (machine_of old names bytes) ≡ Some (reply, machine_of new held next)) × HoldsBytes new held next
+  pub asks : Asks call (refused_of reply) old names before after
+  pub holds : Holds new.state held
+  pub keeps : is_reset call ≡ false → (entry : Memory) → Keeps entry old names → Keeps entry new held

@@ -1,5 +1,5 @@
 // How the bytes of blocks are read and written.
-ghost use Rattle.std.specs.Prelude.{◌≡◌, ◌+◌, ◌≤◌, IsTrue, [], ◌∷◌, length, replicate};
+ghost use Rattle.std.specs.Prelude.{◌≡◌, ◌+◌, ◌-◌, ◌≤◌, IsTrue, [], ◌∷◌, length, replicate};
 
 use crate::arena::Arena;
 use crate::block::Block;
@@ -47,15 +47,16 @@ impl<const MIN_ALIGN: usize> Arena<MIN_ALIGN> {
         self.edit(block, at, bytes.len() as u64, &Put { bytes });
     }
 
-    // Sets all bytes of a block.
-    pub(crate) fn fill(&mut self, block: Block, value: u8)
-        requires { IsTrue (is_readable self.old.state block) }
+    // Sets all bytes of a block from an index on.
+    pub(crate) fn fill(&mut self, block: Block, at: u64, value: u8)
+        requires readable { IsTrue (is_readable self.old.state block) }
+        requires range { at ≤ block.size }
         ensures state { self.new.state ≡ self.old.state }
         ensures statistics { self.new.statistics ≡ self.old.statistics }
-        ensures bytes { Writes self.old self.new block.addr (replicate block.size value) }
+        ensures bytes { Writes self.old self.new (block.addr + at) (replicate (block.size - at) value) }
         ensures frame { Frame self.old self.new (block ∷ []) (block ∷ []) }
     {
-        self.edit(block, 0, block.size, &Fill { value });
+        self.edit(block, at, block.size - at, &Fill { value });
     }
 
     // Changes a range of a block's bytes.

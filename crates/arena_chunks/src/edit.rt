@@ -1,5 +1,5 @@
 // Changes of the bytes that stand in one place.
-ghost use Rattle.std.specs.Prelude.{◌≡◌, ℕ, ◌+◌, ◌-◌, ◌≤◌, List, length, replicate};
+ghost use Rattle.std.specs.Prelude.{◌≡◌, ℕ, ◌+◌, ◌-◌, ◌≤◌, List, length, take, drop, replicate};
 ghost use Rattle.arena_chunks.specs.Stored.{IsEdited};
 
 use crate::chunk::StoredChunk;
@@ -26,6 +26,20 @@ pub(crate) fn edit_at<E: Edit>(chunk: &mut StoredChunk, addr: u64, size: u64, e:
 {
     let from = (addr - chunk.base) as usize;
     e.edit(&mut chunk.bytes[from..from + size as usize]);
+}
+
+// Moves bytes of a chunk to another place in it. The two may overlap.
+pub(crate) fn move_within(chunk: &mut StoredChunk, from: u64, to: u64, size: u64)
+    requires low { (chunk.old.base ≤ from) × (chunk.old.base ≤ to) }
+    requires source { from - chunk.old.base + size ≤ length chunk.old.bytes.items }
+    requires target { to - chunk.old.base + size ≤ length chunk.old.bytes.items }
+    ensures { IsEdited chunk.old chunk.new to size (λ _. take size (drop (from - chunk.old.base) chunk.old.bytes.items)) }
+{
+    let start = (from - chunk.base) as usize;
+    let target = (to - chunk.base) as usize;
+    chunk
+        .bytes
+        .copy_within(start..start + size as usize, target);
 }
 
 /// Puts these bytes in the place of others.

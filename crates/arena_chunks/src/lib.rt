@@ -12,6 +12,7 @@ mod edit;
 mod moves;
 mod names;
 mod refusing;
+mod resize;
 mod run;
 mod search;
 mod serve;

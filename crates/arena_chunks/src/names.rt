@@ -75,6 +75,13 @@ impl Names {
         }
     }
 
+    // Lets all names go.
+    pub(crate) fn clear(&mut self)
+        ensures { self.new ≡ map.empty }
+    {
+        self.places.clear();
+    }
+
     // The names and their blocks, each of this generation, by ascending name.
     pub(crate) fn blocks(
         &self,

@@ -48,8 +48,8 @@ pub fn run_calls<const M: usize, C: ChunkSource>(
     chunks: &mut C,
     calls: &[Call],
 ) -> Result<Ran, Stopped>
-    ensures ok { IfOk result (λ ran. Runs arena.old arena.new (C.refusals chunks.old) (C.refusals chunks.new) calls.now ran.replies.items ran.held.items) }
-    ensures err { IfErr result (λ stopped. Stops arena.old arena.new (C.refusals chunks.old) (C.refusals chunks.new) calls.now stopped) }
+    ensures ok { IfOk result (λ ran. Runs arena.old arena.new (record { refusals = C.refusals chunks.old; asked = C.asked chunks.old }) (record { refusals = C.refusals chunks.new; asked = C.asked chunks.new }) calls.now ran.replies.items ran.held.items) }
+    ensures err { IfErr result (λ stopped. Stops arena.old arena.new (record { refusals = C.refusals chunks.old; asked = C.asked chunks.old }) (record { refusals = C.refusals chunks.new; asked = C.asked chunks.new }) calls.now stopped) }
 {
     let _valid = arena.cursor();
     let mut names = Names::new(alloc);
@@ -87,13 +87,27 @@ mod tests {
         }
     }
 
+    fn grow(name: u32, size: u64, align: u64, fill: u8) -> Call {
+        Call::Grow {
+            name,
+            size,
+            align,
+            fill,
+        }
+    }
+
+    fn shrink(name: u32, size: u64, align: u64) -> Call {
+        Call::Shrink { name, size, align }
+    }
+
     fn placed(addr: u64) -> Reply {
         Reply::Placed { addr, refused: 0 }
     }
 
-    fn held(name: u32, addr: u64, size: u64) -> (u32, Block) {
+    // The name's block of a generation.
+    fn held(generation: u64, name: u32, addr: u64, size: u64) -> (u32, Block) {
         let block = Block {
-            generation: 0,
+            generation,
             addr,
             size,
             align: 1,
@@ -127,7 +141,7 @@ mod tests {
             Reply::Number(16320),
         ];
         assert!(&rt; ran.replies.as_slice() == replies.as_slice());
-        assert!(&rt; ran.held.as_slice() == [held(7, 20411, 5)].as_slice());
+        assert!(&rt; ran.held.as_slice() == [held(0, 7, 20411, 5)].as_slice());
         Ok(())
     }
 
@@ -166,8 +180,78 @@ mod tests {
             Reply::Bytes(Bytes::of(alloc, b"BB")?),
         ];
         assert!(&rt; ran.replies.as_slice() == replies.as_slice());
-        let blocks = [held(3, 20411, 1), held(5, 20409, 2)];
+        let blocks = [held(0, 3, 20411, 1), held(0, 5, 20409, 2)];
         assert!(&rt; ran.held.as_slice() == blocks.as_slice());
         Ok(())
+    }
+
+    #[test]
+    fn blocks_that_shrink_and_grow(rt: HostRuntime) -> Result<(), Fail> {
+        let alloc = rt.alloc();
+        let mut arena = Arena::new(alloc);
+        let mut chunks = MemoryChunks::new(alloc, 1 << 20);
+        let calls = [
+            block(0, 100, 1, 0),
+            shrink(0, 51, 1),
+            Call::Used,
+            Call::Reset,
+            block(0, 100, 1, 0),
+            shrink(0, 50, 1),
+            Call::Used,
+            block(1, 10, 1, 1),
+            grow(1, 11, 1, 2),
+            Call::Read { name: 1 },
+        ];
+        let ran = run_calls(alloc, &mut arena, &mut chunks, &calls).expect(&rt, "memory");
+        let replies = [
+            placed(20316),
+            placed(20316),
+            Reply::Number(100),
+            Reply::Done,
+            placed(20316),
+            placed(20366),
+            Reply::Number(50),
+            placed(20356),
+            placed(20355),
+            Reply::Bytes(Bytes::of(alloc, &[1, 1, 1, 1, 1, 1, 1, 1, 1, 1, 2])?),
+        ];
+        assert!(&rt; ran.replies.as_slice() == replies.as_slice());
+        let blocks = [held(1, 0, 20366, 50), held(1, 1, 20355, 11)];
+        assert!(&rt; ran.held.as_slice() == blocks.as_slice());
+        Ok(())
+    }
+
+    #[test]
+    fn refused_growth(rt: HostRuntime) {
+        let alloc = rt.alloc();
+        let mut arena = Arena::new(alloc);
+        let mut chunks = MemoryChunks::new(alloc, 20000);
+        let calls = [
+            grow(1, 8, 3, 0),
+            shrink(1, 8, 3),
+            block(1, 8, 1, 0),
+            grow(1, 7, 3, 0),
+            shrink(1, 9, 3),
+            grow(1, 7, 1, 0),
+            shrink(1, 9, 1),
+            grow(1, 16384, 1, 0),
+            Call::Reset,
+            shrink(1, 4, 1),
+        ];
+        let ran = run_calls(alloc, &mut arena, &mut chunks, &calls).expect(&rt, "memory");
+        let replies = [
+            Reply::NoSuchName,
+            Reply::NoSuchName,
+            placed(20408),
+            Reply::BadLayout,
+            Reply::BadLayout,
+            Reply::OutOfRange,
+            Reply::OutOfRange,
+            Reply::AllocErr { refused: 1 },
+            Reply::Done,
+            Reply::NoSuchName,
+        ];
+        assert!(&rt; ran.replies.as_slice() == replies.as_slice());
+        assert!(&rt; ran.held.is_empty());
     }
 }

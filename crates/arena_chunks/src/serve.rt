@@ -1,8 +1,7 @@
 // One call after another.
 ghost use Rattle.std.specs.Prelude.{◌≡◌, IfOk, OnErr};
-ghost use Rattle.placement.specs.Causes.{CountsRefusals};
-ghost use Rattle.placement.specs.Machine.{refused_of};
 ghost use Rattle.placement.specs.declared.calls.Call.{Call};
+ghost use Rattle.arena_chunks.specs.Runs.{Source};
 ghost use Rattle.arena_chunks.specs.Serving.{Serves, Holds};
 
 use crate::arena::Arena;
@@ -13,13 +12,25 @@ use arena_place::Layout;
 use placement::{Bytes, Call, OutOfMemory, Place, Reply};
 use std::alloc::Global;
 
-// A block to be placed under a name, and its fill byte.
+// The size and the alignment wanted for the block of a name.
 #[derive(Clone, Copy)]
 struct Wanted {
     name: u32,
     size: u64,
     align: u64,
-    fill: u8,
+}
+
+impl Wanted {
+    // The place of the block at this address.
+    fn at(self, addr: u64) -> Place
+        ensures { result ≡ record { addr = addr; size = self.size; align = self.align } }
+    {
+        Place {
+            addr,
+            size: self.size,
+            align: self.align,
+        }
+    }
 }
 
 fn serve_alloc<const M: usize, C: ChunkSource>(
@@ -27,36 +38,27 @@ fn serve_alloc<const M: usize, C: ChunkSource>(
     chunks: &mut C,
     names: &mut Names,
     wanted: Wanted,
+    fill: u8,
 ) -> Result<Reply, OutOfMemory>
     requires { Holds arena.old.state names.old }
-    ensures serves { IfOk result (λ reply. Serves (Call.Alloc wanted.name wanted.size wanted.align wanted.fill) (refused_of reply) reply arena.old names.old arena.new names.new) }
-    ensures refusals { IfOk result (λ reply. CountsRefusals (C.refusals chunks.old) (C.refusals chunks.new) (refused_of reply)) }
+    ensures serves { IfOk result (λ reply. Serves (Call.Alloc wanted.name wanted.size wanted.align fill) reply arena.old names.old arena.new names.new
+        (record { refusals = C.refusals chunks.old; asked = C.asked chunks.old }) (record { refusals = C.refusals chunks.new; asked = C.asked chunks.new })) }
     ensures err { OnErr result ((arena.new ≡ arena.old) × (chunks.new ≡ chunks.old)) }
 {
-    let Wanted {
-        name,
-        size,
-        align,
-        fill,
-    } = wanted;
+    let name = wanted.name;
     if names.get(name).is_some() {
         return Ok(Reply::NameTaken);
     }
-    let Some(layout) = Layout::new(size, align) else {
+    let Some(layout) = Layout::new(wanted.size, wanted.align) else {
         return Ok(Reply::BadLayout);
     };
     // The name's entry is made first, since memory may be wanting for it.
-    let nowhere = Place {
-        addr: 0,
-        size: 0,
-        align,
-    };
-    names.insert(name, nowhere)?;
+    names.insert(name, wanted.at(0))?;
     match arena.alloc_counted(chunks, layout) {
         Ok((block, refused)) => {
             let addr = block.addr;
-            names.replace(name, Place { addr, size, align });
-            arena.fill(block, fill);
+            names.replace(name, wanted.at(addr));
+            arena.fill(block, 0, fill);
             Ok(Reply::Placed { addr, refused })
         }
         Err(ArenaErr::AllocErr { refused }) => {
@@ -67,10 +69,73 @@ fn serve_alloc<const M: usize, C: ChunkSource>(
     }
 }
 
+fn serve_grow<const M: usize, C: ChunkSource>(
+    arena: &mut Arena<M>,
+    chunks: &mut C,
+    names: &mut Names,
+    wanted: Wanted,
+    fill: u8,
+) -> Result<Reply, OutOfMemory>
+    requires { Holds arena.old.state names.old }
+    ensures serves { IfOk result (λ reply. Serves (Call.Grow wanted.name wanted.size wanted.align fill) reply arena.old names.old arena.new names.new
+        (record { refusals = C.refusals chunks.old; asked = C.asked chunks.old }) (record { refusals = C.refusals chunks.new; asked = C.asked chunks.new })) }
+    ensures err { OnErr result ((arena.new ≡ arena.old) × (chunks.new ≡ chunks.old)) }
+{
+    let Some(place) = names.get(wanted.name) else {
+        return Ok(Reply::NoSuchName);
+    };
+    let Some(layout) = Layout::new(wanted.size, wanted.align) else {
+        return Ok(Reply::BadLayout);
+    };
+    if wanted.size < place.size {
+        return Ok(Reply::OutOfRange);
+    }
+    match arena.grow_counted(chunks, arena.block_at(place), layout) {
+        Ok((block, refused)) => {
+            let addr = block.addr;
+            names.replace(wanted.name, wanted.at(addr));
+            arena.fill(block, place.size, fill);
+            Ok(Reply::Placed { addr, refused })
+        }
+        Err(ArenaErr::AllocErr { refused }) => Ok(Reply::AllocErr { refused }),
+        Err(ArenaErr::OutOfMemory) => Err(OutOfMemory),
+    }
+}
+
+fn serve_shrink<const M: usize, C: ChunkSource>(
+    arena: &mut Arena<M>,
+    chunks: &mut C,
+    names: &mut Names,
+    wanted: Wanted,
+) -> Result<Reply, OutOfMemory>
+    requires { Holds arena.old.state names.old }
+    ensures serves { IfOk result (λ reply. Serves (Call.Shrink wanted.name wanted.size wanted.align) reply arena.old names.old arena.new names.new
+        (record { refusals = C.refusals chunks.old; asked = C.asked chunks.old }) (record { refusals = C.refusals chunks.new; asked = C.asked chunks.new })) }
+    ensures err { OnErr result ((arena.new ≡ arena.old) × (chunks.new ≡ chunks.old)) }
+{
+    let Some(place) = names.get(wanted.name) else {
+        return Ok(Reply::NoSuchName);
+    };
+    let Some(layout) = Layout::new(wanted.size, wanted.align) else {
+        return Ok(Reply::BadLayout);
+    };
+    if wanted.size > place.size {
+        return Ok(Reply::OutOfRange);
+    }
+    match arena.shrink_counted(chunks, arena.block_at(place), layout) {
+        Ok((block, refused)) => {
+            let addr = block.addr;
+            names.replace(wanted.name, wanted.at(addr));
+            Ok(Reply::Placed { addr, refused })
+        }
+        Err(ArenaErr::AllocErr { refused }) => Ok(Reply::AllocErr { refused }),
+        Err(ArenaErr::OutOfMemory) => Err(OutOfMemory),
+    }
+}
+
 fn serve_dealloc<const M: usize>(arena: &mut Arena<M>, names: &mut Names, name: u32) -> Reply
     requires { Holds arena.old.state names.old }
-    ensures serves { Serves (Call.Dealloc name) 0 result arena.old names.old arena.new names.new }
-    ensures asks { refused_of result ≡ 0 }
+    ensures { (source : Source) → Serves (Call.Dealloc name) result arena.old names.old arena.new names.new source source }
 {
     let Some(place) = names.remove(name) else {
         return Reply::NoSuchName;
@@ -87,8 +152,7 @@ fn serve_write<const M: usize>(
     bytes: &[u8],
 ) -> Reply
     requires { Holds arena.old.state names.now }
-    ensures serves { Serves (Call.Write name at bytes.now) 0 result arena.old names.now arena.new names.now }
-    ensures asks { refused_of result ≡ 0 }
+    ensures { (source : Source) → Serves (Call.Write name at bytes.now) result arena.old names.now arena.new names.now source source }
 {
     let Some(place) = names.get(name) else {
         return Reply::NoSuchName;
@@ -108,14 +172,21 @@ fn serve_read<const M: usize>(
     name: u32,
 ) -> Result<Reply, OutOfMemory>
     requires { Holds arena.now.state names.now }
-    ensures serves { IfOk result (λ reply. Serves (Call.Read name) 0 reply arena.now names.now arena.now names.now) }
-    ensures asks { IfOk result (λ reply. refused_of reply ≡ 0) }
+    ensures { (source : Source) → IfOk result (λ reply. Serves (Call.Read name) reply arena.now names.now arena.now names.now source source) }
 {
     let Some(place) = names.get(name) else {
         return Ok(Reply::NoSuchName);
     };
     let bytes = Bytes::of(alloc, arena.read(arena.block_at(place)))?;
     Ok(Reply::Bytes(bytes))
+}
+
+fn serve_reset<const M: usize>(arena: &mut Arena<M>, names: &mut Names) -> Reply
+    ensures { (source : Source) → Serves Call.Reset result arena.old names.old arena.new names.new source source }
+{
+    arena.reset();
+    names.clear();
+    Reply::Done
 }
 
 // Serves a call. Where memory is wanting the arena and the source are as they were.
@@ -127,34 +198,34 @@ pub(crate) fn serve<const M: usize, C: ChunkSource>(
     call: &Call,
 ) -> Result<Reply, OutOfMemory>
     requires { Holds arena.old.state names.old }
-    ensures serves { IfOk result (λ reply. Serves call.now (refused_of reply) reply arena.old names.old arena.new names.new) }
-    ensures refusals { IfOk result (λ reply. CountsRefusals (C.refusals chunks.old) (C.refusals chunks.new) (refused_of reply)) }
+    ensures serves { IfOk result (λ reply. Serves call.now reply arena.old names.old arena.new names.new
+        (record { refusals = C.refusals chunks.old; asked = C.asked chunks.old }) (record { refusals = C.refusals chunks.new; asked = C.asked chunks.new })) }
     ensures err { OnErr result ((arena.new ≡ arena.old) × (chunks.new ≡ chunks.old)) }
 {
-    match call {
+    match *call {
         Call::Alloc {
             name,
             size,
             align,
             fill,
-        } => {
-            let wanted = Wanted {
-                name: *name,
-                size: *size,
-                align: *align,
-                fill: *fill,
-            };
-            serve_alloc(arena, chunks, names, wanted)
+        } => serve_alloc(arena, chunks, names, Wanted { name, size, align }, fill),
+        Call::Grow {
+            name,
+            size,
+            align,
+            fill,
+        } => serve_grow(arena, chunks, names, Wanted { name, size, align }, fill),
+        Call::Shrink { name, size, align } => {
+            serve_shrink(arena, chunks, names, Wanted { name, size, align })
         }
-        Call::Dealloc { name } => Ok(serve_dealloc(arena, names, *name)),
-        Call::Write { name, at, bytes } => Ok(serve_write(
-            arena,
-            names,
-            *name,
-            *at,
-            bytes.as_slice(),
-        )),
-        Call::Read { name } => serve_read(alloc, arena, names, *name),
+        Call::Dealloc { name } => Ok(serve_dealloc(arena, names, name)),
+        Call::Write {
+            name,
+            at,
+            ref bytes,
+        } => Ok(serve_write(arena, names, name, at, bytes.as_slice())),
+        Call::Read { name } => serve_read(alloc, arena, names, name),
+        Call::Reset => Ok(serve_reset(arena, names)),
         Call::Used => Ok(Reply::Number(arena.used_bytes())),
         Call::Allocated => Ok(Reply::Number(arena.allocated_bytes())),
     }

@@ -7,6 +7,12 @@ use arena_place::Layout;
 use std::process::Abort;
 use std::test::Fail;
 
+fn layout(rt: &impl Abort, size: u64, align: u64) -> Layout
+    ensures { result.size ≡ size }
+{
+    Layout::new(size, align).expect(rt, "a layout")
+}
+
 fn placed<C: ChunkSource>(
     rt: &impl Abort,
     arena: &mut Arena<1>,
@@ -17,8 +23,9 @@ fn placed<C: ChunkSource>(
     ensures readable { IsTrue (is_readable arena.new.state result) }
     ensures size { result.size ≡ size }
 {
-    let layout = Layout::new(size, align).expect(rt, "a layout");
-    arena.try_alloc_layout(chunks, layout).expect(rt, "a block")
+    arena
+        .try_alloc_layout(chunks, layout(rt, size, align))
+        .expect(rt, "a block")
 }
 
 #[test]
@@ -56,4 +63,68 @@ fn reads_what_was_written(rt: HostRuntime) {
     assert_eq!(rt; arena.read(block), [0, 7, 8, 0].as_slice());
     arena.dealloc(block);
     assert_eq!(rt; arena.used_bytes(), 0);
+}
+
+#[test]
+fn grows_downwards_at_the_cursor(rt: HostRuntime) {
+    let mut arena = Arena::new(rt.alloc());
+    let mut chunks = MemoryChunks::new(rt.alloc(), 1 << 20);
+    let block = placed(&rt, &mut arena, &mut chunks, 10, 1);
+    assert_eq!(rt; block.addr, 20406);
+    arena.write(block, 0, &[1, 2, 3, 4, 5, 6, 7, 8, 9, 10]);
+    let grown = arena
+        .grow(&mut chunks, block, layout(&rt, 11, 1))
+        .expect(&rt, "a block");
+    assert_eq!(rt; grown.addr, 20405);
+    assert_eq!(rt;
+        arena.read(grown),
+        [1, 2, 3, 4, 5, 6, 7, 8, 9, 10, 10].as_slice()
+    );
+    assert_eq!(rt; arena.used_bytes(), 11);
+}
+
+#[test]
+fn grows_elsewhere_to_a_greater_alignment(rt: HostRuntime) {
+    let mut arena = Arena::new(rt.alloc());
+    let mut chunks = MemoryChunks::new(rt.alloc(), 1 << 20);
+    let block = placed(&rt, &mut arena, &mut chunks, 2, 1);
+    arena.write(block, 0, &[1, 2]);
+    let grown = arena
+        .grow(&mut chunks, block, layout(&rt, 3, 16))
+        .expect(&rt, "a block");
+    assert_eq!(rt; grown.addr, 20400);
+    assert!(rt; arena.read(grown).starts_with(&[1, 2]));
+}
+
+#[test]
+fn shrinks_upwards_if_half_is_given_back(rt: HostRuntime) {
+    let mut arena = Arena::new(rt.alloc());
+    let mut chunks = MemoryChunks::new(rt.alloc(), 1 << 20);
+    let block = placed(&rt, &mut arena, &mut chunks, 100, 1);
+    assert_eq!(rt; block.addr, 20316);
+    let still = arena
+        .shrink(&mut chunks, block, layout(&rt, 51, 1))
+        .expect(&rt, "a block");
+    assert_eq!(rt; still.addr, 20316);
+    assert!(rt; arena.is_held_place(block));
+    let shrunk = arena
+        .shrink(&mut chunks, block, layout(&rt, 50, 1))
+        .expect(&rt, "a block");
+    assert_eq!(rt; shrunk.addr, 20366);
+    assert_eq!(rt; arena.used_bytes(), 50);
+}
+
+#[test]
+fn keeps_the_newest_chunk_over_a_reset(rt: HostRuntime) {
+    let mut arena = Arena::new(rt.alloc());
+    let mut chunks = MemoryChunks::new(rt.alloc(), 1 << 20);
+    for size in [64, 64, 16320] {
+        placed(&rt, &mut arena, &mut chunks, size, 1);
+    }
+    let block = placed(&rt, &mut arena, &mut chunks, 32640, 1);
+    arena.reset();
+    assert_eq!(rt; arena.allocated_bytes(), 65472);
+    assert_eq!(rt; arena.used_bytes(), 0);
+    assert!(rt; !arena.is_held_place(block));
+    assert_eq!(rt; placed(&rt, &mut arena, &mut chunks, 64, 1).addr, 118624);
 }

@@ -1,15 +1,15 @@
 -- What is read as a call is spelled so, and the other way round.
 use Rattle.std.proofs.Common.{◌≡◌, ℕ, Bool, true, false, List, [], ◌∷◌, ◌++◌, Option, Some, None, refl, sym, ap, ◌∙◌, subst, arith, append_assoc, codes}
-use Rattle.std.specs.Prelude.{if◌then◌else◌, ◌==◌}
+use Rattle.std.specs.Prelude.{◌^◌, ◌<◌, ◌==◌, if◌then◌else◌, IfSome}
 use Rattle.std.specs.Char.{is_ascii_digit}
 use Rattle.std.specs.Option.{option_map, option_or}
 use Rattle.std.proofs.lemmas.Bool.{eqb-true}
 use Rattle.placement.specs.Grammar.{Fits, call_line, fields, hex}
 use Rattle.placement.specs.declared.calls.Call.{Call}
-use Rattle.placement.specs.declared.calls.Call.TheVariants.{Alloc, Dealloc, Write, Read, Used, Allocated}
+use Rattle.placement.specs.declared.calls.Call.TheVariants.{Alloc, Grow, Shrink, Dealloc, Write, Read, Reset, Used, Allocated}
 use Rattle.placement.proofs.NumberLemmas.{Stops}
 use Rattle.arena_run.specs.Lines.{is_line_end}
-use Rattle.arena_run.specs.Reading.{◌>>=◌, max_8, max_32, max_64, behind, fields_at, hex_at, numbers_at, bytes_at, call_at, alloc_of, dealloc_of, read_of, write_of, word_at, alloc_at, write_at, front_at}
+use Rattle.arena_run.specs.Reading.{◌>>=◌, max_32, max_64, behind, fields_at, hex_at, numbers_at, bytes_at, call_at, one, three, four, write_of, placing, word_at, alloc_at, read_at, write_at, front_at}
 use Rattle.arena_run.proofs.ReadingLemmas.{bind_some, behind_sound, Below, AreMaxima, fields_sound, fields_complete}
 use Rattle.arena_run.proofs.HexLemmas.{AreHex, hex_sound, hex_complete}
 
@@ -43,7 +43,7 @@ numbers_sound word maxima bytes read m e =
 
 -- the numbers make a call of this word
 abbrev Picks : List ℕ → List ℕ → (List ℕ → Option Call) → Type 0
-Picks word maxima pick = (ns : List ℕ) (c : Call) → Below ns maxima → pick ns ≡ Some c → Fits c × (word ++ fields ns ≡ call_line c)
+Picks word maxima pick = (ns : List ℕ) → Below ns maxima → IfSome (pick ns) (λ c. Fits c × (word ++ fields ns ≡ call_line c))
 
 call_sound : (word maxima : List ℕ) (pick : List ℕ → Option Call) → AreMaxima maxima → Picks word maxima pick → (bytes : List ℕ) (read : Call × List ℕ) → call_at pick (numbers_at word maxima bytes) ≡ Some read → Reads bytes read
 call_sound word maxima pick m picks bytes read e =
@@ -51,23 +51,23 @@ call_sound word maxima pick m picks bytes read e =
     let f = numbers.0 in
     let r = numbers_sound word maxima bytes f m numbers.1 in
     let call = paired (pick f.0) f.1 read numbers.2 in
-    let p = picks f.0 call.0 r.below call.1 in
+    let p = subst (λ o. IfSome o (λ c. Fits c × (word ++ fields f.0 ≡ call_line c))) call.1 (picks f.0 r.below) in
     subst (Reads bytes) call.2 (record { fits = p.0; text = r.text ∙ ap (λ xs. xs ++ f.1) p.1 })
 
-alloc_picks : Picks (codes "alloc") (max_32 ∷ max_64 ∷ max_64 ∷ max_8 ∷ []) alloc_of
-alloc_picks (name ∷ size ∷ align ∷ fill ∷ []) c b e =
-    let same : Alloc name size align fill ≡ c = cc in
-    subst (λ x. Fits x × (codes "alloc" ++ fields (name ∷ size ∷ align ∷ fill ∷ []) ≡ call_line x)) same
-    ((omega (arith, b.0), omega (arith, b.1.0), omega (arith, b.1.1.0), omega (arith, b.1.1.1.0)), refl)
-alloc_picks ns c b e = cc
+one_picks : (word : List ℕ) (call : ℕ → Call) → ((name : ℕ) → name < 2 ^ 32 → Fits (call name) × (word ++ fields (name ∷ []) ≡ call_line (call name))) → Picks word (max_32 ∷ []) (one call)
+one_picks word call is (name ∷ []) b = is name (omega (arith, b.0))
+one_picks word call is ns b = tt
 
-dealloc_picks : Picks (codes "dealloc") (max_32 ∷ []) dealloc_of
-dealloc_picks (name ∷ []) c b e = let same : Dealloc name ≡ c = cc in subst (λ x. Fits x × (codes "dealloc" ++ fields (name ∷ []) ≡ call_line x)) same (omega (arith, b.0), refl)
-dealloc_picks ns c b e = cc
+four_picks : (word : List ℕ) (call : ℕ → ℕ → ℕ → ℕ → Call)
+    → ((name size align fill : ℕ) → (name < 2 ^ 32) × (size < 2 ^ 64) × (align < 2 ^ 64) × (fill < 2 ^ 8) → Fits (call name size align fill) × (word ++ fields (name ∷ size ∷ align ∷ fill ∷ []) ≡ call_line (call name size align fill)))
+    → Picks word placing (four call)
+four_picks word call is (name ∷ size ∷ align ∷ fill ∷ []) b =
+    is name size align fill (omega (arith, b.0), omega (arith, b.1.0), omega (arith, b.1.1.0), omega (arith, b.1.1.1.0))
+four_picks word call is ns b = tt
 
-read_picks : Picks (codes "read") (max_32 ∷ []) read_of
-read_picks (name ∷ []) c b e = let same : Read name ≡ c = cc in subst (λ x. Fits x × (codes "read" ++ fields (name ∷ []) ≡ call_line x)) same (omega (arith, b.0), refl)
-read_picks ns c b e = cc
+shrink_picks : Picks (codes "shrink") (max_32 ∷ max_64 ∷ max_64 ∷ []) (three Shrink)
+shrink_picks (name ∷ size ∷ align ∷ []) b = ((omega (arith, b.0), omega (arith, b.1.0), omega (arith, b.1.1.0)), refl)
+shrink_picks ns b = tt
 
 -- the numbers of a write, a space, and its bytes
 reads_write : (bytes ns behind_ns text items rest : List ℕ) (c : Call)
@@ -108,23 +108,35 @@ front_sound (c ∷ cs) read e =
     let bytes = c ∷ cs in
     either (c == 97)
     (one_or (word_at (codes "allocated") Allocated bytes) (alloc_at bytes) (word_sound (codes "allocated") Allocated tt refl bytes read)
-    (call_sound (codes "alloc") (max_32 ∷ max_64 ∷ max_64 ∷ max_8 ∷ []) alloc_of (search arith) alloc_picks bytes read))
-    (either (c == 100) (call_sound (codes "dealloc") (max_32 ∷ []) dealloc_of (search arith) dealloc_picks bytes read)
-    (either (c == 114) (call_sound (codes "read") (max_32 ∷ []) read_of (search arith) read_picks bytes read)
+    (call_sound (codes "alloc") placing (four Alloc) (search arith) (four_picks (codes "alloc") Alloc (λ name size align fill h. (h, refl))) bytes read))
+    (either (c == 100) (call_sound (codes "dealloc") (max_32 ∷ []) (one Dealloc) (search arith) (one_picks (codes "dealloc") Dealloc (λ name h. (h, refl))) bytes read)
+    (either (c == 103) (call_sound (codes "grow") placing (four Grow) (search arith) (four_picks (codes "grow") Grow (λ name size align fill h. (h, refl))) bytes read)
+    (either (c == 114)
+    (one_or (word_at (codes "reset") Reset bytes) (read_at bytes) (word_sound (codes "reset") Reset tt refl bytes read)
+    (call_sound (codes "read") (max_32 ∷ []) (one Read) (search arith) (one_picks (codes "read") Read (λ name h. (h, refl))) bytes read))
+    (either (c == 115) (call_sound (codes "shrink") (max_32 ∷ max_64 ∷ max_64 ∷ []) (three Shrink) (search arith) shrink_picks bytes read)
     (either (c == 117) (word_sound (codes "used") Used tt refl bytes read)
-    (either (c == 119) (write_sound bytes read) (λ none. cc)))))
+    (either (c == 119) (write_sound bytes read) (λ none. cc)))))))
     e
 
 stops : (rest : List ℕ) → is_line_end rest ≡ true → Stops rest
 stops [] e = tt
 stops (c ∷ cs) e = ap is_ascii_digit (eqb-true c 10 e)
 
+placing_complete : (name size align fill : ℕ) (rest : List ℕ) → (name < 2 ^ 32) × (size < 2 ^ 64) × (align < 2 ^ 64) × (fill < 2 ^ 8) → is_line_end rest ≡ true
+    → fields_at placing (fields (name ∷ size ∷ align ∷ fill ∷ []) ++ rest) ≡ Some (name ∷ size ∷ align ∷ fill ∷ [], rest)
+placing_complete name size align fill rest fits e =
+    fields_complete placing (name ∷ size ∷ align ∷ fill ∷ []) rest (omega arith, (omega arith, (omega arith, (omega arith, tt)))) (stops rest e)
+
 pub front_complete : (call : Call) (rest : List ℕ) → Fits call → is_line_end rest ≡ true → front_at (call_line call ++ rest) ≡ Some (call, rest)
 unfolding front_at
-front_complete (Alloc name size align fill) rest fits e =
-    ap (call_at alloc_of) (fields_complete (max_32 ∷ max_64 ∷ max_64 ∷ max_8 ∷ []) (name ∷ size ∷ align ∷ fill ∷ []) rest (omega arith, (omega arith, (omega arith, (omega arith, tt)))) (stops rest e))
-front_complete (Dealloc name) rest fits e = ap (call_at dealloc_of) (fields_complete (max_32 ∷ []) (name ∷ []) rest (omega (arith, fits), tt) (stops rest e))
-front_complete (Read name) rest fits e = ap (call_at read_of) (fields_complete (max_32 ∷ []) (name ∷ []) rest (omega (arith, fits), tt) (stops rest e))
+front_complete (Alloc name size align fill) rest fits e = ap (call_at (four Alloc)) (placing_complete name size align fill rest fits e)
+front_complete (Grow name size align fill) rest fits e = ap (call_at (four Grow)) (placing_complete name size align fill rest fits e)
+front_complete (Shrink name size align) rest fits e =
+    ap (call_at (three Shrink)) (fields_complete (max_32 ∷ max_64 ∷ max_64 ∷ []) (name ∷ size ∷ align ∷ []) rest (omega arith, (omega arith, (omega arith, tt))) (stops rest e))
+front_complete (Dealloc name) rest fits e = ap (call_at (one Dealloc)) (fields_complete (max_32 ∷ []) (name ∷ []) rest (omega (arith, fits), tt) (stops rest e))
+front_complete (Read name) rest fits e = ap (call_at (one Read)) (fields_complete (max_32 ∷ []) (name ∷ []) rest (omega (arith, fits), tt) (stops rest e))
+front_complete Reset rest fits e = refl
 front_complete Used rest fits e = refl
 front_complete Allocated rest fits e = refl
 front_complete (Write name at bytes) rest fits e =

@@ -7,7 +7,7 @@ use Rattle.std.proofs.lemmas.Option.{some_pair_parts}
 use Rattle.std.proofs.lemmas.Bool.Decides.{nat_tests}
 use Rattle.placement.specs.Grammar.{lines_of, AreCalls, IsCall, IsFirstRefused, number, fields, hex, hex_digit, hex_pair, call_line}
 use Rattle.placement.specs.declared.calls.Call.{Call}
-use Rattle.placement.specs.declared.calls.Call.TheVariants.{Alloc, Dealloc, Write, Read, Used, Allocated}
+use Rattle.placement.specs.declared.calls.Call.TheVariants.{Alloc, Grow, Shrink, Dealloc, Write, Read, Reset, Used, Allocated}
 use Rattle.placement.proofs.NumberLemmas.{number_by_steps}
 use Rattle.arena_run.specs.Lines.{is_line_end, lines_behind, TakesLine, RefusesLine}
 use Rattle.arena_run.specs.Reading.{front_at}
@@ -48,9 +48,12 @@ plain_hex (b ∷ bytes) = plain_pairs (b ∷ bytes)
 
 plain_call : (call : Call) → has_feed (call_line call) ≡ false
 plain_call (Alloc name size align fill) = plain_fields (name ∷ size ∷ align ∷ fill ∷ [])
+plain_call (Grow name size align fill) = plain_fields (name ∷ size ∷ align ∷ fill ∷ [])
+plain_call (Shrink name size align) = plain_fields (name ∷ size ∷ align ∷ [])
 plain_call (Dealloc name) = plain_fields (name ∷ [])
 plain_call (Write name at bytes) = plain (fields (name ∷ at ∷ [])) (32 ∷ hex bytes) (plain_fields (name ∷ at ∷ [])) (plain_hex bytes)
 plain_call (Read name) = plain_fields (name ∷ [])
+plain_call Reset = refl
 plain_call Used = refl
 plain_call Allocated = refl
 
@@ -102,9 +105,12 @@ add_call line call some is ((b ∷ l) ∷ lines) (c ∷ old) are = (are.0, add_c
 -- a call's line isn't empty
 some_line : (call : Call) → call_line call ≢ []
 some_line (Alloc name size align fill) e = cc
+some_line (Grow name size align fill) e = cc
+some_line (Shrink name size align) e = cc
 some_line (Dealloc name) e = cc
 some_line (Write name at bytes) e = cc
 some_line (Read name) e = cc
+some_line Reset e = cc
 some_line Used e = cc
 some_line Allocated e = cc
 

@@ -5,26 +5,26 @@ use Rattle.placement.specs.Replies.{text_of}
 use Rattle.placement.specs.declared.calls.Call.{Call}
 use Rattle.placement.specs.declared.calls.Reply.{Reply}
 use Rattle.arena_chunks.specs.Memory.{Memory}
-use Rattle.arena_chunks.specs.Runs.{Runs, RunsFirst}
+use Rattle.arena_chunks.specs.Runs.{Runs, RunsFirst, Source}
 use Rattle.arena_chunks.specs.declared.block.Block.{Block}
 use Rattle.arena_run.specs.Streams.{HasFault, Writes, last_fault}
 use Rattle.arena_run.specs.ReadAll.{limit, TakesFront, TakesWhole}
 use Rattle.arena_run.specs.declared.arena_main.Status.{Status}
 use Rattle.arena_run.specs.declared.arena_main.Status.TheVariants.{Done, Usage, BadLine, OutOfMemory, ReadFault, WriteFault, InputTooLong}
 
--- what is left of the input, what the output has taken, how often each has failed, the arena, and how often its source has refused
+-- what is left of the input, what the output has taken, how often each has failed, the arena, and what its source shows
 pub record Outside : Type 0 where
   pub left : Option (List ℕ)
   pub reads : ℕ
   pub written : Option (List ℕ)
   pub writes : ℕ
   pub memory : Memory
-  pub refusals : ℕ
+  pub source : Source
 
 -- nothing was run or written
 pub record IsUntouched (old new : Outside) : Type 0 where
   pub memory : new.memory ≡ old.memory
-  pub refusals : new.refusals ≡ old.refusals
+  pub source : new.source ≡ old.source
   pub written : new.written ≡ old.written
   pub writes : new.writes ≡ old.writes
 
@@ -38,14 +38,14 @@ pub record AreRun (old new : Outside) (bytes : List ℕ) (replies : List Reply) 
   pub calls : List Call
   pub lines : CallsOf bytes (Ok calls)
   pub blocks : List (ℕ × Block)
-  pub runs : Runs old.memory new.memory old.refusals new.refusals calls replies blocks
+  pub runs : Runs old.memory new.memory old.source new.source calls replies blocks
 
 -- the bytes are lines of calls, and the first ones, so many, were run
 pub record AreRunFirst (old new : Outside) (bytes : List ℕ) : Type 0 where
   pub calls : List Call
   pub lines : CallsOf bytes (Ok calls)
   pub done : ℕ
-  pub runs : RunsFirst old.memory new.memory old.refusals new.refusals calls done
+  pub runs : RunsFirst old.memory new.memory old.source new.source calls done
 
 abbrev pub Ends : Status → Outside → Outside → Type 0
 Ends Done old new = (bytes : List ℕ) × (replies : List Reply) × ReadsWhole old new bytes × AreRun old new bytes replies × Writes old.written new.written (text_of replies)

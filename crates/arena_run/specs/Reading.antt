@@ -4,7 +4,7 @@ use Rattle.std.specs.Char.{is_ascii_digit}
 use Rattle.std.specs.Int.{is_in_range}
 use Rattle.std.specs.Option.{option_map, option_or}
 use Rattle.placement.specs.declared.calls.Call.{Call}
-use Rattle.placement.specs.declared.calls.Call.TheVariants.{Alloc, Dealloc, Write, Read, Used, Allocated}
+use Rattle.placement.specs.declared.calls.Call.TheVariants.{Alloc, Grow, Shrink, Dealloc, Write, Read, Reset, Used, Allocated}
 
 infixl 10 ◌>>=◌
 abbrev pub ◌>>=◌ : {A B : Type 0} → Option A → (A → Option B) → Option B
@@ -88,34 +88,45 @@ word_at word call bytes = option_map (λ rest. (call, rest)) (behind word bytes)
 abbrev pub numbers_at : List ℕ → List ℕ → List ℕ → Option (List ℕ × List ℕ)
 numbers_at word maxima bytes = behind word bytes >>= fields_at maxima
 
--- a call of these numbers
+-- a call of the numbers that were read
 abbrev pub call_at : (List ℕ → Option Call) → Option (List ℕ × List ℕ) → Option (Call × List ℕ)
 call_at pick numbers = numbers >>= λ f. option_map (λ call. (call, f.1)) (pick f.0)
 
-abbrev pub alloc_of : List ℕ → Option Call
-alloc_of (name ∷ size ∷ align ∷ fill ∷ []) = Some (Alloc name size align fill)
-alloc_of ns = None
+-- a call that has a name, one that has three numbers, one that has four
+abbrev pub one : (ℕ → Call) → List ℕ → Option Call
+one call (name ∷ []) = Some (call name)
+one call ns = None
 
-abbrev pub dealloc_of : List ℕ → Option Call
-dealloc_of (name ∷ []) = Some (Dealloc name)
-dealloc_of ns = None
+abbrev pub three : (ℕ → ℕ → ℕ → Call) → List ℕ → Option Call
+three call (name ∷ size ∷ align ∷ []) = Some (call name size align)
+three call ns = None
 
-abbrev pub read_of : List ℕ → Option Call
-read_of (name ∷ []) = Some (Read name)
-read_of ns = None
+abbrev pub four : (ℕ → ℕ → ℕ → ℕ → Call) → List ℕ → Option Call
+four call (name ∷ size ∷ align ∷ fill ∷ []) = Some (call name size align fill)
+four call ns = None
 
 abbrev pub write_of : List ℕ → List ℕ → Option Call
 write_of bytes (name ∷ at ∷ []) = Some (Write name at bytes)
 write_of bytes ns = None
 
+-- the greatest name, size, alignment and fill byte
+abbrev pub placing : List ℕ
+placing = max_32 ∷ max_64 ∷ max_64 ∷ max_8 ∷ []
+
 abbrev pub alloc_at : List ℕ → Option (Call × List ℕ)
-alloc_at bytes = call_at alloc_of (numbers_at (codes "alloc") (max_32 ∷ max_64 ∷ max_64 ∷ max_8 ∷ []) bytes)
+alloc_at bytes = call_at (four Alloc) (numbers_at (codes "alloc") placing bytes)
+
+abbrev pub grow_at : List ℕ → Option (Call × List ℕ)
+grow_at bytes = call_at (four Grow) (numbers_at (codes "grow") placing bytes)
+
+abbrev pub shrink_at : List ℕ → Option (Call × List ℕ)
+shrink_at bytes = call_at (three Shrink) (numbers_at (codes "shrink") (max_32 ∷ max_64 ∷ max_64 ∷ []) bytes)
 
 abbrev pub dealloc_at : List ℕ → Option (Call × List ℕ)
-dealloc_at bytes = call_at dealloc_of (numbers_at (codes "dealloc") (max_32 ∷ []) bytes)
+dealloc_at bytes = call_at (one Dealloc) (numbers_at (codes "dealloc") (max_32 ∷ []) bytes)
 
 abbrev pub read_at : List ℕ → Option (Call × List ℕ)
-read_at bytes = call_at read_of (numbers_at (codes "read") (max_32 ∷ []) bytes)
+read_at bytes = call_at (one Read) (numbers_at (codes "read") (max_32 ∷ []) bytes)
 
 -- a space and HEX
 abbrev pub bytes_at : List ℕ → Option (List ℕ × List ℕ)
@@ -125,12 +136,14 @@ abbrev pub write_at : List ℕ → Option (Call × List ℕ)
 write_at bytes =
     numbers_at (codes "write") (max_32 ∷ max_64 ∷ []) bytes >>= λ f. bytes_at f.1 >>= λ h. option_map (λ call. (call, h.1)) (write_of h.0 f.0)
 
--- The call at the front. The first byte tells its word, but for `alloc` and `allocated`.
+-- The call at the front. The first byte tells its word, but for `alloc` and `allocated`, and `read` and `reset`.
 unfoldable pub front_at : List ℕ → Option (Call × List ℕ)
 front_at [] = None
 front_at (c ∷ cs) =
     if c == 97 then option_or (word_at (codes "allocated") Allocated (c ∷ cs)) (alloc_at (c ∷ cs))
     else (if c == 100 then dealloc_at (c ∷ cs)
-    else (if c == 114 then read_at (c ∷ cs)
+    else (if c == 103 then grow_at (c ∷ cs)
+    else (if c == 114 then option_or (word_at (codes "reset") Reset (c ∷ cs)) (read_at (c ∷ cs))
+    else (if c == 115 then shrink_at (c ∷ cs)
     else (if c == 117 then word_at (codes "used") Used (c ∷ cs)
-    else (if c == 119 then write_at (c ∷ cs) else None))))
+    else (if c == 119 then write_at (c ∷ cs) else None))))))

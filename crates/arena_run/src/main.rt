@@ -26,9 +26,12 @@ usage: arena_run calls        reads a call from each line of standard input
        arena_run --version    prints the version
 
 calls: alloc NAME SIZE ALIGN FILL
+       grow NAME SIZE ALIGN FILL
+       shrink NAME SIZE ALIGN
        dealloc NAME
        write NAME AT HEX      HEX is two digits for each byte, or - for none
        read NAME
+       reset
        used
        allocated
 ";

@@ -1,15 +1,16 @@
 -- The ways in which an allocation ends.
-use Rattle.std.proofs.Common.{◌≡◌, ℕ, ◌+◌, ◌-◌, ◌*◌, ◌%◌, ◌≤◌, max, ap, sym, refl, ◌∙◌, arith, IsTrue, Some, None, List, ◌∷◌, true, false, Bool, length, inl, inr, eq-eqb}
-use Rattle.std.specs.Prelude.{slice_get}
+use Rattle.std.proofs.Common.{◌≡◌, ℕ, ◌+◌, ◌-◌, ◌*◌, ◌%◌, ◌≤◌, max, ap, sym, refl, subst, ◌∙◌, arith, IsTrue, Some, None, Option, List, ◌∷◌, true, false, Bool, length, inl, inr, eq-eqb, leb-true}
+use Rattle.std.specs.Prelude.{slice_get, MatchOption, nat_le, ◌==◌}
+use Rattle.std.specs.Option.{option_map}
 use Rattle.std.proofs.lemmas.Bool.{cases_Bool}
-use Rattle.std.proofs.lemmas.Option.{none-some, slice_get_past}
+use Rattle.std.proofs.lemmas.Option.{none-some, same_Some, cond_some, slice_get_past}
 use Rattle.placement.specs.Rounding.{down, is_power}
-use Rattle.placement.specs.State.{State, Chunk, FitsKind, IsValid, floor_of, newest_size}
+use Rattle.placement.specs.State.{State, Chunk, FitsKind, IsValid, start_of, cursor_of, floor_of, newest_size, with_cursor}
 use Rattle.placement.specs.Search.{place, place_below, chunk_align, next_base, asked, asked_above, least_size}
-use Rattle.placement.specs.Moves.{alloc, placed, fails, with_chunk}
+use Rattle.placement.specs.Moves.{Outcome, alloc, alloc_at, alloc_in_new, placed, fails, with_chunk}
 use Rattle.placement.proofs.RoundingLemmas.{up_ge, up_mod, power_positive, power_multiple, max_power, pow_power, min_align_power, min_align_le, min_align_multiple}
 use Rattle.placement.proofs.PlaceLemmas.{IsPlace, is_place, place_found}
-use Rattle.placement.proofs.CursorLemmas.{start_positive}
+use Rattle.placement.proofs.CursorLemmas.{start_positive, start_set}
 use Rattle.placement.proofs.EntryLemmas.{IsEntry, is_entry}
 
 -- there is a place
@@ -95,3 +96,29 @@ is_granted state size align k e p valid growing power none at is =
       valid = grown;
       place = is_place e.0 (e.0 + e.1) size align m p (start_positive (with_chunk e state) grown) power valid.min_align found;
     }
+
+-- ---- A block lies in the newest chunk
+
+abbrev pub IsAboveStart : Outcome → Type 0
+IsAboveStart outcome = MatchOption outcome.answer (Unit {0}) (λ p. start_of outcome.state.chunks ≤ p)
+
+placed_above : (state : State) (size align p : ℕ) → place state size align ≡ Some p → start_of (with_cursor p state).chunks ≤ p
+placed_above state size align p found =
+    let tested = cond_some (nat_le (start_of state.chunks) (down (cursor_of state.chunks - size) (max align state.min_align))) (down (cursor_of state.chunks - size) (max align state.min_align)) p found in
+    omega (arith, start_set p state.chunks, leb-true _ _ tested.0, tested.1)
+
+pub alloc_above : (state : State) (size align k : ℕ) (outcome : Outcome) → alloc state size align k ≡ Some outcome → IsAboveStart outcome
+unfolding alloc
+alloc_above state size align k outcome step = by_place (place state size align) refl step
+  where
+    in_chunk : (e : ℕ × ℕ) (o : Option ℕ) → place (with_chunk e state) size align ≡ o → option_map (placed (with_chunk e state)) o ≡ Some outcome → IsAboveStart outcome
+    in_chunk e (Some p) found at = subst IsAboveStart (same_Some (placed (with_chunk e state) p) outcome at) (placed_above (with_chunk e state) size align p found)
+    in_chunk e None none at = absurd (none-some outcome at)
+
+    by_chunk : (o : Option (ℕ × ℕ)) → alloc_in_new o state size align k ≡ Some outcome → IsAboveStart outcome
+    by_chunk (Some e) at = in_chunk e (place (with_chunk e state) size align) refl at
+    by_chunk None at = subst IsAboveStart (cond_some (k == length (asked state size align)) (fails state) outcome at).1 tt
+
+    by_place : (o : Option ℕ) → place state size align ≡ o → alloc_at o state size align k ≡ Some outcome → IsAboveStart outcome
+    by_place (Some p) found at = subst IsAboveStart (cond_some (k == 0) (placed state p) outcome at).1 (placed_above state size align p found)
+    by_place None none at = by_chunk (slice_get (asked state size align) k) at

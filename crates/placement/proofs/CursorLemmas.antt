@@ -83,7 +83,11 @@ pub valid_moved : (state : State) (p : ℕ) → IsValid state → start_of state
     → IsValid (with_cursor p state)
 valid_moved state p valid low high aligned = valid_set state p valid low (omega (arith, cursor_within state valid)) aligned
 
--- another cursor moves no data end
+-- another cursor moves no base and no data end
+pub start_set : (p : ℕ) → (chunks : List Chunk) → start_of (with_newest_cursor p chunks) ≡ start_of chunks
+start_set p [] = refl
+start_set p (newest ∷ older) = refl
+
 pub top_set : (p : ℕ) → (chunks : List Chunk) → top_of (with_newest_cursor p chunks) ≡ top_of chunks
 top_set p [] = refl
 top_set p (newest ∷ older) = refl

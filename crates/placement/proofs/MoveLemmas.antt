@@ -67,7 +67,7 @@ step_multiple state block size align d min_align power divisor below =
     power_multiple (shrink_step state block.size size align) d (max align state.min_align) divisor (max_power align state.min_align power (min_align_power state.min_align min_align)) below
     (down_mod (block.size - size) (max align state.min_align))
 
-step_aligned : (state : State) (block : Place) (size align : ℕ) → IsValid state → IsTrue (is_power align) → block.addr ≡ cursor_of state.chunks
+pub step_aligned : (state : State) (block : Place) (size align : ℕ) → IsValid state → IsTrue (is_power align) → block.addr ≡ cursor_of state.chunks
     → (block.addr + shrink_step state block.size size align) % state.min_align ≡ 0
 step_aligned state block size align valid power at =
     sum_multiple block.addr (shrink_step state block.size size align) state.min_align (rw at (cursor_aligned state valid))
@@ -99,7 +99,7 @@ abbrev pub IsMoved : State → Place → ℕ → ℕ → Outcome → Type 0
 IsMoved state block size align outcome =
     MatchOption outcome.answer (outcome.state ≡ state) (λ p. IsMovedBlock state block size align p outcome.state)
 
-moved_anew : (state : State) (block : Place) (size align k : ℕ) (outcome : Outcome) → IsValid state → IsTrue (is_power align) → alloc state size align k ≡ Some outcome
+pub moved_anew : (state : State) (block : Place) (size align k : ℕ) (outcome : Outcome) → IsValid state → IsTrue (is_power align) → alloc state size align k ≡ Some outcome
     → IsMoved state block size align outcome
 moved_anew state block size align k outcome valid power step = go outcome.answer (is_allocated state size align k outcome valid power step).answer
   where

@@ -3,11 +3,17 @@ use Rattle.std.proofs.Common.{◌≡◌, ℕ, suc, ◌+◌, List, [], ◌∷◌,
 use Rattle.std.specs.Prelude.{Result}
 use Rattle.placement.specs.Grammar.{fields, hex, call_line, Fits, IsRefused, AreCalls, CallsOf, lines_of}
 use Rattle.placement.specs.declared.calls.Call.{Call}
-use Rattle.placement.specs.declared.calls.Call.TheVariants.{Alloc, Dealloc, Write, Read, Used, Allocated}
+use Rattle.placement.specs.declared.calls.Call.TheVariants.{Alloc, Grow, Shrink, Dealloc, Write, Read, Reset, Used, Allocated}
 use Rattle.placement.proofs.LineLemmas.{read_by, read_fields, read_fields_back, read_field, read_field_back, read_hex, read_hex_back}
 
 abbrev alloc_of : List ℕ → Call
 alloc_of ns = Alloc (get_or ns 0 0) (get_or ns 1 0) (get_or ns 2 0) (get_or ns 3 0)
+
+abbrev grow_of : List ℕ → Call
+grow_of ns = Grow (get_or ns 0 0) (get_or ns 1 0) (get_or ns 2 0) (get_or ns 3 0)
+
+abbrev shrink_of : List ℕ → Call
+shrink_of ns = Shrink (get_or ns 0 0) (get_or ns 1 0) (get_or ns 2 0)
 
 -- a name and a place in front of bytes
 abbrev write_of : List ℕ × List ℕ → Call
@@ -18,20 +24,26 @@ abbrev read_call : List ℕ → Call
 read_call = read_by Used
     ((codes "allocated", λ text. Allocated)
     ∷ (codes "alloc", λ text. alloc_of (read_fields 4 text).0)
+    ∷ (codes "grow", λ text. grow_of (read_fields 4 text).0)
+    ∷ (codes "shrink", λ text. shrink_of (read_fields 3 text).0)
     ∷ (codes "dealloc", λ text. (read_field Dealloc text).0)
     ∷ (codes "write", λ text. write_of (read_fields 2 text))
     ∷ (codes "read", λ text. (read_field Read text).0)
+    ∷ (codes "reset", λ text. Reset)
     ∷ (codes "used", λ text. Used)
     ∷ [])
 
 read_call_back : (c : Call) → Fits c → read_call (call_line c ++ 10 ∷ []) ≡ c
 read_call_back (Alloc name size align fill) h = ap (λ f. alloc_of f.0) (read_fields_back (name ∷ size ∷ align ∷ fill ∷ []) (10 ∷ []) refl)
+read_call_back (Grow name size align fill) h = ap (λ f. grow_of f.0) (read_fields_back (name ∷ size ∷ align ∷ fill ∷ []) (10 ∷ []) refl)
+read_call_back (Shrink name size align) h = ap (λ f. shrink_of f.0) (read_fields_back (name ∷ size ∷ align ∷ []) (10 ∷ []) refl)
 read_call_back (Dealloc name) h = ap (λ f. f.0) (read_field_back Dealloc name (10 ∷ []) refl)
 read_call_back (Write name at bytes) h =
     ap (λ text. write_of (read_fields 2 text)) (append_assoc (fields (name ∷ at ∷ [])) (32 ∷ hex bytes) (10 ∷ []))
     ∙ ap write_of (read_fields_back (name ∷ at ∷ []) (32 ∷ hex bytes ++ 10 ∷ []) refl)
     ∙ ap (λ f. Write name at f.0) (read_hex_back bytes [] h.2)
 read_call_back (Read name) h = ap (λ f. f.0) (read_field_back Read name (10 ∷ []) refl)
+read_call_back Reset h = refl
 read_call_back Used h = refl
 read_call_back Allocated h = refl
 

@@ -2,7 +2,7 @@
 use Rattle.std.specs.Prelude.{◌≡◌, ◌≢◌, ℕ, zero, suc, ◌+◌, ◌/◌, ◌%◌, ◌^◌, ◌<◌, ◌==◌, nat_lt, true, false, if◌then◌else◌, List, [], ◌∷◌, ◌++◌, length, codes, Result, Ok, Err}
 use Rattle.std.specs.List.{AllByRecursion, slice_split, flat_map}
 use Rattle.placement.specs.declared.calls.Call.{Call}
-use Rattle.placement.specs.declared.calls.Call.TheVariants.{Alloc, Dealloc, Write, Read, Used, Allocated}
+use Rattle.placement.specs.declared.calls.Call.TheVariants.{Alloc, Grow, Shrink, Dealloc, Write, Read, Reset, Used, Allocated}
 
 -- the decimal digits of n, at most so many. The test is an `elim`, so that no more digits are computed than there are.
 unfoldable pub digits : ℕ → ℕ → List ℕ
@@ -33,9 +33,12 @@ fields (n ∷ ns) = 32 ∷ number n ++ fields ns
 -- the line of a call
 abbrev pub call_line : Call → List ℕ
 call_line (Alloc name size align fill) = codes "alloc" ++ fields (name ∷ size ∷ align ∷ fill ∷ [])
+call_line (Grow name size align fill) = codes "grow" ++ fields (name ∷ size ∷ align ∷ fill ∷ [])
+call_line (Shrink name size align) = codes "shrink" ++ fields (name ∷ size ∷ align ∷ [])
 call_line (Dealloc name) = codes "dealloc" ++ fields (name ∷ [])
 call_line (Write name at bytes) = codes "write" ++ fields (name ∷ at ∷ []) ++ 32 ∷ hex bytes
 call_line (Read name) = codes "read" ++ fields (name ∷ [])
+call_line Reset = codes "reset"
 call_line Used = codes "used"
 call_line Allocated = codes "allocated"
 
@@ -45,9 +48,12 @@ IsByte b = b < 2 ^ 8
 -- the call's numbers are within their types' ranges
 abbrev pub Fits : Call → Type 0
 Fits (Alloc name size align fill) = (name < 2 ^ 32) × (size < 2 ^ 64) × (align < 2 ^ 64) × (fill < 2 ^ 8)
+Fits (Grow name size align fill) = (name < 2 ^ 32) × (size < 2 ^ 64) × (align < 2 ^ 64) × (fill < 2 ^ 8)
+Fits (Shrink name size align) = (name < 2 ^ 32) × (size < 2 ^ 64) × (align < 2 ^ 64)
 Fits (Dealloc name) = name < 2 ^ 32
 Fits (Write name at bytes) = (name < 2 ^ 32) × (at < 2 ^ 64) × AllByRecursion IsByte bytes
 Fits (Read name) = name < 2 ^ 32
+Fits Reset = Unit {0}
 Fits Used = Unit {0}
 Fits Allocated = Unit {0}
 

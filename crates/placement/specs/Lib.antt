@@ -5,5 +5,6 @@ pub mod Moves
 pub mod Blocks
 pub mod Causes
 pub mod Machine
+pub mod Requests
 pub mod Grammar
 pub mod Replies

@@ -1,14 +1,14 @@
 -- The placement machine: calls by name, one after another, each told how many of its requests were refused.
-use Rattle.std.specs.Prelude.{◌≡◌, ◌≢◌, ℕ, ◌+◌, ◌%◌, ◌<◌, ◌≤◌, ◌⊎◌, nat_lt, ◌==◌, Bool, ◌||◌, not, if◌then◌else◌, Option, Some, None, List, [], ◌∷◌, ◌++◌, length, take, drop, replicate, map, IsTrue}
+use Rattle.std.specs.Prelude.{◌≡◌, ◌≢◌, ℕ, ◌+◌, ◌-◌, ◌%◌, ◌<◌, ◌≤◌, ◌⊎◌, nat_lt, ◌==◌, Bool, true, false, ◌||◌, not, if◌then◌else◌, Option, Some, None, List, [], ◌∷◌, ◌++◌, length, take, drop, replicate, map, IsTrue}
 use Rattle.std.specs.Ordering.{nat_cmp}
 use Rattle.std.specs.Option.{option_map, option_and_then}
 use Rattle.std.specs.FinMap as map
 use Rattle.placement.specs.Rounding.{is_layout}
 use Rattle.placement.specs.State.{State, used_bytes, allocated_bytes, is_range_used}
-use Rattle.placement.specs.Moves.{Outcome, alloc, dealloc}
+use Rattle.placement.specs.Moves.{Outcome, alloc, grow, shrink, dealloc, reset}
 use Rattle.placement.specs.declared.place.Place.{Place}
 use Rattle.placement.specs.declared.calls.Call.{Call}
-use Rattle.placement.specs.declared.calls.Call.TheVariants.{Alloc, Dealloc, Write, Read, Used, Allocated}
+use Rattle.placement.specs.declared.calls.Call.TheVariants.{Alloc, Grow, Shrink, Dealloc, Write, Read, Reset, Used, Allocated}
 use Rattle.placement.specs.declared.calls.Reply.{Reply}
 use Rattle.placement.specs.declared.calls.Reply.TheVariants.{Placed, Done, Bytes, Number, AllocErr, NoSuchName, NameTaken, BadLayout, OutOfRange}
 
@@ -71,12 +71,23 @@ step (Alloc name size align fill) k m =
     if map.contains_key m.held name then answers k NameTaken m
     else (if not (is_layout size align) then answers k BadLayout m
     else option_map (λ (o : Outcome). settles m k name size align (replicate size fill) o.state o.answer) (alloc m.state size align k))
+step (Grow name size align fill) k m = at_name m name k (λ place bytes.
+    if not (is_layout size align) then answers k BadLayout m
+    else (if nat_lt size place.size then answers k OutOfRange m
+    else option_map (λ (o : Outcome). settles m k name size align (bytes ++ replicate (size - place.size) fill) o.state o.answer)
+    (grow m.state place.addr place.size place.align size align k)))
+step (Shrink name size align) k m = at_name m name k (λ place bytes.
+    if not (is_layout size align) then answers k BadLayout m
+    else (if nat_lt place.size size then answers k OutOfRange m
+    else option_map (λ (o : Outcome). settles m k name size align (take size bytes) o.state o.answer)
+    (shrink m.state place.addr place.size place.align size align k)))
 step (Dealloc name) k m =
     at_name m name k (λ place bytes. answers k Done (lets_go m (dealloc m.state place.addr place.size) name))
 step (Write name at new) k m = at_name m name k (λ place bytes.
     if nat_lt place.size (at + length new) then answers k OutOfRange m
     else answers k Done (record m { bytes = map.insert m.bytes name (splice bytes at new) }))
 step (Read name) k m = at_name m name k (λ place bytes. answers k (Bytes bytes) m)
+step Reset k m = answers k Done (fresh (reset m.state))
 step Used k m = answers k (Number (used_bytes m.state)) m
 step Allocated k m = answers k (Number (allocated_bytes m.state)) m
 
@@ -112,6 +123,18 @@ refused_of OutOfRange = 0
 
 abbrev pub told : List Reply → List ℕ
 told replies = map refused_of replies
+
+-- a call that gives all blocks back
+abbrev pub is_reset : Call → Bool
+is_reset (Alloc name size align fill) = false
+is_reset (Grow name size align fill) = false
+is_reset (Shrink name size align) = false
+is_reset (Dealloc name) = false
+is_reset (Write name at bytes) = false
+is_reset (Read name) = false
+is_reset Reset = true
+is_reset Used = false
+is_reset Allocated = false
 
 -- ---- What held blocks are to each other and to the state
 

@@ -11,6 +11,19 @@ pub enum Call {
         align: u64,
         fill: u8,
     },
+    /// Gives the name's block a greater size. Its bytes are kept, and each new byte is the fill byte.
+    Grow {
+        name: u32,
+        size: u64,
+        align: u64,
+        fill: u8,
+    },
+    /// Gives the name's block a smaller size. Its first bytes are kept.
+    Shrink {
+        name: u32,
+        size: u64,
+        align: u64,
+    },
     /// Gives the name's block back.
     Dealloc {
         name: u32,
@@ -25,6 +38,8 @@ pub enum Call {
     Read {
         name: u32,
     },
+    /// Gives all blocks back.
+    Reset,
     /// Asks how many bytes of the chunks are used.
     Used,
     /// Asks how many bytes the chunks have.
@@ -50,6 +65,6 @@ pub enum Reply {
     NameTaken,
     /// The size and the alignment are no layout.
     BadLayout,
-    /// The range passes the block's end.
+    /// The range passes the block's end, or the size is on the wrong side of the block's.
     OutOfRange,
 }

@@ -1,3 +1,4 @@
 pub mod SumLemmas
 pub mod HoldingLemmas
 pub mod RunLemmas
+pub mod ResizeLemmas

@@ -1,5 +1,5 @@
 -- A state, and answers and replies with what they leave.
-use Rattle.std.specs.Prelude.{ℕ, Option, List, Vec, true}
+use Rattle.std.specs.Prelude.{ℕ, ◌+◌, ◌≤◌, Option, List, [], Vec, true, IfSome}
 use Rattle.std.specs.declared.alloc.Global.{Global}
 use Rattle.std.specs.Option.{option_map}
 use Rattle.placement.specs.State.{State, Chunk}
@@ -7,13 +7,22 @@ use Rattle.placement.specs.Moves.{Outcome}
 use Rattle.placement.specs.Machine.{Machine, Next}
 use Rattle.placement.specs.declared.calls.Reply.{Reply}
 
--- the state of a growing arena that was never emptied
-abbrev pub growing_state : ℕ → List Chunk → State
-growing_state min_align chunks = record { min_align = min_align; is_growing = true; generation = 0; chunks = chunks }
+-- the state of a growing arena
+abbrev pub growing_state : ℕ → ℕ → List Chunk → State
+growing_state min_align generation chunks =
+    record { min_align = min_align; is_growing = true; generation = generation; chunks = chunks }
+
+-- the state of a growing arena that has no chunk yet
+abbrev pub first_state : ℕ → State
+first_state min_align = growing_state min_align 0 []
 
 -- the outcome of an answer, if there is a step
 abbrev pub leaves : State → Option (Option ℕ) → Option Outcome
 leaves state answer = option_map {T = Option ℕ} {U = Outcome} (λ a. record { answer = a; state = state }) answer
+
+-- a block that is answered ends there or before
+abbrev pub EndsWithin : ℕ → Option (Option ℕ) → ℕ → Type 0
+EndsWithin size answer top = IfSome answer (λ a. IfSome a (λ p. p + size ≤ top))
 
 -- a reply, if there is a step, with the machine after it
 abbrev pub gives : Machine → Option Reply → Option Next

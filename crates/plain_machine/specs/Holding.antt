@@ -2,7 +2,6 @@
 use Rattle.std.specs.Prelude.{◌≡◌, ℕ, ◌+◌, ◌≤◌, Some}
 use Rattle.std.specs.FinMap as map
 use Rattle.std.specs.Coded.{Coded, coded_ℕ, coded_list}
-use Rattle.placement.specs.State.{State, top_of}
 use Rattle.placement.specs.Machine.{Held, Contents}
 use Rattle.placement.specs.declared.place.Place.{Place}
 use Rattle.placement.specs.contracts.place.Place as place
@@ -14,6 +13,6 @@ held_code = map.code coded_ℕ place.the_row.coded
 abbrev pub contents_code : Coded Contents
 contents_code = map.code coded_ℕ (coded_list coded_ℕ)
 
--- Each held block ends at or below the end of the newest chunk.
-abbrev pub EndBelow : State → Held → Type 0
-EndBelow state held = (name : ℕ) (p : Place) → map.get held name ≡ Some p → p.addr + p.size ≤ top_of state.chunks
+-- Each held block ends there or before.
+abbrev pub EndBelow : ℕ → Held → Type 0
+EndBelow top held = (name : ℕ) (p : Place) → map.get held name ≡ Some p → p.addr + p.size ≤ top

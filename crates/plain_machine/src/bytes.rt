@@ -1,5 +1,5 @@
 // The bytes of a block.
-ghost use Rattle.std.specs.Prelude.{◌≡◌, ◌+◌, ◌^◌, ◌<◌, IfOk, replicate, nat_lt, length, drop};
+ghost use Rattle.std.specs.Prelude.{◌≡◌, ◌+◌, ◌^◌, ◌<◌, ◌++◌, IfOk, replicate, nat_lt, length, take, drop};
 ghost use Rattle.placement.specs.Machine as machine;
 
 use placement::{Bytes, OutOfMemory};
@@ -12,6 +12,31 @@ pub(crate) fn filled(alloc: Global, size: u64, fill: u8) -> Result<Bytes, OutOfM
         Ok(items) => Ok(Bytes::from_vec(items)),
         Err(_) => Err(OutOfMemory),
     }
+}
+
+// The old bytes and so many more, each the fill byte.
+pub(crate) fn grown(alloc: Global, old: &[u8], more: u64, fill: u8) -> Result<Bytes, OutOfMemory>
+    ensures { IfOk result (λ bytes. bytes ≡ old.now ++ replicate more fill) }
+{
+    let Ok(mut all) = Vec::from_slice(alloc, old) else {
+        return Err(OutOfMemory);
+    };
+    let more = filled(alloc, more, fill)?;
+    match all.extend_from_slice(more.as_slice()) {
+        Ok(()) => Ok(Bytes::from_vec(all)),
+        Err(_) => Err(OutOfMemory),
+    }
+}
+
+// The first bytes, so many or all.
+pub(crate) fn shrunk(alloc: Global, old: &[u8], size: u64) -> Result<Bytes, OutOfMemory>
+    ensures { IfOk result (λ bytes. bytes ≡ take size old.now) }
+{
+    let Ok(mut all) = Vec::from_slice(alloc, old) else {
+        return Err(OutOfMemory);
+    };
+    all.truncate(size as usize);
+    Ok(Bytes::from_vec(all))
 }
 
 // So many bytes from this one on pass the end of a block.

@@ -6,9 +6,11 @@ mod bytes;
 mod chunk;
 mod machine;
 mod names;
+mod resize;
 mod run;
 mod search;
 mod state;
+mod unasked;
 
 pub use machine::PlainMachine;
 

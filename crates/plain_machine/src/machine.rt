@@ -1,14 +1,15 @@
 // The machine: calls by name, one after another.
 #![tactic(auto, unfolding(placement::specs::Machine::step))]
 
-ghost use Rattle.std.specs.Prelude.{◌≡◌, ◌==◌, ◌+◌, ◌≤◌, IfOk, OnOk, IfNone, IsTrue, if◌then◌else◌, []};
+ghost use Rattle.std.specs.Prelude.{◌≡◌, ◌==◌, ◌+◌, ◌≤◌, IfOk, OnOk, IfNone, IsTrue, if◌then◌else◌};
 ghost use Rattle.placement.specs.State.{is_min_align, top_of};
 ghost use Rattle.placement.specs.Machine as machine;
-ghost use Rattle.plain_machine.specs.Answers.{growing_state, gives};
+ghost use Rattle.plain_machine.specs.Answers.{first_state, gives};
 
-use crate::bytes::{filled, is_past, splice};
+use crate::bytes::{filled, grown, is_past, shrunk, splice};
 use crate::names::Names;
 use crate::state::PlainState;
+use crate::unasked::unasked;
 use arena_place::Layout;
 use placement::{Bytes, Call, OutOfMemory, Place, Reply};
 use std::alloc::Global;
@@ -23,6 +24,7 @@ pub struct PlainMachine {
 }
 
 impl Model for PlainMachine {
+    ghost use Rattle.placement.specs.State.{top_of};
     ghost use Rattle.placement.specs.Machine.{Machine};
     ghost use Rattle.plain_machine.specs.Holding.{EndBelow, held_code, contents_code};
     ghost use Rattle.std.specs.Coded.{codes};
@@ -33,14 +35,14 @@ impl Model for PlainMachine {
 
     ghost view = { λ m. record { state = m.state; held = m.held; bytes = m.bytes } };
 
-    ghost invariant = { λ m. EndBelow m.state m.held };
+    ghost invariant = { λ m. EndBelow (top_of m.state.chunks) m.held };
 }
 
 impl PlainMachine {
     /// A machine with no chunk that holds no name.
     pub fn new(alloc: Global, min_align: u64) -> PlainMachine
         requires { IsTrue (is_min_align min_align) }
-        ensures { result ≡ machine.fresh (growing_state min_align []) }
+        ensures { result ≡ machine.fresh (first_state min_align) }
     {
         PlainMachine {
             state: PlainState::new(alloc, min_align),
@@ -67,9 +69,19 @@ impl PlainMachine {
                 align,
                 fill,
             } => self.alloc(alloc, *name, *size, *align, *fill, refused),
+            Call::Grow {
+                name,
+                size,
+                align,
+                fill,
+            } => self.grow(alloc, *name, *size, *align, *fill, refused),
+            Call::Shrink { name, size, align } => {
+                self.shrink(alloc, *name, *size, *align, refused)
+            }
             Call::Dealloc { name } => Ok(self.dealloc(*name, refused)),
             Call::Write { name, at, bytes } => self.write(alloc, *name, *at, bytes, refused),
             Call::Read { name } => self.read(alloc, *name, refused),
+            Call::Reset => Ok(self.reset(refused)),
             Call::Used => Ok(self.used(refused)),
             Call::Allocated => Ok(self.allocated(refused)),
         }
@@ -88,10 +100,10 @@ impl PlainMachine {
         ensures none { IfOk result (λ reply. IfNone reply (self.new ≡ self.old)) }
     {
         if self.held.contains(name) {
-            return Ok(answers(refused, Reply::NameTaken));
+            return Ok(unasked(refused, Reply::NameTaken));
         }
         let Some(layout) = Layout::new(size, align) else {
-            return Ok(answers(refused, Reply::BadLayout));
+            return Ok(unasked(refused, Reply::BadLayout));
         };
         let Some(answer) = self.state.alloc(alloc, layout, refused)? else {
             return Ok(None);
@@ -100,8 +112,77 @@ impl PlainMachine {
             return Ok(Some(Reply::AllocErr { refused }));
         };
         let bytes = filled(alloc, size, fill)?;
-        self.holds(name, Place { addr, size, align }, bytes)?;
-        Ok(Some(Reply::Placed { addr, refused }))
+        let place = Place { addr, size, align };
+        Ok(Some(self.holds(name, place, bytes, refused)?))
+    }
+
+    fn grow(
+        &mut self,
+        alloc: Global,
+        name: u32,
+        size: u64,
+        align: u64,
+        fill: u8,
+        refused: u32,
+    ) -> Result<Option<Reply>, OutOfMemory>
+        ensures step { IfOk result (λ reply. gives self.new reply ≡ machine.step (Call.Grow name size align fill) refused self.old) }
+        ensures none { IfOk result (λ reply. IfNone reply (self.new ≡ self.old)) }
+    {
+        let Some(block) = self.held.get(name).copied() else {
+            return Ok(unasked(refused, Reply::NoSuchName));
+        };
+        let Some(old) = self.bytes.get(name) else {
+            return Ok(None);
+        };
+        let Some(layout) = Layout::new(size, align) else {
+            return Ok(unasked(refused, Reply::BadLayout));
+        };
+        if size < block.size {
+            return Ok(unasked(refused, Reply::OutOfRange));
+        }
+        let Some(answer) = self.state.grow(alloc, block, layout, refused)? else {
+            return Ok(None);
+        };
+        let Some(addr) = answer else {
+            return Ok(Some(Reply::AllocErr { refused }));
+        };
+        let bytes = grown(alloc, old.as_slice(), size - block.size, fill)?;
+        let place = Place { addr, size, align };
+        Ok(Some(self.holds(name, place, bytes, refused)?))
+    }
+
+    fn shrink(
+        &mut self,
+        alloc: Global,
+        name: u32,
+        size: u64,
+        align: u64,
+        refused: u32,
+    ) -> Result<Option<Reply>, OutOfMemory>
+        ensures step { IfOk result (λ reply. gives self.new reply ≡ machine.step (Call.Shrink name size align) refused self.old) }
+        ensures none { IfOk result (λ reply. IfNone reply (self.new ≡ self.old)) }
+    {
+        let Some(block) = self.held.get(name).copied() else {
+            return Ok(unasked(refused, Reply::NoSuchName));
+        };
+        let Some(old) = self.bytes.get(name) else {
+            return Ok(None);
+        };
+        let Some(layout) = Layout::new(size, align) else {
+            return Ok(unasked(refused, Reply::BadLayout));
+        };
+        if size > block.size {
+            return Ok(unasked(refused, Reply::OutOfRange));
+        }
+        let Some(answer) = self.state.shrink(alloc, block, layout, refused)? else {
+            return Ok(None);
+        };
+        let Some(addr) = answer else {
+            return Ok(Some(Reply::AllocErr { refused }));
+        };
+        let bytes = shrunk(alloc, old.as_slice(), size)?;
+        let place = Place { addr, size, align };
+        Ok(Some(self.holds(name, place, bytes, refused)?))
     }
 
     fn dealloc(&mut self, name: u32, refused: u32) -> Option<Reply>
@@ -109,7 +190,7 @@ impl PlainMachine {
         ensures none { IfNone result (self.new ≡ self.old) }
     {
         let Some(place) = self.held.get(name).copied() else {
-            return answers(refused, Reply::NoSuchName);
+            return unasked(refused, Reply::NoSuchName);
         };
         if refused > 0 || !self.bytes.contains(name) {
             return None;
@@ -132,13 +213,13 @@ impl PlainMachine {
         ensures none { IfOk result (λ reply. IfNone reply (self.new ≡ self.old)) }
     {
         let Some(place) = self.held.get(name).copied() else {
-            return Ok(answers(refused, Reply::NoSuchName));
+            return Ok(unasked(refused, Reply::NoSuchName));
         };
         let Some(old) = self.bytes.get(name) else {
             return Ok(None);
         };
         if is_past(place.size, at, new.len()) {
-            return Ok(answers(refused, Reply::OutOfRange));
+            return Ok(unasked(refused, Reply::OutOfRange));
         }
         if refused > 0 {
             return Ok(None);
@@ -152,40 +233,55 @@ impl PlainMachine {
         ensures { IfOk result (λ reply. gives self.now reply ≡ machine.step (Call.Read name) refused self.now) }
     {
         if !self.held.contains(name) {
-            return Ok(answers(refused, Reply::NoSuchName));
+            return Ok(unasked(refused, Reply::NoSuchName));
         }
         let Some(bytes) = self.bytes.get(name) else {
             return Ok(None);
         };
         let bytes = Bytes::of(alloc, bytes.as_slice())?;
-        Ok(answers(refused, Reply::Bytes(bytes)))
+        Ok(unasked(refused, Reply::Bytes(bytes)))
+    }
+
+    fn reset(&mut self, refused: u32) -> Option<Reply>
+        ensures step { gives self.new result ≡ machine.step Call.Reset refused self.old }
+        ensures none { IfNone result (self.new ≡ self.old) }
+    {
+        if refused > 0 {
+            return None;
+        }
+        self.state.reset();
+        self.held.clear();
+        self.bytes.clear();
+        Some(Reply::Done)
     }
 
     fn used(&self, refused: u32) -> Option<Reply>
         ensures { gives self.now result ≡ machine.step Call.Used refused self.now }
     {
-        answers(refused, Reply::Number(self.state.used_bytes()))
+        unasked(refused, Reply::Number(self.state.used_bytes()))
     }
 
     fn allocated(&self, refused: u32) -> Option<Reply>
         ensures { gives self.now result ≡ machine.step Call.Allocated refused self.now }
     {
-        answers(refused, Reply::Number(self.state.allocated_bytes()))
+        unasked(refused, Reply::Number(self.state.allocated_bytes()))
     }
 
-    // The name holds this block.
-    fn holds(&mut self, name: u32, place: Place, bytes: Bytes) -> Result<(), OutOfMemory>
+    // The name holds this block, and the reply tells where it lies.
+    fn holds(
+        &mut self,
+        name: u32,
+        place: Place,
+        bytes: Bytes,
+        refused: u32,
+    ) -> Result<Reply, OutOfMemory>
         requires { place.addr + place.size ≤ top_of self.old.state.chunks }
-        ensures { OnOk result (self.new ≡ machine.holds self.old self.old.state name place bytes) }
+        ensures reply { IfOk result (λ reply. reply ≡ Reply.Placed place.addr refused) }
+        ensures machine { OnOk result (self.new ≡ machine.holds self.old self.old.state name place bytes) }
     {
+        let addr = place.addr;
+        self.bytes.insert(name, bytes)?;
         self.held.insert(name, place)?;
-        self.bytes.insert(name, bytes)
+        Ok(Reply::Placed { addr, refused })
     }
-}
-
-// A call that asks for nothing has a step for no refusals alone.
-fn answers(refused: u32, reply: Reply) -> Option<Reply>
-    ensures { result ≡ (if refused == 0 then Some reply else None) }
-{
-    if refused == 0 { Some(reply) } else { None }
 }

@@ -64,4 +64,10 @@ impl<V: Drop> Names<V> {
     {
         self.values.remove(&name);
     }
+
+    pub(crate) fn clear(&mut self)
+        ensures { self.new ≡ map.empty }
+    {
+        self.values.clear();
+    }
 }

@@ -1,9 +1,9 @@
 // Whole runs.
-ghost use Rattle.std.specs.Prelude.{◌≡◌, IfOk, IsTrue, []};
+ghost use Rattle.std.specs.Prelude.{◌≡◌, IfOk, IsTrue};
 ghost use Rattle.std.specs.Option.{option_map};
 ghost use Rattle.placement.specs.State.{is_min_align};
 ghost use Rattle.placement.specs.Machine as machine;
-ghost use Rattle.plain_machine.specs.Answers.{growing_state, gives_all, replies_of};
+ghost use Rattle.plain_machine.specs.Answers.{first_state, gives_all, replies_of};
 
 use crate::machine::PlainMachine;
 use placement::{Call, OutOfMemory, Reply};
@@ -42,7 +42,7 @@ impl PlainMachine {
         refused: &[u32],
     ) -> Result<Option<Vec<Reply>>, OutOfMemory>
         requires { IsTrue (is_min_align min_align) }
-        ensures { IfOk result (λ replies. replies_of replies ≡ option_map (λ r. r.0) (machine.run (growing_state min_align []) calls.now refused.now)) }
+        ensures { IfOk result (λ replies. replies_of replies ≡ option_map (λ r. r.0) (machine.run (first_state min_align) calls.now refused.now)) }
     {
         PlainMachine::new(alloc, min_align).run_from(alloc, calls, refused)
     }

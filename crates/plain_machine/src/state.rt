@@ -1,10 +1,11 @@
 // The state: chunks, newest first.
-ghost use Rattle.std.specs.Prelude.{◌≡◌, ◌+◌, ◌^◌, ◌<◌, ◌≤◌, IfOk, OnErr, IfNone, IsTrue, true, [], All, sum, map};
+ghost use Rattle.std.specs.Prelude.{◌≡◌, ◌+◌, ◌^◌, ◌<◌, ◌≤◌, IfOk, OnErr, IfSome, IfNone, IsTrue, Some, None, true, All, sum, map};
 ghost use Rattle.std.specs.Option.{option_map, option_map_or};
+ghost use Rattle.placement.specs.Rounding.{is_power};
 ghost use Rattle.placement.specs.State.{IsValid, is_min_align, start_of, cursor_of, newest_size, used_bytes, allocated_bytes, floor_of, top_of, with_cursor, data_end, used_length};
 ghost use Rattle.placement.specs.Search.{place, asked};
 ghost use Rattle.placement.specs.Moves as moves;
-ghost use Rattle.plain_machine.specs.Answers.{growing_state, leaves};
+ghost use Rattle.plain_machine.specs.Answers.{first_state, leaves, EndsWithin};
 
 use crate::chunk::PlainChunk;
 use crate::search::{entries, entry_at};
@@ -22,6 +23,7 @@ pub(crate) type Answer = Option<u64>;
 #[derive(Drop, Debug)]
 pub(crate) struct PlainState {
     min_align: u64,
+    generation: u64,
     chunks: Vec<PlainChunk>,
 }
 
@@ -31,21 +33,32 @@ impl Model for PlainState {
 
     ghost Value = { State };
 
-    ghost view = { λ s. growing_state s.min_align s.chunks.items };
+    ghost view = { λ s. growing_state s.min_align s.generation s.chunks.items };
 
-    ghost invariant = { λ s. IsValid (growing_state s.min_align s.chunks.items) };
+    ghost invariant = { λ s. IsValid (growing_state s.min_align s.generation s.chunks.items) };
 }
 
 impl PlainState {
     /// A state with no chunk.
     pub(crate) fn new(alloc: Global, min_align: u64) -> PlainState
         requires { IsTrue (is_min_align min_align) }
-        ensures { result ≡ growing_state min_align [] }
+        ensures { result ≡ first_state min_align }
     {
         PlainState {
             min_align,
+            generation: 0,
             chunks: Vec::new(alloc),
         }
+    }
+
+    pub(crate) fn min_align(&self) -> u64
+        ensures value { result ≡ self.now.min_align }
+        ensures power { IsTrue (is_power result) }
+        ensures positive { 0 < result }
+        ensures small { result ≤ 16 }
+        ensures valid { IsValid self.now }
+    {
+        self.min_align
     }
 
     fn start(&self) -> u64
@@ -57,7 +70,7 @@ impl PlainState {
         }
     }
 
-    fn cursor(&self) -> u64
+    pub(crate) fn cursor(&self) -> u64
         ensures { result ≡ cursor_of self.now.chunks }
     {
         match self.chunks.first() {
@@ -88,9 +101,12 @@ impl PlainState {
         }
     }
 
-    fn place(&self, layout: Layout) -> Option<u64>
+    pub(crate) fn place(&self, layout: Layout) -> Option<u64>
         ensures valid { IsValid self.now }
         ensures value { result ≡ place self.now layout.size layout.align }
+        ensures moved { IfSome result (λ p. IsValid (with_cursor p self.now)) }
+        ensures within { IfSome result (λ p. p + layout.size ≤ cursor_of self.now.chunks) }
+        ensures cursor { cursor_of self.now.chunks ≤ top_of self.now.chunks }
     {
         place(self.start(), self.cursor(), layout, self.min_align)
     }
@@ -110,13 +126,29 @@ impl PlainState {
     }
 
     // The newest chunk gets another cursor.
-    fn set_cursor(&mut self, addr: u64)
+    pub(crate) fn set_cursor(&mut self, addr: u64)
         requires { IsValid (with_cursor addr self.old) }
-        ensures { self.new ≡ with_cursor addr self.old }
+        ensures state { self.new ≡ with_cursor addr self.old }
+        ensures top { top_of self.new.chunks ≡ top_of self.old.chunks }
     {
         if let Some(newest) = self.chunks.first_mut() {
             newest.cursor = addr;
         }
+    }
+
+    // A block at its place in the newest chunk, which asks for nothing.
+    pub(crate) fn place_at(&mut self, addr: u64, refused: u32) -> Option<Answer>
+        requires { IsValid (with_cursor addr self.old) }
+        ensures step { leaves self.new result ≡ moves.unasked refused (moves.placed self.old addr) }
+        ensures none { IfNone result (self.new ≡ self.old) }
+        ensures some { IfSome result (λ answer. answer ≡ Some addr) }
+        ensures top { top_of self.new.chunks ≡ top_of self.old.chunks }
+    {
+        if refused > 0 {
+            return None;
+        }
+        self.set_cursor(addr);
+        Some(Some(addr))
     }
 
     // A new block in this chunk, which becomes the newest.
@@ -131,6 +163,8 @@ impl PlainState {
             (place (moves.with_chunk (base, size) self.old) layout.size layout.align)) }
         ensures err { OnErr result (self.new ≡ self.old) }
         ensures none { IfOk result (λ answer. IfNone answer (self.new ≡ self.old)) }
+        ensures later { top_of self.old.chunks ≤ top_of self.new.chunks }
+        ensures within { IfOk result (λ answer. EndsWithin layout.size answer (top_of self.new.chunks)) }
     {
         let min_align = self.min_align;
         let Some(cursor) = place(base, base + size, layout, min_align) else {
@@ -157,6 +191,8 @@ impl PlainState {
         ensures step { IfOk result (λ answer. leaves self.new answer ≡ moves.alloc self.old layout.size layout.align refused) }
         ensures err { OnErr result (self.new ≡ self.old) }
         ensures none { IfOk result (λ answer. IfNone answer (self.new ≡ self.old)) }
+        ensures later { top_of self.old.chunks ≤ top_of self.new.chunks }
+        ensures within { IfOk result (λ answer. EndsWithin layout.size answer (top_of self.new.chunks)) }
     {
         let asked = self.asked(alloc, layout)?;
         if let Some((base, size)) = entry_at(&asked, refused) {
@@ -179,15 +215,13 @@ impl PlainState {
         ensures step { IfOk result (λ answer. leaves self.new answer ≡ moves.alloc self.old layout.size layout.align refused) }
         ensures err { OnErr result (self.new ≡ self.old) }
         ensures none { IfOk result (λ answer. IfNone answer (self.new ≡ self.old)) }
+        ensures later { top_of self.old.chunks ≤ top_of self.new.chunks }
+        ensures within { IfOk result (λ answer. EndsWithin layout.size answer (top_of self.new.chunks)) }
     {
-        let Some(addr) = self.place(layout) else {
-            return self.alloc_in_new(alloc, layout, refused);
-        };
-        if refused > 0 {
-            return Ok(None);
+        match self.place(layout) {
+            Some(addr) => Ok(self.place_at(addr, refused)),
+            None => self.alloc_in_new(alloc, layout, refused),
         }
-        self.set_cursor(addr);
-        Ok(Some(Some(addr)))
     }
 
     /// A block is given back.
@@ -201,6 +235,14 @@ impl PlainState {
         }
     }
 
+    /// All blocks are given back, and all chunks but the newest.
+    pub(crate) fn reset(&mut self)
+        ensures { self.new ≡ moves.reset self.old }
+    {
+        self.generation = self.generation.saturating_add(1);
+        keep_newest(&mut self.chunks);
+    }
+
     pub(crate) fn used_bytes(&self) -> u64
         ensures { result ≡ used_bytes self.now }
     {
@@ -211,6 +253,17 @@ impl PlainState {
         ensures { result ≡ allocated_bytes self.now }
     {
         sum_of_sizes(&self.chunks)
+    }
+}
+
+// The newest chunk stays, with nothing used.
+fn keep_newest(chunks: &mut Vec<PlainChunk>)
+    requires { top_of chunks.old.items < 2 ^ 64 }
+    ensures { chunks.new.items ≡ moves.emptied chunks.old.items }
+{
+    chunks.truncate(1);
+    if let Some(newest) = chunks.first_mut() {
+        newest.cursor = newest.base + newest.size;
     }
 }
 

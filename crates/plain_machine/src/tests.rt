@@ -17,6 +17,19 @@ fn block(name: u32, size: u64, align: u64, fill: u8) -> Call {
     }
 }
 
+fn grow(name: u32, size: u64, align: u64, fill: u8) -> Call {
+    Call::Grow {
+        name,
+        size,
+        align,
+        fill,
+    }
+}
+
+fn shrink(name: u32, size: u64, align: u64) -> Call {
+    Call::Shrink { name, size, align }
+}
+
 fn placed(addr: u64, refused: u32) -> Reply {
     Reply::Placed { addr, refused }
 }
@@ -28,27 +41,6 @@ fn write(alloc: Global, name: u32, at: u64, bytes: &[u8]) -> Result<Call, OutOfM
 
 fn bytes(alloc: Global, bytes: &[u8]) -> Result<Reply, OutOfMemory> {
     Ok(Reply::Bytes(Bytes::of(alloc, bytes)?))
-}
-
-fn same(found: &Reply, wanted: &Reply) -> bool {
-    match (found, wanted) {
-        (
-            Reply::Placed { addr, refused },
-            Reply::Placed {
-                addr: wanted_addr,
-                refused: wanted_refused,
-            },
-        ) => *addr == *wanted_addr && *refused == *wanted_refused,
-        (Reply::Bytes(bytes), Reply::Bytes(wanted)) => bytes.as_slice() == wanted.as_slice(),
-        (Reply::Number(n), Reply::Number(wanted)) => *n == *wanted,
-        (Reply::AllocErr { refused }, Reply::AllocErr { refused: wanted }) => *refused == *wanted,
-        (Reply::Done, Reply::Done)
-        | (Reply::NoSuchName, Reply::NoSuchName)
-        | (Reply::NameTaken, Reply::NameTaken)
-        | (Reply::BadLayout, Reply::BadLayout)
-        | (Reply::OutOfRange, Reply::OutOfRange) => true,
-        _ => false,
-    }
 }
 
 // Each call, where so many of its requests are refused, has the reply beside it.
@@ -63,7 +55,7 @@ fn expect_replies(
     let mut machine = PlainMachine::new(alloc, min_align);
     for (i, (call, refused, wanted)) in rows.iter().enumerate() {
         let reply = machine.step(alloc, call, *refused)?.expect(rt, "a step");
-        assert!(rt; same(&reply, wanted), "call {i}");
+        assert!(rt; reply == *wanted, "call {i}");
     }
     Ok(())
 }
@@ -153,6 +145,84 @@ fn blocks_by_sixteen(rt: HostRuntime) -> Result<(), Fail> {
 }
 
 #[test]
+fn blocks_that_shrink(rt: HostRuntime) -> Result<(), Fail> {
+    let rows = [
+        (block(0, 100, 1, 0), 0, placed(20316, 0)),
+        (shrink(0, 51, 1), 0, placed(20316, 0)),
+        (Call::Used, 0, Reply::Number(100)),
+        (Call::Reset, 0, Reply::Done),
+        (block(0, 100, 1, 0), 0, placed(20316, 0)),
+        (shrink(0, 50, 1), 0, placed(20366, 0)),
+        (Call::Used, 0, Reply::Number(50)),
+        (Call::Read { name: 0 }, 0, bytes(rt.alloc(), &[0; 50])?),
+    ];
+    expect_replies(&rt, rt.alloc(), 1, &rows)?;
+    Ok(())
+}
+
+#[test]
+fn blocks_that_grow(rt: HostRuntime) -> Result<(), Fail> {
+    let grown = [1, 1, 1, 1, 1, 1, 1, 1, 1, 1, 2];
+    let rows = [
+        (block(0, 10, 1, 1), 0, placed(20406, 0)),
+        (grow(0, 11, 1, 2), 0, placed(20405, 0)),
+        (Call::Read { name: 0 }, 0, bytes(rt.alloc(), &grown)?),
+        (block(1, 16309, 1, 3), 0, placed(4096, 0)),
+        (grow(1, 16310, 1, 4), 2, Reply::AllocErr { refused: 2 }),
+        (grow(1, 16310, 2, 4), 0, placed(36858, 0)),
+        (Call::Used, 0, Reply::Number(32630)),
+    ];
+    expect_replies(&rt, rt.alloc(), 1, &rows)?;
+    Ok(())
+}
+
+#[test]
+fn grown_by_sixteen(rt: HostRuntime) -> Result<(), Fail> {
+    let rows = [
+        (block(0, 3, 1, 0), 0, placed(20400, 0)),
+        (grow(0, 3, 1, 0), 0, placed(20384, 0)),
+        (Call::Dealloc { name: 0 }, 0, Reply::Done),
+        (Call::Used, 0, Reply::Number(16)),
+    ];
+    expect_replies(&rt, rt.alloc(), 16, &rows)?;
+    Ok(())
+}
+
+#[test]
+fn all_given_back(rt: HostRuntime) -> Result<(), Fail> {
+    let rows = [
+        (block(0, 16320, 1, 0), 0, placed(4096, 0)),
+        (block(1, 32704, 1, 0), 0, placed(20464, 0)),
+        (block(2, 1, 1, 0), 0, placed(118687, 0)),
+        (Call::Allocated, 0, Reply::Number(114496)),
+        (Call::Reset, 0, Reply::Done),
+        (Call::Allocated, 0, Reply::Number(65472)),
+        (Call::Used, 0, Reply::Number(0)),
+        (Call::Read { name: 2 }, 0, Reply::NoSuchName),
+        (Call::Dealloc { name: 0 }, 0, Reply::NoSuchName),
+    ];
+    expect_replies(&rt, rt.alloc(), 1, &rows)?;
+    Ok(())
+}
+
+#[test]
+fn refused_moves(rt: HostRuntime) -> Result<(), Fail> {
+    let rows = [
+        (block(0, 16320, 1, 0), 0, placed(4096, 0)),
+        (grow(1, 1, 1, 0), 0, Reply::NoSuchName),
+        (grow(0, 16321, 3, 0), 0, Reply::BadLayout),
+        (grow(0, 16319, 1, 0), 0, Reply::OutOfRange),
+        (shrink(1, 0, 1), 0, Reply::NoSuchName),
+        (shrink(0, 16321, 0), 0, Reply::BadLayout),
+        (shrink(0, 16321, 1), 0, Reply::OutOfRange),
+        (shrink(0, 16319, 4096), 0, placed(4096, 0)),
+        (shrink(0, 16318, 8192), 0, placed(40960, 0)),
+    ];
+    expect_replies(&rt, rt.alloc(), 1, &rows)?;
+    Ok(())
+}
+
+#[test]
 fn refused_calls(rt: HostRuntime) -> Result<(), Fail> {
     let rows = [
         (block(0, 4, 1, 0), 0, placed(20412, 0)),
@@ -176,7 +246,7 @@ fn whole_runs(rt: HostRuntime) -> Result<(), Fail> {
     let calls = [block(0, u64::MAX >> 1, 1, 0)];
     let replies = PlainMachine::run(rt.alloc(), 1, &calls, &[0])?.expect(&rt, "a run");
     assert_eq!(&rt; replies.len(), 1);
-    assert!(&rt; same(&replies[0], &Reply::AllocErr { refused: 0 }));
+    assert!(&rt; replies[0] == Reply::AllocErr { refused: 0 });
     let refused = [1, 0, 0];
     for n in [0, 1, 2] {
         let replies = PlainMachine::run(rt.alloc(), 1, &calls, &refused[..n])?;

@@ -43,8 +43,8 @@ fn further_chunks(rt: HostRuntime) -> Result<(), Fail> {
     shows(
         &rt,
         rt.alloc(),
-        b"alloc 0 64 1 0\nalloc 1 64 1 0\nalloc 2 16320 1 0\nused\nallocated\nalloc 3 32640 1 0\nallocated",
-        b"placed 20352 refused 0\nplaced 20288 refused 0\nplaced 36848 refused 0\nnumber 16448\nnumber 49024\nplaced 86048 refused 0\nnumber 114496\n",
+        b"alloc 0 64 1 0\nalloc 1 64 1 0\nalloc 2 16320 1 0\nused\nallocated\nalloc 3 32640 1 0\nallocated\nreset\nallocated\nused",
+        b"placed 20352 refused 0\nplaced 20288 refused 0\nplaced 36848 refused 0\nnumber 16448\nnumber 49024\nplaced 86048 refused 0\nnumber 114496\ndone\nnumber 65472\nnumber 0\n",
     )
 }
 
@@ -53,8 +53,8 @@ fn bad_layouts(rt: HostRuntime) -> Result<(), Fail> {
     shows(
         &rt,
         rt.alloc(),
-        b"alloc 0 1 1 0\nalloc 1 1 0 0\nalloc 1 1 3 0\nalloc 1 9223372036854775808 1 0\nalloc 0 1 3 0\n",
-        b"placed 20415 refused 0\nbad layout\nbad layout\nbad layout\nname taken\n",
+        b"alloc 0 1 1 0\nalloc 1 1 0 0\nalloc 1 1 3 0\nalloc 1 9223372036854775808 1 0\nalloc 0 1 3 0\nshrink 9 1 3\n",
+        b"placed 20415 refused 0\nbad layout\nbad layout\nbad layout\nname taken\nno such name\n",
     )
 }
 
@@ -105,6 +105,26 @@ fn names_and_ranges(rt: HostRuntime) -> Result<(), Fail> {
         rt.alloc(),
         b"alloc 0 2 1 5\ndealloc 0\ndealloc 0\nalloc 0 2 1 5\nwrite 0 1 aabb\nread 0\nwrite 0 2 -\nread 0\n",
         b"placed 20414 refused 0\ndone\nno such name\nplaced 20414 refused 0\nout of range\nbytes 0505\ndone\nbytes 0505\n",
+    )
+}
+
+#[test]
+fn shrunk_by_less_than_half_and_by_half(rt: HostRuntime) -> Result<(), Fail> {
+    shows(
+        &rt,
+        rt.alloc(),
+        b"alloc 0 100 1 0\nshrink 0 51 1\nused\nreset\nalloc 0 100 1 0\nshrink 0 50 1\nused\n",
+        b"placed 20316 refused 0\nplaced 20316 refused 0\nnumber 100\ndone\nplaced 20316 refused 0\nplaced 20366 refused 0\nnumber 50\n",
+    )
+}
+
+#[test]
+fn grown_where_it_is(rt: HostRuntime) -> Result<(), Fail> {
+    shows(
+        &rt,
+        rt.alloc(),
+        b"alloc 0 10 1 1\ngrow 0 11 1 2\nread 0\n",
+        b"placed 20406 refused 0\nplaced 20405 refused 0\nbytes 0101010101010101010102\n",
     )
 }
 

@@ -6,6 +6,7 @@ use crate::arena_main::{Status, arena_main};
 use crate::streams::{MemoryInput, MemoryOutput};
 use arena_chunks::{Arena, MemoryChunks};
 use std::alloc::Global;
+use std::process::Abort;
 use std::test::Fail;
 
 fn ends(alloc: Global, word: &[u8]) -> Result<Ended, Fail> {
@@ -55,33 +56,45 @@ fn faulty(
     })
 }
 
-#[test]
-fn failing_read(rt: HostRuntime) -> Result<(), Fail> {
-    let none = Vec::new(rt.alloc());
-    let Ended { status, text } = faulty(
-        rt.alloc(),
-        b"used".to_vec(rt.alloc())?,
-        2,
-        vec![in rt.alloc(); 3]?,
-        none,
-    )?;
+// The read of this number fails, so nothing was run.
+fn read_fails(rt: &impl Abort, alloc: Global, number: u64) -> Result<(), Fail> {
+    let input = b"used".to_vec(alloc)?;
+    let Ended { status, text } = faulty(alloc, input, 2, vec![in alloc; number]?, Vec::new(alloc))?;
     assert!(rt; matches!(status, Status::ReadFault));
     assert_eq!(rt; text.len(), 0);
     Ok(())
 }
 
 #[test]
-fn failing_write(rt: HostRuntime) -> Result<(), Fail> {
-    let none = Vec::new(rt.alloc());
-    let Ended { status, text } = faulty(
-        rt.alloc(),
-        b"used".to_vec(rt.alloc())?,
-        2,
-        none,
-        vec![in rt.alloc(); 2]?,
-    )?;
+fn each_read_fails_in_turn(rt: HostRuntime) -> Result<(), Fail> {
+    read_fails(&rt, rt.alloc(), 1)?;
+    read_fails(&rt, rt.alloc(), 2)?;
+    read_fails(&rt, rt.alloc(), 3)
+}
+
+// The write of this number fails, and so much was written before.
+fn write_fails(rt: &impl Abort, alloc: Global, number: u64, written: &[u8]) -> Result<(), Fail> {
+    let input = b"used".to_vec(alloc)?;
+    let Ended { status, text } = faulty(alloc, input, 2, Vec::new(alloc), vec![in alloc; number]?)?;
     assert!(rt; matches!(status, Status::WriteFault));
-    assert_eq!(rt; text.as_slice(), b"numb".as_slice());
+    assert_eq!(rt; text.as_slice(), written);
+    Ok(())
+}
+
+#[test]
+fn each_write_fails_in_turn(rt: HostRuntime) -> Result<(), Fail> {
+    write_fails(&rt, rt.alloc(), 1, b"")?;
+    write_fails(&rt, rt.alloc(), 2, b"numb")?;
+    write_fails(&rt, rt.alloc(), 3, b"number 0")
+}
+
+#[test]
+fn a_failure_past_the_end_is_none(rt: HostRuntime) -> Result<(), Fail> {
+    let alloc = rt.alloc();
+    let input = b"used".to_vec(alloc)?;
+    let Ended { status, text } = faulty(alloc, input, 2, vec![in alloc; 4]?, vec![in alloc; 4]?)?;
+    assert!(rt; matches!(status, Status::Done));
+    assert_eq!(rt; text.as_slice(), b"number 0\n".as_slice());
     Ok(())
 }
 

@@ -6,7 +6,7 @@ use Rattle.arena_chunks.proofs.run.run_calls.Goals as goal
 
 pub loop-done-init : goal.loop-done-init
 loop-done-init g c = record {
-  running = rw (c.new-names.ensures, c.in-Ok.ensures.items) (running_first c.args.arena.now (g.C.ChunkSource.refusals c.args.chunks.now) c.cursor-valid.ensures.valid);
+  running = rw (c.new-names.ensures, c.in-Ok.ensures.items) (running_first c.args.arena.now _ c.cursor-valid.ensures.valid);
   room = c.in-Ok.ensures.capacity;
   filled = c.in-Ok.ensures.len;
 }
@@ -20,7 +20,7 @@ loop-done-preserved g c =
     record {
       running = rw (more, c.push_within.ensures.items)
           (running_more c.args.arena.now c.loop-done.arena c.serve.new.arena c.loop-done.names c.serve.new.names (take c.loop-done.done c.args.calls.now) c.index-calls-done.result
-          c.loop-done.replies.items c.in-Ok-serve.reply _ _ _ c.loop-done.invariant.running c.in-Ok-serve.ensures.serves c.in-Ok-serve.ensures.refusals);
+          c.loop-done.replies.items c.in-Ok-serve.reply _ _ _ c.loop-done.invariant.running c.in-Ok-serve.ensures.serves);
       room = omega (arith, c.loop-done.invariant.room, c.push_within.ensures.capacity);
       filled = omega (arith, c.loop-done.invariant.filled, c.push_within.ensures.len);
     }
@@ -33,7 +33,7 @@ returns-in-Ok-blocks-clause-ok g c =
 
 pub returns-in_default-clause-err : goal.returns-in_default-clause-err
 returns-in_default-clause-err g c =
-    running_stopped _ _ _ c.args.calls.now 0 _ _ _ (omega arith) (running_first c.args.arena.now (g.C.ChunkSource.refusals c.args.chunks.now) c.cursor-valid.ensures.valid)
+    running_stopped _ _ _ c.args.calls.now 0 _ _ _ (omega arith) (running_first c.args.arena.now _ c.cursor-valid.ensures.valid)
 
 pub returns-in-Err-clause-err : goal.returns-in-Err-clause-err
 returns-in-Err-clause-err g c =

@@ -1,12 +1,25 @@
 use Rattle.std.proofs.Common.{refl}
 use Rattle.placement.specs.Machine.{step}
-use Rattle.arena_chunks.proofs.ServingLemmas.{serves_still}
+use Rattle.placement.specs.Requests.{call_requests}
+use Rattle.arena_chunks.proofs.ServingLemmas.{asks_none, serves_still}
 use Rattle.arena_chunks.proofs.serve.serve.Goals as goal
 
+pub returns-in-Dealloc-clause-serves : goal.returns-in-Dealloc-clause-serves
+returns-in-Dealloc-clause-serves g c = rw c.in-Dealloc.is (c.serve_dealloc.ensures _)
+
+pub returns-in-Write-clause-serves : goal.returns-in-Write-clause-serves
+returns-in-Write-clause-serves g c = rw (c.in-Write.is, ← c.as_slice.ensures) (c.serve_write.ensures _)
+
+pub returns-in-Read-clause-serves : goal.returns-in-Read-clause-serves
+returns-in-Read-clause-serves g c = rw c.in-Read.is (c.serve_read.ensures _)
+
+pub returns-in-Reset-clause-serves : goal.returns-in-Reset-clause-serves
+returns-in-Reset-clause-serves g c = rw c.in-Reset.is (c.serve_reset.ensures _)
+
 pub returns-in-Used-clause-serves : goal.returns-in-Used-clause-serves
-unfolding step
-returns-in-Used-clause-serves g c = rw (c.in-Used.is, c.used_bytes.ensures.value) (serves_still _ _ _ _ _ c.requires (λ bytes held. refl))
+unfolding step call_requests
+returns-in-Used-clause-serves g c = rw (c.in-Used.is, c.used_bytes.ensures.value) (serves_still _ _ _ _ _ _ c.requires (λ bytes held. refl) (asks_none _ _ _ _ (λ bytes. refl)))
 
 pub returns-in-Allocated-clause-serves : goal.returns-in-Allocated-clause-serves
-unfolding step
-returns-in-Allocated-clause-serves g c = rw (c.in-Allocated.is, c.allocated_bytes.ensures.value) (serves_still _ _ _ _ _ c.requires (λ bytes held. refl))
+unfolding step call_requests
+returns-in-Allocated-clause-serves g c = rw (c.in-Allocated.is, c.allocated_bytes.ensures.value) (serves_still _ _ _ _ _ _ c.requires (λ bytes held. refl) (asks_none _ _ _ _ (λ bytes. refl)))

@@ -1,22 +1,23 @@
-use Rattle.std.proofs.Common.{arith, sym, ◌∙◌}
+use Rattle.std.proofs.Common.{arith, sym, ◌∙◌, refl}
 use Rattle.placement.specs.Machine.{step}
+use Rattle.placement.specs.Requests.{call_requests}
 use Rattle.arena_chunks.proofs.HeldLemmas.{remove_absent}
-use Rattle.arena_chunks.proofs.ServingLemmas.{readable_at, serves_still, absent_at, serves_dealloc}
+use Rattle.arena_chunks.proofs.ServingLemmas.{readable_at, asks_none, serves_still, absent_at, serves_dealloc}
 use Rattle.arena_chunks.proofs.serve.serve_dealloc.Goals as goal
 
-pub returns-in_default-clause-serves : goal.returns-in_default-clause-serves
-unfolding step
-returns-in_default-clause-serves g c =
+pub returns-in_default : goal.returns-in_default
+unfolding step call_requests
+returns-in_default g c = λ source.
     let none = sym c.remove.ensures.place ∙ c.in_default.is in
     rw (c.remove.ensures.rest, remove_absent c.args.names.now c.args.name none)
-    (serves_still _ _ _ _ _ c.requires (λ bytes held. absent_at c.args.arena.now c.args.names.now bytes c.args.name _ none))
+    (serves_still _ _ _ _ _ _ c.requires (λ bytes held. absent_at c.args.arena.now c.args.names.now bytes c.args.name _ none) (asks_none _ _ _ _ (λ bytes. refl)))
 
 pub dealloc-requires : goal.dealloc-requires
 dealloc-requires g c = (omega arith, rw c.block_at.ensures (readable_at _ _ c.args.name c.in-Some.place c.requires (sym c.remove.ensures.place ∙ c.in-Some.is)))
 
-pub returns-clause-serves : goal.returns-clause-serves
-returns-clause-serves g c =
+pub returns : goal.returns
+returns g c = λ source.
     let found = sym c.remove.ensures.place ∙ c.in-Some.is in
     rw c.remove.ensures.rest
-    (serves_dealloc c.args.arena.now c.dealloc.new.self c.args.names.now c.args.name c.in-Some.place c.requires found c.dealloc.ensures.valid
+    (serves_dealloc c.args.arena.now c.dealloc.new.self c.args.names.now c.args.name c.in-Some.place source c.requires found c.dealloc.ensures.valid
     (rw c.block_at.ensures at c.dealloc.ensures.state) (rw c.block_at.ensures at c.dealloc.ensures.frame))

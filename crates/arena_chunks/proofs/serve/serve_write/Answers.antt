@@ -1,29 +1,31 @@
 use Rattle.std.proofs.Common.{◌+◌, ◌<◌, arith, sym, ◌∙◌, length, lt-ltb, refl}
 use Rattle.placement.specs.Machine.{step}
-use Rattle.arena_chunks.proofs.ServingLemmas.{readable_at, serves_still, absent_at, found_at, serves_write}
+use Rattle.placement.specs.Requests.{call_requests}
+use Rattle.arena_chunks.proofs.ServingLemmas.{readable_at, asks_none, serves_still, absent_at, found_at, serves_write}
 use Rattle.arena_chunks.proofs.serve.serve_write.Goals as goal
 use Rattle.arena_chunks.proofs.serve.serve_write.Goals.{then-len-place-via-then-len-place, then-len-place-via-else-len-place+then-at-place}
 
-pub returns-in_default-clause-serves : goal.returns-in_default-clause-serves
-unfolding step
-returns-in_default-clause-serves g c =
-    serves_still _ _ _ _ _ c.requires (λ bytes held. absent_at c.args.arena.now c.args.names.now bytes c.args.name _ (sym c.get.ensures ∙ c.in_default.is))
+pub returns-in_default : goal.returns-in_default
+unfolding step call_requests
+returns-in_default g c = λ source.
+    serves_still _ _ _ _ _ _ c.requires (λ bytes held. absent_at c.args.arena.now c.args.names.now bytes c.args.name _ (sym c.get.ensures ∙ c.in_default.is))
+    (asks_none _ _ _ _ (λ bytes. refl))
 
-pub returns-then-len-place-clause-serves : goal.returns-then-len-place-clause-serves
-unfolding step
-returns-then-len-place-clause-serves g c =
+pub returns-then-len-place : goal.returns-then-len-place
+unfolding step call_requests
+returns-then-len-place g c = λ source.
     let past : c.in-Some.place.size < c.args.at + length c.args.bytes.now = elim c.then-len-place.branch [
       | then-len-place-via-then-len-place w ↦ omega arith
       | then-len-place-via-else-len-place+then-at-place w ↦ omega arith
     ] in
-    serves_still _ _ _ _ _ c.requires (λ bytes held.
+    serves_still _ _ _ _ _ _ c.requires (λ bytes held.
     found_at c.args.arena.now c.args.names.now bytes c.args.name 0 c.in-Some.place _ held (sym c.get.ensures ∙ c.in-Some.is)
-    ∙ rw (lt-ltb _ _ past) refl)
+    ∙ rw (lt-ltb _ _ past) refl) (asks_none _ _ _ _ (λ bytes. refl))
 
 pub write-requires : goal.write-requires
 write-requires g c = (omega arith, (rw c.block_at.ensures (readable_at _ _ c.args.name c.in-Some.place c.requires (sym c.get.ensures ∙ c.in-Some.is)), rw c.block_at.ensures (omega arith)))
 
-pub returns-clause-serves : goal.returns-clause-serves
-returns-clause-serves g c =
-    serves_write c.args.arena.now c.write.new.self c.args.names.now c.args.name c.args.at c.args.bytes.now c.in-Some.place c.requires (sym c.get.ensures ∙ c.in-Some.is)
+pub returns : goal.returns
+returns g c = λ source.
+    serves_write c.args.arena.now c.write.new.self c.args.names.now c.args.name c.args.at c.args.bytes.now c.in-Some.place source c.requires (sym c.get.ensures ∙ c.in-Some.is)
     (omega arith) c.write.ensures.state (rw c.block_at.ensures at c.write.ensures.bytes)

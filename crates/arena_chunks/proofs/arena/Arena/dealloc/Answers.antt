@@ -28,7 +28,7 @@ back g c = last_returned g.row.MIN_ALIGN c.args.self.now c.args.block c.round_up
 
 pub invariant_of-self : goal.invariant_of-self
 invariant_of-self g c =
-    cursor_moved g.row.MIN_ALIGN c.self.inside c.args.self.now c.round_up_to_unchecked-self-inside.result c.self.inside.allocations c.self.invariant c.self.view_is
+    cursor_moved g.row.MIN_ALIGN c.self.inside c.args.self.now c.round_up_to_unchecked-self-inside.result c.self.inside.allocations c.self.inside.reallocations c.self.invariant c.self.view_is
     (record { low = (back g c).low; high = (back g c).high; valid = (back g c).valid })
 
 pub returns-then-block-self-clause-state : goal.returns-then-block-self-clause-state

@@ -19,7 +19,7 @@ pub returns-then-addr-cursor : goal.returns-then-addr-cursor
 returns-then-addr-cursor c =
     let at = c.if-addr-cursor.true ∙ c.cursor.ensures in
     let end = c.round_up_to_unchecked-end.ensures ∙ ap (λ (s : State). up (c.args.addr + c.args.size) s.min_align) c.self.view_is in
-    rw (c.set_cursor.ensures, end, dealloc_at c.args.self.now c.args.addr c.args.size at) refl
+    rw (c.set_cursor.ensures.state, end, dealloc_at c.args.self.now c.args.addr c.args.size at) refl
 
 pub returns-else-addr-cursor : goal.returns-else-addr-cursor
 returns-else-addr-cursor c = sym (dealloc_elsewhere c.args.self.now c.args.addr c.args.size (λ same. c.if-addr-cursor.false (same ∙ sym c.cursor.ensures)))

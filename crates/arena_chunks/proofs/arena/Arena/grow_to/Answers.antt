@@ -1,0 +1,22 @@
+use Rattle.std.proofs.Common.{arith}
+use Rattle.placement.proofs.CursorLemmas.{start_set}
+use Rattle.arena_chunks.proofs.ResizedLemmas.{resized_at_cursor, is_grown, grown_used, grown}
+use Rattle.arena_chunks.proofs.arena.Arena.grow_to.Goals as goal
+
+pub move_cursor-requires : goal.move_cursor-requires
+move_cursor-requires g c =
+    let down = is_grown c.args.self.now c.args.block c.args.layout.size c.args.addr c.resized-grown.ensures.valid c.requires.readable c.requires.last c.requires.align c.requires.place in
+    (omega arith, (down.low, (omega (arith, down.below, down.ends), down.aligned)))
+
+pub move_bytes-requires : goal.move_bytes-requires
+move_bytes-requires g c =
+    let down = is_grown c.args.self.now c.args.block c.args.layout.size c.args.addr c.resized-grown.ensures.valid c.requires.readable c.requires.last c.requires.align c.requires.place in
+    let used = grown_used c.args.self.now c.args.block c.args.layout.size c.args.addr in
+    rw c.move_cursor.ensures
+    (omega arith, (λ some. used _ _ down down.below (omega arith) some, (λ some. used _ _ down (omega arith) (omega (arith, down.below)) some, omega (arith, start_set c.args.addr c.args.self.now.state.chunks, down.low))))
+
+pub returns-clause-resized : goal.returns-clause-resized
+returns-clause-resized g c =
+    let down = is_grown c.args.self.now c.args.block c.args.layout.size c.args.addr c.resized-grown.ensures.valid c.requires.readable c.requires.last c.requires.align c.requires.place in
+    let moves = grown _ c.move_cursor.new.self c.move_bytes.new.self _ _ _ down c.requires.size c.move_cursor.ensures c.move_bytes.ensures.state c.move_bytes.ensures.bytes in
+    rw c.resized-grown.ensures.block (resized_at_cursor _ _ c.args.block _ _ c.args.layout.align _ moves)

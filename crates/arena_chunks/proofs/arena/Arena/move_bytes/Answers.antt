@@ -1,0 +1,77 @@
+use Rattle.std.proofs.Common.{◌∙◌, ap, sym, arith, length}
+use Rattle.arena_chunks.specs.Memory.{image, bytes_from}
+use Rattle.arena_chunks.proofs.BytesLemmas.{length-bytes, no_bytes, written_none}
+use Rattle.arena_chunks.proofs.PartLemmas.{newest_part, searchable, is_older, is_move, newest_moved, IsWritten}
+use Rattle.arena_chunks.proofs.arena.Arena.move_bytes.Given.{Over}
+use Rattle.arena_chunks.proofs.arena.Arena.move_bytes.Goals as goal
+
+pub returns-then-n-eq0-clause-bytes : goal.returns-then-n-eq0-clause-bytes
+returns-then-n-eq0-clause-bytes g c =
+    λ p. sym (written_none (image c.args.self.now) c.args.to p _ (ap length (no_bytes (image c.args.self.now) c.args.from c.args.n c.if-n-eq0.true)))
+
+-- ---- From the newest chunk
+
+pub move_within-requires-clause-source : goal.move_within-requires-clause-source
+move_within-requires-clause-source g c =
+    let move = is_move g.row.MIN_ALIGN c.self.inside c.args.self.now c.args.from c.args.to c.args.n c.self.invariant c.self.view_is c.requires.source c.requires.target c.requires.newest c.if-n-eq0.false in
+    omega (arith, (newest_part _ _ _ _ _ move.source c.if-from-self.true).high, c.if-from-self.true)
+
+pub move_within-requires-clause-target : goal.move_within-requires-clause-target
+move_within-requires-clause-target g c =
+    let move = is_move g.row.MIN_ALIGN c.self.inside c.args.self.now c.args.from c.args.to c.args.n c.self.invariant c.self.view_is c.requires.source c.requires.target c.requires.newest c.if-n-eq0.false in
+    omega (arith, (newest_part _ _ _ _ _ move.target move.above).high, move.above)
+
+in_newest : (g : Over) (c : goal.After-move_within g) → IsWritten g.row.MIN_ALIGN c.self.inside c.args.self.now c.args.to c.args.n
+    (bytes_from (image c.args.self.now) c.args.from c.args.n) c.move_within.new.chunk c.self.inside.older.items
+in_newest g c =
+    let move = is_move g.row.MIN_ALIGN c.self.inside c.args.self.now c.args.from c.args.to c.args.n c.self.invariant c.self.view_is c.requires.source c.requires.target c.requires.newest c.if-n-eq0.false in
+    newest_moved _ _ _ _ _ _ _ c.move_within.new.chunk move (newest_part _ _ _ _ _ move.source c.if-from-self.true).bytes c.move_within.ensures
+
+pub invariant_of-self : goal.invariant_of-self
+invariant_of-self g c = (in_newest g c).stored
+
+pub returns-then-from-self-clause-state : goal.returns-then-from-self-clause-state
+returns-then-from-self-clause-state g c = (in_newest g c).state
+
+pub returns-then-from-self-clause-bytes : goal.returns-then-from-self-clause-bytes
+returns-then-from-self-clause-bytes g c = (in_newest g c).image
+
+-- ---- From an older chunk
+
+pub find_chunk-requires : goal.find_chunk-requires
+find_chunk-requires g c =
+    let move = is_move g.row.MIN_ALIGN c.self.inside c.args.self.now c.args.from c.args.to c.args.n c.self.invariant c.self.view_is c.requires.source c.requires.target c.requires.newest c.if-n-eq0.false in
+    rw c.deref.ensures.value (searchable _ _ _ _ _ move.source c.if-from-self.false)
+
+pub part_at-requires-clause-high : goal.part_at-requires-clause-high
+part_at-requires-clause-high g c =
+    let move = is_move g.row.MIN_ALIGN c.self.inside c.args.self.now c.args.from c.args.to c.args.n c.self.invariant c.self.view_is c.requires.source c.requires.target c.requires.newest c.if-n-eq0.false in
+    let older = is_older _ _ _ _ _ c.find_chunk.result c.deref.result.now c.index-chunk.result.now move.source c.if-from-self.false c.deref.ensures.value c.find_chunk.ensures c.index-chunk.ensures in
+    omega (arith, older.part.low, older.part.high)
+
+pub edit_at-requires-clause-high : goal.edit_at-requires-clause-high
+edit_at-requires-clause-high g c =
+    let move = is_move g.row.MIN_ALIGN c.self.inside c.args.self.now c.args.from c.args.to c.args.n c.self.invariant c.self.view_is c.requires.source c.requires.target c.requires.newest c.if-n-eq0.false in
+    omega (arith, (newest_part _ _ _ _ _ move.target move.above).high, move.above)
+
+pub edit_at-requires-clause-suits : goal.edit_at-requires-clause-suits
+edit_at-requires-clause-suits g c =
+    let move = is_move g.row.MIN_ALIGN c.self.inside c.args.self.now c.args.from c.args.to c.args.n c.self.invariant c.self.view_is c.requires.source c.requires.target c.requires.newest c.if-n-eq0.false in
+    let older = is_older _ _ _ _ _ c.find_chunk.result c.deref.result.now c.index-chunk.result.now move.source c.if-from-self.false c.deref.ensures.value c.find_chunk.ensures c.index-chunk.ensures in
+    sym (ap length (c.part_at.ensures ∙ older.part.bytes) ∙ length-bytes (image c.args.self.now) c.args.from c.args.n)
+
+from_older : (g : Over) (c : goal.After-edit_at g) → IsWritten g.row.MIN_ALIGN c.self.inside c.args.self.now c.args.to c.args.n
+    (bytes_from (image c.args.self.now) c.args.from c.args.n) c.edit_at.new.chunk c.self.inside.older.items
+from_older g c =
+    let move = is_move g.row.MIN_ALIGN c.self.inside c.args.self.now c.args.from c.args.to c.args.n c.self.invariant c.self.view_is c.requires.source c.requires.target c.requires.newest c.if-n-eq0.false in
+    let older = is_older _ _ _ _ _ c.find_chunk.result c.deref.result.now c.index-chunk.result.now move.source c.if-from-self.false c.deref.ensures.value c.find_chunk.ensures c.index-chunk.ensures in
+    newest_moved _ _ _ _ _ _ _ c.edit_at.new.chunk move (c.part_at.ensures ∙ older.part.bytes) c.edit_at.ensures
+
+pub invariant_of-self-else-from-self : goal.invariant_of-self-else-from-self
+invariant_of-self-else-from-self g c = (from_older g c).stored
+
+pub returns-else-from-self-clause-state : goal.returns-else-from-self-clause-state
+returns-else-from-self-clause-state g c = (from_older g c).state
+
+pub returns-else-from-self-clause-bytes : goal.returns-else-from-self-clause-bytes
+returns-else-from-self-clause-bytes g c = (from_older g c).image

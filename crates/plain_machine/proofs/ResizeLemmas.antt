@@ -1,0 +1,42 @@
+-- Blocks that are placed in the newest chunk, or shrink there.
+use Rattle.std.proofs.Common.{◌≡◌, ℕ, ◌+◌, ◌-◌, ◌≤◌, max, sym, arith, Some, None, Option, IsTrue}
+use Rattle.std.specs.Prelude.{IfSome}
+use Rattle.placement.specs.Rounding.{is_power}
+use Rattle.placement.specs.State.{State, IsValid, start_of, cursor_of, top_of, with_cursor}
+use Rattle.placement.specs.Search.{place}
+use Rattle.placement.specs.Moves.{shrink_step}
+use Rattle.placement.specs.declared.place.Place.{Place}
+use Rattle.placement.proofs.RoundingLemmas.{down_le}
+use Rattle.placement.proofs.PlaceLemmas.{IsPlace, is_place}
+use Rattle.placement.proofs.CursorLemmas.{start_positive, cursor_within, valid_set, valid_moved}
+use Rattle.placement.proofs.MoveLemmas.{step_aligned}
+use Rattle.plain_machine.specs.Answers.{EndsWithin}
+
+pub placed : (state : State) (size align p : ℕ) → IsValid state → IsTrue (is_power align) → place state size align ≡ Some p
+    → IsPlace (start_of state.chunks) (cursor_of state.chunks) size align state.min_align p
+placed state size align p valid power found =
+    is_place (start_of state.chunks) (cursor_of state.chunks) size align state.min_align p (start_positive state valid) power valid.min_align found
+
+pub place_moved : (state : State) (size align : ℕ) (o : Option ℕ) → IsValid state → IsTrue (is_power align) → o ≡ place state size align
+    → IfSome o (λ p. IsValid (with_cursor p state))
+place_moved state size align None valid power found = tt
+place_moved state size align (Some p) valid power found =
+    let spot = placed state size align p valid power (sym found) in
+    valid_moved state p valid spot.low (omega (arith, spot.high)) spot.min_aligned
+
+pub place_within : (state : State) (size align : ℕ) (o : Option ℕ) → IsValid state → IsTrue (is_power align) → o ≡ place state size align
+    → IfSome o (λ p. p + size ≤ cursor_of state.chunks)
+place_within state size align None valid power found = tt
+place_within state size align (Some p) valid power found = (placed state size align p valid power (sym found)).high
+
+-- A block at the cursor may move up, where it ends in the newest chunk.
+pub shrink_moved : (state : State) (block : Place) (size align : ℕ) → IsValid state → IsTrue (is_power align) → block.addr ≡ cursor_of state.chunks
+    → block.addr + block.size ≤ top_of state.chunks → IsValid (with_cursor (block.addr + shrink_step state block.size size align) state)
+shrink_moved state block size align valid power at end =
+    valid_set state (block.addr + shrink_step state block.size size align) valid (omega (arith, cursor_within state valid))
+    (omega (arith, down_le (block.size - size) (max align state.min_align))) (step_aligned state block size align valid power at)
+
+-- a block that was answered at p ends there or before, if one at p does
+pub ends_within : (size p top : ℕ) (told : Option (Option ℕ)) → IfSome told (λ answer. answer ≡ Some p) → p + size ≤ top → EndsWithin size told top
+ends_within size p top None is end = tt
+ends_within size p top (Some answer) is end = rw is end
