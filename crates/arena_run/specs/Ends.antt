@@ -52,7 +52,7 @@ Ends Done old new = (bytes : List ℕ) × (replies : List Reply) × ReadsWhole o
 Ends Usage old new = new ≡ old
 Ends (BadLine n) old new = IsUntouched old new × ((bytes : List ℕ) × ReadsWhole old new bytes × CallsOf bytes (Err n))
 Ends OutOfMemory old new = (new.written ≡ old.written) × (IsUntouched old new ⊎ ((bytes : List ℕ) × ReadsWhole old new bytes × AreRunFirst old new bytes))
-Ends ReadFault old new = IsUntouched old new × HasFault old.reads new.reads
+Ends ReadFault old new = IsUntouched old new × HasFault old.reads new.reads × TakesFront old.left new.left (λ n. n ≤ limit)
 Ends WriteFault old new =
     HasFault old.writes new.writes × ((bytes : List ℕ) × (replies : List Reply) × (n : ℕ) × ReadsWhole old new bytes × AreRun old new bytes replies × Writes old.written new.written (take n (text_of replies)))
 Ends InputTooLong old new = IsUntouched old new × TakesFront old.left new.left (λ n. n ≡ limit + 1)
