@@ -1,6 +1,7 @@
 -- The cursor of the newest chunk, and where it may move.
 use Rattle.std.proofs.Common.{◌≡◌, ℕ, ◌+◌, ◌-◌, ◌%◌, ◌^◌, ◌<◌, ◌≤◌, refl, arith, List, [], ◌∷◌, true, false, Bool}
 use Rattle.placement.specs.State.{State, Chunk, AreChunks, FitsKind, IsValid, start_of, cursor_of, top_of, floor_of, with_cursor, with_newest_cursor}
+use Rattle.placement.specs.Moves.{set_cursor}
 use Rattle.placement.proofs.RoundingLemmas.{min_align_multiple}
 
 pub floor_positive : (chunks : List Chunk) → 0 < floor_of chunks
@@ -78,6 +79,12 @@ valid_set state p valid low high aligned = record {
   kind = kind_set state.is_growing p state.chunks valid.kind;
   generation = valid.generation;
 }
+
+pub set_cursor_valid : (state : State) (p : ℕ) → IsValid state → start_of state.chunks ≤ p → p ≤ top_of state.chunks → p % state.min_align ≡ 0
+    → IsValid (set_cursor p state)
+set_cursor_valid state p valid low high aligned =
+    let moved = valid_set state p valid low high aligned in
+    record { min_align = moved.min_align; chunks = moved.chunks; top = moved.top; kind = moved.kind; generation = omega arith }
 
 pub valid_moved : (state : State) (p : ℕ) → IsValid state → start_of state.chunks ≤ p → p ≤ cursor_of state.chunks → p % state.min_align ≡ 0
     → IsValid (with_cursor p state)

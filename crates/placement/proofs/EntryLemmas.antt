@@ -1,13 +1,14 @@
 -- What is true of a chunk that is asked for.
-use Rattle.std.proofs.Common.{◌≡◌, ℕ, zero, suc, ◌+◌, ◌-◌, ◌/◌, ◌%◌, ◌^◌, ◌≤◌, max, ap, sym, ◌∙◌, arith, IsTrue, Some, Option, List, [], ◌∷◌, inl, inr, leb-true, None, refl, true, false}
+use Rattle.std.proofs.Common.{◌≡◌, ℕ, zero, suc, ◌+◌, ◌-◌, ◌/◌, ◌%◌, ◌^◌, ◌<◌, ◌≤◌, max, ap, sym, ◌∙◌, arith, IsTrue, Some, Option, List, [], ◌∷◌, inl, inr, leb-true, None, refl, true, false}
 use Rattle.std.specs.Prelude.{nat_le, if◌then◌else◌, slice_get}
 use Rattle.std.specs.List.{filter_map, cons_option, AllByRecursion}
 use Rattle.std.proofs.lemmas.Bool.{cases_lt}
 use Rattle.std.proofs.lemmas.Bool.Decides.{nat_tests}
-use Rattle.std.proofs.lemmas.Option.{cond_some, option_and_then_some}
+use Rattle.std.proofs.lemmas.Option.{cond_some, option_and_then_some, same_Some}
 use Rattle.placement.specs.Rounding.{up, is_power}
-use Rattle.placement.specs.Search.{halves, possible, entries, size_for, rounded_size, chunk_align}
-use Rattle.placement.proofs.RoundingLemmas.{up_ge, up_mod, power_positive, power_multiple, max_power, pow_power, layout_fits}
+use Rattle.placement.specs.Search.{halves, possible, entries, size_for, rounded_size, power_at_least, chunk_align}
+use Rattle.placement.proofs.RoundingLemmas.{up_ge, up_mod, power_positive, power_multiple, max_power, pow_power, power_from, power_mod, layout_fits}
+use Rattle.placement.proofs.SizeLemmas.{rounded_small, power_at_least_ge, power_at_least_le, power_at_least_power}
 use Rattle.placement.proofs.SearchLemmas.{size_is}
 
 -- what a filter gives stems from an element
@@ -38,7 +39,7 @@ entry_tried base size align first least k e found =
     filtered_at (possible base size align) (λ n. least ≤ n) (halves 64 first least) k e (all_halves 64 first least) found
 
 -- a possible chunk has the data size of its tried size
-possible_is : (base size align tried : ℕ) (e : ℕ × ℕ) → possible base size align tried ≡ Some e
+pub possible_is : (base size align tried : ℕ) (e : ℕ × ℕ) → possible base size align tried ≡ Some e
     → (size_for tried size align ≡ Some e.1) × (e.0 ≡ base) × (e.0 + e.1 + 48 ≤ 2 ^ 64 - 1)
 unfolding possible
 possible_is base size align tried e is =
@@ -56,29 +57,49 @@ pub record IsEntry (base size align : ℕ) (e : ℕ × ℕ) : Type 0 where
   pub fits : e.1 + 48 ≤ 2 ^ 63 - 16
   pub top : e.0 + e.1 + 48 ≤ 2 ^ 64 - 1
 
-rounded_large : (w n : ℕ) → 4096 ≤ w → rounded_size w ≡ Some n → n ≡ up (w + 64) 4096 - 64
+pub rounded_large : (w n : ℕ) → 4096 ≤ w → rounded_size w ≡ Some n → n ≡ up (w + 64) 4096 - 64
 rounded_large w n large is = grind (arith, nat_tests)
 
-pub is_entry : (base size align first least k : ℕ) (e : ℕ × ℕ) → 4096 ≤ least → IsTrue (is_power align) → slice_get (entries base size align first least) k ≡ Some e
-    → IsEntry base size align e
-is_entry base size align first least k e large power found =
-    let tried = entry_tried base size align first least k e found in
-    let possible = possible_is base size align tried.0 e tried.2 in
-    let sized = size_is tried.0 size align e.1 possible.0 in
-    let wanted = max tried.0 (up size (chunk_align align)) in
-    let pages : e.1 ≡ up (wanted + 64) 4096 - 64 = rounded_large wanted e.1 (omega (arith, tried.1)) sized.0 in
-    let whole : up (wanted + 64) 4096 % 4096 ≡ 0 = up_mod (wanted + 64) 4096 in
-    let high : wanted + 64 ≤ up (wanted + 64) 4096 = up_ge (wanted + 64) 4096 (omega arith) in
+-- with 64 more a power of two above 64, or whole pages
+rounded_whole : (w n : ℕ) → 0 < w → rounded_size w ≡ Some n → (w ≤ n) × (64 ≤ n) × (n % 16 ≡ 0)
+rounded_whole w n some is = elim (cases_lt w 4096) [
+  | inl small ↦
+      let p : ℕ = power_at_least (w + 64) in
+      let size : p - 64 ≡ n = same_Some (p - 64) n (sym (rounded_small w small) ∙ is) in
+      let high : w + 64 ≤ p = power_at_least_ge (w + 64) (omega arith) in
+      let low : p ≤ 8192 = power_at_least_le (w + 64) 8192 (omega arith) (13, refl) (omega arith) in
+      let power = power_from p (omega arith) (power_at_least_power (w + 64) (omega arith)) in
+      let whole : p % 64 ≡ 0 = power_mod 64 p (pow_power 6 (omega arith)) power (omega arith) in
+      (omega arith, omega arith, omega arith)
+  | inr large ↦
+      let pages = rounded_large w n large is in
+      let high = up_ge (w + 64) 4096 (omega arith) in
+      let whole : up (w + 64) 4096 % 4096 ≡ 0 = up_mod (w + 64) 4096 in
+      (omega arith, omega arith, omega arith)
+]
+
+-- a possible chunk holds the block, and has its tried size or more
+pub possible_entry : (base size align tried : ℕ) (e : ℕ × ℕ) → 0 < tried → IsTrue (is_power align) → possible base size align tried ≡ Some e → IsEntry base size align e
+possible_entry base size align tried e some power is =
+    let made = possible_is base size align tried e is in
+    let sized = size_is tried size align e.1 made.0 in
+    let whole = rounded_whole (max tried (up size (chunk_align align))) e.1 (omega arith) sized.0 in
     let unit = max_power align 16 power (pow_power 4 (omega arith)) in
     let padded = up_ge (e.1 + 48) (chunk_align align) (power_positive (chunk_align align) unit) in
     let multiple : up (e.1 + 48) (chunk_align align) % 16 ≡ 0 =
     power_multiple (up (e.1 + 48) (chunk_align align)) 16 (chunk_align align) (pow_power 4 (omega arith)) unit (omega arith) (up_mod (e.1 + 48) (chunk_align align)) in
     let bound = layout_fits (e.1 + 48) (chunk_align align) sized.1 in
     record {
-      based = possible.1;
-      large = omega (arith, tried.1);
-      holds = omega arith;
-      units = omega arith;
-      fits = omega arith;
-      top = possible.2;
+      based = made.1;
+      large = whole.1;
+      holds = omega (arith, whole.0);
+      units = whole.2;
+      fits = omega (arith, whole.2);
+      top = made.2;
     }
+
+pub is_entry : (base size align first least k : ℕ) (e : ℕ × ℕ) → 4096 ≤ least → IsTrue (is_power align) → slice_get (entries base size align first least) k ≡ Some e
+    → IsEntry base size align e
+is_entry base size align first least k e large power found =
+    let tried = entry_tried base size align first least k e found in
+    possible_entry base size align tried.0 e (omega (arith, tried.1)) power tried.2

@@ -10,8 +10,11 @@ pub mod NewBlockLemmas
 pub mod ReturnLemmas
 pub mod MoveLemmas
 pub mod ResetLemmas
+pub mod CreationLemmas
 pub mod RefusalLemmas
 pub mod CauseLemmas
+pub mod DoublingLemmas
+pub mod DoublingRunLemmas
 mod Rows
 pub mod NumberLemmas
 pub mod LineLemmas

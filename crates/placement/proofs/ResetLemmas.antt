@@ -1,6 +1,6 @@
 -- States with nothing in use.
-use Rattle.std.proofs.Common.{◌≡◌, ℕ, ◌+◌, ◌-◌, ◌%◌, ◌^◌, ◌<◌, ◌≤◌, refl, arith, List, [], ◌∷◌, IsTrue, Bool, true, false}
-use Rattle.placement.specs.State.{State, Chunk, is_min_align, AreChunks, FitsKind, IsValid, floor_of, is_range_used}
+use Rattle.std.proofs.Common.{◌≡◌, ℕ, ◌+◌, ◌<◌, ◌≤◌, refl, arith, List, [], ◌∷◌, IsTrue, Bool, true, false, sum, map}
+use Rattle.placement.specs.State.{State, Chunk, is_min_align, AreChunks, FitsKind, IsValid, floor_of, is_range_used, newest_size, used_length, used_bytes, allocated_bytes}
 use Rattle.std.proofs.lemmas.Bool.Decides.{nat_tests}
 use Rattle.placement.specs.Moves.{reset, emptied}
 use Rattle.placement.proofs.RoundingLemmas.{min_align_multiple}
@@ -52,28 +52,25 @@ reset_unused state addr n some = go state.chunks
     go [] = refl
     go (newest ∷ older) = grind (arith, nat_tests)
 
--- ---- The first states
+-- No byte is in use afterwards.
+pub reset_used : (state : State) → used_bytes (reset state) ≡ 0
+reset_used state = go state.chunks
+  where
+    go : (chunks : List Chunk) → sum (map used_length (emptied chunks)) ≡ 0
+    go [] = refl
+    go (newest ∷ older) = omega arith
 
-pub growing_valid : (m : ℕ) → IsTrue (is_min_align m) → IsValid (record { min_align = m; is_growing = true; generation = 0; chunks = [] })
-growing_valid m min_align = record { min_align = min_align; chunks = tt; top = omega arith; kind = tt; generation = omega arith }
+-- The newest chunk is left, and it alone.
+pub reset_newest : (state : State) → newest_size (reset state).chunks ≡ newest_size state.chunks
+reset_newest state = go state.chunks
+  where
+    go : (chunks : List Chunk) → newest_size (emptied chunks) ≡ newest_size chunks
+    go [] = refl
+    go (newest ∷ older) = refl
 
-pub fixed_valid : (m size : ℕ) → IsTrue (is_min_align m) → size % 16 ≡ 0 → size + 48 ≤ 2 ^ 63 - 16
-    → IsValid (record { min_align = m; is_growing = false; generation = 0; chunks = record { base = 4096; size = size; cursor = 4096 + size } ∷ [] })
-fixed_valid m size min_align units fits = record {
-  min_align = min_align;
-  chunks = (
-    record {
-      base_aligned = refl;
-      size_aligned = units;
-      size_fits = fits;
-      cursor_aligned = min_align_multiple (4096 + size) m min_align (omega arith);
-      cursor_low = omega arith;
-      cursor_high = omega arith;
-    },
-    omega arith,
-    tt,
-  );
-  top = omega arith;
-  kind = refl;
-  generation = omega arith;
-}
+pub reset_allocated : (state : State) → allocated_bytes (reset state) ≡ newest_size state.chunks
+reset_allocated state = go state.chunks
+  where
+    go : (chunks : List Chunk) → sum (map (λ (c : Chunk). c.size) (emptied chunks)) ≡ newest_size chunks
+    go [] = refl
+    go (newest ∷ older) = omega arith

@@ -1,12 +1,11 @@
 -- Worked rows of the rules, computed.
-use Rattle.std.proofs.Common.{◌≡◌, ℕ, ◌+◌, ◌-◌, ◌*◌, ◌^◌, refl, true, Option, Some, None, List, [], ◌∷◌}
+use Rattle.std.proofs.Common.{◌≡◌, ℕ, ◌+◌, ◌-◌, ◌*◌, ◌^◌, refl, true, Option, Some, None, List, [], ◌∷◌, false, arith}
 use Rattle.placement.specs.Rounding.{up, down, is_power_among}
-use Rattle.placement.specs.State.{State}
-use Rattle.placement.specs.Search.{place_below, doubled, power_at_least, size_for, halves, possible, entries, asked_above, asked}
-use Rattle.placement.specs.Moves.{Outcome, alloc, dealloc, shrink, grow, stays, placed, fails}
-
-fresh : ℕ → State
-fresh m = record { min_align = m; is_growing = true; generation = 0; chunks = [] }
+use Rattle.placement.specs.State.{State, Chunk}
+use Rattle.placement.specs.Search.{place_below, doubled, power_at_least, size_for, halves, possible, entries, asked_above, asked, requests}
+use Rattle.placement.specs.Moves.{Outcome, alloc, dealloc, shrink, grow, stays, placed, fails, with_chunk}
+use Rattle.placement.specs.Creation.{empty_state, fixed_state, capacity_chunk, create, create_requests}
+use Rattle.placement.specs.Doubling.{IsDoubling, is_made_first, grown_anew, shrunk_anew}
 
 -- with the first chunk, and the cursor there
 first_chunk : ℕ → State
@@ -50,13 +49,13 @@ size_past_the_cursor = refl
 
 -- ---- Allocations
 
-first_block : alloc (fresh 1) 5 1 0 ≡ Some (placed (first_chunk 20416) 20411)
-unfolding alloc asked asked_above entries possible halves size_for is_power_among power_at_least doubled up down fresh first_chunk
+first_block : alloc (empty_state 1) 5 1 0 ≡ Some (placed (first_chunk 20416) 20411)
+unfolding alloc asked asked_above entries possible halves size_for is_power_among power_at_least doubled up down first_chunk
 first_block = refl
 
 -- without a chunk, an empty block lies at 16
-empty_block : alloc (fresh 1) 0 16 0 ≡ Some (stays (fresh 1) 16)
-unfolding alloc down fresh
+empty_block : alloc (empty_state 1) 0 16 0 ≡ Some (stays (empty_state 1) 16)
+unfolding alloc down
 empty_block = refl
 
 -- first more than twice the newest chunk is asked for, and then half of it
@@ -64,23 +63,23 @@ second_chunk_asked : asked (first_chunk 20288) 16320 1 ≡ (20464, 32704) ∷ (2
 unfolding asked asked_above entries possible halves size_for is_power_among power_at_least doubled up down first_chunk
 second_chunk_asked = refl
 
-largest_layout_asks_nothing : asked (fresh 1) 9223372036854775807 1 ≡ []
-unfolding asked asked_above entries possible halves size_for is_power_among power_at_least doubled up down fresh
+largest_layout_asks_nothing : asked (empty_state 1) 9223372036854775807 1 ≡ []
+unfolding asked asked_above entries possible halves size_for is_power_among power_at_least doubled up down
 largest_layout_asks_nothing = refl
 
-largest_layout_fails : alloc (fresh 1) 9223372036854775807 1 0 ≡ Some (fails (fresh 1))
-unfolding alloc asked asked_above entries possible halves size_for is_power_among power_at_least doubled up down fresh
+largest_layout_fails : alloc (empty_state 1) 9223372036854775807 1 0 ≡ Some (fails (empty_state 1))
+unfolding alloc asked asked_above entries possible halves size_for is_power_among power_at_least doubled up down
 largest_layout_fails = refl
 
-largest_alignment_asks_nothing : asked (fresh 1) 0 9223372036854775808 ≡ []
-unfolding asked asked_above entries possible halves size_for is_power_among power_at_least doubled up down fresh
+largest_alignment_asks_nothing : asked (empty_state 1) 0 9223372036854775808 ≡ []
+unfolding asked asked_above entries possible halves size_for is_power_among power_at_least doubled up down
 largest_alignment_asks_nothing = refl
 
 -- chunks at multiples of a large alignment, until none is left below the last address
 large_alignments :
-    places ((0, 2 ^ 62) ∷ (1, 1) ∷ (0, 2 ^ 62) ∷ (1, 1) ∷ (0, 2 ^ 62) ∷ (1, 1) ∷ (0, 2 ^ 62) ∷ []) (fresh 1)
+    places ((0, 2 ^ 62) ∷ (1, 1) ∷ (0, 2 ^ 62) ∷ (1, 1) ∷ (0, 2 ^ 62) ∷ (1, 1) ∷ (0, 2 ^ 62) ∷ []) (empty_state 1)
     ≡ Some (2 ^ 62) ∷ Some (2 ^ 62 + 49071) ∷ Some (2 ^ 63) ∷ Some (2 ^ 63 + 196527) ∷ Some (3 * 2 ^ 62) ∷ Some (3 * 2 ^ 62 + 786351) ∷ None ∷ []
-unfolding places alloc asked asked_above entries possible halves size_for is_power_among power_at_least doubled up down fresh
+unfolding places alloc asked asked_above entries possible halves size_for is_power_among power_at_least doubled up down
 large_alignments = refl
 
 -- ---- Sizes of chunks
@@ -114,3 +113,76 @@ grow_downwards = refl
 give_back_the_last_block : dealloc (first_chunk 20412) 20412 4 ≡ first_chunk 20416
 unfolding dealloc up first_chunk
 give_back_the_last_block = refl
+
+-- ---- A new arena
+
+room_for_ten_bytes : create 1 10 0 ≡ Some (Some (with_chunk (4096, 64) (empty_state 1)))
+unfolding create capacity_chunk possible size_for is_power_among power_at_least doubled up
+room_for_ten_bytes = refl
+
+room_requested : create_requests 1 10 ≡ (64, 16) ∷ []
+unfolding create_requests capacity_chunk possible size_for requests is_power_among power_at_least doubled up
+room_requested = refl
+
+room_refused : create 1 10 1 ≡ Some None
+unfolding create capacity_chunk possible size_for is_power_among power_at_least doubled up
+room_refused = refl
+
+no_second_request : create 1 10 2 ≡ None
+unfolding create capacity_chunk possible size_for is_power_among power_at_least doubled up
+no_second_request = refl
+
+room_that_no_layout_has : create 1 (2 ^ 63) 0 ≡ Some None
+unfolding create capacity_chunk is_power_among up
+room_that_no_layout_has = refl
+
+room_for_nothing : create 1 0 0 ≡ Some (Some (empty_state 1))
+unfolding create
+room_for_nothing = refl
+
+-- an arena that doesn't grow fills its one chunk, and then fails
+fills_a_fixed_chunk : places ((64, 1) ∷ (1, 1) ∷ []) (fixed_state 1 64) ≡ Some 4096 ∷ None ∷ []
+unfolding places alloc asked up down
+fills_a_fixed_chunk = refl
+
+-- ---- How chunks grow
+
+-- the chunks after a first block of 5 bytes and a second one that the first chunk has no room for
+two_chunks : List Chunk
+two_chunks =
+    record { base = 20464; size = 32704; cursor = 36848 } ∷ record { base = 4096; size = 16320; cursor = 20411 } ∷ []
+
+second_block : alloc (first_chunk 20411) 16320 1 0 ≡ Some (record { answer = Some 36848; state = record (first_chunk 20411) { chunks = two_chunks } })
+unfolding alloc asked asked_above entries possible halves size_for is_power_among power_at_least doubled up down first_chunk two_chunks
+second_block = refl
+
+made_at_the_first_size : is_made_first (first_chunk 20411) 16320 1 0 ≡ true
+unfolding asked asked_above entries possible halves size_for is_power_among power_at_least doubled up down first_chunk
+made_at_the_first_size = refl
+
+made_at_a_smaller_size : is_made_first (first_chunk 20411) 16320 1 1 ≡ false
+unfolding asked asked_above entries possible halves size_for is_power_among power_at_least doubled up down first_chunk
+made_at_a_smaller_size = refl
+
+-- the second is at least twice the first
+two_chunks_double : IsDoubling 16320 two_chunks
+unfolding two_chunks
+two_chunks_double = (omega arith, (omega arith, tt))
+
+-- a block that grows is placed anew only where it has no room to grow in place
+grows_in_place : grown_anew (first_chunk 20406) 20406 10 1 11 1 ≡ None
+unfolding grown_anew is_power_among up down first_chunk
+grows_in_place = refl
+
+grows_elsewhere : grown_anew (first_chunk 20406) 20406 10 1 16321 1 ≡ Some (16321, 1)
+unfolding grown_anew is_power_among up down first_chunk
+grows_elsewhere = refl
+
+-- and one that shrinks only for a greater alignment
+shrinks_in_place : shrunk_anew (first_chunk 20406) 20406 1 5 1 ≡ None
+unfolding shrunk_anew first_chunk
+shrinks_in_place = refl
+
+shrinks_elsewhere : shrunk_anew (first_chunk 20406) 20406 1 5 4 ≡ Some (5, 4)
+unfolding shrunk_anew first_chunk
+shrinks_elsewhere = refl

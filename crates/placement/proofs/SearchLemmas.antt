@@ -20,7 +20,7 @@ halves_turns (suc t) (suc u) n least positive small below =
     let rest = halves_turns t u (n / 2) least positive (omega (arith, pow-suc 2 t)) (omega (arith, pow-suc 2 u)) in
     ap (λ (l : List ℕ). cond (leb least n) (n ∷ l) []) rest
 
-halves_first : (t n least : ℕ) → least ≤ n → halves (suc t) n least ≡ n ∷ halves t (n / 2) least
+pub halves_first : (t n least : ℕ) → least ≤ n → halves (suc t) n least ≡ n ∷ halves t (n / 2) least
 unfolding halves
 halves_first t n least enough = let test : nat_le least n ≡ true = grind (arith, nat_tests) in rw test refl
 

@@ -2,9 +2,11 @@ pub mod Rounding
 pub mod State
 pub mod Search
 pub mod Moves
+pub mod Creation
 pub mod Blocks
 pub mod Causes
 pub mod Machine
 pub mod Requests
+pub mod Doubling
 pub mod Grammar
 pub mod Replies

@@ -2,9 +2,10 @@
 ghost use Rattle.std.specs.Prelude.{◌≡◌, ◌≢◌, ℕ, ◌+◌, ◌-◌, ◌/◌, ◌%◌, ◌^◌, ◌<◌, ◌≤◌, ◌⊎◌, ◌↔◌, IsTrue, IsSome, true, false, [], ◌∷◌, length};
 ghost use Rattle.std.specs.Int.{IsPowerOfTwo};
 ghost use Rattle.placement.specs.Rounding.{down, up, is_power, is_layout};
-ghost use Rattle.placement.specs.State.{State, Chunk, is_min_align, IsValid, cursor_of, is_range_used};
+ghost use Rattle.placement.specs.State.{State, Chunk, is_min_align, IsValid, cursor_of, start_of, top_of, newest_size, used_bytes, allocated_bytes, is_range_used};
 ghost use Rattle.placement.specs.Search.{place, power_at_least, halves, asked};
-ghost use Rattle.placement.specs.Moves.{Outcome, alloc, dealloc, shrink, grow, reset};
+ghost use Rattle.placement.specs.Moves.{Outcome, alloc, dealloc, shrink, grow, reset, set_cursor};
+ghost use Rattle.placement.specs.Creation.{empty_state, fixed_state, create};
 ghost use Rattle.placement.specs.Blocks.{IsNewBlock, IsMovedBlock, IsBlock};
 ghost use Rattle.placement.specs.Machine.{is_place_used};
 ghost use Rattle.placement.specs.declared.place.Place.{Place};
@@ -54,7 +55,8 @@ pub fn new_block()
 {}
 
 /// Every move leads from a valid state to a valid one. Of a block that is given back or shrinks it is asked that it
-/// is in use or empty, and of one that grows nothing.
+/// is in use or empty, of one that grows nothing, and of a cursor that is set that it is a multiple of the least
+/// alignment in the newest chunk.
 pub fn valid_moves()
     ensures by_alloc { (state : State) (size align k : ℕ) (outcome : Outcome) → IsValid state → IsTrue (is_layout size align)
         → alloc state size align k ≡ Some outcome → IsValid outcome.state }
@@ -64,6 +66,8 @@ pub fn valid_moves()
     ensures by_grow { (state : State) (block : Place) (size align k : ℕ) (outcome : Outcome) → IsValid state
         → IsTrue (is_layout size align) → grow state block.addr block.size block.align size align k ≡ Some outcome → IsValid outcome.state }
     ensures by_reset { (state : State) → IsValid state → IsValid (reset state) }
+    ensures by_set_cursor { (state : State) (p : ℕ) → IsValid state → start_of state.chunks ≤ p → p ≤ top_of state.chunks → p % state.min_align ≡ 0
+        → IsValid (set_cursor p state) }
 {}
 
 /// A block that shrinks or grows is answered in place of the old one: aligned and in use, while all that was in use
@@ -96,17 +100,22 @@ pub fn given_back()
         → IsTrue (is_range_used state.chunks addr n) }
 {}
 
-/// An arena begins in a valid state: one that grows with no chunk, and one that doesn't with one chunk at 4096.
+/// An arena begins in a valid state: one that grows with no chunk, or with one that has room for so many bytes, and one
+/// that doesn't with one chunk at 4096.
 pub fn first_states()
-    ensures growing { (m : ℕ) → IsTrue (is_min_align m) → IsValid (record { min_align = m; is_growing = true; generation = 0; chunks = [] }) }
-    ensures fixed { (m size : ℕ) → IsTrue (is_min_align m) → size % 16 ≡ 0 → size + 48 ≤ 2 ^ 63 - 16
-        → IsValid (record { min_align = m; is_growing = false; generation = 0; chunks = record { base = 4096; size = size; cursor = 4096 + size } ∷ [] }) }
+    ensures growing { (m : ℕ) → IsTrue (is_min_align m) → IsValid (empty_state m) }
+    ensures with_capacity { (m capacity k : ℕ) (state : State) → IsTrue (is_min_align m) → create m capacity k ≡ Some (Some state) → IsValid state }
+    ensures fixed { (m size : ℕ) → IsTrue (is_min_align m) → size % 16 ≡ 0 → size + 48 ≤ 2 ^ 63 - 16 → IsValid (fixed_state m size) }
 {}
 
-/// To give back all blocks at once leaves nothing in use, and counts as a new generation as long as numbers last.
+/// To give back all blocks at once leaves nothing in use, keeps the newest chunk alone, and counts as a new generation
+/// as long as numbers last.
 pub fn all_given_back()
     ensures min_align { (state : State) → (reset state).min_align ≡ state.min_align }
     ensures is_growing { (state : State) → (reset state).is_growing ≡ state.is_growing }
     ensures generation { (state : State) → state.generation < 2 ^ 64 - 1 → (reset state).generation ≡ state.generation + 1 }
     ensures unused { (state : State) (addr n : ℕ) → 0 < n → is_range_used (reset state).chunks addr n ≡ false }
+    ensures used { (state : State) → used_bytes (reset state) ≡ 0 }
+    ensures newest { (state : State) → newest_size (reset state).chunks ≡ newest_size state.chunks }
+    ensures allocated { (state : State) → allocated_bytes (reset state) ≡ newest_size state.chunks }
 {}

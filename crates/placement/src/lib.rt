@@ -6,11 +6,15 @@
 
 mod bytes;
 mod calls;
+mod chunk_laws;
 pub mod laws;
 mod place;
+#[cfg(test)]
+mod tests;
 mod text_laws;
 
 pub use bytes::{Bytes, OutOfMemory};
 pub use calls::{Call, Reply};
+pub use chunk_laws::doubling;
 pub use place::Place;
 pub use text_laws::{one_reading, one_text};

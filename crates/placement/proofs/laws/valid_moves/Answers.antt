@@ -3,6 +3,7 @@ use Rattle.placement.proofs.NewBlockLemmas.{alloc_valid}
 use Rattle.placement.proofs.ReturnLemmas.{dealloc_valid}
 use Rattle.placement.proofs.MoveLemmas.{shrink_valid, grow_valid}
 use Rattle.placement.proofs.ResetLemmas.{reset_valid}
+use Rattle.placement.proofs.CursorLemmas.{set_cursor_valid}
 use Rattle.placement.proofs.laws.valid_moves.Goals as goal
 
 pub returns : goal.returns
@@ -12,4 +13,5 @@ returns c = record {
   by_shrink = λ state block size align k outcome valid used layout. shrink_valid state block size align k outcome valid used (layout_power size align layout);
   by_grow = λ state block size align k outcome valid layout. grow_valid state block size align k outcome valid (layout_power size align layout);
   by_reset = reset_valid;
+  by_set_cursor = set_cursor_valid;
 }
