@@ -15,6 +15,7 @@ use Rattle.placement.proofs.AllocLemmas.{alloc_placed, alloc_refused, IsGranted,
 use Rattle.placement.proofs.NewBlockLemmas.{is_new_block, alloc_valid}
 use Rattle.arena_chunks.specs.Memory.{Memory, image, is_readable, one_allocation}
 use Rattle.arena_chunks.specs.Frame.{Frame}
+use Rattle.arena_chunks.specs.Source.{Source}
 use Rattle.arena_chunks.specs.Answers.{IsBlockOf, IsAdded, AddsChunk, Allocates, Tells, TellsPlace}
 use Rattle.arena_chunks.specs.declared.block.ArenaErr.{ArenaErr}
 use Rattle.arena_chunks.specs.declared.block.ArenaErr.TheVariants.{AllocErr, OutOfMemory}
@@ -105,12 +106,12 @@ block_placed old new size align k p b valid layout placing is =
     })
 
 -- All that was asked for was refused.
-pub all_refused : (old new : Memory) (size align before after : ℕ) (told_before told_after : Option (List (ℕ × ℕ))) (e : ArenaErr) → place old.state size align ≡ None → new ≡ old
-    → TellsPlace (Err e) (λ k answer. AddsChunk old new size align k answer before after told_before told_after)
-    → Tells (Err e) (λ k answer. Allocates old.state new.state size align k answer before after told_before told_after)
-all_refused old new size align before after told_before told_after (AllocErr k) none same added = record {
+pub all_refused : (old new : Memory) (size align : ℕ) (before after : Source) (e : ArenaErr) → place old.state size align ≡ None → new ≡ old
+    → TellsPlace (Err e) (λ k answer. AddsChunk old new size align k answer before after)
+    → Tells (Err e) (λ k answer. Allocates old.state new.state size align k answer before after)
+all_refused old new size align before after (AllocErr k) none same added = record {
   step = subst (λ (w : Memory). alloc old.state size align k ≡ Some (record { answer = None; state = w.state })) (sym same) (alloc_refused old.state size align k none added.added);
   refusals = added.refusals;
   requests = rw none added.requests;
 }
-all_refused old new size align before after told_before told_after OutOfMemory none same added = tt
+all_refused old new size align before after OutOfMemory none same added = tt

@@ -9,6 +9,7 @@ use Rattle.placement.specs.Moves.{Outcome, alloc, shrink, shrink_step, grow, pla
 use Rattle.placement.specs.Requests.{shrink_requests, grow_requests}
 use Rattle.placement.specs.Causes.{TellsRequests}
 use Rattle.placement.proofs.CauseLemmas.{counts_none, tells_none}
+use Rattle.arena_chunks.specs.Source.{Source}
 use Rattle.arena_chunks.specs.Answers.{Allocates, Takes, Tells, OnWant}
 use Rattle.arena_chunks.specs.Resizes.{grow_place}
 use Rattle.arena_chunks.specs.declared.block.ArenaErr.{ArenaErr}
@@ -17,21 +18,21 @@ use Rattle.arena_chunks.specs.declared.block.Block.{Block}
 
 -- ---- What a call that may place tells
 
-pub takes_unasked : (move : ℕ → Option Outcome) (asks : ℕ → List (ℕ × ℕ)) (new : State) (answer : Option ℕ) (before : ℕ) (told : Option (List (ℕ × ℕ)))
-    → move 0 ≡ Some (record { answer = answer; state = new }) → asks 0 ≡ [] → Takes move asks new 0 answer before before told told
-takes_unasked move asks new answer before told step none = record { step = step; refusals = counts_none before; requests = rw none (tells_none told) }
+pub takes_unasked : (move : ℕ → Option Outcome) (asks : ℕ → List (ℕ × ℕ)) (new : State) (answer : Option ℕ) (source : Source)
+    → move 0 ≡ Some (record { answer = answer; state = new }) → asks 0 ≡ [] → Takes move asks new 0 answer source source
+takes_unasked move asks new answer source step none = record { step = step; refusals = counts_none source.refusals; requests = rw none (tells_none source.asked) }
 
 -- it places a block anew
-pub takes_anew : (move : ℕ → Option Outcome) (asks : ℕ → List (ℕ × ℕ)) (old new : State) (size align before after : ℕ) (told_before told_after : Option (List (ℕ × ℕ)))
+pub takes_anew : (move : ℕ → Option Outcome) (asks : ℕ → List (ℕ × ℕ)) (old new : State) (size align : ℕ) (before after : Source)
     → (result : Result (Block × ℕ) ArenaErr) → ((k : ℕ) → move k ≡ alloc old size align k) → ((k : ℕ) → asks k ≡ alloc_requests old size align k)
-    → Tells result (λ k answer. Allocates old new size align k answer before after told_before told_after) → Tells result (λ k answer. Takes move asks new k answer before after told_before told_after)
-takes_anew move asks old new size align before after told_before told_after result same wants is = go result is
+    → Tells result (λ k answer. Allocates old new size align k answer before after) → Tells result (λ k answer. Takes move asks new k answer before after)
+takes_anew move asks old new size align before after result same wants is = go result is
   where
-    each : (k : ℕ) (answer : Option ℕ) → Allocates old new size align k answer before after told_before told_after → Takes move asks new k answer before after told_before told_after
-    each k answer is = record { step = same k ∙ is.step; refusals = is.refusals; requests = subst (TellsRequests told_before told_after) (sym (wants k)) is.requests }
+    each : (k : ℕ) (answer : Option ℕ) → Allocates old new size align k answer before after → Takes move asks new k answer before after
+    each k answer is = record { step = same k ∙ is.step; refusals = is.refusals; requests = subst (TellsRequests before.asked after.asked) (sym (wants k)) is.requests }
 
-    go : (result : Result (Block × ℕ) ArenaErr) → Tells result (λ k answer. Allocates old new size align k answer before after told_before told_after)
-        → Tells result (λ k answer. Takes move asks new k answer before after told_before told_after)
+    go : (result : Result (Block × ℕ) ArenaErr) → Tells result (λ k answer. Allocates old new size align k answer before after)
+        → Tells result (λ k answer. Takes move asks new k answer before after)
     go (Ok (block, k)) is = each k (Some block.addr) is
     go (Err (AllocErr k)) is = each k None is
     go (Err OutOfMemory) is = tt

@@ -16,7 +16,8 @@ use Rattle.placement.specs.declared.calls.Call.{Call}
 use Rattle.placement.specs.declared.calls.Reply.{Reply}
 use Rattle.placement.proofs.CauseLemmas.{counts_none, counts_more, tells_none, tells_more}
 use Rattle.arena_chunks.specs.Memory.{Memory}
-use Rattle.arena_chunks.specs.Runs.{HoldsBytes, Source, Runs, RunsFirst, held_blocks}
+use Rattle.arena_chunks.specs.Source.{Source}
+use Rattle.arena_chunks.specs.Runs.{HoldsBytes, Runs, RunsFirst, held_blocks}
 use Rattle.arena_chunks.specs.Serving.{machine_of, Holds, Keeps, Serves}
 use Rattle.arena_chunks.specs.declared.block.Block.{Block}
 use Rattle.arena_chunks.proofs.ServingLemmas.{holds_none, no_bytes_held, none_kept}

@@ -28,7 +28,8 @@ use Rattle.placement.proofs.CauseLemmas.{counts_none, tells_none}
 use Rattle.arena_chunks.specs.Memory.{Memory, Writes, image, bytes_from, is_readable}
 use Rattle.arena_chunks.specs.Frame.{Frame, padded, in_blocks}
 use Rattle.arena_chunks.specs.Answers.{Allocates, Takes}
-use Rattle.arena_chunks.specs.Runs.{HoldsBytes, Source, block_at}
+use Rattle.arena_chunks.specs.Source.{Source}
+use Rattle.arena_chunks.specs.Runs.{HoldsBytes, block_at}
 use Rattle.arena_chunks.specs.Serving.{machine_of, Holds, IsBeside, Keeps, Asks, Serves}
 use Rattle.arena_chunks.specs.declared.block.Block.{Block}
 use Rattle.arena_chunks.proofs.HeldLemmas.{get-inserted, get-insert_other, get-removed, get-remove_other}
@@ -361,7 +362,7 @@ serves_placed call k old new names name a b before later holds change steps asks
     }) asks
 
 pub serves_alloc : (old mid new : Memory) (names : Held) (name size align fill k p : ℕ) (blocks : List Block) (before later : Source) → Holds old.state names → finite.get names name ≡ None
-    → true ≡ is_layout size align → Allocates old.state mid.state size align k (Some p) before.refusals later.refusals before.asked later.asked → IsValid mid.state → Frame old mid [] blocks
+    → true ≡ is_layout size align → Allocates old.state mid.state size align k (Some p) before later → IsValid mid.state → Frame old mid [] blocks
     → new.state ≡ mid.state → Writes mid new (p + 0) (replicate (size - 0) fill)
     → Serves (Alloc name size align fill) (Placed p k) old names new (finite.insert names name (record { addr = p; size = size; align = align })) before later
 unfolding step call_requests
@@ -389,7 +390,7 @@ change_moved old new names name size align p a blocks holds found good moved val
 
 pub serves_grow : (old mid new : Memory) (names : Held) (name size align fill k p : ℕ) (a : Place) (blocks : List Block) (before later : Source) → Holds old.state names
     → finite.get names name ≡ Some a → true ≡ is_layout size align → a.size ≤ size
-    → Takes (grow old.state a.addr a.size a.align size align) (grow_requests old.state a.addr a.size a.align size align) mid.state k (Some p) before.refusals later.refusals before.asked later.asked
+    → Takes (grow old.state a.addr a.size a.align size align) (grow_requests old.state a.addr a.size a.align size align) mid.state k (Some p) before later
     → IsValid mid.state → Frame old mid (block_at old.state.generation a ∷ []) blocks → bytes_from (image mid) p a.size ≡ bytes_from (image old) a.addr a.size
     → new.state ≡ mid.state → Writes mid new (p + a.size) (replicate (size - a.size) fill)
     → Serves (Grow name size align fill) (Placed p k) old names new (finite.insert names name (record { addr = p; size = size; align = align })) before later
@@ -408,7 +409,7 @@ serves_grow old mid new names name size align fill k p a blocks before later hol
 
 pub serves_shrink : (old new : Memory) (names : Held) (name size align k p : ℕ) (a : Place) (blocks : List Block) (before later : Source) → Holds old.state names
     → finite.get names name ≡ Some a → true ≡ is_layout size align → size ≤ a.size
-    → Takes (shrink old.state a.addr a.size a.align size align) (shrink_requests old.state a.addr a.align size align) new.state k (Some p) before.refusals later.refusals before.asked later.asked
+    → Takes (shrink old.state a.addr a.size a.align size align) (shrink_requests old.state a.addr a.align size align) new.state k (Some p) before later
     → IsValid new.state → Frame old new (block_at old.state.generation a ∷ []) blocks → bytes_from (image new) p size ≡ bytes_from (image old) a.addr size
     → Serves (Shrink name size align) (Placed p k) old names new (finite.insert names name (record { addr = p; size = size; align = align })) before later
 unfolding step call_requests

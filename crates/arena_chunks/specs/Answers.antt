@@ -5,6 +5,7 @@ use Rattle.placement.specs.State.{State, IsValid}
 use Rattle.placement.specs.Moves.{Outcome, alloc, with_chunk}
 use Rattle.placement.specs.Search.{asked, requests, alloc_requests}
 use Rattle.arena_chunks.specs.Memory.{Memory}
+use Rattle.arena_chunks.specs.Source.{Source}
 use Rattle.placement.specs.Causes.{CountsRefusals, TellsRequests}
 use Rattle.arena_chunks.specs.declared.block.Block.{Block}
 use Rattle.arena_chunks.specs.declared.block.ArenaErr.{ArenaErr}
@@ -35,16 +36,16 @@ OnWant (Err (AllocErr refused)) P = Unit {0}
 OnWant (Err OutOfMemory) P = P
 
 -- An allocation is a step, the source's count rose by k or more, and it tells these requests.
-pub record Allocates (old new : State) (size align k : ℕ) (answer : Option ℕ) (before after : ℕ) (told_before told_after : Option (List (ℕ × ℕ))) : Type 0 where
+pub record Allocates (old new : State) (size align k : ℕ) (answer : Option ℕ) (before after : Source) : Type 0 where
   pub step : alloc old size align k ≡ Some (record { answer = answer; state = new })
-  pub refusals : CountsRefusals before after k
-  pub requests : TellsRequests told_before told_after (alloc_requests old size align k)
+  pub refusals : CountsRefusals before.refusals after.refusals k
+  pub requests : TellsRequests before.asked after.asked (alloc_requests old size align k)
 
 -- A call that may place is a move, by the number of refusals; the source's count rose by k or more, and it tells these requests.
-pub record Takes (move : ℕ → Option Outcome) (asks : ℕ → List (ℕ × ℕ)) (new : State) (k : ℕ) (answer : Option ℕ) (before after : ℕ) (told_before told_after : Option (List (ℕ × ℕ))) : Type 0 where
+pub record Takes (move : ℕ → Option Outcome) (asks : ℕ → List (ℕ × ℕ)) (new : State) (k : ℕ) (answer : Option ℕ) (before after : Source) : Type 0 where
   pub step : move k ≡ Some (record { answer = answer; state = new })
-  pub refusals : CountsRefusals before after k
-  pub requests : TellsRequests told_before told_after (asks k)
+  pub refusals : CountsRefusals before.refusals after.refusals k
+  pub requests : TellsRequests before.asked after.asked (asks k)
 
 -- Of a valid arena that grows: a granted chunk is the newest now, with nothing used and zeros in it, and has a place for the block.
 pub record IsAdded (old new : Memory) (size align k p : ℕ) : Type 0 where
@@ -56,10 +57,10 @@ pub record IsAdded (old new : Memory) (size align k p : ℕ) : Type 0 where
   pub valid : IsValid old.state
 
 -- A chunk was asked for, and refused k times: one was added, or all were refused.
-pub record AddsChunk (old new : Memory) (size align k : ℕ) (answer : Option ℕ) (before after : ℕ) (told_before told_after : Option (List (ℕ × ℕ))) : Type 0 where
+pub record AddsChunk (old new : Memory) (size align k : ℕ) (answer : Option ℕ) (before after : Source) : Type 0 where
   pub added : MatchOption answer (k ≡ length (asked old.state size align)) (IsAdded old new size align k)
-  pub refusals : CountsRefusals before after k
-  pub requests : TellsRequests told_before told_after (requests align (take (k + 1) (asked old.state size align)))
+  pub refusals : CountsRefusals before.refusals after.refusals k
+  pub requests : TellsRequests before.asked after.asked (requests align (take (k + 1) (asked old.state size align)))
 
 -- a block of this state and this layout
 abbrev pub IsBlockOf : State → ℕ → ℕ → Block → Type 0

@@ -1,4 +1,5 @@
 pub mod Memory
+pub mod Source
 pub mod Frame
 pub mod Answers
 pub mod Runs
@@ -6,3 +7,4 @@ pub mod Stored
 pub mod PlaceCode
 pub mod Serving
 pub mod Resizes
+pub mod BlockCalls

@@ -1,5 +1,5 @@
 -- What a run of calls over an arena shows.
-use Rattle.std.specs.Prelude.{◌≡◌, false, ℕ, ◌≤◌, Option, Some, List, map, sum, take, length}
+use Rattle.std.specs.Prelude.{◌≡◌, false, ℕ, ◌≤◌, Some, List, map, sum, take, length}
 use Rattle.std.specs.FinMap as finite
 use Rattle.std.specs.List.{list_any}
 use Rattle.placement.specs.Causes.{CountsRefusals, TellsRequests}
@@ -9,6 +9,7 @@ use Rattle.placement.specs.declared.place.Place.{Place}
 use Rattle.placement.specs.declared.calls.Call.{Call}
 use Rattle.placement.specs.declared.calls.Reply.{Reply}
 use Rattle.arena_chunks.specs.Memory.{Memory, KeepsUsed, image, bytes_from}
+use Rattle.arena_chunks.specs.Source.{Source}
 use Rattle.arena_chunks.specs.declared.block.Block.{Block}
 use Rattle.arena_chunks.specs.declared.run.Stopped.{Stopped}
 use Rattle.arena_chunks.specs.declared.run.Stopped.TheVariants.{OutOfMemory}
@@ -24,11 +25,6 @@ held_blocks generation held = map (λ (e : ℕ × Place). (e.0, block_at generat
 -- each name's bytes stand at its place
 pub record HoldsBytes (memory : Memory) (held : Held) (bytes : Contents) : Type 0 where
   pub each : (name : ℕ) (p : Place) → finite.get held name ≡ Some p → finite.get bytes name ≡ Some (bytes_from (image memory) p.addr p.size)
-
--- what a source shows: how often it has refused, and, if it tells them, all requests so far
-pub record Source : Type 0 where
-  pub refusals : ℕ
-  pub asked : Option (List (ℕ × ℕ))
 
 -- unless all blocks were given back in between
 abbrev pub KeepsUnlessReset : List Call → Memory → Memory → Type 0

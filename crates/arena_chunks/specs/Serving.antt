@@ -11,7 +11,8 @@ use Rattle.placement.specs.declared.place.Place.{Place}
 use Rattle.placement.specs.declared.calls.Call.{Call}
 use Rattle.placement.specs.declared.calls.Reply.{Reply}
 use Rattle.arena_chunks.specs.Memory.{Memory, KeepsUsed}
-use Rattle.arena_chunks.specs.Runs.{HoldsBytes, Source}
+use Rattle.arena_chunks.specs.Source.{Source}
+use Rattle.arena_chunks.specs.Runs.{HoldsBytes}
 
 -- the machine that an arena, its names and some bytes are
 abbrev pub machine_of : Memory → Held → Contents → Machine

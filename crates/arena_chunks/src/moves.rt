@@ -14,7 +14,8 @@ impl<const MIN_ALIGN: usize> Arena<MIN_ALIGN> {
     ghost use Rattle.placement.specs.Moves.{dealloc};
     ghost use Rattle.arena_chunks.specs.Memory.{Memory, is_readable, one_allocation};
     ghost use Rattle.arena_chunks.specs.Frame.{Frame, padded};
-    ghost use Rattle.arena_chunks.specs.Answers.{Tells, TellsSome, TellsPlace, OnWant, Allocates, AddsChunk, IsBlockOf};
+    ghost use Rattle.arena_chunks.specs.BlockCalls.{PlacesBlock};
+    ghost use Rattle.arena_chunks.specs.Answers.{Tells, TellsPlace, OnWant, Allocates, AddsChunk, IsBlockOf};
 
     /// Places a block, in a new chunk where the newest has no place for it. No byte in use changes. Where there is a
     /// place this takes no memory, and a few machine operations.
@@ -29,17 +30,7 @@ impl<const MIN_ALIGN: usize> Arena<MIN_ALIGN> {
         chunks: &mut C,
         layout: Layout,
     ) -> Result<Block, ArenaErr>
-        ensures step { TellsSome result (λ k answer. Allocates self.old.state self.new.state layout.size layout.align k answer
-            (C.refusals chunks.old) (C.refusals chunks.new) (C.asked chunks.old) (C.asked chunks.new)) }
-        ensures block { IfOk result (IsBlockOf self.new.state layout.size layout.align) }
-        ensures readable { IfOk result (λ block. IsTrue (is_readable self.new.state block)) }
-        ensures statistics { IfOk result (λ block. self.new.statistics ≡ one_allocation self.old.statistics) }
-        ensures frame { IfOk result (λ block. Frame self.old self.new [] (block ∷ [])) }
-        ensures err { OnErr result (self.new ≡ self.old) }
-
-        // Want of memory is of the table of chunks alone, before the source is asked.
-        ensures want { OnWant result ((place self.old.state layout.size layout.align ≡ None) × (self.old.state.is_growing ≡ true) × (chunks.new ≡ chunks.old)) }
-        ensures valid { IsValid self.new.state }
+        ensures { PlacesBlock self.old self.new (C.source chunks.old) (C.source chunks.new) layout.size layout.align result }
     {
         match self.alloc_counted(chunks, layout) {
             Ok((block, _)) => Ok(block),
@@ -55,7 +46,7 @@ impl<const MIN_ALIGN: usize> Arena<MIN_ALIGN> {
         layout: Layout,
     ) -> Result<(Block, u32), ArenaErr>
         ensures step { Tells result (λ k answer. Allocates self.old.state self.new.state layout.size layout.align k answer
-            (C.refusals chunks.old) (C.refusals chunks.new) (C.asked chunks.old) (C.asked chunks.new)) }
+            (C.source chunks.old) (C.source chunks.new)) }
         ensures block { IfOk result (λ placed. IsBlockOf self.new.state layout.size layout.align placed.0) }
         ensures readable { IfOk result (λ placed. IsTrue (is_readable self.new.state placed.0)) }
         ensures statistics { IfOk result (λ placed. self.new.statistics ≡ one_allocation self.old.statistics) }
@@ -106,7 +97,7 @@ impl<const MIN_ALIGN: usize> Arena<MIN_ALIGN> {
         layout: Layout,
     ) -> Result<(u64, u32), ArenaErr>
         ensures added { TellsPlace result (λ k answer. AddsChunk self.old self.new layout.size layout.align k answer
-            (C.refusals chunks.old) (C.refusals chunks.new) (C.asked chunks.old) (C.asked chunks.new)) }
+            (C.source chunks.old) (C.source chunks.new)) }
         ensures err { OnErr result (self.new ≡ self.old) }
         ensures want { OnWant result ((self.old.state.is_growing ≡ true) × (chunks.new ≡ chunks.old)) }
     {

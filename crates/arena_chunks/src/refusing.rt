@@ -20,8 +20,7 @@ pub struct RefusingChunks {
 impl RefusingChunks {
     /// A source that refuses the listed requests, and has had none. Takes no memory.
     pub fn new(alloc: Global, refuse: Vec<u64>) -> RefusingChunks
-        ensures refusals { ⟦<RefusingChunks as ChunkSource>⟧.refusals result ≡ 0 }
-        ensures asked { ⟦<RefusingChunks as ChunkSource>⟧.asked result ≡ Some [] }
+        ensures source { ⟦<RefusingChunks as ChunkSource>⟧.source result ≡ record { refusals = 0; asked = Some [] } }
     {
         RefusingChunks {
             alloc,
@@ -35,8 +34,8 @@ impl RefusingChunks {
 
     /// All requests so far, as size and alignment, or none where one couldn't be noted.
     pub fn requests(&self) -> Option<&[(u64, u64)]>
-        ensures told { IfSome result (λ all. ⟦<RefusingChunks as ChunkSource>⟧.asked self.now ≡ Some all.now) }
-        ensures untold { IfNone result (⟦<RefusingChunks as ChunkSource>⟧.asked self.now ≡ None) }
+        ensures told { IfSome result (λ all. (⟦<RefusingChunks as ChunkSource>⟧.source self.now).asked ≡ Some all.now) }
+        ensures untold { IfNone result ((⟦<RefusingChunks as ChunkSource>⟧.source self.now).asked ≡ None) }
     {
         if self.is_telling {
             Some(self.notes.as_slice())
@@ -48,7 +47,7 @@ impl RefusingChunks {
     // Notes a request, and answers whether it is to be served.
     fn notes_and_serves(&mut self, size: u64, align: u64) -> bool
         ensures refused { self.new.refused ≡ self.old.refused }
-        ensures told { TellsRequests (⟦<RefusingChunks as ChunkSource>⟧.asked self.old) (⟦<RefusingChunks as ChunkSource>⟧.asked self.new) ((size, align) ∷ []) }
+        ensures told { TellsRequests (⟦<RefusingChunks as ChunkSource>⟧.source self.old).asked (⟦<RefusingChunks as ChunkSource>⟧.source self.new).asked ((size, align) ∷ []) }
     {
         self.requests = self.requests.saturating_add(1);
         if self.notes.push((size, align)).is_err() {
@@ -60,9 +59,7 @@ impl RefusingChunks {
 }
 
 impl ChunkSource for RefusingChunks {
-    ghost refusals = { λ c. c.refused };
-
-    ghost asked = { λ c. if c.is_telling then Some c.notes.items else None };
+    ghost source = { λ c. record { refusals = c.refused; asked = if c.is_telling then Some c.notes.items else None } };
 
     fn request(&mut self, size: u64, align: u64) -> Option<Vec<u8>> {
         if self.notes_and_serves(size, align)

@@ -24,7 +24,8 @@ impl<const MIN_ALIGN: usize> Arena<MIN_ALIGN> {
     ghost use Rattle.placement.specs.Requests.{grow_requests, shrink_requests};
     ghost use Rattle.arena_chunks.specs.Memory.{Memory, Writes, is_readable, image, bytes_from};
     ghost use Rattle.arena_chunks.specs.Frame.{Frame};
-    ghost use Rattle.arena_chunks.specs.Answers.{Tells, TellsSome, OnWant, Allocates, Takes, IsBlockOf};
+    ghost use Rattle.arena_chunks.specs.BlockCalls.{GrowsBlock, ShrinksBlock};
+    ghost use Rattle.arena_chunks.specs.Answers.{Tells, OnWant, Allocates, Takes, IsBlockOf};
     ghost use Rattle.arena_chunks.specs.Resizes.{grow_place, grow_statistics, shrink_statistics, one_reallocation, one_move, replaced, Resizes, NoneReadable};
 
     /// Shrinks a block, which may move it. Its first bytes are kept. To no greater alignment this takes no memory and
@@ -41,18 +42,7 @@ impl<const MIN_ALIGN: usize> Arena<MIN_ALIGN> {
     ) -> Result<Block, ArenaErr>
         requires readable { IsTrue (is_readable self.old.state block) }
         requires size { layout.size ≤ block.size }
-        ensures step { TellsSome result (λ k answer. Takes (shrink self.old.state block.addr block.size block.align layout.size layout.align)
-            (shrink_requests self.old.state block.addr block.align layout.size layout.align) self.new.state k answer
-            (C.refusals chunks.old) (C.refusals chunks.new) (C.asked chunks.old) (C.asked chunks.new)) }
-        ensures block { IfOk result (IsBlockOf self.new.state layout.size layout.align) }
-        ensures readable { IfOk result (λ b. IsTrue (is_readable self.new.state b)) }
-        ensures statistics { IfOk result (λ b. self.new.statistics ≡ shrink_statistics self.old.state block.addr block.size block.align layout.size layout.align self.old.statistics) }
-        ensures bytes { IfOk result (λ b. bytes_from (image self.new) b.addr layout.size ≡ bytes_from (image self.old) block.addr layout.size) }
-        ensures frame { IfOk result (λ b. Frame self.old self.new (block ∷ []) (b ∷ [])) }
-        ensures succeeds { layout.align ≤ block.align → IsOk result }
-        ensures err { OnErr result (self.new ≡ self.old) }
-        ensures want { OnWant result ((place self.old.state layout.size layout.align ≡ None) × (self.old.state.is_growing ≡ true) × (chunks.new ≡ chunks.old)) }
-        ensures valid { IsValid self.new.state }
+        ensures { ShrinksBlock self.old self.new (C.source chunks.old) (C.source chunks.new) block layout.size layout.align result }
     {
         match self.shrink_counted(chunks, block, layout) {
             Ok((b, _)) => Ok(b),
@@ -75,18 +65,7 @@ impl<const MIN_ALIGN: usize> Arena<MIN_ALIGN> {
     ) -> Result<Block, ArenaErr>
         requires readable { IsTrue (is_readable self.old.state block) }
         requires size { block.size ≤ layout.size }
-        ensures step { TellsSome result (λ k answer. Takes (grow self.old.state block.addr block.size block.align layout.size layout.align)
-            (grow_requests self.old.state block.addr block.size block.align layout.size layout.align) self.new.state k answer
-            (C.refusals chunks.old) (C.refusals chunks.new) (C.asked chunks.old) (C.asked chunks.new)) }
-        ensures block { IfOk result (IsBlockOf self.new.state layout.size layout.align) }
-        ensures readable { IfOk result (λ b. IsTrue (is_readable self.new.state b)) }
-        ensures statistics { IfOk result (λ b. self.new.statistics ≡ grow_statistics self.old.state block.addr block.size block.align layout.size layout.align self.old.statistics) }
-        ensures bytes { IfOk result (λ b. bytes_from (image self.new) b.addr block.size ≡ bytes_from (image self.old) block.addr block.size) }
-        ensures frame { IfOk result (λ b. Frame self.old self.new (block ∷ []) (b ∷ [])) }
-        ensures err { OnErr result (self.new ≡ self.old) }
-        ensures want { OnWant result ((grow_place self.old.state block.addr block.size block.align layout.size layout.align ≡ None)
-            × (place self.old.state layout.size layout.align ≡ None) × (self.old.state.is_growing ≡ true) × (chunks.new ≡ chunks.old)) }
-        ensures valid { IsValid self.new.state }
+        ensures { GrowsBlock self.old self.new (C.source chunks.old) (C.source chunks.new) block layout.size layout.align result }
     {
         match self.grow_counted(chunks, block, layout) {
             Ok((b, _)) => Ok(b),
@@ -120,7 +99,7 @@ impl<const MIN_ALIGN: usize> Arena<MIN_ALIGN> {
         requires size { layout.size ≤ block.size }
         ensures step { Tells result (λ k answer. Takes (shrink self.old.state block.addr block.size block.align layout.size layout.align)
             (shrink_requests self.old.state block.addr block.align layout.size layout.align) self.new.state k answer
-            (C.refusals chunks.old) (C.refusals chunks.new) (C.asked chunks.old) (C.asked chunks.new)) }
+            (C.source chunks.old) (C.source chunks.new)) }
         ensures block { IfOk result (λ placed. IsBlockOf self.new.state layout.size layout.align placed.0) }
         ensures readable { IfOk result (λ placed. IsTrue (is_readable self.new.state placed.0)) }
         ensures statistics { IfOk result (λ placed. self.new.statistics ≡ shrink_statistics self.old.state block.addr block.size block.align layout.size layout.align self.old.statistics) }
@@ -151,7 +130,7 @@ impl<const MIN_ALIGN: usize> Arena<MIN_ALIGN> {
         requires size { block.size ≤ layout.size }
         ensures step { Tells result (λ k answer. Takes (grow self.old.state block.addr block.size block.align layout.size layout.align)
             (grow_requests self.old.state block.addr block.size block.align layout.size layout.align) self.new.state k answer
-            (C.refusals chunks.old) (C.refusals chunks.new) (C.asked chunks.old) (C.asked chunks.new)) }
+            (C.source chunks.old) (C.source chunks.new)) }
         ensures block { IfOk result (λ placed. IsBlockOf self.new.state layout.size layout.align placed.0) }
         ensures readable { IfOk result (λ placed. IsTrue (is_readable self.new.state placed.0)) }
         ensures statistics { IfOk result (λ placed. self.new.statistics ≡ grow_statistics self.old.state block.addr block.size block.align layout.size layout.align self.old.statistics) }
@@ -232,7 +211,7 @@ impl<const MIN_ALIGN: usize> Arena<MIN_ALIGN> {
         requires readable { IsTrue (is_readable self.old.state block) }
         requires sizes { (n ≤ block.size) × (n ≤ layout.size) }
         ensures step { Tells result (λ k answer. Allocates self.old.state self.new.state layout.size layout.align k answer
-            (C.refusals chunks.old) (C.refusals chunks.new) (C.asked chunks.old) (C.asked chunks.new)) }
+            (C.source chunks.old) (C.source chunks.new)) }
         ensures resized { IfOk result (λ placed. Resizes self.old self.new block placed.0 layout.size layout.align n) }
         ensures statistics { IfOk result (λ placed. self.new.statistics ≡ one_move self.old.statistics) }
         ensures err { OnErr result (self.new ≡ self.old) }

@@ -48,8 +48,8 @@ pub fn run_calls<const M: usize, C: ChunkSource>(
     chunks: &mut C,
     calls: &[Call],
 ) -> Result<Ran, Stopped>
-    ensures ok { IfOk result (λ ran. Runs arena.old arena.new (record { refusals = C.refusals chunks.old; asked = C.asked chunks.old }) (record { refusals = C.refusals chunks.new; asked = C.asked chunks.new }) calls.now ran.replies.items ran.held.items) }
-    ensures err { IfErr result (λ stopped. Stops arena.old arena.new (record { refusals = C.refusals chunks.old; asked = C.asked chunks.old }) (record { refusals = C.refusals chunks.new; asked = C.asked chunks.new }) calls.now stopped) }
+    ensures ok { IfOk result (λ ran. Runs arena.old arena.new (C.source chunks.old) (C.source chunks.new) calls.now ran.replies.items ran.held.items) }
+    ensures err { IfErr result (λ stopped. Stops arena.old arena.new (C.source chunks.old) (C.source chunks.new) calls.now stopped) }
 {
     let _valid = arena.cursor();
     let mut names = Names::new(alloc);

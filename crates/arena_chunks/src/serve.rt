@@ -1,7 +1,7 @@
 // One call after another.
 ghost use Rattle.std.specs.Prelude.{◌≡◌, IfOk, OnErr};
 ghost use Rattle.placement.specs.declared.calls.Call.{Call};
-ghost use Rattle.arena_chunks.specs.Runs.{Source};
+ghost use Rattle.arena_chunks.specs.Source.{Source};
 ghost use Rattle.arena_chunks.specs.Serving.{Serves, Holds};
 
 use crate::arena::Arena;
@@ -42,7 +42,7 @@ fn serve_alloc<const M: usize, C: ChunkSource>(
 ) -> Result<Reply, OutOfMemory>
     requires { Holds arena.old.state names.old }
     ensures serves { IfOk result (λ reply. Serves (Call.Alloc wanted.name wanted.size wanted.align fill) reply arena.old names.old arena.new names.new
-        (record { refusals = C.refusals chunks.old; asked = C.asked chunks.old }) (record { refusals = C.refusals chunks.new; asked = C.asked chunks.new })) }
+        (C.source chunks.old) (C.source chunks.new)) }
     ensures err { OnErr result ((arena.new ≡ arena.old) × (chunks.new ≡ chunks.old)) }
 {
     let name = wanted.name;
@@ -78,7 +78,7 @@ fn serve_grow<const M: usize, C: ChunkSource>(
 ) -> Result<Reply, OutOfMemory>
     requires { Holds arena.old.state names.old }
     ensures serves { IfOk result (λ reply. Serves (Call.Grow wanted.name wanted.size wanted.align fill) reply arena.old names.old arena.new names.new
-        (record { refusals = C.refusals chunks.old; asked = C.asked chunks.old }) (record { refusals = C.refusals chunks.new; asked = C.asked chunks.new })) }
+        (C.source chunks.old) (C.source chunks.new)) }
     ensures err { OnErr result ((arena.new ≡ arena.old) × (chunks.new ≡ chunks.old)) }
 {
     let Some(place) = names.get(wanted.name) else {
@@ -110,7 +110,7 @@ fn serve_shrink<const M: usize, C: ChunkSource>(
 ) -> Result<Reply, OutOfMemory>
     requires { Holds arena.old.state names.old }
     ensures serves { IfOk result (λ reply. Serves (Call.Shrink wanted.name wanted.size wanted.align) reply arena.old names.old arena.new names.new
-        (record { refusals = C.refusals chunks.old; asked = C.asked chunks.old }) (record { refusals = C.refusals chunks.new; asked = C.asked chunks.new })) }
+        (C.source chunks.old) (C.source chunks.new)) }
     ensures err { OnErr result ((arena.new ≡ arena.old) × (chunks.new ≡ chunks.old)) }
 {
     let Some(place) = names.get(wanted.name) else {
@@ -199,7 +199,7 @@ pub(crate) fn serve<const M: usize, C: ChunkSource>(
 ) -> Result<Reply, OutOfMemory>
     requires { Holds arena.old.state names.old }
     ensures serves { IfOk result (λ reply. Serves call.now reply arena.old names.old arena.new names.new
-        (record { refusals = C.refusals chunks.old; asked = C.asked chunks.old }) (record { refusals = C.refusals chunks.new; asked = C.asked chunks.new })) }
+        (C.source chunks.old) (C.source chunks.new)) }
     ensures err { OnErr result ((arena.new ≡ arena.old) × (chunks.new ≡ chunks.old)) }
 {
     match *call {

@@ -2,25 +2,23 @@
 ghost use Rattle.std.specs.Prelude.{◌≡◌, ℕ, ◌+◌, ◌-◌, ◌^◌, ◌<◌, ◌≤◌, List, [], ◌∷◌, Option, None, IsTrue, IfSome, IfNone, OnSome, replicate};
 ghost use Rattle.placement.specs.Rounding.{is_layout};
 ghost use Rattle.placement.specs.Causes.{CountsRefusals, TellsRequests};
+ghost use Rattle.arena_chunks.specs.Source.{Source};
 
 use std::alloc::Global;
 
 /// A source of chunks. It may refuse a request, and counts that.
 pub trait ChunkSource {
-    // How often it has refused. At 2 ^ 64 - 1 the count stands.
-    ghost refusals: { Self → ℕ };
-
-    // All requests so far, as size and alignment, if it tells them.
-    ghost asked: { Self → Option (List (ℕ × ℕ)) };
+    // What it shows: how often it has refused, and its requests, if it tells them.
+    ghost source: { Self → Source };
 
     /// A chunk of `size` zeros for an address that is a multiple of `align`, or none, which is a refusal. With 48
     /// bytes more the two are still a layout.
     fn request(&mut self, size: u64, align: u64) -> Option<Vec<u8>>
         requires { IsTrue (is_layout (size + 48) align) }
         ensures zeros { IfSome result (λ chunk. chunk.items ≡ replicate size 0) }
-        ensures granted { OnSome result (CountsRefusals (refusals self.old) (refusals self.new) 0) }
-        ensures refused { IfNone result (CountsRefusals (refusals self.old) (refusals self.new) 1) }
-        ensures told { TellsRequests (asked self.old) (asked self.new) ((size, align) ∷ []) };
+        ensures granted { OnSome result (CountsRefusals (source self.old).refusals (source self.new).refusals 0) }
+        ensures refused { IfNone result (CountsRefusals (source self.old).refusals (source self.new).refusals 1) }
+        ensures told { TellsRequests (source self.old).asked (source self.new).asked ((size, align) ∷ []) };
 }
 
 /// Chunks from memory, up to a budget of bytes. It doesn't tell its requests. Chunks that an arena gives up aren't
@@ -35,7 +33,7 @@ pub struct MemoryChunks {
 impl MemoryChunks {
     /// A source of at most `budget` bytes. Takes no memory.
     pub fn new(alloc: Global, budget: u64) -> MemoryChunks
-        ensures refusals { ⟦<MemoryChunks as ChunkSource>⟧.refusals result ≡ 0 }
+        ensures source { ⟦<MemoryChunks as ChunkSource>⟧.source result ≡ record { refusals = 0; asked = None } }
         ensures budget { result.left ≡ budget }
     {
         MemoryChunks {
@@ -47,9 +45,7 @@ impl MemoryChunks {
 }
 
 impl ChunkSource for MemoryChunks {
-    ghost refusals = { λ c. c.refused };
-
-    ghost asked = { λ _. None };
+    ghost source = { λ c. record { refusals = c.refused; asked = None } };
 
     fn request(&mut self, size: u64, align: u64) -> Option<Vec<u8>>
         ensures zeros { IfSome result (λ chunk. chunk.items ≡ replicate size 0) }

@@ -7,7 +7,8 @@ use Rattle.placement.specs.Requests.{requests_of}
 use Rattle.placement.specs.declared.calls.Call.{Call}
 use Rattle.placement.specs.declared.calls.Reply.{Reply}
 use Rattle.arena_chunks.specs.Memory.{Memory}
-use Rattle.arena_chunks.specs.Runs.{Runs, RunsFirst, Source, KeepsUnlessReset}
+use Rattle.arena_chunks.specs.Source.{Source}
+use Rattle.arena_chunks.specs.Runs.{Runs, RunsFirst, KeepsUnlessReset}
 use Rattle.arena_chunks.specs.declared.block.Block.{Block}
 
 pub runs_first : (entry exit : Memory) (before after : Source) (calls : List Call) (replies : List Reply) (blocks : List (ℕ × Block)) → Runs entry exit before after calls replies blocks → RunsFirst entry exit before after calls (length calls)

@@ -5,7 +5,8 @@ use Rattle.placement.specs.Replies.{text_of}
 use Rattle.placement.specs.declared.calls.Call.{Call}
 use Rattle.placement.specs.declared.calls.Reply.{Reply}
 use Rattle.arena_chunks.specs.Memory.{Memory}
-use Rattle.arena_chunks.specs.Runs.{Runs, RunsFirst, Source}
+use Rattle.arena_chunks.specs.Source.{Source}
+use Rattle.arena_chunks.specs.Runs.{Runs, RunsFirst}
 use Rattle.arena_chunks.specs.declared.block.Block.{Block}
 use Rattle.arena_run.specs.Streams.{HasFault, Writes, last_fault}
 use Rattle.arena_run.specs.ReadAll.{limit, TakesFront, TakesWhole}

@@ -62,8 +62,8 @@ pub fn arena_main<C: ChunkSource, I: Input, O: Output>(
 ) -> Status
     ensures usage { (result ≡ Status.Usage) ↔ (words.now ≡ codes "calls" ∷ [] → ⊥) }
     ensures ends { Ends result
-        (record { left = I.left input.old; reads = I.faults input.old; written = O.written output.old; writes = O.faults output.old; memory = arena.old; source = record { refusals = C.refusals chunks.old; asked = C.asked chunks.old } })
-        (record { left = I.left input.new; reads = I.faults input.new; written = O.written output.new; writes = O.faults output.new; memory = arena.new; source = record { refusals = C.refusals chunks.new; asked = C.asked chunks.new } }) }
+        (record { left = I.left input.old; reads = I.faults input.old; written = O.written output.old; writes = O.faults output.old; memory = arena.old; source = C.source chunks.old })
+        (record { left = I.left input.new; reads = I.faults input.new; written = O.written output.new; writes = O.faults output.new; memory = arena.new; source = C.source chunks.new }) }
 {
     if !is_calls(words) {
         return Status::Usage;

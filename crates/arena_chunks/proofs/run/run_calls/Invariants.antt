@@ -5,8 +5,8 @@ use Rattle.arena_chunks.proofs.run.run_calls.Given as goal
 abbrev pub invariant-loop-done : goal.invariant-loop-done
 invariant-loop-done g l = record {
   running : IsRunning l.initial.arena l.arena l.names (take l.done l.calls) l.replies.items
-      (record { refusals = g.C.ChunkSource.refusals l.initial.chunks; asked = g.C.ChunkSource.asked l.initial.chunks })
-      (record { refusals = g.C.ChunkSource.refusals l.chunks; asked = g.C.ChunkSource.asked l.chunks });
+      (g.C.ChunkSource.source l.initial.chunks)
+      (g.C.ChunkSource.source l.chunks);
   room : length l.calls ≤ vec_capacity l.replies;
   filled : vec_len l.replies ≡ l.done;
 }

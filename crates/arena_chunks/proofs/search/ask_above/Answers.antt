@@ -36,4 +36,4 @@ returns-in-None-clause-granted g c = rw (nothing g c) refl
 
 pub returns-in-None-clause-requests : goal.returns-in-None-clause-requests
 unfolding requests
-returns-in-None-clause-requests g c = rw (nothing g c) (tells_none (g.C.ChunkSource.asked c.args.chunks.now))
+returns-in-None-clause-requests g c = rw (nothing g c) (tells_none (g.C.ChunkSource.source c.args.chunks.now).asked)

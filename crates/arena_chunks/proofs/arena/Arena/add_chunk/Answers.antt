@@ -9,7 +9,7 @@ use Rattle.arena_chunks.proofs.arena.Arena.add_chunk.Given.{Over}
 use Rattle.arena_chunks.proofs.arena.Arena.add_chunk.Goals as goal
 
 pub returns-then-not-self-clause-added : goal.returns-then-not-self-clause-added
-returns-then-not-self-clause-added g c = adds_none c.args.self.now _ _ _ _ (ap (λ (w : Memory). w.state.is_growing) (sym c.self.view_is) ∙ c.if-not-self.true)
+returns-then-not-self-clause-added g c = adds_none c.args.self.now _ _ _ (ap (λ (w : Memory). w.state.is_growing) (sym c.self.view_is) ∙ c.if-not-self.true)
 
 pub returns-in_default-clause-added : goal.returns-in_default-clause-added
 returns-in_default-clause-added g c =

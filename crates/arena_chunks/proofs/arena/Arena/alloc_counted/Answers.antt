@@ -63,4 +63,4 @@ returns-in-Ok-clause-valid g c = (in_new g c).valid
 pub returns-in-Err-clause-step : goal.returns-in-Err-clause-step
 returns-in-Err-clause-step g c =
     let none = place_stored g.row.MIN_ALIGN c.self.inside c.args.self.now c.args.layout.size c.args.layout.align None c.self.invariant c.self.view_is c.in-None.ensures in
-    all_refused c.args.self.now c.add_chunk.new.self c.args.layout.size c.args.layout.align _ _ _ _ c.in-Err.e none c.in-Err.ensures.err c.in-Err.ensures.added
+    all_refused c.args.self.now c.add_chunk.new.self c.args.layout.size c.args.layout.align _ _ c.in-Err.e none c.in-Err.ensures.err c.in-Err.ensures.added

@@ -16,7 +16,7 @@ returns-then-block-layout-clause-step g c =
       | then-block-layout-via-else-block-layout+then-block-self w ↦ inr (λ same. w.if-block-self.true (same ∙ sym (cursor_stored g.row.MIN_ALIGN c.self.inside c.args.self.now c.self.invariant c.self.view_is)))
     ] in
     let call = grows_anew c.args.self.now.state c.args.block.addr c.args.block.size c.args.block.align c.args.layout.size c.args.layout.align away in
-    takes_anew _ _ c.args.self.now.state c.copy_to_new.new.self.state c.args.layout.size c.args.layout.align _ _ _ _ c.copy_to_new.result call.step call.requests c.copy_to_new.ensures.step
+    takes_anew _ _ c.args.self.now.state c.copy_to_new.new.self.state c.args.layout.size c.args.layout.align _ _ c.copy_to_new.result call.step call.requests c.copy_to_new.ensures.step
 
 pub returns-then-block-layout-clause-statistics : goal.returns-then-block-layout-clause-statistics
 returns-then-block-layout-clause-statistics g c =
@@ -43,7 +43,7 @@ returns-in_default-clause-step g c =
     record { low = c.if-block-layout.false; at = c.if-block-self.false ∙ cursor_stored g.row.MIN_ALIGN c.self.inside c.args.self.now c.self.invariant c.self.view_is } in
     let more : c.round_up_to_unchecked.result ≡ up c.args.layout.size c.args.self.now.state.min_align = c.round_up_to_unchecked.ensures ∙ ap (λ (w : Memory). up c.args.layout.size w.state.min_align) c.self.view_is in
     let call = grows_not c.args.self.now.state c.args.block.addr c.args.block.size c.args.block.align c.args.layout.size c.args.layout.align here (rw (← more) (sym c.in_default.ensures.valid)) in
-    takes_unasked _ _ _ _ _ _ (call.step 0) (call.requests 0)
+    takes_unasked _ _ _ _ _ (call.step 0) (call.requests 0)
 
 pub returns-in-Some-place-clause-step : goal.returns-in-Some-place-clause-step
 returns-in-Some-place-clause-step g c =
@@ -52,7 +52,7 @@ returns-in-Some-place-clause-step g c =
     let more : c.round_up_to_unchecked.result ≡ up c.args.layout.size c.args.self.now.state.min_align = c.round_up_to_unchecked.ensures ∙ ap (λ (w : Memory). up c.args.layout.size w.state.min_align) c.self.view_is in
     let found = place_stored g.row.MIN_ALIGN c.self-2.inside c.args.self.now c.in-Some.below.size c.in-Some.below.align (Some c.in-Some-place.addr) c.self-2.invariant c.self-2.view_is c.in-Some-place.ensures in
     let call = grows_down c.args.self.now.state c.args.block.addr c.args.block.size c.args.block.align c.args.layout.size c.args.layout.align c.in-Some-place.addr here (rw (← more) (sym c.in-Some.ensures.valid)) (rw (← more, ← c.in-Some.ensures.value.0, ← c.in-Some.ensures.value.1) found) in
-    takes_unasked _ _ _ _ _ _ (rw (c.grow_to.ensures.addr, c.grow_to.ensures.state) (call.step 0)) (call.requests 0)
+    takes_unasked _ _ _ _ _ (rw (c.grow_to.ensures.addr, c.grow_to.ensures.state) (call.step 0)) (call.requests 0)
 
 -- There is no room for what is wanted more.
 pub returns-in-None-clause-step : goal.returns-in-None-clause-step
@@ -62,7 +62,7 @@ returns-in-None-clause-step g c =
     let more : c.round_up_to_unchecked.result ≡ up c.args.layout.size c.args.self.now.state.min_align = c.round_up_to_unchecked.ensures ∙ ap (λ (w : Memory). up c.args.layout.size w.state.min_align) c.self.view_is in
     let none = place_stored g.row.MIN_ALIGN c.self-2.inside c.args.self.now c.in-Some.below.size c.in-Some.below.align None c.self-2.invariant c.self-2.view_is c.in-None.ensures in
     let call = grows_full c.args.self.now.state c.args.block.addr c.args.block.size c.args.block.align c.args.layout.size c.args.layout.align here (rw (← more) (sym c.in-Some.ensures.valid)) (rw (← more, ← c.in-Some.ensures.value.0, ← c.in-Some.ensures.value.1) none) in
-    takes_anew _ _ c.args.self.now.state c.copy_to_new-in-None.new.self.state c.args.layout.size c.args.layout.align _ _ _ _ c.copy_to_new-in-None.result call.step call.requests c.copy_to_new-in-None.ensures.step
+    takes_anew _ _ c.args.self.now.state c.copy_to_new-in-None.new.self.state c.args.layout.size c.args.layout.align _ _ c.copy_to_new-in-None.result call.step call.requests c.copy_to_new-in-None.ensures.step
 
 pub returns-in-None-clause-statistics : goal.returns-in-None-clause-statistics
 returns-in-None-clause-statistics g c =
