@@ -16,6 +16,7 @@ use Rattle.placement.specs.declared.calls.Call.{Call}
 use Rattle.placement.specs.declared.calls.Reply.{Reply}
 use Rattle.placement.proofs.CauseLemmas.{counts_none, counts_more, tells_none, tells_more}
 use Rattle.arena_chunks.specs.Memory.{Memory}
+use Rattle.placement.proofs.DoublingRunLemmas.{run_doubling}
 use Rattle.arena_chunks.specs.Source.{Source}
 use Rattle.arena_chunks.specs.Runs.{HoldsBytes, Runs, RunsFirst, held_blocks}
 use Rattle.arena_chunks.specs.Serving.{machine_of, Holds, Keeps, Serves}
@@ -113,6 +114,7 @@ running_over entry memory names calls replies before after blocks running held =
   refusals = running.refusals;
   requests = running.requests;
   kept = λ kept. (running.keeps kept).kept;
+  doubling = λ least small made double. run_doubling least (fresh entry.state) calls (told replies) replies _ small double running.ran made;
 }
 
 -- where the next call, or what is made of the replies, finds no memory
@@ -127,4 +129,5 @@ running_stopped entry memory names calls done replies before after within runnin
   refusals = running.refusals;
   requests = running.requests;
   kept = λ kept. (running.keeps kept).kept;
+  doubling = λ least small made double. run_doubling least (fresh entry.state) (take done calls) (told replies) replies _ small double running.ran made;
 }

@@ -1,7 +1,9 @@
 -- What a run of calls over an arena shows.
-use Rattle.std.specs.Prelude.{◌≡◌, false, ℕ, ◌≤◌, Some, List, map, sum, take, length}
+use Rattle.std.specs.Prelude.{◌≡◌, false, ℕ, ◌≤◌, Some, IsTrue, List, map, sum, take, length}
 use Rattle.std.specs.FinMap as finite
 use Rattle.std.specs.List.{list_any}
+use Rattle.placement.specs.State.{State}
+use Rattle.placement.specs.Doubling.{IsDoubling, made_first}
 use Rattle.placement.specs.Causes.{CountsRefusals, TellsRequests}
 use Rattle.placement.specs.Machine.{Machine, Held, Contents, IsSound, run, told, is_reset}
 use Rattle.placement.specs.Requests.{requests_of}
@@ -30,9 +32,15 @@ pub record HoldsBytes (memory : Memory) (held : Held) (bytes : Contents) : Type 
 abbrev pub KeepsUnlessReset : List Call → Memory → Memory → Type 0
 KeepsUnlessReset calls entry exit = list_any is_reset calls ≡ false → KeepsUsed entry exit
 
+-- Where each chunk was made at the first size that was tried for it, chunks still double, of any least size up to that of
+-- a first chunk.
+abbrev pub KeepsDoubling : List Call → List ℕ → State → State → Type 0
+KeepsDoubling calls ks entry exit =
+    (least : ℕ) → least ≤ 16320 → IsTrue (made_first entry calls ks) → IsDoubling least entry.chunks → IsDoubling least exit.chunks
+
 -- The replies are the machine's, when it is told the refusals that they tell; the arena is in the machine's last state, and
 -- holds its blocks with their bytes; the source refused as often, or more, and was asked for what the rules ask for; what was
--- used before is as it was, unless all blocks were given back.
+-- used before is as it was, unless all blocks were given back; and chunks still double, if they may.
 pub record Runs (entry exit : Memory) (before after : Source) (calls : List Call) (replies : List Reply) (blocks : List (ℕ × Block)) : Type 0 where
   pub last : Machine
   pub ran : run entry.state calls (told replies) ≡ Some (replies, last)
@@ -43,6 +51,7 @@ pub record Runs (entry exit : Memory) (before after : Source) (calls : List Call
   pub refusals : CountsRefusals before.refusals after.refusals (sum (told replies))
   pub requests : TellsRequests before.asked after.asked (requests_of entry.state calls (told replies))
   pub kept : KeepsUnlessReset calls entry exit
+  pub doubling : KeepsDoubling calls (told replies) entry.state exit.state
 
 -- The arena is as after the first calls, so many: they are a run of the machine, to the state that the arena is in.
 pub record RunsFirst (entry exit : Memory) (before after : Source) (calls : List Call) (done : ℕ) : Type 0 where
@@ -54,6 +63,7 @@ pub record RunsFirst (entry exit : Memory) (before after : Source) (calls : List
   pub refusals : CountsRefusals before.refusals after.refusals (sum (told replies))
   pub requests : TellsRequests before.asked after.asked (requests_of entry.state (take done calls) (told replies))
   pub kept : KeepsUnlessReset (take done calls) entry exit
+  pub doubling : KeepsDoubling (take done calls) (told replies) entry.state exit.state
 
 abbrev pub Stops : Memory → Memory → Source → Source → List Call → Stopped → Type 0
 Stops entry exit before after calls (OutOfMemory done) = RunsFirst entry exit before after calls done

@@ -8,7 +8,7 @@ use Rattle.placement.specs.declared.calls.Call.{Call}
 use Rattle.placement.specs.declared.calls.Reply.{Reply}
 use Rattle.arena_chunks.specs.Memory.{Memory}
 use Rattle.arena_chunks.specs.Source.{Source}
-use Rattle.arena_chunks.specs.Runs.{Runs, RunsFirst, KeepsUnlessReset}
+use Rattle.arena_chunks.specs.Runs.{Runs, RunsFirst, KeepsUnlessReset, KeepsDoubling}
 use Rattle.arena_chunks.specs.declared.block.Block.{Block}
 
 pub runs_first : (entry exit : Memory) (before after : Source) (calls : List Call) (replies : List Reply) (blocks : List (ℕ × Block)) → Runs entry exit before after calls replies blocks → RunsFirst entry exit before after calls (length calls)
@@ -23,4 +23,5 @@ runs_first entry exit before after calls replies blocks r =
       refusals = r.refusals;
       requests = subst (λ first. TellsRequests before.asked after.asked (requests_of entry.state first (told replies))) (sym all) r.requests;
       kept = subst (λ first. KeepsUnlessReset first entry exit) (sym all) r.kept;
+      doubling = subst (λ first. KeepsDoubling first (told replies) entry.state exit.state) (sym all) r.doubling;
     }
