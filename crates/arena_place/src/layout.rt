@@ -66,3 +66,11 @@ impl Layout {
         self.align
     }
 }
+
+/// The same as `Layout::new`.
+pub const fn layout_from_size_align(size: u64, align: u64) -> Option<Layout>
+    ensures valid { is_some result ≡ is_layout size align }
+    ensures value { IfSome result (λ l. (l.size ≡ size) × (l.align ≡ align)) }
+{
+    Layout::new(size, align)
+}

@@ -5,7 +5,7 @@ mod layout;
 mod placing;
 mod rounding;
 
-pub use layout::Layout;
+pub use layout::{Layout, layout_from_size_align};
 pub use placing::{chunk_data_size, next_base, place};
 pub use rounding::{is_aligned_to, round_down_to, round_up_to, round_up_to_unchecked};
 
@@ -26,6 +26,12 @@ pub const FIRST_ALLOCATION_GOAL: u64 = 16384;
 
 /// The least data size that is tried for a chunk.
 pub const DEFAULT_CHUNK_SIZE_WITHOUT_FOOTER: u64 = FIRST_ALLOCATION_GOAL - OVERHEAD;
+
+/// A region that an arena is made over has at least this size in bytes: its last 48 bytes are left out of the chunk.
+pub const RAW_MIN_SIZE: u64 = CHUNK_FOOTER_SIZE;
+
+/// The size of a region that an arena is made over is a multiple of this, as its address would be.
+pub const RAW_MIN_ALIGN: u64 = CHUNK_ALIGN;
 
 #[cfg(test)]
 mod tests;

@@ -1,5 +1,10 @@
 // Worked examples of places, sizes and bases.
-use crate::{Layout, chunk_data_size, is_aligned_to, next_base, place, round_up_to};
+mod places;
+
+use crate::{
+    Layout, RAW_MIN_ALIGN, RAW_MIN_SIZE, chunk_data_size, is_aligned_to, layout_from_size_align,
+    next_base, place, round_up_to,
+};
 use std::test::Fail;
 
 fn layout(size: u64, align: u64) -> Result<Layout, Fail> {
@@ -53,4 +58,26 @@ fn layouts(rt: HostRuntime) -> Result<(), Fail> {
     assert_eq!(rt; round_up_to(u64::MAX, 2), None);
     assert_eq!(rt; is_aligned_to(48, 16), true);
     Ok(())
+}
+
+#[test]
+fn a_layout_by_its_name_in_rust(rt: HostRuntime) {
+    for (size, align) in [
+        (0, 1 << 63),
+        (1, 1 << 63),
+        (24, 8),
+        (1, 0),
+        (1, 3),
+        (1 << 63, 1),
+    ] {
+        assert!(rt; layout_from_size_align(size, align) == Layout::new(size, align));
+    }
+    assert_eq!(rt; layout_from_size_align(24, 8).map(|l| l.size()), Some(24));
+    assert_eq!(rt; layout_from_size_align(24, 3), None);
+}
+
+#[test]
+fn the_least_region(rt: HostRuntime) {
+    assert_eq!(rt; RAW_MIN_SIZE, 48);
+    assert_eq!(rt; RAW_MIN_ALIGN, 16);
 }
