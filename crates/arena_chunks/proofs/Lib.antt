@@ -4,6 +4,7 @@ pub mod ServingLemmas
 pub mod RunLemmas
 pub mod Asking
 pub mod BytesLemmas
+pub mod TextLemmas
 pub mod TableLemmas
 pub mod StoredLemmas
 pub mod FrameLemmas
@@ -13,3 +14,8 @@ pub mod LastLemmas
 pub mod PartLemmas
 pub mod ResizedLemmas
 pub mod ResizeSteps
+pub mod FrameRules
+pub mod BlockCallLemmas
+pub mod CreatedLemmas
+pub mod WalkLemmas
+pub mod ShiftLemmas

@@ -31,7 +31,7 @@ readable_part state block p n readable low high some =
 
 -- ---- Lists, and the element that was looked up
 
-all_reversed : {X : Type 0} (P : X → Type 0) → (xs : List X) → All P xs → All P (reverse xs)
+pub all_reversed : {X : Type 0} (P : X → Type 0) → (xs : List X) → All P xs → All P (reverse xs)
 all_reversed P [] all = All-nil P
 all_reversed P (x ∷ xs) all = subst (All P) (sym (reverse-append (x ∷ []) xs)) (All-push P (reverse xs) x (all_reversed P xs (All-tail P x xs all)) (All-head P x xs all))
 

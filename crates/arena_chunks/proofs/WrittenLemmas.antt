@@ -1,12 +1,13 @@
 -- The bytes of a range after some of them were written.
-use Rattle.std.proofs.Common.{◌≡◌, ℕ, zero, suc, ◌+◌, ◌-◌, ◌<◌, ◌≤◌, ap, refl, sym, ◌∙◌, arith, List, [], ◌∷◌, ◌++◌, true, length, take, drop, replicate, append-nil}
-use Rattle.std.specs.Prelude.{nat_le, nat_lt}
+use Rattle.std.proofs.Common.{◌≡◌, ℕ, zero, suc, ◌+◌, ◌-◌, ◌<◌, ◌≤◌, ap, refl, sym, ◌∙◌, arith, List, [], ◌∷◌, ◌++◌, true, false, inl, inr, length, take, drop, replicate, append-nil}
+use Rattle.std.specs.Prelude.{nat_le, nat_lt, ◌&&◌}
+use Rattle.std.proofs.lemmas.Bool.{cases_Bool}
 use Rattle.std.proofs.lemmas.Bool.Decides.{nat_tests}
 use Rattle.std.proofs.lemmas.Grind.{same_number_lists}
 use Rattle.std.proofs.lemmas.List.{length-replicate, drop_all}
 use Rattle.placement.specs.Machine.{splice}
 use Rattle.arena_chunks.specs.Memory.{bytes_from, written}
-use Rattle.arena_chunks.proofs.BytesLemmas.{length-bytes, byte-bytes, length-splice, splice_index}
+use Rattle.arena_chunks.proofs.BytesLemmas.{length-bytes, byte-bytes, bytes_part, length-splice, splice_index}
 
 pub bytes_same : (f g : ℕ → ℕ) (addr n : ℕ) → ((i : ℕ) → i < n → f (addr + i) ≡ g (addr + i)) → bytes_from f addr n ≡ bytes_from g addr n
 bytes_same f g addr n same =
@@ -55,3 +56,30 @@ bytes_filled f g addr n at value within writes =
     let old = length-bytes f addr n in
     let none : drop (at + length list) (bytes_from f addr n) ≡ [] = drop_all (at + length list) (bytes_from f addr n) (omega arith) in
     bytes_spliced f g addr n at list (omega arith) writes ∙ rw (none, take_bytes f addr n at within) (append-nil (bytes_from f addr at ++ list))
+
+-- A part of the bytes in a range.
+pub bytes_within : (f : ℕ → ℕ) (addr n from k : ℕ) → from + k ≤ n → take k (drop from (bytes_from f addr n)) ≡ bytes_from f (addr + from) k
+bytes_within f addr n from k within =
+    bytes_part f (bytes_from f addr n) (addr + from) from k (omega (arith, length-bytes f addr n)) (λ i below.
+    let at : addr + from + i ≡ addr + (from + i) = omega arith in
+    ap f at ∙ sym (byte-bytes f addr n (from + i) (omega arith)))
+
+-- What stands in a range, written there again with another list in its midst: that list alone is written.
+pub written_within : (f : ℕ → ℕ) (addr n at p : ℕ) (list : List ℕ) → at + length list ≤ n
+    → written f addr (splice (bytes_from f addr n) at list) p ≡ written f (addr + at) list p
+written_within f addr n at p list within =
+    let old = length-bytes f addr n in
+    let sized = length-splice (bytes_from f addr n) list at (omega arith) in
+    elim (cases_Bool (nat_le addr p && nat_lt p (addr + length (splice (bytes_from f addr n) at list)))) [
+      | inl inside ↦
+          let low : addr ≤ p = grind (arith, nat_tests) in
+          let high : p < addr + n = grind (arith, nat_tests) in
+          let left : nat_le at (p - addr) ≡ nat_le (addr + at) p = grind (arith, nat_tests) in
+          let right : nat_lt (p - addr) (at + length list) ≡ nat_lt p (addr + at + length list) = grind (arith, nat_tests) in
+          let index : p - addr - at ≡ p - (addr + at) = omega arith in
+          let here : addr + (p - addr) ≡ p = omega arith in
+          rw inside (splice_index (bytes_from f addr n) list at (p - addr) (omega arith) ∙ rw (left, right, index, byte-bytes f addr n (p - addr) (omega arith), here) refl)
+      | inr beside ↦
+          let apart : (nat_le (addr + at) p && nat_lt p (addr + at + length list)) ≡ false = grind (arith, nat_tests) in
+          rw (beside, apart) refl
+    ]

@@ -1,7 +1,7 @@
 -- What the calls on blocks do to an arena and its source, whoever makes them.
-use Rattle.std.specs.Prelude.{◌≡◌, ℕ, ◌+◌, ◌<◌, ◌≤◌, ◌*◌, ◌&&◌, nat_lt, true, false, Bool, Option, None, Result, Ok, Err, List, [], ◌∷◌, IsTrue, IfOk, IsOk, OnErr}
+use Rattle.std.specs.Prelude.{◌≡◌, ℕ, ◌+◌, ◌<◌, ◌≤◌, ◌*◌, ◌&&◌, nat_lt, true, false, Bool, None, Result, Ok, Err, List, [], ◌∷◌, IsTrue, IfOk, IsOk, OnErr}
 use Rattle.placement.specs.Rounding.{is_layout}
-use Rattle.placement.specs.State.{State, IsValid}
+use Rattle.placement.specs.State.{IsValid}
 use Rattle.placement.specs.Search.{place}
 use Rattle.placement.specs.Moves.{dealloc, grow, shrink}
 use Rattle.placement.specs.Requests.{grow_requests, shrink_requests}
@@ -74,6 +74,11 @@ pub record Reallocates (old new : Memory) (before after : Source) (block : Block
   pub anew : IsTrue (is_layout size block.align) → block.size ≡ 0 → PlacesBlock old new before after size block.align result
   pub shrunk : IsTrue (is_layout size block.align) → 0 < block.size → size ≤ block.size → ShrinksBlock old new before after block size block.align result
   pub grown : IsTrue (is_layout size block.align) → 0 < block.size → block.size < size → GrowsBlock old new before after block size block.align result
+
+-- a result with another value
+abbrev pub map_ok : {X Y E : Type 0} → (X → Y) → Result X E → Result Y E
+map_ok f (Ok x) = Ok (f x)
+map_ok f (Err e) = Err e
 
 -- elements of this size and alignment, so many, in a row: a layout of some bytes
 abbrev pub is_array : ℕ → ℕ → ℕ → Bool

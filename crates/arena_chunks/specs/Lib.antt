@@ -8,3 +8,6 @@ pub mod PlaceCode
 pub mod Serving
 pub mod Resizes
 pub mod BlockCalls
+pub mod Creating
+pub mod Walks
+pub mod Messages

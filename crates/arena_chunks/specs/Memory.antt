@@ -1,6 +1,6 @@
 -- An arena as contracts see it: its places, its statistics, and the bytes of its chunks.
-use Rattle.std.specs.Prelude.{◌≡◌, ℕ, zero, suc, ◌+◌, ◌-◌, ◌^◌, Bool, ◌&&◌, ◌||◌, ◌==◌, nat_le, nat_lt, if◌then◌else◌, List, [], ◌∷◌, slice_index, length, IsTrue, min}
-use Rattle.placement.specs.State.{State, Chunk, is_used, is_range_used}
+use Rattle.std.specs.Prelude.{◌≡◌, ℕ, zero, suc, ◌+◌, ◌-◌, ◌^◌, Bool, ◌&&◌, ◌||◌, ◌==◌, nat_le, nat_lt, if◌then◌else◌, List, [], ◌∷◌, map, slice_index, length, IsTrue, min}
+use Rattle.placement.specs.State.{State, Chunk, data_end, used_length, is_used, is_range_used}
 use Rattle.arena_chunks.specs.declared.block.Block.{Block}
 
 -- how many blocks were placed, and how many were grown or shrunk
@@ -27,6 +27,11 @@ byte_in [] bytes addr = 0
 byte_in (newest ∷ older) [] addr = 0
 byte_in (newest ∷ older) (list ∷ bytes) addr = if nat_le newest.base addr then slice_index list (addr - newest.base) else byte_in older bytes addr
 
+-- where a further chunk may begin; 16 where there is none
+abbrev pub end_of : List Chunk → ℕ
+end_of [] = 16
+end_of (newest ∷ older) = data_end newest + 48
+
 -- The image of an arena: what stands at each address.
 abbrev pub image : Memory → ℕ → ℕ
 image memory addr = byte_in memory.state.chunks memory.bytes addr
@@ -40,6 +45,13 @@ bytes_from bytes addr (suc n) = bytes addr ∷ bytes_from bytes (addr + 1) n
 abbrev pub is_readable : State → Block → Bool
 is_readable state block =
     block.size == 0 || (block.generation == state.generation && is_range_used state.chunks block.addr block.size)
+
+-- the used parts of the chunks, newest first: their bytes, and where they begin and how long they are
+abbrev pub used_parts : Memory → List (List ℕ)
+used_parts memory = map (λ (c : Chunk). bytes_from (image memory) c.cursor (used_length c)) memory.state.chunks
+
+abbrev pub used_ranges : State → List (ℕ × ℕ)
+used_ranges state = map (λ (c : Chunk). (c.cursor, used_length c)) state.chunks
 
 -- what is used stays used, with its bytes
 pub record KeepsUsed (old new : Memory) : Type 0 where

@@ -1,5 +1,6 @@
 -- How an arena stores its chunks: the newest in a field of its own, the others in a table, oldest first.
-use Rattle.std.specs.Prelude.{◌≡◌, ℕ, ◌+◌, ◌-◌, ◌^◌, ◌<◌, ◌≤◌, ◌==◌, Bool, List, [], ◌∷◌, ◌++◌, length, map, reverse, IsTrue, nat_le, take, drop, if◌then◌else◌}
+use Rattle.std.specs.Prelude.{◌≡◌, ℕ, ◌+◌, ◌-◌, ◌^◌, ◌<◌, ◌≤◌, ◌==◌, Bool, Option, Some, None, List, [], ◌∷◌, ◌++◌, length, map, reverse, IsTrue, nat_le, take, drop, if◌then◌else◌}
+use Rattle.std.specs.Borrow.{Bor}
 use Rattle.std.specs.List.{AllByRecursion, list_any}
 use Rattle.std.specs.List.Sorted.{IsNonDecreasingBy}
 use Rattle.placement.specs.State.{Chunk, IsValid}
@@ -62,3 +63,8 @@ pub record IsEdited (old new : StoredChunk) (addr n : ℕ) (gives : List ℕ →
   pub cursor : new.cursor ≡ old.cursor
   pub sized : length (gives (take n (drop (addr - old.base) old.bytes.items))) ≡ n
   pub bytes : new.bytes.items ≡ splice old.bytes.items (addr - old.base) (gives (take n (drop (addr - old.base) old.bytes.items)))
+
+-- what is left of a walk: the newest chunk, if it is still to come, and the others, newest first
+abbrev pub chunks_left : Option (Bor StoredChunk) → List StoredChunk → List StoredChunk
+chunks_left None older = reverse older
+chunks_left (Some newest) older = newest.now ∷ reverse older

@@ -1,14 +1,14 @@
 // How the bytes of blocks are read and written.
-ghost use Rattle.std.specs.Prelude.{◌≡◌, ◌+◌, ◌-◌, ◌≤◌, IsTrue, [], ◌∷◌, length, replicate};
+ghost use Rattle.std.specs.Prelude.{◌≡◌, ◌+◌, ◌-◌, ◌≤◌, IsTrue, length, replicate};
 
 use crate::arena::Arena;
 use crate::block::Block;
 use crate::chunk::{find_chunk, part_at, some_has};
-use crate::edit::{Edit, Fill, Put, edit_at};
+use crate::edit::{Edit, Fill, Put, Shift, edit_at};
 
 impl<const MIN_ALIGN: usize> Arena<MIN_ALIGN> {
-    ghost use Rattle.arena_chunks.specs.Memory.{Memory, is_readable, image, bytes_from, Writes};
-    ghost use Rattle.arena_chunks.specs.Frame.{Frame};
+    ghost use Rattle.arena_chunks.specs.Memory.{Memory, is_readable, image, bytes_from};
+    ghost use Rattle.arena_chunks.specs.BlockCalls.{WritesBlock};
 
     /// Whether a block is readable: it is empty, or of the arena's generation with its bytes in one chunk's used part.
     /// Of a block that was placed in this arena this tells whether a reset ended it.
@@ -35,26 +35,41 @@ impl<const MIN_ALIGN: usize> Arena<MIN_ALIGN> {
         part_at(chunk, block.addr, block.size)
     }
 
-    /// Replaces a range of a block's bytes.
+    /// Replaces bytes of a block, from the index `at` on.
     pub fn write(&mut self, block: Block, at: u64, bytes: &[u8])
         requires readable { IsTrue (is_readable self.old.state block) }
         requires range { at + length bytes.now ≤ block.size }
-        ensures state { self.new.state ≡ self.old.state }
-        ensures statistics { self.new.statistics ≡ self.old.statistics }
-        ensures bytes { Writes self.old self.new (block.addr + at) bytes.now }
-        ensures frame { Frame self.old self.new (block ∷ []) (block ∷ []) }
+        ensures { WritesBlock self.old self.new block at bytes.now }
     {
         self.edit(block, at, bytes.len() as u64, &Put { bytes });
+    }
+
+    /// Changes `size` bytes of a block, from the index `at` on, in their place with no buffer in between.
+    pub fn write_with<E: Edit>(&mut self, block: Block, at: u64, size: u64, e: &E)
+        requires readable { IsTrue (is_readable self.old.state block) }
+        requires range { at + size ≤ block.size }
+        requires suits { E.suits e.now size }
+        ensures { WritesBlock self.old self.new block at (E.after e.now (bytes_from (image self.old) (block.addr + at) size)) }
+    {
+        self.edit(block, at, size, e);
+    }
+
+    /// Moves `size` bytes of a block from the index `from` to the index `to`, in one move of memory. The two ranges may
+    /// overlap.
+    pub fn move_within(&mut self, block: Block, from: u64, to: u64, size: u64)
+        requires readable { IsTrue (is_readable self.old.state block) }
+        requires source { from + size ≤ block.size }
+        requires target { to + size ≤ block.size }
+        ensures { WritesBlock self.old self.new block to (bytes_from (image self.old) (block.addr + from) size) }
+    {
+        self.edit(block, 0, block.size, &Shift { from, to, size });
     }
 
     // Sets all bytes of a block from an index on.
     pub(crate) fn fill(&mut self, block: Block, at: u64, value: u8)
         requires readable { IsTrue (is_readable self.old.state block) }
         requires range { at ≤ block.size }
-        ensures state { self.new.state ≡ self.old.state }
-        ensures statistics { self.new.statistics ≡ self.old.statistics }
-        ensures bytes { Writes self.old self.new (block.addr + at) (replicate (block.size - at) value) }
-        ensures frame { Frame self.old self.new (block ∷ []) (block ∷ []) }
+        ensures { WritesBlock self.old self.new block at (replicate (block.size - at) value) }
     {
         self.edit(block, at, block.size - at, &Fill { value });
     }
@@ -64,10 +79,7 @@ impl<const MIN_ALIGN: usize> Arena<MIN_ALIGN> {
         requires readable { IsTrue (is_readable self.old.state block) }
         requires range { at + size ≤ block.size }
         requires suits { E.suits e.now size }
-        ensures state { self.new.state ≡ self.old.state }
-        ensures statistics { self.new.statistics ≡ self.old.statistics }
-        ensures bytes { Writes self.old self.new (block.addr + at) (E.after e.now (bytes_from (image self.old) (block.addr + at) size)) }
-        ensures frame { Frame self.old self.new (block ∷ []) (block ∷ []) }
+        ensures { WritesBlock self.old self.new block at (E.after e.now (bytes_from (image self.old) (block.addr + at) size)) }
     {
         if size == 0 {
             e.edit(&mut []);

@@ -1,10 +1,10 @@
 // The arena.
-ghost use Rattle.std.specs.Prelude.{◌≡◌, [], true};
+ghost use Rattle.std.specs.Prelude.{◌≡◌, ◌≢◌, ◌-◌, ◌%◌, ◌≤◌, []};
 
 use crate::block::Block;
-use crate::chunk::StoredChunk;
+use crate::chunk::{NOWHERE, StoredChunk};
+use arena_place::CHUNK_FOOTER_SIZE;
 use placement::Place;
-use std::alloc::Global;
 use std::marker::Model;
 
 /// A bump arena, which places blocks downwards in its newest chunk. The least alignment of its blocks is MIN_ALIGN:
@@ -31,29 +31,10 @@ impl<const MIN_ALIGN: usize> Model for Arena<MIN_ALIGN> {
     ghost invariant = { λ a. IsStored (memory_of MIN_ALIGN a.is_growing a.generation a.allocations a.reallocations a.newest a.older.items) a.newest a.older.items };
 }
 
-impl Arena<1> {
-    /// An empty arena that grows, of least alignment 1. Takes no memory.
-    pub fn new(alloc: Global) -> Arena<1>
-        ensures { result ≡ record {
-          state = record { min_align = 1; is_growing = true; generation = 0; chunks = [] };
-          statistics = record { allocations = 0; reallocations = 0 };
-          bytes = [];
-        } }
-    {
-        Arena {
-            newest: StoredChunk::none(alloc),
-            older: Vec::new(alloc),
-            is_growing: true,
-            generation: 0,
-            allocations: 0,
-            reallocations: 0,
-        }
-    }
-}
-
 impl<const MIN_ALIGN: usize> Arena<MIN_ALIGN> {
-    ghost use Rattle.placement.specs.State.{IsValid, cursor_of, used_bytes, allocated_bytes};
-    ghost use Rattle.arena_chunks.specs.Memory.{Memory};
+    ghost use Rattle.placement.specs.State.{IsValid, start_of, cursor_of, top_of, used_bytes, allocated_bytes};
+    ghost use Rattle.placement.specs.Moves.{set_cursor};
+    ghost use Rattle.arena_chunks.specs.Memory.{Memory, end_of};
     ghost use Rattle.arena_chunks.specs.Runs.{block_at};
 
     /// How many bytes of the chunks are used.
@@ -78,6 +59,72 @@ impl<const MIN_ALIGN: usize> Arena<MIN_ALIGN> {
             allocated += chunk.size();
         }
         allocated
+    }
+
+    /// How many bytes of the newest chunk are not used: all that can still be placed in it.
+    pub fn chunk_capacity(&self) -> u64
+        ensures { result ≡ cursor_of self.now.state.chunks - start_of self.now.state.chunks }
+    {
+        self.newest.cursor - self.newest.base
+    }
+
+    /// The data end of the newest chunk, past its last byte; 16 without a chunk.
+    pub fn data_end(&self) -> u64
+        ensures { result ≡ top_of self.now.state.chunks }
+    {
+        self.newest.base + self.newest.size()
+    }
+
+    /// Where a further chunk may begin, 48 addresses past the newest data end; 16 without a chunk.
+    pub fn end(&self) -> u64
+        ensures { result ≡ end_of self.now.state.chunks }
+    {
+        match self.newest.end() {
+            Some(end) => end + CHUNK_FOOTER_SIZE,
+            None => NOWHERE,
+        }
+    }
+
+    /// MIN_ALIGN, in bytes.
+    pub fn min_align(&self) -> u64
+        ensures value { result ≡ MIN_ALIGN }
+        ensures state { result ≡ self.now.state.min_align }
+    {
+        // The state is known to have it only once a field is used.
+        let _ = &self.newest;
+        MIN_ALIGN as u64
+    }
+
+    /// Whether the arena asks its source for further chunks.
+    pub fn is_growing(&self) -> bool
+        ensures { result ≡ self.now.state.is_growing }
+    {
+        self.is_growing
+    }
+
+    /// How many blocks were placed, and how many were grown or shrunk, since the arena began or was reset.
+    pub fn get_allocation_stats(&self) -> (u64, u64)
+        ensures { result ≡ (self.now.statistics.allocations, self.now.statistics.reallocations) }
+    {
+        (self.allocations, self.reallocations)
+    }
+
+    /// Moves the cursor of the newest chunk, whatever blocks lie there. Of blocks placed before nothing is known
+    /// afterwards: the generation rises, up to 2^64 - 1.
+    pub fn set_cursor(&mut self, addr: u64)
+        requires chunk { self.old.state.chunks ≢ [] }
+        requires low { start_of self.old.state.chunks ≤ addr }
+        requires high { addr ≤ top_of self.old.state.chunks }
+        requires aligned { addr % self.old.state.min_align ≡ 0 }
+        ensures memory { self.new ≡ record {
+          state = set_cursor addr self.old.state;
+          statistics = self.old.statistics;
+          bytes = self.old.bytes;
+        } }
+        ensures valid { IsValid self.new.state }
+    {
+        self.newest.cursor = addr;
+        self.generation = self.generation.saturating_add(1);
     }
 
     // The newest cursor, and what the type keeps.

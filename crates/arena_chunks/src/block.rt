@@ -1,6 +1,9 @@
 // Blocks, and why there is none.
 ghost use Rattle.std.specs.Prelude.{◌≡◌};
 
+use std::error::Error;
+use std::fmt;
+
 /// A block of an arena: the generation that it was placed in, its first address, its size and its alignment. It says
 /// nothing of whether the block is held.
 #[derive(Clone, Copy, PartialEq, Eq, Debug)]
@@ -33,3 +36,19 @@ pub enum ArenaErr {
     /// Memory for the table of chunks is wanting. The source wasn't asked.
     OutOfMemory,
 }
+
+impl fmt::Display for ArenaErr {
+    ghost use Rattle.std.specs.Prelude.{Some};
+    ghost use Rattle.arena_chunks.specs.Messages.{error_text};
+
+    ghost output = { λ e. Some (error_text e) };
+
+    fn fmt<W: fmt::Write>(&self, f: &mut fmt::Formatter<W>) -> fmt::Result {
+        match self {
+            ArenaErr::AllocErr { .. } => f.write_str("memory allocation failed"),
+            ArenaErr::OutOfMemory => f.write_str("out of memory"),
+        }
+    }
+}
+
+impl Error for ArenaErr {}

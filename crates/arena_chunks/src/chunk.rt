@@ -9,7 +9,7 @@ use std::alloc::Global;
 use std::mem;
 
 // Where what stands for no chunk begins and ends.
-const NOWHERE: u64 = 16;
+pub(crate) const NOWHERE: u64 = 16;
 
 // The bytes of a chunk stand from its base on; those from the cursor on are used.
 #[derive(Drop)]
@@ -30,6 +30,19 @@ impl StoredChunk {
             base: NOWHERE,
             cursor: NOWHERE,
             bytes: Vec::new(alloc),
+        }
+    }
+
+    // A chunk with nothing used.
+    pub(crate) fn unused(base: u64, bytes: Vec<u8>) -> StoredChunk
+        requires { base + length bytes.items < 2 ^ 64 }
+        ensures { result ≡ record { base = base; cursor = base + length bytes.items; bytes = bytes } }
+    {
+        let cursor = base + bytes.len() as u64;
+        StoredChunk {
+            base,
+            cursor,
+            bytes,
         }
     }
 
@@ -95,13 +108,7 @@ pub(crate) fn install(
     ensures newest { newest.new ≡ record { base = base; cursor = base + length bytes.items; bytes = bytes } }
     ensures older { older.new.items ≡ (if newest.old.base == 16 then older.old.items else older.old.items ++ newest.old ∷ []) }
 {
-    let cursor = base + bytes.len() as u64;
-    let chunk = StoredChunk {
-        base,
-        cursor,
-        bytes,
-    };
-    let last = mem::replace(newest, chunk);
+    let last = mem::replace(newest, StoredChunk::unused(base, bytes));
     if last.base == NOWHERE {
         return;
     }

@@ -1,17 +1,20 @@
 // Changes of the bytes that stand in one place.
 ghost use Rattle.std.specs.Prelude.{◌≡◌, ℕ, ◌+◌, ◌-◌, ◌≤◌, List, length, take, drop, replicate};
+ghost use Rattle.placement.specs.Machine.{splice};
 ghost use Rattle.arena_chunks.specs.Stored.{IsEdited};
 
 use crate::chunk::StoredChunk;
+use crate::shift::shift;
 
-/// A change of the bytes of a place, which keeps their number.
-pub(crate) trait Edit {
+/// A change of the bytes of a place, which keeps their number. What is written there may be encoded straight into the place.
+pub trait Edit {
     // Whether it suits a place of so many bytes.
     ghost suits: { Self → ℕ → Type 0 };
 
     // What stands there afterwards, by what stood there.
     ghost after: { Self → List ℕ → List ℕ };
 
+    /// Changes the bytes.
     fn edit(&self, place: &mut [u8])
         requires { suits self.now (length place.old) }
         ensures { place.new ≡ after self.now place.old };
@@ -37,9 +40,7 @@ pub(crate) fn move_within(chunk: &mut StoredChunk, from: u64, to: u64, size: u64
 {
     let start = (from - chunk.base) as usize;
     let target = (to - chunk.base) as usize;
-    chunk
-        .bytes
-        .copy_within(start..start + size as usize, target);
+    shift(&mut chunk.bytes, start, target, size as usize);
 }
 
 /// Puts these bytes in the place of others.
@@ -71,5 +72,28 @@ impl Edit for Fill {
 
     fn edit(&self, place: &mut [u8]) {
         place.fill(self.value);
+    }
+}
+
+/// Moves bytes within the place. The two ranges may overlap.
+#[derive(Drop)]
+pub(crate) struct Shift {
+    pub(crate) from: u64,
+    pub(crate) to: u64,
+    pub(crate) size: u64,
+}
+
+impl Edit for Shift {
+    ghost suits = { λ s n. (s.from + s.size ≤ n) × (s.to + s.size ≤ n) };
+
+    ghost after = { λ s old. splice old s.to (take s.size (drop s.from old)) };
+
+    fn edit(&self, place: &mut [u8]) {
+        shift(
+            place,
+            self.from as usize,
+            self.to as usize,
+            self.size as usize,
+        );
     }
 }

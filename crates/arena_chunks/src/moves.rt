@@ -11,10 +11,9 @@ use arena_place::{Layout, place, round_down_to, round_up_to_unchecked};
 impl<const MIN_ALIGN: usize> Arena<MIN_ALIGN> {
     ghost use Rattle.placement.specs.State.{IsValid, with_cursor};
     ghost use Rattle.placement.specs.Search.{place};
-    ghost use Rattle.placement.specs.Moves.{dealloc};
     ghost use Rattle.arena_chunks.specs.Memory.{Memory, is_readable, one_allocation};
-    ghost use Rattle.arena_chunks.specs.Frame.{Frame, padded};
-    ghost use Rattle.arena_chunks.specs.BlockCalls.{PlacesBlock};
+    ghost use Rattle.arena_chunks.specs.Frame.{Frame};
+    ghost use Rattle.arena_chunks.specs.BlockCalls.{PlacesBlock, GivesBack};
     ghost use Rattle.arena_chunks.specs.Answers.{Tells, TellsPlace, OnWant, Allocates, AddsChunk, IsBlockOf};
 
     /// Places a block, in a new chunk where the newest has no place for it. No byte in use changes. Where there is a
@@ -36,6 +35,22 @@ impl<const MIN_ALIGN: usize> Arena<MIN_ALIGN> {
             Ok((block, _)) => Ok(block),
             Err(e) => Err(e),
         }
+    }
+
+    /// The same as `try_alloc_layout`.
+    ///
+    /// # Errors
+    ///
+    /// As of `try_alloc_layout`.
+    #[inline]
+    pub fn alloc_layout<C: ChunkSource>(
+        &mut self,
+        chunks: &mut C,
+        layout: Layout,
+    ) -> Result<Block, ArenaErr>
+        ensures { PlacesBlock self.old self.new (C.source chunks.old) (C.source chunks.new) layout.size layout.align result }
+    {
+        self.try_alloc_layout(chunks, layout)
     }
 
     // The same, and how many requests were refused for the block.
@@ -90,7 +105,10 @@ impl<const MIN_ALIGN: usize> Arena<MIN_ALIGN> {
         }
     }
 
-    // A chunk for the block becomes the newest. Answers the block's place in it, and how many requests were refused.
+    // A chunk for the block becomes the newest. Answers the block's place in it, and how many requests were refused. It is
+    // kept out of the callers, so that an allocation in the newest chunk is small enough to be inlined.
+    #[cold]
+    #[inline(never)]
     fn add_chunk<C: ChunkSource>(
         &mut self,
         chunks: &mut C,
@@ -125,10 +143,7 @@ impl<const MIN_ALIGN: usize> Arena<MIN_ALIGN> {
     /// again; otherwise they stay dead until the arena is reset.
     pub fn dealloc(&mut self, block: Block)
         requires { IsTrue (is_readable self.old.state block) }
-        ensures state { self.new.state ≡ dealloc self.old.state block.addr block.size }
-        ensures statistics { self.new.statistics ≡ self.old.statistics }
-        ensures frame { Frame self.old self.new (padded self.old.state.min_align block ∷ []) [] }
-        ensures valid { IsValid self.new.state }
+        ensures { GivesBack self.old self.new block }
     {
         if block.addr == self.newest.cursor {
             self.newest.cursor = round_up_to_unchecked(block.addr + block.size, MIN_ALIGN as u64);

@@ -34,6 +34,7 @@ impl<const MIN_ALIGN: usize> Arena<MIN_ALIGN> {
     /// # Errors
     ///
     /// As of `try_alloc_layout`, where the block must move to a greater alignment; the block stays as it was.
+    #[inline]
     pub fn shrink<C: ChunkSource>(
         &mut self,
         chunks: &mut C,
@@ -57,6 +58,7 @@ impl<const MIN_ALIGN: usize> Arena<MIN_ALIGN> {
     ///
     /// As of `try_alloc_layout`, where it doesn't grow in place; also `AllocErr` with no request where what is wanted
     /// more is no layout. The block stays as it was.
+    #[inline]
     pub fn grow<C: ChunkSource>(
         &mut self,
         chunks: &mut C,
@@ -75,6 +77,7 @@ impl<const MIN_ALIGN: usize> Arena<MIN_ALIGN> {
 
     /// Gives all blocks back, and all chunks but the newest. Blocks placed before are readable no more, but for those
     /// of no bytes: the generation rises, up to 2^64 - 1. The statistics begin anew.
+    #[inline]
     pub fn reset(&mut self)
         ensures state { self.new.state ≡ reset self.old.state }
         ensures statistics { self.new.statistics ≡ record { allocations = 0; reallocations = 0 } }
@@ -120,6 +123,7 @@ impl<const MIN_ALIGN: usize> Arena<MIN_ALIGN> {
     }
 
     // Grows a block, and counts the requests that were refused.
+    #[inline]
     pub(crate) fn grow_counted<C: ChunkSource>(
         &mut self,
         chunks: &mut C,
@@ -201,6 +205,7 @@ impl<const MIN_ALIGN: usize> Arena<MIN_ALIGN> {
     }
 
     // Places a block anew, with the first n bytes of the old one.
+    #[inline(never)]
     fn copy_to_new<C: ChunkSource>(
         &mut self,
         chunks: &mut C,

@@ -1,130 +1,128 @@
-// The first addresses, and one call of each function that takes memory.
+// Tests of arenas: worked examples of the rules, and one call of each function that takes memory.
+mod allocator;
+mod blocks;
+mod bumpalo;
+mod creation;
+mod growth;
+mod iterators;
+mod moves;
+mod resizes;
+
 ghost use Rattle.std.specs.Prelude.{◌≡◌, IsTrue};
 ghost use Rattle.arena_chunks.specs.Memory.{is_readable};
 
-use crate::{Arena, Block, ChunkSource, MemoryChunks, RefusingChunks};
+use crate::{Arena, ArenaErr, Block, ChunkSource, MemoryChunks, RefusingChunks};
 use arena_place::Layout;
+use std::alloc::{AllocError, Global};
 use std::process::Abort;
-use std::test::Fail;
 
 fn layout(rt: &impl Abort, size: u64, align: u64) -> Layout
-    ensures { result.size ≡ size }
+    ensures size { result.size ≡ size }
+    ensures align { result.align ≡ align }
 {
     Layout::new(size, align).expect(rt, "a layout")
 }
 
-fn placed<C: ChunkSource>(
+// A source with ample memory.
+fn ample(alloc: Global) -> MemoryChunks {
+    MemoryChunks::new(alloc, 1 << 20)
+}
+
+// A source that refuses these requests, by their numbers from 1.
+fn refusing(alloc: Global, refuse: &[u64]) -> Result<RefusingChunks, AllocError> {
+    let refuse = refuse.to_vec(alloc)?;
+    Ok(RefusingChunks::new(alloc, refuse))
+}
+
+fn placed<const M: usize, C: ChunkSource>(
     rt: &impl Abort,
-    arena: &mut Arena<1>,
+    arena: &mut Arena<M>,
     chunks: &mut C,
     size: u64,
     align: u64,
 ) -> Block
     ensures readable { IsTrue (is_readable arena.new.state result) }
     ensures size { result.size ≡ size }
+    ensures align { result.align ≡ align }
 {
     arena
         .try_alloc_layout(chunks, layout(rt, size, align))
         .expect(rt, "a block")
 }
 
-#[test]
-fn places_downwards_in_growing_chunks(rt: HostRuntime) {
-    let mut arena = Arena::new(rt.alloc());
-    let mut chunks = MemoryChunks::new(rt.alloc(), 1 << 20);
-    for (size, addr) in [(64, 20352), (64, 20288), (16320, 36848)] {
-        assert_eq!(rt; placed(&rt, &mut arena, &mut chunks, size, 1).addr, addr);
+// Where a block of this layout is placed, or why it isn't.
+fn place_of<const M: usize, C: ChunkSource>(
+    rt: &impl Abort,
+    arena: &mut Arena<M>,
+    chunks: &mut C,
+    size: u64,
+    align: u64,
+) -> Result<u64, ArenaErr> {
+    let block = arena.try_alloc_layout(chunks, layout(rt, size, align))?;
+    Ok(block.addr)
+}
+
+// Places blocks of these layouts in turn, and finds them at these addresses, or so many requests refused.
+fn are_placed<const M: usize, C: ChunkSource>(
+    rt: &impl Abort,
+    arena: &mut Arena<M>,
+    chunks: &mut C,
+    rows: &[(u64, u64, Result<u64, ArenaErr>)],
+) {
+    for &(size, align, wanted) in rows {
+        let place = place_of(rt, arena, chunks, size, align);
+        assert_eq!(rt; place, wanted, "a block of {size} bytes at {align}");
     }
-    assert_eq!(rt; arena.used_bytes(), 16448);
-    assert_eq!(rt; arena.allocated_bytes(), 49024);
-    assert_eq!(rt; placed(&rt, &mut arena, &mut chunks, 32640, 1).addr, 86048);
-    assert_eq!(rt; arena.allocated_bytes(), 114496);
 }
 
-#[test]
-fn asks_for_less_where_it_is_refused(rt: HostRuntime) -> Result<(), Fail> {
-    let mut arena = Arena::new(rt.alloc());
-    let refuse = vec![in rt.alloc(); 2]?;
-    let mut chunks = RefusingChunks::new(rt.alloc(), refuse);
-    assert_eq!(rt; placed(&rt, &mut arena, &mut chunks, 16320, 1).addr, 4096);
-    assert_eq!(rt; placed(&rt, &mut arena, &mut chunks, 100, 1).addr, 36684);
-    let told = [(16320, 16), (32704, 16), (16320, 16)];
-    assert_eq!(rt; chunks.requests(), Some(told.as_slice()));
-    Ok(())
+// The answer where so many requests were refused.
+fn refused(refused: u32) -> Result<u64, ArenaErr> {
+    Err(ArenaErr::AllocErr { refused })
 }
 
-#[test]
-fn reads_what_was_written(rt: HostRuntime) {
-    let mut arena = Arena::new(rt.alloc());
-    let mut chunks = MemoryChunks::new(rt.alloc(), 1 << 20);
-    let block = placed(&rt, &mut arena, &mut chunks, 4, 1);
-    arena.write(block, 1, &[7, 8]);
-    assert!(rt; arena.is_held_place(block));
-    assert_eq!(rt; arena.read(block), [0, 7, 8, 0].as_slice());
+// The bytes of a block that must be held.
+fn read<'a, const M: usize>(rt: &impl Abort, arena: &'a Arena<M>, block: Block) -> &'a [u8] {
+    assert!(rt; arena.is_held_place(block), "a held block");
+    arena.read(block)
+}
+
+// Writes into a block that must be held and long enough.
+fn write<const M: usize>(rt: &impl Abort, arena: &mut Arena<M>, block: Block, bytes: &[u8]) {
+    assert!(rt; arena.is_held_place(block), "a held block");
+    assert!(rt; bytes.len() as u64 <= block.size, "a range of the block");
+    arena.write(block, 0, bytes);
+}
+
+// Gives a block back that must be held.
+fn give_back<const M: usize>(rt: &impl Abort, arena: &mut Arena<M>, block: Block) {
+    assert!(rt; arena.is_held_place(block), "a held block");
     arena.dealloc(block);
-    assert_eq!(rt; arena.used_bytes(), 0);
 }
 
-#[test]
-fn grows_downwards_at_the_cursor(rt: HostRuntime) {
-    let mut arena = Arena::new(rt.alloc());
-    let mut chunks = MemoryChunks::new(rt.alloc(), 1 << 20);
-    let block = placed(&rt, &mut arena, &mut chunks, 10, 1);
-    assert_eq!(rt; block.addr, 20406);
-    arena.write(block, 0, &[1, 2, 3, 4, 5, 6, 7, 8, 9, 10]);
-    let grown = arena
-        .grow(&mut chunks, block, layout(&rt, 11, 1))
-        .expect(&rt, "a block");
-    assert_eq!(rt; grown.addr, 20405);
-    assert_eq!(rt;
-        arena.read(grown),
-        [1, 2, 3, 4, 5, 6, 7, 8, 9, 10, 10].as_slice()
-    );
-    assert_eq!(rt; arena.used_bytes(), 11);
+// Grows a block that must be held and no larger.
+fn grown<const M: usize, C: ChunkSource>(
+    rt: &impl Abort,
+    arena: &mut Arena<M>,
+    chunks: &mut C,
+    block: Block,
+    size: u64,
+    align: u64,
+) -> Result<Block, ArenaErr> {
+    assert!(rt; arena.is_held_place(block), "a held block");
+    assert!(rt; block.size <= size, "a greater size");
+    arena.grow(chunks, block, layout(rt, size, align))
 }
 
-#[test]
-fn grows_elsewhere_to_a_greater_alignment(rt: HostRuntime) {
-    let mut arena = Arena::new(rt.alloc());
-    let mut chunks = MemoryChunks::new(rt.alloc(), 1 << 20);
-    let block = placed(&rt, &mut arena, &mut chunks, 2, 1);
-    arena.write(block, 0, &[1, 2]);
-    let grown = arena
-        .grow(&mut chunks, block, layout(&rt, 3, 16))
-        .expect(&rt, "a block");
-    assert_eq!(rt; grown.addr, 20400);
-    assert!(rt; arena.read(grown).starts_with(&[1, 2]));
-}
-
-#[test]
-fn shrinks_upwards_if_half_is_given_back(rt: HostRuntime) {
-    let mut arena = Arena::new(rt.alloc());
-    let mut chunks = MemoryChunks::new(rt.alloc(), 1 << 20);
-    let block = placed(&rt, &mut arena, &mut chunks, 100, 1);
-    assert_eq!(rt; block.addr, 20316);
-    let still = arena
-        .shrink(&mut chunks, block, layout(&rt, 51, 1))
-        .expect(&rt, "a block");
-    assert_eq!(rt; still.addr, 20316);
-    assert!(rt; arena.is_held_place(block));
-    let shrunk = arena
-        .shrink(&mut chunks, block, layout(&rt, 50, 1))
-        .expect(&rt, "a block");
-    assert_eq!(rt; shrunk.addr, 20366);
-    assert_eq!(rt; arena.used_bytes(), 50);
-}
-
-#[test]
-fn keeps_the_newest_chunk_over_a_reset(rt: HostRuntime) {
-    let mut arena = Arena::new(rt.alloc());
-    let mut chunks = MemoryChunks::new(rt.alloc(), 1 << 20);
-    for size in [64, 64, 16320] {
-        placed(&rt, &mut arena, &mut chunks, size, 1);
-    }
-    let block = placed(&rt, &mut arena, &mut chunks, 32640, 1);
-    arena.reset();
-    assert_eq!(rt; arena.allocated_bytes(), 65472);
-    assert_eq!(rt; arena.used_bytes(), 0);
-    assert!(rt; !arena.is_held_place(block));
-    assert_eq!(rt; placed(&rt, &mut arena, &mut chunks, 64, 1).addr, 118624);
+// Shrinks a block that must be held and no smaller.
+fn shrunk<const M: usize, C: ChunkSource>(
+    rt: &impl Abort,
+    arena: &mut Arena<M>,
+    chunks: &mut C,
+    block: Block,
+    size: u64,
+    align: u64,
+) -> Result<Block, ArenaErr> {
+    assert!(rt; arena.is_held_place(block), "a held block");
+    assert!(rt; size <= block.size, "a smaller size");
+    arena.shrink(chunks, block, layout(rt, size, align))
 }

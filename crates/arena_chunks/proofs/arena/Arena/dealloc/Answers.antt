@@ -1,10 +1,11 @@
-use Rattle.std.proofs.Common.{◌∙◌, sym, ap, subst, arith}
+use Rattle.std.proofs.Common.{◌∙◌, sym, ap, refl, subst, arith}
 use Rattle.placement.specs.State.{IsValid}
 use Rattle.placement.proofs.RoundingLemmas.{min_align_power}
 use Rattle.placement.proofs.ReturnLemmas.{IsReturn, dealloc_elsewhere}
 use Rattle.arena_chunks.specs.Memory.{Memory}
 use Rattle.arena_chunks.proofs.StoredLemmas.{cursor_stored, cursor_moved, cursor_view}
 use Rattle.arena_chunks.proofs.LastLemmas.{IsLast, is_last, last_returned, frame_returned}
+use Rattle.arena_chunks.proofs.FrameLemmas.{frame_dealloc}
 use Rattle.arena_chunks.proofs.arena.Arena.dealloc.Given.{Over}
 use Rattle.arena_chunks.proofs.arena.Arena.dealloc.Goals as goal
 
@@ -31,18 +32,19 @@ invariant_of-self g c =
     cursor_moved g.row.MIN_ALIGN c.self.inside c.args.self.now c.round_up_to_unchecked-self-inside.result c.self.inside.allocations c.self.inside.reallocations c.self.invariant c.self.view_is
     (record { low = (back g c).low; high = (back g c).high; valid = (back g c).valid })
 
-pub returns-then-block-self-clause-state : goal.returns-then-block-self-clause-state
-returns-then-block-self-clause-state g c =
-    ap (λ (w : Memory). w.state) (cursor_view g.row.MIN_ALIGN c.self.inside c.args.self.now c.round_up_to_unchecked-self-inside.result c.self.view_is) ∙ sym (back g c).step
+pub returns-then-block-self : goal.returns-then-block-self
+returns-then-block-self g c =
+    let view = cursor_view g.row.MIN_ALIGN c.self.inside c.args.self.now c.round_up_to_unchecked-self-inside.result c.self.view_is in
+    record {
+      state = ap (λ (w : Memory). w.state) view ∙ sym (back g c).step;
+      statistics = ap (λ (w : Memory). w.statistics) view;
+      frame = frame_returned g.row.MIN_ALIGN c.self.inside c.args.self.now c.args.block c.round_up_to_unchecked-self-inside.result c.self.view_is (last g c) c.round_up_to_unchecked-self-inside.ensures;
+      valid = subst (λ (w : Memory). IsValid w.state) (sym view) (back g c).valid;
+    }
 
-pub returns-then-block-self-clause-frame : goal.returns-then-block-self-clause-frame
-returns-then-block-self-clause-frame g c =
-    frame_returned g.row.MIN_ALIGN c.self.inside c.args.self.now c.args.block c.round_up_to_unchecked-self-inside.result c.self.view_is (last g c) c.round_up_to_unchecked-self-inside.ensures
-
-pub returns-then-block-self-clause-valid : goal.returns-then-block-self-clause-valid
-returns-then-block-self-clause-valid g c =
-    subst (λ (w : Memory). IsValid w.state) (sym (cursor_view g.row.MIN_ALIGN c.self.inside c.args.self.now c.round_up_to_unchecked-self-inside.result c.self.view_is)) (back g c).valid
-
-pub returns-else-block-self-clause-state : goal.returns-else-block-self-clause-state
-returns-else-block-self-clause-state g c =
-    sym (dealloc_elsewhere c.args.self.now.state c.args.block.addr c.args.block.size (λ same. c.if-block-self.false (same ∙ sym (cursor_stored g.row.MIN_ALIGN c.self.inside c.args.self.now c.self.invariant c.self.view_is))))
+pub returns-else-block-self : goal.returns-else-block-self
+returns-else-block-self g c =
+    let memory = c.args.self.now in
+    let same = sym (dealloc_elsewhere memory.state c.args.block.addr c.args.block.size (λ at. c.if-block-self.false (at ∙ sym (cursor_stored g.row.MIN_ALIGN c.self.inside memory c.self.invariant c.self.view_is)))) in
+    let valid = subst (λ (w : Memory). IsValid w.state) c.self.view_is c.self.invariant.valid in
+    record { state = same; statistics = refl; frame = frame_dealloc memory memory c.args.block valid same (λ p. refl); valid = valid }

@@ -1,17 +1,17 @@
-use Rattle.std.proofs.Common.{ℕ, ◌+◌, ap, sym, ◌∙◌, arith, List, length}
+use Rattle.std.proofs.Common.{ℕ, ◌+◌, ap, refl, sym, ◌∙◌, arith, List, length}
 use Rattle.std.specs.Prelude.{slice_set}
 use Rattle.arena_chunks.specs.Memory.{Memory, image, bytes_from}
 use Rattle.arena_chunks.proofs.BytesLemmas.{no_bytes, written_none}
-use Rattle.arena_chunks.proofs.FrameLemmas.{frame_written}
+use Rattle.arena_chunks.proofs.BlockCallLemmas.{writes_block}
 use Rattle.arena_chunks.proofs.PartLemmas.{block_range, range_fits, newest_part, searchable, is_older, IsWritten, newest_written, older_written}
 use Rattle.arena_chunks.proofs.arena.Arena.edit.Given.{Over}
 use Rattle.arena_chunks.proofs.arena.Arena.edit.Goals as goal
 
-pub returns-then-size-eq0-clause-bytes : goal.returns-then-size-eq0-clause-bytes
-returns-then-size-eq0-clause-bytes g c =
+pub returns-then-size-eq0 : goal.returns-then-size-eq0
+returns-then-size-eq0 g c =
     let none = no_bytes (image c.args.self.now) (c.args.block.addr + c.args.at) c.args.size c.if-size-eq0.true in
     let sized = ap (λ (l : List ℕ). length (g.E.Edit.after c.args.e.now l)) none ∙ ap length (sym c.edit.ensures) ∙ c.edit.auto.place in
-    λ p. sym (written_none (image c.args.self.now) (c.args.block.addr + c.args.at) p _ sized)
+    writes_block _ _ c.args.block c.args.at _ refl refl (λ p. sym (written_none (image c.args.self.now) (c.args.block.addr + c.args.at) p _ sized)) (omega (arith, sized, c.requires.range))
 
 pub overflow_add-addr : goal.overflow_add-addr
 overflow_add-addr g c =
@@ -35,12 +35,9 @@ pub invariant_of-self : goal.invariant_of-self
 invariant_of-self g c = (in_newest g c).stored
 
 pub returns-then-addr-newest : goal.returns-then-addr-newest
-returns-then-addr-newest g c = record {
-  state = (in_newest g c).state;
-  statistics = ap (λ (w : Memory). w.statistics) c.self.view_is;
-  bytes = (in_newest g c).image;
-  frame = frame_written _ _ c.args.block c.args.at _ (in_newest g c).state (in_newest g c).image (omega (arith, (in_newest g c).sized, c.requires.range));
-}
+returns-then-addr-newest g c =
+    let is = in_newest g c in
+    writes_block _ _ c.args.block c.args.at _ is.state (ap (λ (w : Memory). w.statistics) c.self.view_is) is.image (omega (arith, is.sized, c.requires.range))
 
 -- ---- In an older chunk
 
@@ -67,9 +64,6 @@ pub invariant_of-self-else-addr-newest : goal.invariant_of-self-else-addr-newest
 invariant_of-self-else-addr-newest g c = (in_older g c).stored
 
 pub returns-else-addr-newest : goal.returns-else-addr-newest
-returns-else-addr-newest g c = record {
-  state = (in_older g c).state;
-  statistics = ap (λ (w : Memory). w.statistics) c.self.view_is;
-  bytes = (in_older g c).image;
-  frame = frame_written _ _ c.args.block c.args.at _ (in_older g c).state (in_older g c).image (omega (arith, (in_older g c).sized, c.requires.range));
-}
+returns-else-addr-newest g c =
+    let is = in_older g c in
+    writes_block _ _ c.args.block c.args.at _ is.state (ap (λ (w : Memory). w.statistics) c.self.view_is) is.image (omega (arith, is.sized, c.requires.range))

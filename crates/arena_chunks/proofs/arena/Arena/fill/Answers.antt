@@ -1,7 +1,7 @@
-use Rattle.std.proofs.Common.{◌∙◌, ◌+◌, ◌-◌}
+use Rattle.std.proofs.Common.{◌+◌, ◌-◌}
 use Rattle.arena_chunks.specs.Memory.{image}
-use Rattle.arena_chunks.proofs.BytesLemmas.{filled}
+use Rattle.arena_chunks.proofs.BytesLemmas.{length-bytes}
 use Rattle.arena_chunks.proofs.arena.Arena.fill.Goals as goal
 
-pub returns-clause-bytes : goal.returns-clause-bytes
-returns-clause-bytes g c = λ p. c.edit.ensures.bytes p ∙ filled (image c.args.self.now) (c.args.block.addr + c.args.at) (c.args.block.size - c.args.at) c.args.value p
+pub returns : goal.returns
+returns g c = rw (length-bytes (image c.args.self.now) (c.args.block.addr + c.args.at) (c.args.block.size - c.args.at)) at c.edit.ensures

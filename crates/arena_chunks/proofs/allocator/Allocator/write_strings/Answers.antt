@@ -1,0 +1,19 @@
+use Rattle.std.proofs.Common.{rules, refl}
+use Rattle.std.proofs.lemmas.List.Folds.{length-flat_map-take}
+use Rattle.arena_chunks.proofs.TextLemmas.{no_texts, one_more_text}
+use Rattle.arena_chunks.proofs.allocator.Allocator.write_strings.Goals as goal
+
+pub loop-s-init : goal.loop-s-init
+loop-s-init g c = (no_texts g.T.AsStr.text c.args.strings.now c.args.self.now.arena c.args.block, refl)
+
+pub write-requires-clause-readable : goal.write-requires-clause-readable
+write-requires-clause-readable g c = search rules
+
+pub write-requires-clause-range : goal.write-requires-clause-range
+write-requires-clause-range g c = let more = length-flat_map-take g.T.AsStr.text c.args.strings.now c.loop-s.s-index c.s-item.result in search rules
+
+pub overflow_add-at : goal.overflow_add-at
+overflow_add-at g c = let more = length-flat_map-take g.T.AsStr.text c.args.strings.now c.loop-s.s-index c.s-item.result in search rules
+
+pub loop-s-preserved : goal.loop-s-preserved
+loop-s-preserved g c = let one = one_more_text g.T.AsStr.text c.args.strings.now c.loop-s.s-index c.s-item.result c.args.self.now.arena c.loop-s.self.arena c.write.new.self.arena c.args.block c.loop-s.at in search rules

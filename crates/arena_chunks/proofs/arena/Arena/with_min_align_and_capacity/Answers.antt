@@ -1,0 +1,28 @@
+use Rattle.std.proofs.Common.{arith}
+use Rattle.arena_chunks.proofs.CreatedLemmas.{created_empty, created_unasked, created_refused, created_first, first_stored}
+use Rattle.arena_chunks.proofs.arena.Arena.with_min_align_and_capacity.Goals as goal
+
+pub returns-then-capacity-eq0 : goal.returns-then-capacity-eq0
+returns-then-capacity-eq0 g c =
+    rw c.with_min_align.ensures (created_empty g.row.MIN_ALIGN c.args.capacity (g.C.ChunkSource.source c.args.chunks.now) c.if-capacity-eq0.true)
+
+pub returns-in_default : goal.returns-in_default
+returns-in_default g c =
+    created_unasked g.row.MIN_ALIGN c.args.capacity (g.C.ChunkSource.source c.args.chunks.now) c.if-capacity-eq0.false c.in_default.ensures.value
+
+pub over-requires : goal.over-requires
+over-requires g c = (
+  omega arith,
+  first_stored g.row.MIN_ALIGN c.args.capacity c.in-Some.size (g.C.ChunkSource.source c.args.chunks.now) (g.C.ChunkSource.source c.request.new.self) c.requires c.if-capacity-eq0.false
+      c.in-Some.ensures.value c.in-Some-request.bytes c.unused-first.result c.in-Some-request.ensures.zeros c.unused-first.ensures,
+)
+
+pub returns-in-Some-request : goal.returns-in-Some-request
+returns-in-Some-request g c =
+    rw (c.over.ensures, c.unused-first.ensures) (created_first g.row.MIN_ALIGN c.args.capacity c.in-Some.size (g.C.ChunkSource.source c.args.chunks.now) (g.C.ChunkSource.source c.request.new.self)
+    c.requires c.if-capacity-eq0.false c.in-Some.ensures.value c.in-Some-request.bytes c.in-Some-request.ensures.zeros c.in-Some-request.ensures.granted c.in-Some-request.ensures.told)
+
+pub returns-in-None : goal.returns-in-None
+returns-in-None g c =
+    created_refused g.row.MIN_ALIGN c.args.capacity c.in-Some.size (g.C.ChunkSource.source c.args.chunks.now) (g.C.ChunkSource.source c.request.new.self)
+    c.requires c.if-capacity-eq0.false c.in-Some.ensures.value c.in-None.ensures.refused c.in-None.ensures.told

@@ -1,0 +1,260 @@
+//! The allocator trait of the fork of bumpalo.
+ghost use Rattle.std.specs.Prelude.{◌≡◌, ◌*◌, ◌<◌, ◌≤◌, ◌↔◌, ◌&&◌, false, Some, is_some, IfSome, Ok, IfOk, IsErr, IsTrue, codes, replicate};
+ghost use Rattle.arena_chunks.specs.Memory.{is_readable, image, bytes_from};
+ghost use Rattle.arena_chunks.specs.BlockCalls.{PlacesBlock, GivesBack, Reallocates, Refuses, is_array, map_ok};
+
+use crate::allocator::Allocator;
+use crate::block::{ArenaErr, Block};
+use crate::over_arena::OverArena;
+use crate::source::ChunkSource;
+use arena_place::Layout;
+use std::error::Error;
+use std::fmt;
+
+/// A block with its size.
+#[derive(Drop, Debug)]
+pub struct Excess(pub Block, pub u64);
+
+/// A block can't have the wanted size where it lies.
+#[derive(Clone, Copy, PartialEq, Eq, Debug)]
+pub struct CannotReallocInPlace;
+
+impl CannotReallocInPlace {
+    /// The error in words.
+    pub fn description(&self) -> &'static str
+        ensures { result.now ≡ codes "cannot reallocate allocator's memory in place" }
+    {
+        "cannot reallocate allocator's memory in place"
+    }
+}
+
+impl fmt::Display for CannotReallocInPlace {
+    ghost output = { λ _. Some (codes "cannot reallocate allocator's memory in place") };
+
+    fn fmt<W: fmt::Write>(&self, f: &mut fmt::Formatter<W>) -> fmt::Result {
+        f.write_str(self.description())
+    }
+}
+
+impl Error for CannotReallocInPlace {}
+
+// The layout of `n` elements in a row, where it has some bytes.
+fn array_of(element: Layout, n: u64) -> Option<Layout>
+    ensures answer { is_some result ≡ is_array element.size element.align n }
+    ensures value { IfSome result (λ layout. (layout.size ≡ n * element.size) × (layout.align ≡ element.align)) }
+{
+    let layout = Layout::array(n, element.size, element.align)?;
+    if layout.size == 0 {
+        return None;
+    }
+    Some(layout)
+}
+
+/// An allocator of blocks, of single elements, and of arrays. An element is given by its layout.
+pub trait Alloc: OverArena {
+    /// Places a block.
+    ///
+    /// # Errors
+    ///
+    /// `AllocErr` where all requests for a chunk were refused, `OutOfMemory` where memory for the table of chunks is
+    /// wanting. Nothing changes.
+    fn alloc(&mut self, layout: Layout) -> Result<Block, ArenaErr>
+        ensures { PlacesBlock (Self.memory self.old) (Self.memory self.new) (Self.source self.old) (Self.source self.new) layout.size layout.align result };
+
+    /// Gives a block back.
+    fn dealloc(&mut self, block: Block)
+        requires { IsTrue (is_readable (Self.memory self.old).state block) }
+        ensures given { GivesBack (Self.memory self.old) (Self.memory self.new) block }
+        ensures source { Self.source self.new ≡ Self.source self.old };
+
+    /// Gives a block another size at its alignment. An empty block is placed anew.
+    ///
+    /// # Errors
+    ///
+    /// `AllocErr` with no request where the new size and the alignment are no layout, and otherwise as of `alloc`. The
+    /// block stays as it was.
+    fn realloc(&mut self, block: Block, new_size: u64) -> Result<Block, ArenaErr>
+        requires { IsTrue (is_readable (Self.memory self.old).state block) }
+        ensures { Reallocates (Self.memory self.old) (Self.memory self.new) (Self.source self.old) (Self.source self.new) block new_size result };
+
+    /// Places a block, as `alloc` does; each byte of it is 0.
+    ///
+    /// # Errors
+    ///
+    /// As of `alloc`.
+    fn alloc_zeroed(&mut self, layout: Layout) -> Result<Block, ArenaErr>
+        ensures placed { PlacesBlock (Self.memory self.old) (Self.memory self.new) (Self.source self.old) (Self.source self.new) layout.size layout.align result }
+        ensures zeros { IfOk result (λ b. bytes_from (image (Self.memory self.new)) b.addr layout.size ≡ replicate layout.size 0) };
+
+    /// The least and the greatest size that a block of this layout may be given back with: both are its own.
+    fn usable_size(&self, layout: Layout) -> (u64, u64)
+        ensures { result ≡ (layout.size, layout.size) }
+    {
+        (layout.size, layout.size)
+    }
+
+    /// Places a block, as `alloc` does, and answers it with its size.
+    ///
+    /// # Errors
+    ///
+    /// As of `alloc`.
+    fn alloc_excess(&mut self, layout: Layout) -> Result<Excess, ArenaErr>
+        ensures placed { PlacesBlock (Self.memory self.old) (Self.memory self.new) (Self.source self.old) (Self.source self.new) layout.size layout.align (map_ok (λ e. e.0) result) }
+        ensures size { IfOk result (λ e. e.1 ≡ layout.size) }
+    {
+        let block = self.alloc(layout)?;
+        Ok(Excess(block, layout.size))
+    }
+
+    /// Gives a block another size, as `realloc` does, and answers it with that size.
+    ///
+    /// # Errors
+    ///
+    /// As of `realloc`.
+    fn realloc_excess(&mut self, block: Block, new_size: u64) -> Result<Excess, ArenaErr>
+        requires { IsTrue (is_readable (Self.memory self.old).state block) }
+        ensures moved { Reallocates (Self.memory self.old) (Self.memory self.new) (Self.source self.old) (Self.source self.new) block new_size (map_ok (λ e. e.0) result) }
+        ensures size { IfOk result (λ e. e.1 ≡ new_size) }
+    {
+        let moved = self.realloc(block, new_size)?;
+        Ok(Excess(moved, new_size))
+    }
+
+    /// Lets a block have a greater size where it lies, which only its own size is.
+    ///
+    /// # Errors
+    ///
+    /// `CannotReallocInPlace` where the size is greater.
+    fn grow_in_place(&mut self, block: Block, new_size: u64) -> Result<(), CannotReallocInPlace>
+        requires { block.size ≤ new_size }
+        ensures refused { IsErr result ↔ (block.size < new_size) }
+        ensures kept { self.new ≡ self.old }
+    {
+        if new_size > block.size {
+            return Err(CannotReallocInPlace);
+        }
+        Ok(())
+    }
+
+    /// Lets a block have a smaller size where it lies, which only its own size is.
+    ///
+    /// # Errors
+    ///
+    /// `CannotReallocInPlace` where the size is less.
+    fn shrink_in_place(&mut self, block: Block, new_size: u64) -> Result<(), CannotReallocInPlace>
+        requires { new_size ≤ block.size }
+        ensures refused { IsErr result ↔ (new_size < block.size) }
+        ensures kept { self.new ≡ self.old }
+    {
+        if new_size < block.size {
+            return Err(CannotReallocInPlace);
+        }
+        Ok(())
+    }
+
+    /// Places a block for one element.
+    ///
+    /// # Errors
+    ///
+    /// `AllocErr` with no request for an element of no bytes, and otherwise as of `alloc`.
+    fn alloc_one(&mut self, element: Layout) -> Result<Block, ArenaErr>
+        ensures empty { element.size ≡ 0 → Refuses (Self.memory self.old) (Self.memory self.new) (Self.source self.old) (Self.source self.new) result }
+        ensures placed { 0 < element.size → PlacesBlock (Self.memory self.old) (Self.memory self.new) (Self.source self.old) (Self.source self.new) element.size element.align result }
+    {
+        if element.size == 0 {
+            return Err(ArenaErr::AllocErr { refused: 0 });
+        }
+        self.alloc(element)
+    }
+
+    /// Gives the block of one element back; one of no bytes is left alone.
+    fn dealloc_one(&mut self, block: Block)
+        requires { IsTrue (is_readable (Self.memory self.old).state block) }
+        ensures empty { block.size ≡ 0 → self.new ≡ self.old }
+        ensures given { 0 < block.size → GivesBack (Self.memory self.old) (Self.memory self.new) block }
+        ensures source { Self.source self.new ≡ Self.source self.old }
+    {
+        if block.size > 0 {
+            self.dealloc(block);
+        }
+    }
+
+    /// Places a block for `n` elements in a row.
+    ///
+    /// # Errors
+    ///
+    /// `AllocErr` with no request where the array is no layout or has no bytes, and otherwise as of `alloc`.
+    fn alloc_array(&mut self, element: Layout, n: u64) -> Result<Block, ArenaErr>
+        ensures refused { is_array element.size element.align n ≡ false → Refuses (Self.memory self.old) (Self.memory self.new) (Self.source self.old) (Self.source self.new) result }
+        ensures placed { IsTrue (is_array element.size element.align n) → PlacesBlock (Self.memory self.old) (Self.memory self.new) (Self.source self.old) (Self.source self.new) (n * element.size) element.align result }
+    {
+        match array_of(element, n) {
+            Some(layout) => self.alloc(layout),
+            None => Err(ArenaErr::AllocErr { refused: 0 }),
+        }
+    }
+
+    /// Gives the block of `n_old` elements the size of `n_new`.
+    ///
+    /// # Errors
+    ///
+    /// `AllocErr` with no request where one of the arrays is no layout or has no bytes, and otherwise as of `realloc`.
+    fn realloc_array(
+        &mut self,
+        block: Block,
+        element: Layout,
+        n_old: u64,
+        n_new: u64,
+    ) -> Result<Block, ArenaErr>
+        requires readable { IsTrue (is_readable (Self.memory self.old).state block) }
+        requires size { block.size ≡ n_old * element.size }
+        requires align { block.align ≡ element.align }
+        ensures refused { (is_array element.size element.align n_old && is_array element.size element.align n_new) ≡ false → Refuses (Self.memory self.old) (Self.memory self.new) (Self.source self.old) (Self.source self.new) result }
+        ensures moved { IsTrue (is_array element.size element.align n_old && is_array element.size element.align n_new) → Reallocates (Self.memory self.old) (Self.memory self.new) (Self.source self.old) (Self.source self.new) block (n_new * element.size) result }
+    {
+        match (array_of(element, n_old), array_of(element, n_new)) {
+            (Some(_), Some(layout)) => self.realloc(block, layout.size),
+            _ => Err(ArenaErr::AllocErr { refused: 0 }),
+        }
+    }
+
+    /// Gives the block of `n` elements back.
+    ///
+    /// # Errors
+    ///
+    /// `AllocErr` where the array is no layout or has no bytes. Nothing changes.
+    fn dealloc_array(&mut self, block: Block, element: Layout, n: u64) -> Result<(), ArenaErr>
+        requires { IsTrue (is_readable (Self.memory self.old).state block) }
+        ensures refused { is_array element.size element.align n ≡ false → Refuses (Self.memory self.old) (Self.memory self.new) (Self.source self.old) (Self.source self.new) result }
+        ensures answer { IsTrue (is_array element.size element.align n) → result ≡ Ok tt }
+        ensures given { IsTrue (is_array element.size element.align n) → GivesBack (Self.memory self.old) (Self.memory self.new) block }
+        ensures source { Self.source self.new ≡ Self.source self.old }
+    {
+        if array_of(element, n).is_none() {
+            return Err(ArenaErr::AllocErr { refused: 0 });
+        }
+        self.dealloc(block);
+        Ok(())
+    }
+}
+
+impl<C: ChunkSource> Alloc for Allocator<C> {
+    fn alloc(&mut self, layout: Layout) -> Result<Block, ArenaErr> {
+        self.arena.alloc_layout(&mut self.chunks, layout)
+    }
+
+    fn dealloc(&mut self, block: Block) {
+        self.arena.dealloc(block);
+    }
+
+    fn realloc(&mut self, block: Block, new_size: u64) -> Result<Block, ArenaErr> {
+        self.arena.realloc(&mut self.chunks, block, new_size)
+    }
+
+    #[tactic(auto, using(crate::proofs::BlockCallLemmas::places_written))]
+    fn alloc_zeroed(&mut self, layout: Layout) -> Result<Block, ArenaErr> {
+        let block = self.arena.alloc_layout(&mut self.chunks, layout)?;
+        self.arena.fill(block, 0, 0);
+        Ok(block)
+    }
+}
