@@ -1,0 +1,152 @@
+// The loops that are timed. Each gives the time of its calls and a number that depends on the calls alone.
+ghost use Rattle.std.specs.Prelude.{◌≡◌, ◌≤◌, IfOk, IsTrue};
+
+use arena_chunks::{Alloc, Allocator, ArenaErr, MemoryChunks};
+use arena_place::Layout;
+use std::io;
+use std::time::{Duration, Instant};
+
+// How many bytes a loop's chunks may have together, and how many those have that are to hold all of a round's blocks.
+const BUDGET: u64 = 1 << 30;
+
+const CAPACITY: u64 = 1 << 20;
+
+// How many blocks are placed, and how often a block of one byte is grown by one more, between two resets.
+const PLACED: u64 = 16384;
+
+const GROWN: u64 = 63;
+
+/// Why a loop ended early.
+#[derive(Drop)]
+pub enum Failed {
+    NoPlace,
+    NoClock,
+}
+
+impl From<ArenaErr> for Failed {
+    fn from(_: ArenaErr) -> Failed {
+        Failed::NoPlace
+    }
+}
+
+impl From<io::Error> for Failed {
+    fn from(_: io::Error) -> Failed {
+        Failed::NoClock
+    }
+}
+
+/// What a loop took, and its number.
+#[derive(Drop)]
+pub struct Timed {
+    pub time: Duration,
+    pub number: u64,
+}
+
+fn layout(size: u64, align: u64) -> Result<Layout, Failed>
+    ensures { IfOk result (λ l. l.size ≡ size) }
+{
+    Layout::new(size, align).ok_or(Failed::NoPlace)
+}
+
+fn with_capacity(rt: &HostRuntime) -> Result<Allocator<MemoryChunks>, Failed> {
+    let chunks = MemoryChunks::new(rt.alloc(), BUDGET);
+    match Allocator::with_capacity(rt.alloc(), chunks, CAPACITY) {
+        Ok(a) => Ok(a),
+        Err(_) => Err(Failed::NoPlace),
+    }
+}
+
+// Sizes 1 to 64 and alignments 1 to 8, in no order that can be foreseen.
+fn small_layouts() -> Result<[Layout; 64], Failed> {
+    let mut layouts = [layout(1, 1)?; 64];
+    for i in 0..64u64 {
+        layouts[i as usize] = layout(i * 29 % 64 + 1, 1 << (i * 7 % 4))?;
+    }
+    Ok(layouts)
+}
+
+// Places so many blocks, and answers how many bytes are used.
+fn place_round(
+    a: &mut Allocator<MemoryChunks>,
+    layouts: &[Layout; 64],
+    blocks: u64,
+) -> Result<u64, Failed> {
+    for i in 0..blocks {
+        a.alloc_layout(layouts[(i % 64) as usize])?;
+    }
+    let used = a.used_bytes();
+    a.reset();
+    Ok(used)
+}
+
+/// Blocks of mixed small layouts, in a chunk that is reset before it is full.
+pub fn alloc_warm(rt: &HostRuntime, calls: u64) -> Result<Timed, Failed> {
+    let mut a = with_capacity(rt)?;
+    let layouts = small_layouts()?;
+    let began = Instant::now(rt)?;
+    let mut number: u64 = 0;
+    for _ in 0..calls / PLACED {
+        number = number.wrapping_add(place_round(&mut a, &layouts, PLACED)?);
+    }
+    number = number.wrapping_add(place_round(&mut a, &layouts, calls % PLACED)?);
+    let time = began.elapsed(rt)?;
+    Ok(Timed { time, number })
+}
+
+// Places a byte, grows its block by one more at a time up to so many, and answers how many bytes are used.
+fn grow_round(a: &mut Allocator<MemoryChunks>, most: u64) -> Result<u64, Failed> {
+    let mut block = a.alloc_layout(layout(1, 1)?)?;
+    for size in 2..=most {
+        block = a.grow(block, layout(size, 1)?)?;
+    }
+    let used = a.used_bytes();
+    a.reset();
+    Ok(used)
+}
+
+/// A block of 1 to 64 bytes, grown by one byte at a time.
+pub fn grow_at_cursor(rt: &HostRuntime, calls: u64) -> Result<Timed, Failed> {
+    let mut a = with_capacity(rt)?;
+    let began = Instant::now(rt)?;
+    let mut number: u64 = 0;
+    for _ in 0..calls / GROWN {
+        number = number.wrapping_add(grow_round(&mut a, GROWN + 1)?);
+    }
+    if calls % GROWN > 0 {
+        number = number.wrapping_add(grow_round(&mut a, calls % GROWN + 1)?);
+    }
+    let time = began.elapsed(rt)?;
+    Ok(Timed { time, number })
+}
+
+/// One block of eight bytes, and a reset, which keeps the first chunk.
+pub fn alloc_and_reset(rt: &HostRuntime, calls: u64) -> Result<Timed, Failed> {
+    let mut a = Allocator::new(rt.alloc(), MemoryChunks::new(rt.alloc(), BUDGET));
+    let eight = layout(8, 8)?;
+    let began = Instant::now(rt)?;
+    let mut number: u64 = 0;
+    for _ in 0..calls {
+        a.alloc_layout(eight)?;
+        number = number.wrapping_add(a.used_bytes());
+        a.reset();
+    }
+    let time = began.elapsed(rt)?;
+    Ok(Timed { time, number })
+}
+
+/// A new arena of three chunks, of which a reset frees two.
+pub fn reset_chunks(rt: &HostRuntime, calls: u64) -> Result<Timed, Failed> {
+    let layouts = [layout(1, 1)?, layout(16320, 1)?, layout(32640, 1)?];
+    let began = Instant::now(rt)?;
+    let mut number: u64 = 0;
+    for _ in 0..calls {
+        let mut a = Allocator::new(rt.alloc(), MemoryChunks::new(rt.alloc(), BUDGET));
+        for layout in layouts {
+            a.alloc_layout(layout)?;
+        }
+        a.reset();
+        number = number.wrapping_add(a.capacity());
+    }
+    let time = began.elapsed(rt)?;
+    Ok(Timed { time, number })
+}
