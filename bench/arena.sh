@@ -2,7 +2,8 @@
 # Times small loops of calls on an arena, in nanoseconds a call: the best of five runs each. Beside it the same loops of
 # the program of the words in BASELINE, if set, which prints a line for a name, as in
 #     BASELINE="/tmp/native-out/target/release/native bench" bench/arena.sh
-# The number at the end of a line depends on the calls alone: both programs must print the same.
+# The number at the end of a line depends on the calls alone: both programs must print the same. `read_older` reads
+# blocks in eight older chunks, in an order that can't be foreseen, and is timed of this program alone.
 set -euo pipefail
 here=$(dirname "$(readlink -f "$0")")
 program=$here/../crates/bench_arena/out/bench_arena

@@ -1,11 +1,11 @@
 -- What an arena shows of a block that was placed.
-use Rattle.std.proofs.Common.{◌≡◌, ℕ, ◌+◌, ◌-◌, ◌≤◌, max, inl, inr, ap, sym, refl, subst, arith, [], ◌∷◌, true, false, IsTrue, Some, None, Err, eq-eqb}
+use Rattle.std.proofs.Common.{◌≡◌, ℕ, ◌+◌, ◌-◌, ◌≤◌, max, inl, inr, ap, sym, refl, subst, arith, true, false, IsTrue, Some, None, Err, eq-eqb}
 use Rattle.std.specs.Prelude.{nat_le, ◌==◌, ◌&&◌}
 use Rattle.std.proofs.lemmas.Bool.{cases_lt, or_left, or_right}
 use Rattle.std.proofs.lemmas.Bool.Decides.{nat_tests}
 use Rattle.placement.specs.Rounding.{down, is_layout}
 use Rattle.placement.specs.State.{State, IsValid, is_used, is_range_used, start_of, cursor_of, with_cursor}
-use Rattle.placement.specs.Search.{place, place_below}
+use Rattle.placement.specs.Search.{place, place_below, alloc_requests}
 use Rattle.placement.specs.Moves.{alloc}
 use Rattle.placement.proofs.RoundingLemmas.{layout_power}
 use Rattle.placement.proofs.PlaceLemmas.{IsPlace, is_place}
@@ -13,10 +13,14 @@ use Rattle.placement.proofs.CursorLemmas.{start_positive, cursor_within, valid_m
 use Rattle.placement.proofs.UsedLemmas.{used_under}
 use Rattle.placement.proofs.AllocLemmas.{alloc_placed, alloc_refused, IsGranted, is_granted}
 use Rattle.placement.proofs.NewBlockLemmas.{is_new_block, alloc_valid}
-use Rattle.arena_chunks.specs.Memory.{Memory, image, is_readable, one_allocation}
-use Rattle.arena_chunks.specs.Frame.{Frame}
-use Rattle.arena_chunks.specs.Source.{Source}
-use Rattle.arena_chunks.specs.Answers.{IsBlockOf, IsAdded, AddsChunk, Allocates, Tells, TellsPlace}
+use Rattle.placement.specs.Statistics.{one_allocation}
+use Rattle.placement.proofs.AllocatedLemmas.{alloc_allocated}
+use Rattle.arena_chunks.specs.Memory.{Memory, image}
+use Rattle.arena_chunks.specs.Source.{Source, view, IsAsked}
+use Rattle.arena_chunks.specs.Adding.{IsAdded, AddsChunk, OnFound}
+use Rattle.arena_chunks.specs.Answers.{OnCounted}
+use Rattle.arena_chunks.specs.Answers.Answer.{Placed}
+use Rattle.arena_chunks.specs.BlockCalls.{PlacesAfter}
 use Rattle.arena_chunks.specs.declared.block.ArenaErr.{ArenaErr}
 use Rattle.arena_chunks.specs.declared.block.ArenaErr.TheVariants.{AllocErr, OutOfMemory}
 use Rattle.arena_chunks.specs.declared.block.Block.{Block}
@@ -82,36 +86,50 @@ placing_in_new old mid size align k p layout none added =
           rw test refl;
     })
 
-pub record IsBlockPlaced (old new : Memory) (size align k : ℕ) (b : Block) : Type 0 where
-  pub step : alloc old.state size align k ≡ Some (record { answer = Some b.addr; state = new.state })
-  pub block : IsBlockOf new.state size align b
-  pub readable : IsTrue (is_readable new.state b)
-  pub frame : Frame old new [] (b ∷ [])
-  pub valid : IsValid new.state
-
-pub block_placed : (old new : Memory) (size align k p : ℕ) (b : Block) → IsValid old.state → IsTrue (is_layout size align) → IsPlacing old new size align k p
-    → b ≡ record { generation = old.state.generation; addr = p; size = size; align = align } → IsBlockPlaced old new size align k b
-block_placed old new size align k p b valid layout placing is =
+-- A block that was placed by the rule, as a call's answer.
+pub block_placed : (old new : Memory) (before after : Source) (size align k p : ℕ) (b : Block) → IsValid old.state → IsTrue (is_layout size align) → IsPlacing old new size align k p
+    → IsAsked before after k (alloc_requests old.state size align k) → b ≡ record { generation = old.state.generation; addr = p; size = size; align = align }
+    → PlacesAfter (view old before) (view new after) size align k (Placed b)
+block_placed old new before after size align k p b valid layout placing asked is =
     let fresh = is_new_block old.state size align k p new.state valid (layout_power size align layout) placing.step in
-    subst (IsBlockPlaced old new size align k) (sym is) (record {
-      step = placing.step;
-      block = (sym fresh.generation, refl, refl);
-      readable = elim (cases_lt 0 size) [
-        | inr none ↦ or_left (size == 0) (old.state.generation == new.state.generation && is_range_used new.state.chunks p size) (eq-eqb _ _ (omega arith))
-        | inl some ↦ or_right (size == 0) (old.state.generation == new.state.generation && is_range_used new.state.chunks p size)
-            (rw (eq-eqb _ _ (sym fresh.generation)) (fresh.used some))
-      ];
-      frame = frame_new old new size align (record { generation = old.state.generation; addr = p; size = size; align = align }) valid fresh refl placing.bytes;
-      valid = alloc_valid old.state size align k (record { answer = Some p; state = new.state }) valid (layout_power size align layout) placing.step;
+    subst (λ (b : Block). PlacesAfter (view old before) (view new after) size align k (Placed b)) (sym is) (record {
+      valid = record { entry = valid; exit = alloc_valid old.state size align k (record { answer = Some p; state = new.state }) valid (layout_power size align layout) placing.step };
+      outcome = record {
+        step = placing.step;
+        asked = asked;
+        of_layout = record {
+          generation = sym fresh.generation;
+          of_size = refl;
+          of_align = refl;
+          readable = elim (cases_lt 0 size) [
+            | inr none ↦ or_left (size == 0) (old.state.generation == new.state.generation && is_range_used new.state.chunks p size) (eq-eqb _ _ (omega arith))
+            | inl some ↦ or_right (size == 0) (old.state.generation == new.state.generation && is_range_used new.state.chunks p size)
+                (rw (eq-eqb _ _ (sym fresh.generation)) (fresh.used some))
+          ];
+        };
+        aligned = record { own = fresh.aligned; least = rw fresh.min_align fresh.min_aligned };
+        statistics = placing.statistics;
+        frame = frame_new old new size align (record { generation = old.state.generation; addr = p; size = size; align = align }) valid fresh refl
+            (λ still. alloc_allocated old.state size align k (record { answer = Some p; state = new.state }) still placing.step) placing.bytes;
+      };
     })
 
--- All that was asked for was refused.
-pub all_refused : (old new : Memory) (size align : ℕ) (before after : Source) (e : ArenaErr) → place old.state size align ≡ None → new ≡ old
-    → TellsPlace (Err e) (λ k answer. AddsChunk old new size align k answer before after)
-    → Tells (Err e) (λ k answer. Allocates old.state new.state size align k answer before after)
-all_refused old new size align before after (AllocErr k) none same added = record {
-  step = subst (λ (w : Memory). alloc old.state size align k ≡ Some (record { answer = None; state = w.state })) (sym same) (alloc_refused old.state size align k none added.added);
-  refusals = added.refusals;
-  requests = rw none added.requests;
+-- All that was asked for was refused, or memory was wanting for the table of chunks.
+pub all_refused : (old new : Memory) (before after : Source) (size align : ℕ) (e : ArenaErr) → IsValid old.state → place old.state size align ≡ None → new ≡ old
+    → OnFound (Err e) (AddsChunk (view old before) (view new after) size align) ((old.state.is_growing ≡ true) × (after ≡ before))
+    → OnCounted (Err e) (PlacesAfter (view old before) (view new after) size align)
+all_refused old new before after size align (AllocErr k) valid none same added = record {
+  valid = record { entry = valid; exit = rw same valid };
+  outcome = (
+    refl,
+    record {
+      step = alloc_refused old.state size align k none added.added;
+      asked = rw none added.asked;
+      memory = same;
+    },
+  );
 }
-all_refused old new size align before after OutOfMemory none same added = tt
+all_refused old new before after size align OutOfMemory valid none same wanting = record {
+  valid = record { entry = valid; exit = rw same valid };
+  outcome = record { place = none; growing = wanting.0; same = rw (same, wanting.1) refl };
+}

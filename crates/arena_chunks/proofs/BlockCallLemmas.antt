@@ -1,12 +1,15 @@
 -- A block that was placed or grown, and then written.
-use Rattle.std.proofs.Common.{◌≡◌, ℕ, ◌+◌, ◌≤◌, ap, ◌∙◌, arith, List, [], ◌∷◌, Ok, false, length, take, drop, replicate}
+use Rattle.std.proofs.Common.{◌≡◌, ℕ, ◌+◌, ◌≤◌, min, ap, subst, ◌∙◌, arith, List, [], ◌∷◌, false, length, take, drop, replicate}
 use Rattle.std.specs.Prelude.{nat_le, nat_lt, ◌&&◌}
 use Rattle.std.proofs.lemmas.Bool.Decides.{nat_tests}
 use Rattle.std.proofs.lemmas.List.{length-replicate}
+use Rattle.placement.specs.State.{IsValid}
 use Rattle.placement.specs.Machine.{splice}
+use Rattle.placement.specs.Moves.{Resizing}
 use Rattle.arena_chunks.specs.Memory.{Memory, image, bytes_from, Writes}
-use Rattle.arena_chunks.specs.Source.{Source}
-use Rattle.arena_chunks.specs.BlockCalls.{PlacesBlock, GrowsBlock, WritesBlock}
+use Rattle.arena_chunks.specs.Source.{Source, view}
+use Rattle.arena_chunks.specs.Answers.Answer.{Placed}
+use Rattle.arena_chunks.specs.BlockCalls.{PlacesAfter, PlacesBlock, ResizesAfter, ResizesBlock, WritesBlock, EditsBlock}
 use Rattle.arena_chunks.specs.declared.block.Block.{Block}
 use Rattle.arena_chunks.proofs.BytesLemmas.{length-bytes, written_beside}
 use Rattle.arena_chunks.proofs.WrittenLemmas.{bytes_same, bytes_written, bytes_within, written_within}
@@ -14,14 +17,24 @@ use Rattle.arena_chunks.proofs.FrameLemmas.{frame_written}
 use Rattle.arena_chunks.proofs.FrameRules.{frame_then}
 
 -- A range of a block is written, and nothing else changes.
-pub writes_block : (old new : Memory) (b : Block) (at : ℕ) (list : List ℕ) → new.state ≡ old.state → new.statistics ≡ old.statistics → Writes old new (b.addr + at) list
+pub writes_block : (old new : Memory) (b : Block) (at : ℕ) (list : List ℕ) → IsValid old.state → new.state ≡ old.state → new.statistics ≡ old.statistics → Writes old new (b.addr + at) list
     → at + length list ≤ b.size → WritesBlock old new b at list
-writes_block old new b at list same statistics writes fits = record {
+writes_block old new b at list valid same statistics writes fits = record {
+  valid = record { entry = valid; exit = rw same valid };
   state = same;
   statistics = statistics;
   bytes = writes;
   frame = frame_written old new b at list same writes fits;
 }
+
+-- A change that leaves one list writes that list.
+pub edits_to : (old new : Memory) (b : Block) (at size : ℕ) (list : List ℕ) → EditsBlock old new b at size (λ before after. after ≡ list) → WritesBlock old new b at list
+edits_to old new b at size list edits = subst (WritesBlock old new b at) edits.related edits.writes
+
+-- so does one whose list is a function of the bytes that stood there
+pub edits_by : (old new : Memory) (b : Block) (at size : ℕ) (f : List ℕ → List ℕ) → EditsBlock old new b at size (λ before after. after ≡ f before)
+    → WritesBlock old new b at (f (bytes_from (image old) (b.addr + at) size))
+edits_by old new b at size f edits = subst (WritesBlock old new b at) edits.related edits.writes
 
 -- A whole block is written with a part of it moved: that part alone is written.
 pub writes_moved : (old new : Memory) (b : Block) (from to n : ℕ) → from + n ≤ b.size → to + n ≤ b.size
@@ -31,7 +44,7 @@ writes_moved old new b from to n source target writes =
     let first : b.addr + 0 ≡ b.addr = omega arith in
     let sized = length-bytes (image old) (b.addr + from) n in
     let moved = rw (first, bytes_within (image old) b.addr b.size from n source) at writes.bytes in
-    writes_block old new b to (bytes_from (image old) (b.addr + from) n) writes.state writes.statistics
+    writes_block old new b to (bytes_from (image old) (b.addr + from) n) writes.valid.entry writes.state writes.statistics
     (λ p. moved p ∙ written_within (image old) b.addr b.size to p (bytes_from (image old) (b.addr + from) n) (omega arith)) (omega arith)
 
 -- What is written stands there.
@@ -55,30 +68,50 @@ wrote_after old new b at n list writes later = bytes_same (image new) (image old
     writes.bytes (b.addr + i) ∙ written_beside (image old) (b.addr + at) (b.addr + i) list beside)
 
 -- A block that was placed is still as it was placed when it has been written.
-pub places_written : (old mid new : Memory) (before after : Source) (size align : ℕ) (b : Block) (at : ℕ) (list : List ℕ) → PlacesBlock old mid before after size align (Ok b)
-    → WritesBlock mid new b at list → PlacesBlock old new before after size align (Ok b)
-places_written old mid new before after size align b at list placed writes = record {
-  step = rw writes.state placed.step;
-  of_layout = rw writes.state placed.of_layout;
-  readable = rw writes.state placed.readable;
-  statistics = writes.statistics ∙ placed.statistics;
-  frame = frame_then old mid new [] (b ∷ []) (b ∷ []) placed.frame writes.frame;
-  err = placed.err;
-  want = placed.want;
-  valid = rw writes.state placed.valid;
-}
+pub placed_written : (old mid new : Memory) (before after : Source) (size align k : ℕ) (b : Block) (at : ℕ) (list : List ℕ) → PlacesAfter (view old before) (view mid after) size align k (Placed b)
+    → WritesBlock mid new b at list → PlacesAfter (view old before) (view new after) size align k (Placed b)
+placed_written old mid new before after size align k b at list places writes =
+    let placed = places.outcome in
+    record {
+      valid = record { entry = places.valid.entry; exit = writes.valid.exit };
+      outcome = record {
+        step = rw writes.state placed.step;
+        asked = placed.asked;
+        of_layout = rw writes.state placed.of_layout;
+        aligned = rw writes.state placed.aligned;
+        statistics = writes.statistics ∙ placed.statistics;
+        frame = frame_then old mid new [] (b ∷ []) (b ∷ []) placed.frame writes.frame;
+      };
+    }
 
--- A block that was grown is still as it was grown when it has been written behind its old bytes.
-pub grows_written : (old mid new : Memory) (before after : Source) (block : Block) (size align : ℕ) (b : Block) (at : ℕ) (list : List ℕ)
-    → GrowsBlock old mid before after block size align (Ok b) → WritesBlock mid new b at list → block.size ≤ at → GrowsBlock old new before after block size align (Ok b)
-grows_written old mid new before after block size align b at list grown writes later = record {
-  step = rw writes.state grown.step;
-  of_layout = rw writes.state grown.of_layout;
-  readable = rw writes.state grown.readable;
-  statistics = writes.statistics ∙ grown.statistics;
-  bytes = wrote_after mid new b at block.size list writes later ∙ grown.bytes;
-  frame = frame_then old mid new (block ∷ []) (b ∷ []) (b ∷ []) grown.frame writes.frame;
-  err = grown.err;
-  want = grown.want;
-  valid = rw writes.state grown.valid;
-}
+-- the same where the number of refusals isn't told
+pub places_written : (old mid new : Memory) (before after : Source) (size align : ℕ) (b : Block) (at : ℕ) (list : List ℕ) → PlacesBlock (view old before) (view mid after) size align (Placed b)
+    → WritesBlock mid new b at list → PlacesBlock (view old before) (view new after) size align (Placed b)
+places_written old mid new before after size align b at list places writes =
+    (places.0, placed_written old mid new before after size align places.0 b at list places.1 writes)
+
+-- A block that was given another size is still as it was when it has been written behind the bytes that it kept.
+pub resized_written : (way : Resizing) (old mid new : Memory) (before after : Source) (block : Block) (size align k : ℕ) (b : Block) (at : ℕ) (list : List ℕ)
+    → ResizesAfter way (view old before) (view mid after) block size align k (Placed b) → WritesBlock mid new b at list → min block.size size ≤ at
+    → ResizesAfter way (view old before) (view new after) block size align k (Placed b)
+resized_written way old mid new before after block size align k b at list resizes writes later =
+    let resized = resizes.outcome in
+    record {
+      valid = record { entry = resizes.valid.entry; exit = writes.valid.exit };
+      outcome = record {
+        step = rw writes.state resized.step;
+        asked = resized.asked;
+        of_layout = rw writes.state resized.of_layout;
+        aligned = λ is. rw writes.state (resized.aligned is);
+        statistics = writes.statistics ∙ resized.statistics;
+        bytes = wrote_after mid new b at (min block.size size) list writes later ∙ resized.bytes;
+        frame = frame_then old mid new (block ∷ []) (b ∷ []) (b ∷ []) resized.frame writes.frame;
+      };
+    }
+
+-- the same where the number of refusals isn't told
+pub resizes_written : (way : Resizing) (old mid new : Memory) (before after : Source) (block : Block) (size align : ℕ) (b : Block) (at : ℕ) (list : List ℕ)
+    → ResizesBlock way (view old before) (view mid after) block size align (Placed b) → WritesBlock mid new b at list → min block.size size ≤ at
+    → ResizesBlock way (view old before) (view new after) block size align (Placed b)
+resizes_written way old mid new before after block size align b at list resizes writes later =
+    (resizes.0, resized_written way old mid new before after block size align resizes.0 b at list resizes.1 writes later)

@@ -9,15 +9,16 @@ use Rattle.placement.specs.State.{is_min_align, IsValid}
 use Rattle.placement.specs.Search.{possible, next_base, requests}
 use Rattle.placement.specs.Moves.{with_chunk}
 use Rattle.placement.specs.Creation.{empty_state, capacity_chunk, create, create_at, create_requests, requests_for}
-use Rattle.placement.specs.Causes.{CountsRefusals, TellsRequests}
+use Rattle.placement.specs.Causes.{counted, TellsRequests}
 use Rattle.placement.proofs.RoundingLemmas.{min_align_le}
-use Rattle.placement.proofs.CauseLemmas.{counts_none, tells_none}
+use Rattle.placement.proofs.CauseLemmas.{counted_none}
 use Rattle.placement.proofs.CreationLemmas.{capacity_valid}
 use Rattle.arena_chunks.specs.Memory.{Memory}
 use Rattle.arena_chunks.specs.Stored.{memory_of, IsStored}
-use Rattle.arena_chunks.specs.Source.{Source}
+use Rattle.arena_chunks.specs.Source.{Source, IsAsked}
 use Rattle.arena_chunks.specs.Creating.{zeroed_memory, IsCreation}
-use Rattle.arena_chunks.specs.declared.chunk.StoredChunk.{StoredChunk}
+use Rattle.arena_chunks.specs.declared.chunks.chunk.StoredChunk.{StoredChunk}
+use Rattle.arena_chunks.proofs.AskedLemmas.{asked_none}
 
 -- the alignment of the first chunk
 unit : (m : ℕ) → IsTrue (is_min_align m) → max m 16 ≡ 16
@@ -42,21 +43,20 @@ no_chunk m capacity none = rw none refl
 -- a capacity of no bytes asks for nothing
 pub created_empty : (m capacity : ℕ) (source : Source) → capacity ≡ 0 → IsCreation m capacity 0 (Some (zeroed_memory (empty_state m))) source source
 unfolding create create_requests
-created_empty m capacity source none = rw none (record { step = refl; refusals = counts_none source.refusals; requests = tells_none source.asked })
+created_empty m capacity source none = rw none (record { step = refl; asked = asked_none source })
 
 -- any other is by the chunk that is asked for
 created_at : (m capacity k : ℕ) (answer : Option Memory) (before after : Source) (chunk : Option (ℕ × ℕ)) → (capacity ≡ 0 → ⊥) → chunk ≡ capacity_chunk capacity m
-    → option_map (option_map zeroed_memory) (create_at chunk m k) ≡ Some answer → CountsRefusals before.refusals after.refusals k
-    → TellsRequests before.asked after.asked (requests_for m chunk) → IsCreation m capacity k answer before after
+    → option_map (option_map zeroed_memory) (create_at chunk m k) ≡ Some answer → IsAsked before after k (requests_for m chunk) → IsCreation m capacity k answer before after
 unfolding create create_requests
-created_at m capacity k answer before after chunk some is step refusals told =
+created_at m capacity k answer before after chunk some is step asked =
     let test : (capacity == 0) ≡ false = grind (arith, nat_tests) in
-    record { step = rw (test, ← is) step; refusals = refusals; requests = rw (test, ← is) told }
+    record { step = rw (test, ← is) step; asked = rw (test, ← is) asked }
 
 -- with no chunk to ask for there is no arena
 pub created_unasked : (m capacity : ℕ) (source : Source) → (capacity ≡ 0 → ⊥) → None ≡ capacity_chunk capacity m → IsCreation m capacity 0 None source source
 created_unasked m capacity source some none =
-    created_at m capacity 0 None source source None some none refl (counts_none source.refusals) (tells_none source.asked)
+    created_at m capacity 0 None source source None some none refl (asked_none source)
 
 -- the source's answer to the one request
 module _ (m capacity size : ℕ) (before after : Source) (min_align : IsTrue (is_min_align m)) (some : capacity ≡ 0 → ⊥) (chunk : Some (4096, size) ≡ capacity_chunk capacity m) where
@@ -66,15 +66,15 @@ module _ (m capacity size : ℕ) (before after : Source) (min_align : IsTrue (is
   told asked = rw (unit m min_align) asked
 
   -- it was refused
-  pub created_refused : CountsRefusals before.refusals after.refusals 1 → TellsRequests before.asked after.asked ((size, 16) ∷ []) → IsCreation m capacity 1 None before after
-  created_refused refusals asked = created_at m capacity 1 None before after (Some (4096, size)) some chunk refl refusals (told asked)
+  pub created_refused : after.refusals ≡ counted before.refusals 1 → TellsRequests before.asked after.asked ((size, 16) ∷ []) → IsCreation m capacity 1 None before after
+  created_refused refusals asked = created_at m capacity 1 None before after (Some (4096, size)) some chunk refl (record { refusals = refusals; requests = told asked })
 
   -- it was granted: zeros from 4096 on, with nothing used
-  pub created_first : (bytes : Vec ℕ Global) → bytes.items ≡ replicate size 0 → CountsRefusals before.refusals after.refusals 0
+  pub created_first : (bytes : Vec ℕ Global) → bytes.items ≡ replicate size 0 → after.refusals ≡ before.refusals
       → TellsRequests before.asked after.asked ((size, 16) ∷ [])
       → IsCreation m capacity 0 (Some (memory_of m true 0 0 0 (record { base = 4096; cursor = 4096 + length bytes.items; bytes = bytes }) [])) before after
   created_first bytes zeros refusals asked =
-      created_at m capacity 0 _ before after (Some (4096, size)) some chunk (rw (zeros, length-replicate) refl) refusals (told asked)
+      created_at m capacity 0 _ before after (Some (4096, size)) some chunk (rw (zeros, length-replicate) refl) (record { refusals = refusals ∙ sym (counted_none before.refusals); requests = told asked })
 
   -- the arena over that chunk is valid
   pub first_stored : (bytes : Vec ℕ Global) (newest : StoredChunk) → bytes.items ≡ replicate size 0 → newest ≡ record { base = 4096; cursor = 4096 + length bytes.items; bytes = bytes }

@@ -1,23 +1,17 @@
 -- What calls leave of the rest of an arena.
-use Rattle.std.proofs.Common.{◌≡◌, ℕ, ◌+◌, ◌<◌, ◌≤◌, inl, inr, ap, sym, refl, subst, ◌∙◌, arith, List, [], ◌∷◌, true, false, Bool, IsTrue, length}
-use Rattle.std.specs.Prelude.{nat_le, nat_lt, ◌&&◌, ◌||◌}
-use Rattle.std.proofs.lemmas.Bool.{cases_eq}
+use Rattle.std.proofs.Common.{◌≡◌, ℕ, ◌+◌, ◌<◌, ◌≤◌, inl, inr, ap, sym, refl, subst, ◌∙◌, arith, List, [], ◌∷◌, false, IsTrue, length}
+use Rattle.std.specs.Prelude.{nat_le, nat_lt, ◌&&◌}
+use Rattle.std.proofs.lemmas.Bool.{cases_lt}
 use Rattle.std.proofs.lemmas.Bool.Decides.{nat_tests}
-use Rattle.placement.specs.Rounding.{up}
-use Rattle.placement.specs.State.{State, Chunk, IsValid, is_used, is_range_used, cursor_of, with_newest_cursor}
+use Rattle.placement.specs.State.{State, Chunk, IsValid, is_used, is_range_used, with_newest_cursor, allocated_bytes, AreApart}
 use Rattle.placement.specs.Moves.{dealloc}
-use Rattle.placement.specs.Blocks.{IsNewBlock}
+use Rattle.placement.specs.Blocks.{IsNewBlock, LieBeside, padded_size}
 use Rattle.placement.proofs.RoundingLemmas.{up_ge, min_align_positive}
-use Rattle.placement.proofs.UsedLemmas.{used_set}
-use Rattle.placement.proofs.ReturnLemmas.{dealloc_at, dealloc_elsewhere, dealloc_generation}
+use Rattle.placement.proofs.ReturnLemmas.{dealloc_keeps, dealloc_generation, dealloc_min_align, dealloc_is_growing, dealloc_allocated}
 use Rattle.arena_chunks.specs.Memory.{Memory, byte_in, image, Writes}
-use Rattle.arena_chunks.specs.Frame.{in_block, in_blocks, Misses, Frame, padded}
+use Rattle.arena_chunks.specs.Frame.{Frame, padded}
 use Rattle.arena_chunks.specs.declared.block.Block.{Block}
 use Rattle.arena_chunks.proofs.BytesLemmas.{written_beside}
-
-pub unless : (b : Bool) → (b ≡ true → ⊥) → b ≡ false
-unless true no_way = absurd (no_way refl)
-unless false no_way = refl
 
 -- the bytes don't depend on the cursor
 pub bytes_moved : (p : ℕ) → (chunks : List Chunk) (bytes : List (List ℕ)) → byte_in (with_newest_cursor p chunks) bytes ≡ byte_in chunks bytes
@@ -28,63 +22,78 @@ bytes_moved p (newest ∷ older) (list ∷ bytes) = refl
 pub byte_moved : (p : ℕ) → (chunks : List Chunk) (bytes : List (List ℕ)) (a : ℕ) → byte_in (with_newest_cursor p chunks) bytes a ≡ byte_in chunks bytes a
 byte_moved p chunks bytes a = ap (λ (f : ℕ → ℕ). f a) (bytes_moved p chunks bytes)
 
+-- ---- Ranges that lie apart
+
+-- Apart is symmetric.
+pub apart_turned : (p m q n : ℕ) → AreApart p m q n → AreApart q n p m
+apart_turned p m q n apart = λ some many. elim (apart many some) [ inl above ↦ inr above | inr below ↦ inl below ]
+
+-- What lies apart from a padded block lies apart from the block.
+pub apart_unpadded : (state : State) (p size addr n : ℕ) → IsValid state → LieBeside state p size addr n → AreApart addr n p size
+apart_unpadded state p size addr n valid beside = λ many some.
+    let reach = up_ge (p + size) state.min_align (min_align_positive state.min_align valid.min_align) in
+    elim (beside (omega arith) many) [ inl above ↦ inr (omega arith) | inr below ↦ inl (omega arith) ]
+
+-- What lies apart from a range lies apart from a part of it.
+pub apart_part : (addr n p m q k : ℕ) → AreApart addr n p m → p ≤ q → q + k ≤ p + m → AreApart addr n q k
+apart_part addr n p m q k apart low high = λ many some. elim (apart many (omega arith)) [ inl below ↦ inl (omega arith) | inr above ↦ inr (omega arith) ]
+
+-- Of a range that begins at or above a block and lies apart from it all lies behind the block.
+pub behind : (addr n p m : ℕ) → 0 < n → p ≤ addr → AreApart addr n p m → p + m ≤ addr
+behind addr n p m some low apart = elim (cases_lt 0 m) [
+  | inl filled ↦ elim (apart some filled) [ inl below ↦ absurd (omega arith) | inr above ↦ above ]
+  | inr none ↦ omega arith
+]
+
+-- An address apart from a block isn't one of a range in the block.
+pub beside_range : (p addr m from n : ℕ) → AreApart p 1 addr m → addr ≤ from → from + n ≤ addr + m → (nat_le from p && nat_lt p (from + n)) ≡ false
+beside_range p addr m from n apart low high = elim (cases_lt 0 n) [
+  | inl some ↦ elim (apart (omega arith) (omega arith)) [ inl below ↦ grind (arith, nat_tests) | inr above ↦ grind (arith, nat_tests) ]
+  | inr none ↦ grind (arith, nat_tests)
+]
+
+-- ---- Frames of calls
+
 -- a block is new
 pub frame_new : (old new : Memory) (size align : ℕ) (b : Block) → IsValid old.state → IsNewBlock old.state size align b.addr new.state → b.size ≡ size
+    → (old.state.is_growing ≡ false → allocated_bytes new.state ≡ allocated_bytes old.state)
     → ((p : ℕ) → IsTrue (is_used old.state p) → image new p ≡ image old p) → Frame old new [] (b ∷ [])
-frame_new old new size align b valid is sized bytes = record {
+frame_new old new size align b valid is sized allocated bytes = record {
   generation = is.generation;
-  kept = λ addr n some used misses. is.keeps addr n used;
-  bytes = λ p used misses. bytes p used;
-  fresh = λ p inside misses. unless (is_used old.state p) (λ used. beside p inside used);
+  min_align = is.min_align;
+  is_growing = is.is_growing;
+  allocated = allocated;
+  kept = λ addr n some used apart. is.keeps addr n used;
+  apart = λ addr n some used apart. (rw sized (apart_unpadded old.state b.addr size addr n valid (is.beside addr n some used)), tt);
+  bytes = λ p used apart. bytes p used;
 }
-  where
-    beside : (p : ℕ) → (in_block p b || false) ≡ true → IsTrue (is_used old.state p) → ⊥
-    beside p inside used =
-        let low : b.addr ≤ p = grind (arith, nat_tests) in
-        let high : p < b.addr + b.size = grind (arith, nat_tests) in
-        let reach = up_ge (b.addr + size) old.state.min_align (min_align_positive old.state.min_align valid.min_align) in
-        elim (is.beside p 1 (omega arith) used) [
-          | inl above ↦ omega arith
-          | inr below ↦ omega arith
-        ]
-
--- an address at or above a block that isn't in it lies behind it
-pub behind : (b : Block) (a : ℕ) → b.addr ≤ a → (in_block a b || false) ≡ false → b.addr + b.size ≤ a
-behind b a low outside = grind (arith, nat_tests)
 
 -- a block is given back, with the addresses up to the next multiple of the least alignment
-pub frame_dealloc : (old new : Memory) (block : Block) → IsValid old.state → new.state ≡ dealloc old.state block.addr block.size → ((p : ℕ) → image new p ≡ image old p)
-    → Frame old new (padded old.state.min_align block ∷ []) []
-frame_dealloc old new block valid is bytes = record {
-  generation = ap (λ (s : State). s.generation) is ∙ dealloc_generation old.state block.addr block.size;
-  kept = λ addr n some used misses. subst (λ (s : State). IsTrue (is_range_used s.chunks addr n)) (sym is) (kept addr n some used misses);
-  bytes = λ p used misses. bytes p;
-  fresh = λ p inside misses. cc;
-}
-  where
-    end : ℕ
-    end = up (block.addr + block.size) old.state.min_align
-
-    kept : (addr n : ℕ) → 0 < n → IsTrue (is_range_used old.state.chunks addr n) → Misses addr n (padded old.state.min_align block ∷ [])
-        → IsTrue (is_range_used (dealloc old.state block.addr block.size).chunks addr n)
-    kept addr n some used misses = elim (cases_eq block.addr (cursor_of old.state.chunks)) [
-      | inr other ↦ rw (dealloc_elsewhere old.state block.addr block.size other) used
-      | inl at ↦
-          rw (dealloc_at old.state block.addr block.size at) (used_set end addr n old.state.chunks (λ from.
-          let first : (in_block addr (padded old.state.min_align block) || false) ≡ false = subst (λ (p : ℕ). in_blocks p (padded old.state.min_align block ∷ []) ≡ false) (omega arith) (misses 0 some) in
-          let past = behind (padded old.state.min_align block) addr (omega arith) first in
-          omega (arith, past)) used)
-    ]
+pub frame_dealloc : (old new : Memory) (block : Block) → new ≡ record old { state = dealloc old.state block.addr block.size }
+    → ((p : ℕ) → image new p ≡ image old p) → Frame old new (padded old.state.min_align block ∷ []) []
+frame_dealloc old new block is bytes =
+    let state : new.state ≡ dealloc old.state block.addr block.size = ap (λ (w : Memory). w.state) is in
+    record {
+      generation = ap (λ (s : State). s.generation) state ∙ dealloc_generation old.state block.addr block.size;
+      min_align = ap (λ (s : State). s.min_align) state ∙ dealloc_min_align old.state block.addr block.size;
+      is_growing = ap (λ (s : State). s.is_growing) state ∙ dealloc_is_growing old.state block.addr block.size;
+      allocated = λ still. ap allocated_bytes state ∙ dealloc_allocated old.state block.addr block.size;
+      kept = λ addr n some used apart. subst (λ (s : State). IsTrue (is_range_used s.chunks addr n)) (sym state)
+          (dealloc_keeps old.state block.addr block.size addr n some used (apart_turned addr n block.addr (padded_size old.state.min_align block.addr block.size) apart.0));
+      apart = λ addr n some used apart. tt;
+      bytes = λ p used apart. bytes p;
+    }
 
 -- a range of a block is written
 pub frame_written : (old new : Memory) (b : Block) (at : ℕ) (list : List ℕ) → new.state ≡ old.state → Writes old new (b.addr + at) list → at + length list ≤ b.size
     → Frame old new (b ∷ []) (b ∷ [])
 frame_written old new b at list same writes fits = record {
   generation = ap (λ (s : State). s.generation) same;
-  kept = λ addr n some used misses. subst (λ (s : State). IsTrue (is_range_used s.chunks addr n)) (sym same) used;
-  bytes = λ p used misses. writes p ∙ written_beside (image old) (b.addr + at) p list (outside p misses);
-  fresh = λ p inside misses. cc;
+  min_align = ap (λ (s : State). s.min_align) same;
+  is_growing = ap (λ (s : State). s.is_growing) same;
+  allocated = λ still. ap allocated_bytes same;
+  kept = λ addr n some used apart. subst (λ (s : State). IsTrue (is_range_used s.chunks addr n)) (sym same) used;
+  apart = λ addr n some used apart. apart;
+  bytes = λ p used apart. writes p
+      ∙ written_beside (image old) (b.addr + at) p list (beside_range p b.addr b.size (b.addr + at) (length list) apart.0 (omega arith) (omega (arith, fits)));
 }
-  where
-    outside : (p : ℕ) → (in_block p b || false) ≡ false → (nat_le (b.addr + at) p && nat_lt p (b.addr + at + length list)) ≡ false
-    outside p misses = grind (arith, nat_tests)

@@ -1,100 +1,125 @@
--- Frames one after another, of more and fewer blocks, and for a block beside; and where a readable block lies.
-use Rattle.std.proofs.Common.{◌≡◌, ℕ, ◌+◌, ◌<◌, inl, inr, ◌↔◌, ap, sym, refl, ◌∙◌, arith, List, [], ◌∷◌, ◌++◌, true, false, Bool, IsTrue, eq-eqb}
-use Rattle.std.specs.Prelude.{◌||◌, ◌&&◌, ◌==◌}
-use Rattle.std.specs.List.{Contains}
+-- Blocks apart; frames one after another, of more and fewer blocks, and for a block beside; and where a readable block lies.
+use Rattle.std.proofs.Common.{◌≡◌, ℕ, ◌+◌, ◌<◌, ◌≤◌, inl, inr, ◌↔◌, ap, sym, refl, ◌∙◌, arith, List, [], ◌∷◌, ◌++◌, true, IsTrue, eq-eqb}
+use Rattle.std.specs.Prelude.{◌&&◌, ◌==◌}
+use Rattle.std.specs.List.{Contains, AllByRecursion}
 use Rattle.std.proofs.lemmas.Bool.{cases_lt, or_cases, or_left, or_right}
 use Rattle.std.proofs.lemmas.Bool.Decides.{nat_tests}
 use Rattle.std.proofs.lemmas.List.Folds.{list_any_at}
 use Rattle.std.proofs.lemmas.List.Elements.{Contains-append_right}
 use Rattle.placement.specs.State.{State, Chunk, is_used, is_used_by, is_range_used}
-use Rattle.placement.proofs.UsedLemmas.{used_part}
 use Rattle.arena_chunks.specs.Memory.{Memory, image, is_readable}
-use Rattle.arena_chunks.specs.Frame.{in_block, in_blocks, Misses, Frame, StaysBeside, IsInUse}
+use Rattle.arena_chunks.specs.Frame.{IsApart, AreAllApart, ArePairwiseApart, AreBlocksApart, Frame, Stays, IsInUse}
 use Rattle.arena_chunks.specs.declared.block.Block.{Block}
-use Rattle.arena_chunks.proofs.FrameLemmas.{unless}
+use Rattle.arena_chunks.proofs.FrameLemmas.{apart_part, apart_turned}
 use Rattle.arena_chunks.proofs.WrittenLemmas.{bytes_same}
 use Rattle.arena_chunks.proofs.PartLemmas.{readable_part}
 
--- no test both passes and fails
-never : (b : Bool) → IsTrue b → b ≡ false → ⊥
-never b holds fails = cc
+-- ---- Blocks that lie apart
 
-module _ (old new : Memory) (before after : List Block) (frame : Frame old new before after) where
-  -- an address in use beside the blocks before stays in use, beside the blocks after
-  stays_used : (p : ℕ) → IsTrue (is_used old.state p) → in_blocks p before ≡ false → IsTrue (is_used new.state p)
-  stays_used p used misses = frame.kept p 1 (omega arith) used (λ i below. let at : p + i ≡ p = omega arith in ap (λ (q : ℕ). in_blocks q before) at ∙ misses)
+-- Two blocks lie apart in either order.
+pub blocks_turned : (b c : Block) → AreBlocksApart b c → AreBlocksApart c b
+blocks_turned b c = apart_turned b.addr b.size c.addr c.size
 
-  stays_beside : (p : ℕ) → IsTrue (is_used old.state p) → in_blocks p before ≡ false → in_blocks p after ≡ false
-  stays_beside p used misses = unless (in_blocks p after) (λ inside. never (is_used old.state p) used (frame.fresh p inside misses))
+-- A part of a range that lies apart from blocks does too.
+pub apart_within : (addr n from k : ℕ) (bs : List Block) → addr ≤ from → from + k ≤ addr + n → IsApart addr n bs → IsApart from k bs
+apart_within addr n from k [] low high apart = tt
+apart_within addr n from k (b ∷ bs) low high apart = (
+  apart_turned b.addr b.size from k (apart_part b.addr b.size addr n from k (apart_turned addr n b.addr b.size apart.0) low high),
+  apart_within addr n from k bs low high apart.1,
+)
+
+-- A range of no addresses lies apart from all blocks.
+pub apart_empty : (addr n : ℕ) (bs : List Block) → n ≡ 0 → IsApart addr n bs
+apart_empty addr n [] none = tt
+apart_empty addr n (b ∷ bs) none = ((λ some filled. absurd (omega arith)), apart_empty addr n bs none)
+
+-- What lies apart from two lists of blocks lies apart from both together.
+pub apart_both : (addr n : ℕ) (xs ys : List Block) → IsApart addr n xs → IsApart addr n ys → IsApart addr n (xs ++ ys)
+apart_both addr n [] ys first second = second
+apart_both addr n (x ∷ xs) ys first second = (first.0, apart_both addr n xs ys first.1 second)
+
+-- the converse of `apart_both`
+pub apart_each : (addr n : ℕ) (xs ys : List Block) → IsApart addr n (xs ++ ys) → IsApart addr n xs × IsApart addr n ys
+apart_each addr n [] ys apart = (tt, apart)
+apart_each addr n (x ∷ xs) ys apart = let rest = apart_each addr n xs ys apart.1 in ((apart.0, rest.0), rest.1)
+
+-- Blocks that lie apart from a block, and it from them.
+pub all_apart : (b : Block) (bs : List Block) → IsApart b.addr b.size bs → AreAllApart bs (b ∷ [])
+all_apart b [] apart = tt
+all_apart b (c ∷ bs) apart = ((blocks_turned b c apart.0, tt), all_apart b bs apart.1)
+
+-- Two lists of blocks that lie pairwise apart, and each of one from each of the other, do so together.
+pub pairwise_both : (xs ys : List Block) → ArePairwiseApart xs → ArePairwiseApart ys → AreAllApart xs ys → ArePairwiseApart (xs ++ ys)
+pairwise_both [] ys first second all = second
+pairwise_both (x ∷ xs) ys first second all = (apart_both x.addr x.size xs ys first.0 all.0, pairwise_both xs ys first.1 second all.1)
+
+-- ---- Frames
+
+-- where nothing happened
+pub frame_reflexive : (memory : Memory) (blocks : List Block) → Frame memory memory blocks blocks
+frame_reflexive memory blocks = record {
+  generation = refl;
+  min_align = refl;
+  is_growing = refl;
+  allocated = λ still. refl;
+  kept = λ addr n some used apart. used;
+  apart = λ addr n some used apart. apart;
+  bytes = λ p used apart. refl;
+}
 
 -- one call after another
 pub frame_then : (old mid new : Memory) (before between after : List Block) → Frame old mid before between → Frame mid new between after → Frame old new before after
 frame_then old mid new before between after first second = record {
   generation = second.generation ∙ first.generation;
-  kept = λ addr n some used misses. second.kept addr n some (first.kept addr n some used misses)
-      (λ i below. stays_beside old mid before between first (addr + i) (used_part addr n (addr + i) 1 old.state.chunks (omega arith) (omega arith) used) (misses i below));
-  bytes = λ p used misses. second.bytes p (stays_used old mid before between first p used misses) (stays_beside old mid before between first p used misses) ∙ first.bytes p used misses;
-  fresh = λ p inside misses. unless (is_used old.state p) (λ used.
-      never (is_used mid.state p) (stays_used old mid before between first p used misses) (second.fresh p inside (stays_beside old mid before between first p used misses)));
+  min_align = second.min_align ∙ first.min_align;
+  is_growing = second.is_growing ∙ first.is_growing;
+  allocated = λ still. second.allocated (first.is_growing ∙ still) ∙ first.allocated still;
+  kept = λ addr n some used apart. second.kept addr n some (first.kept addr n some used apart) (first.apart addr n some used apart);
+  apart = λ addr n some used apart. second.apart addr n some (first.kept addr n some used apart) (first.apart addr n some used apart);
+  bytes = λ p used apart. second.bytes p (first.kept p 1 (omega arith) used apart) (first.apart p 1 (omega arith) used apart) ∙ first.bytes p used apart;
 }
 
 -- more blocks before, fewer after
-pub frame_weaken : (old new : Memory) (before more after fewer : List Block) → ((p : ℕ) → IsTrue (in_blocks p before) → IsTrue (in_blocks p more))
-    → ((p : ℕ) → IsTrue (in_blocks p fewer) → IsTrue (in_blocks p more || in_blocks p after)) → Frame old new before after → Frame old new more fewer
+pub frame_weaken : (old new : Memory) (before more after fewer : List Block) → ((addr n : ℕ) → 0 < n → IsApart addr n more → IsApart addr n before)
+    → ((addr n : ℕ) → 0 < n → IsApart addr n more → IsApart addr n after → IsApart addr n fewer) → Frame old new before after → Frame old new more fewer
 frame_weaken old new before more after fewer larger smaller frame = record {
   generation = frame.generation;
-  kept = λ addr n some used misses. frame.kept addr n some used (λ i below. outside (addr + i) (misses i below));
-  bytes = λ p used misses. frame.bytes p used (outside p misses);
-  fresh = λ p inside misses. frame.fresh p (rw misses at (smaller p inside)) (outside p misses);
+  min_align = frame.min_align;
+  is_growing = frame.is_growing;
+  allocated = frame.allocated;
+  kept = λ addr n some used apart. frame.kept addr n some used (larger addr n some apart);
+  apart = λ addr n some used apart. smaller addr n some apart (frame.apart addr n some used (larger addr n some apart));
+  bytes = λ p used apart. frame.bytes p used (larger p 1 (omega arith) apart);
 }
-  where
-    outside : (p : ℕ) → in_blocks p more ≡ false → in_blocks p before ≡ false
-    outside p misses = unless (in_blocks p before) (λ inside. never (in_blocks p more) (larger p inside) misses)
 
--- an address of two lists together is one of the first or of the second
-in_both : (p : ℕ) (xs ys : List Block) → in_blocks p (xs ++ ys) ≡ (in_blocks p xs || in_blocks p ys)
-in_both p [] ys = refl
-in_both p (x ∷ xs) ys = ap (λ (b : Bool). in_block p x || b) (in_both p xs ys) ∙ or_assoc (in_block p x) (in_blocks p xs) (in_blocks p ys)
-  where
-    or_assoc : (a b c : Bool) → (a || (b || c)) ≡ ((a || b) || c)
-    or_assoc true b c = refl
-    or_assoc false b c = refl
+-- the blocks after are forgotten
+pub frame_forget : (old new : Memory) (before after : List Block) → Frame old new before after → Frame old new before []
+frame_forget old new before after = frame_weaken old new before before after [] (λ addr n some apart. apart) (λ addr n some apart rest. tt)
 
 -- blocks of the caller's beside
 pub frame_beside : (old new : Memory) (before after others : List Block) → Frame old new before after → Frame old new (before ++ others) (after ++ others)
-frame_beside old new before after others frame =
-    frame_weaken old new before (before ++ others) after (after ++ others) (λ p inside. larger p (in_both p before others) inside)
-    (λ p inside. smaller p (in_both p before others) (in_both p after others) inside) frame
-  where
-    larger : (p : ℕ) → in_blocks p (before ++ others) ≡ (in_blocks p before || in_blocks p others) → IsTrue (in_blocks p before) → IsTrue (in_blocks p (before ++ others))
-    larger p both inside = cc
+frame_beside old new before after others =
+    frame_weaken old new before (before ++ others) after (after ++ others) (λ addr n some apart. (apart_each addr n before others apart).0)
+    (λ addr n some apart rest. apart_both addr n after others rest (apart_each addr n before others apart).1)
 
-    smaller : (p : ℕ) → in_blocks p (before ++ others) ≡ (in_blocks p before || in_blocks p others) → in_blocks p (after ++ others) ≡ (in_blocks p after || in_blocks p others)
-        → IsTrue (in_blocks p (after ++ others)) → IsTrue (in_blocks p (before ++ others) || in_blocks p after)
-    smaller p before_is after_is inside = grind (arith, nat_tests)
+-- a block of no bytes among others doesn't matter
+apart_but : (addr n : ℕ) (first last : List Block) (b : Block) → b.size ≡ 0 → IsApart addr n (first ++ b ∷ last) ↔ IsApart addr n (first ++ last)
+apart_but addr n first last b none = (
+  λ apart. let parts = apart_each addr n first (b ∷ last) apart in apart_both addr n first last parts.0 parts.1.1,
+  λ apart. let parts = apart_each addr n first last apart in apart_both addr n first (b ∷ last) parts.0 ((λ some filled. absurd (omega arith)), parts.1),
+)
 
--- a block of no bytes among others adds no address
-in_empty : (p : ℕ) (first last : List Block) (b : Block) → b.size ≡ 0 → in_blocks p (first ++ b ∷ last) ≡ in_blocks p (first ++ last)
-in_empty p [] last b none = let no : in_block p b ≡ false = grind (arith, nat_tests) in rw no refl
-in_empty p (x ∷ xs) last b none = ap (λ (t : Bool). in_block p x || t) (in_empty p xs last b none)
-
--- lists with the same addresses
-pub frame_same : (old new : Memory) (before more after fewer : List Block) → ((p : ℕ) → in_blocks p more ≡ in_blocks p before) → ((p : ℕ) → in_blocks p fewer ≡ in_blocks p after)
-    → Frame old new before after → Frame old new more fewer
-frame_same old new before more after fewer befores afters frame =
-    frame_weaken old new before more after fewer (λ p inside. befores p ∙ inside) (λ p inside. or_right (in_blocks p more) (in_blocks p after) (sym (afters p) ∙ inside)) frame
-
--- a block of no bytes doesn't matter, before or after
+-- so it doesn't before a call, or after it
 pub empty_before : (old new : Memory) (first last after : List Block) (b : Block) → b.size ≡ 0 → Frame old new (first ++ b ∷ last) after ↔ Frame old new (first ++ last) after
 empty_before old new first last after b none = (
-  frame_same old new (first ++ b ∷ last) (first ++ last) after after (λ p. sym (in_empty p first last b none)) (λ p. refl),
-  frame_same old new (first ++ last) (first ++ b ∷ last) after after (λ p. in_empty p first last b none) (λ p. refl),
+  frame_weaken old new (first ++ b ∷ last) (first ++ last) after after (λ addr n some apart. (apart_but addr n first last b none).1 apart) (λ addr n some apart rest. rest),
+  frame_weaken old new (first ++ last) (first ++ b ∷ last) after after (λ addr n some apart. (apart_but addr n first last b none).0 apart) (λ addr n some apart rest. rest),
 )
 
 pub empty_after : (old new : Memory) (before first last : List Block) (b : Block) → b.size ≡ 0 → Frame old new before (first ++ b ∷ last) ↔ Frame old new before (first ++ last)
 empty_after old new before first last b none = (
-  frame_same old new before before (first ++ b ∷ last) (first ++ last) (λ p. refl) (λ p. sym (in_empty p first last b none)),
-  frame_same old new before before (first ++ last) (first ++ b ∷ last) (λ p. refl) (λ p. in_empty p first last b none),
+  frame_weaken old new before before (first ++ b ∷ last) (first ++ last) (λ addr n some apart. apart) (λ addr n some apart rest. (apart_but addr n first last b none).0 rest),
+  frame_weaken old new before before (first ++ last) (first ++ b ∷ last) (λ addr n some apart. apart) (λ addr n some apart rest. (apart_but addr n first last b none).1 rest),
 )
 
 -- ---- Readable blocks
@@ -112,21 +137,32 @@ pub filled_readable : (state : State) (b : Block) → IsFilled state b → IsTru
 filled_readable state b is =
     or_right (b.size == 0) (b.generation == state.generation && is_range_used state.chunks b.addr b.size) (rw (eq-eqb _ _ is.generation) is.used)
 
--- a readable block that isn't one of those before stays
-pub frame_keeps : (old new : Memory) (before after : List Block) (b : Block) → Frame old new before after → IsTrue (is_readable old.state b) → Misses b.addr b.size before → StaysBeside old new after b
-frame_keeps old new before after b frame readable misses = record {
-  readable = elim (cases_lt 0 b.size) [
-    | inr none ↦ or_left (b.size == 0) (b.generation == new.state.generation && is_range_used new.state.chunks b.addr b.size) (eq-eqb _ _ (omega arith))
-    | inl some ↦
-        let is = is_filled old.state b some readable in
-        filled_readable new.state b (record { generation = is.generation ∙ sym frame.generation; used = frame.kept b.addr b.size some is.used misses })
-  ];
-  bytes = bytes_same (image new) (image old) b.addr b.size (λ i below. frame.bytes (b.addr + i) (used i below) (misses i below));
-  beside = λ i below. stays_beside old new before after frame (b.addr + i) (used i below) (misses i below);
-}
+-- a readable block that lies apart from those before stays
+pub frame_keeps : (old new : Memory) (before after : List Block) (b : Block) → Frame old new before after → IsTrue (is_readable old.state b) → IsApart b.addr b.size before → Stays old new after b
+frame_keeps old new before after b frame readable apart = elim (cases_lt 0 b.size) [
+  | inr none ↦ record {
+    readable = or_left (b.size == 0) (b.generation == new.state.generation && is_range_used new.state.chunks b.addr b.size) (eq-eqb _ _ (omega arith));
+    bytes = bytes_same (image new) (image old) b.addr b.size (λ i below. absurd (omega arith));
+    apart = apart_empty b.addr b.size after (omega arith);
+  }
+  | inl some ↦
+      let is = is_filled old.state b some readable in
+      record {
+        readable = filled_readable new.state b (record { generation = is.generation ∙ sym frame.generation; used = frame.kept b.addr b.size some is.used apart });
+        bytes = bytes_same (image new) (image old) b.addr b.size (λ i below. frame.bytes (b.addr + i) (used i below) (apart_within b.addr b.size (b.addr + i) 1 before (omega arith) (omega arith) apart));
+        apart = frame.apart b.addr b.size some is.used apart;
+      }
+]
   where
     used : (i : ℕ) → i < b.size → IsTrue (is_used old.state (b.addr + i))
     used i below = readable_part old.state b (b.addr + i) 1 readable (omega arith) (omega arith) (omega arith)
+
+-- so do all blocks of a list
+pub frame_keeps_all : (old new : Memory) (before after bs : List Block) → Frame old new before after → AllByRecursion (λ (b : Block). IsTrue (is_readable old.state b)) bs → AreAllApart bs before
+    → AllByRecursion (Stays old new after) bs
+frame_keeps_all old new before after [] frame readable apart = tt
+frame_keeps_all old new before after (b ∷ bs) frame readable apart =
+    (frame_keeps old new before after b frame readable.0 apart.0, frame_keeps_all old new before after bs frame readable.1 apart.1)
 
 -- a range in use lies in a chunk's used part
 chunk_of : (addr n : ℕ) (chunks : List Chunk) → IsTrue (is_range_used chunks addr n) → (c : Chunk) × Contains chunks c × IsTrue (is_used_by addr n c)

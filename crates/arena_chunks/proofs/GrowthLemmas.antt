@@ -10,19 +10,19 @@ use Rattle.placement.specs.Search.{asked, asked_above, requests}
 use Rattle.placement.specs.Moves.{with_chunk}
 use Rattle.placement.proofs.RoundingLemmas.{up_ge, power_positive, max_power, pow_power, layout_power}
 use Rattle.placement.proofs.AllocLemmas.{entry_of, valid_grown}
-use Rattle.placement.proofs.CauseLemmas.{counts_none, tells_none}
 use Rattle.arena_chunks.specs.Memory.{Memory}
 use Rattle.arena_chunks.specs.Stored.{all_chunks, IsStored}
-use Rattle.arena_chunks.specs.Source.{Source}
-use Rattle.arena_chunks.specs.Answers.{AddsChunk}
-use Rattle.arena_chunks.specs.declared.chunk.StoredChunk.{StoredChunk}
+use Rattle.arena_chunks.specs.Source.{Source, view}
+use Rattle.arena_chunks.specs.Adding.{AddsChunk}
+use Rattle.arena_chunks.specs.declared.chunks.chunk.StoredChunk.{StoredChunk}
 use Rattle.arena_chunks.specs.declared.arena.Arena.TheInside.{Inside}
+use Rattle.arena_chunks.proofs.AskedLemmas.{asked_none}
 use Rattle.arena_chunks.proofs.StoredLemmas.{kind, view_with, view_of, Stands}
 
 -- an arena that doesn't grow asks for nothing
-pub adds_none : (memory : Memory) (size align : ℕ) (source : Source) → memory.state.is_growing ≡ false → AddsChunk memory memory size align 0 None source source
+pub adds_none : (memory : Memory) (size align : ℕ) (source : Source) → memory.state.is_growing ≡ false → AddsChunk (view memory source) (view memory source) size align 0 None
 unfolding asked requests
-adds_none memory size align source still = record { added = rw still refl; refusals = counts_none source.refusals; requests = rw still (tells_none source.asked) }
+adds_none memory size align source still = record { added = rw still refl; asked = rw still (asked_none source) }
 
 -- a chunk that was granted was asked for, has room for the block, and makes a valid state
 pub record IsRoom (state : State) (size align k base n : ℕ) : Type 0 where

@@ -1,16 +1,18 @@
 -- The last block placed, and its return.
-use Rattle.std.proofs.Common.{◌≡◌, ℕ, ◌+◌, ◌-◌, ◌<◌, ◌≤◌, ◌^◌, ◌∙◌, ap, sym, subst, arith, refl, [], ◌∷◌, IsTrue, Bool, true, false}
+use Rattle.std.proofs.Common.{◌≡◌, ℕ, ◌+◌, ◌-◌, ◌<◌, ◌≤◌, ◌^◌, ◌∙◌, ap, sym, subst, arith, refl, inl, inr, IsTrue, Bool, true, false}
 use Rattle.std.specs.Prelude.{◌||◌, ◌&&◌, ◌==◌}
+use Rattle.std.proofs.lemmas.Bool.{cases_eq}
 use Rattle.placement.specs.Rounding.{up}
-use Rattle.placement.specs.State.{State, IsValid, cursor_of, top_of, is_range_used, with_cursor}
+use Rattle.placement.specs.State.{State, IsValid, cursor_of, top_of, is_range_used}
 use Rattle.placement.proofs.RoundingLemmas.{min_align_le}
 use Rattle.placement.proofs.CursorLemmas.{top_le}
-use Rattle.placement.proofs.ReturnLemmas.{IsReturn, is_return, block_end}
-use Rattle.arena_chunks.specs.Memory.{Memory, is_readable}
-use Rattle.arena_chunks.specs.Frame.{Frame, padded}
+use Rattle.placement.specs.Moves.{dealloc}
+use Rattle.placement.proofs.ReturnLemmas.{IsReturn, is_return, block_end, dealloc_at, dealloc_elsewhere, dealloc_valid}
+use Rattle.arena_chunks.specs.Memory.{Memory, is_readable, image}
+use Rattle.arena_chunks.specs.BlockCalls.{place_of, GivesBack}
 use Rattle.arena_chunks.specs.declared.block.Block.{Block}
 use Rattle.arena_chunks.specs.declared.arena.Arena.TheInside.{Inside}
-use Rattle.arena_chunks.proofs.StoredLemmas.{view_of, Stands, cursor_stored, cursor_view}
+use Rattle.arena_chunks.proofs.StoredLemmas.{view_of, Stands, cursor_stored}
 use Rattle.arena_chunks.proofs.FrameLemmas.{byte_moved, frame_dealloc}
 
 -- a block at the cursor
@@ -21,15 +23,15 @@ pub record IsLast (m : ℕ) (memory : Memory) (block : Block) : Type 0 where
   pub fits : block.addr + block.size + (m - 1) < 2 ^ 64
   pub unit : m ≡ memory.state.min_align
 
+either : (a b c : Bool) → IsTrue (a || (b && c)) → IsTrue (a || c)
+either true b c h = refl
+either false true c h = h
+either false false c h = cc
+
 pub last_ends : (state : State) (block : Block) → IsValid state → IsTrue (is_readable state block) → block.addr ≡ cursor_of state.chunks → block.addr + block.size ≤ top_of state.chunks
 last_ends state block valid readable at =
     block_end state (record { addr = block.addr; size = block.size; align = block.align }) valid
     (either (block.size == 0) (block.generation == state.generation) (is_range_used state.chunks block.addr block.size) readable) at
-  where
-    either : (a b c : Bool) → IsTrue (a || (b && c)) → IsTrue (a || c)
-    either true b c h = refl
-    either false true c h = h
-    either false false c h = cc
 
 pub is_last : (m : ℕ) (a : Inside m) (memory : Memory) (block : Block) → Stands m a → view_of m a ≡ memory → IsTrue (is_readable memory.state block) → block.addr ≡ a.newest.cursor
     → IsLast m memory block
@@ -49,9 +51,21 @@ is_last m a memory block stands view readable here =
 pub last_returned : (m : ℕ) (memory : Memory) (block : Block) (q : ℕ) → IsLast m memory block → q ≡ up (block.addr + block.size) m → IsReturn memory.state block.addr block.size q
 last_returned m memory block q last is = is_return memory.state block.addr block.size q last.valid last.at last.ends (is ∙ ap (up (block.addr + block.size)) last.unit)
 
-pub frame_returned : (m : ℕ) (a : Inside m) (memory : Memory) (block : Block) (q : ℕ) → view_of m a ≡ memory → IsLast m memory block → q ≡ up (block.addr + block.size) m
-    → Frame memory (view_of m (record a { newest = record a.newest { cursor = q } })) (padded memory.state.min_align block ∷ []) []
-frame_returned m a memory block q view last is =
-    let moved : Memory = record { state = with_cursor q memory.state; statistics = memory.statistics; bytes = memory.bytes } in
-    rw (cursor_view m a memory q view)
-    (frame_dealloc memory moved block last.valid (sym (last_returned m memory block q last is).step) (λ p. byte_moved q memory.state.chunks memory.bytes p))
+-- A block is given back by the rule: what that leaves.
+pub gives_back : (old new : Memory) (block : Block) → IsValid old.state → IsTrue (is_readable old.state block) → new ≡ record old { state = dealloc old.state block.addr block.size }
+    → GivesBack old new block
+gives_back old new block valid readable is = record {
+  valid = record {
+    entry = valid;
+    exit = subst (λ (w : Memory). IsValid w.state) (sym is)
+        (dealloc_valid old.state (place_of block) valid (either (block.size == 0) (block.generation == old.state.generation) (is_range_used old.state.chunks block.addr block.size) readable));
+  };
+  memory = is;
+  frame = frame_dealloc old new block is (λ p. ap (λ (w : Memory). image w p) is ∙ same_bytes p);
+}
+  where
+    same_bytes : (p : ℕ) → image (record old { state = dealloc old.state block.addr block.size }) p ≡ image old p
+    same_bytes p = elim (cases_eq block.addr (cursor_of old.state.chunks)) [
+      | inl at ↦ rw (dealloc_at old.state block.addr block.size at) (byte_moved (up (block.addr + block.size) old.state.min_align) old.state.chunks old.bytes p)
+      | inr other ↦ rw (dealloc_elsewhere old.state block.addr block.size other) refl
+    ]

@@ -1,21 +1,27 @@
-pub mod HeldLemmas
-pub mod WrittenLemmas
-pub mod ServingLemmas
-pub mod RunLemmas
-pub mod Asking
-pub mod BytesLemmas
-pub mod TextLemmas
-pub mod TableLemmas
-pub mod StoredLemmas
-pub mod FrameLemmas
-pub mod AllocationLemmas
-pub mod GrowthLemmas
-pub mod LastLemmas
-pub mod PartLemmas
-pub mod ResizedLemmas
-pub mod ResizeSteps
-pub mod FrameRules
-pub mod BlockCallLemmas
-pub mod CreatedLemmas
-pub mod WalkLemmas
-pub mod ShiftLemmas
+mod HeldLemmas
+mod WrittenLemmas
+mod ServingLemmas
+mod RunLemmas
+mod Asking
+mod BytesLemmas
+mod AskedLemmas
+mod EditLemmas
+mod AnswerLemmas
+mod TextLemmas
+mod TableLemmas
+mod StoredLemmas
+mod FrameLemmas
+mod AllocationLemmas
+mod GrowthLemmas
+mod LastLemmas
+mod PartLemmas
+mod ResizedLemmas
+mod ResizeSteps
+mod FrameRules
+mod BlockCallLemmas
+mod CreatedLemmas
+mod WalkLemmas
+mod ShiftLemmas
+mod LayerLemmas
+mod UsedByCallLemmas
+pub mod Layers

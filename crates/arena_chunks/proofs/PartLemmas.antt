@@ -8,13 +8,12 @@ use Rattle.std.proofs.lemmas.Bool.Decides.{nat_tests}
 use Rattle.std.proofs.lemmas.List.{reverse-append, reverse-reverse, set_at, length-append}
 use Rattle.std.proofs.lemmas.List.Elements.{All-nil, All-head, All-tail, All-push, All-from_recursion, recursion_from_All}
 use Rattle.std.proofs.Math.Seq.{get_or-append_seam}
-use Rattle.placement.specs.Machine.{splice}
 use Rattle.placement.specs.State.{State, Chunk, IsValid, AreChunks, floor_of, is_used_by, is_range_used, start_of}
 use Rattle.placement.proofs.UsedLemmas.{used_under, used_part}
 use Rattle.arena_chunks.specs.Memory.{Memory, image, is_readable, bytes_from, written, Writes}
-use Rattle.arena_chunks.specs.Stored.{stored_chunk, IsStored, IsSearchable, IsLastBelow, IsEdited}
+use Rattle.arena_chunks.specs.Stored.{stored_chunk, IsStored, IsSearchable, IsLastBelow, IsEdited, HasPart, CopiesPart, part_of}
 use Rattle.arena_chunks.specs.declared.block.Block.{Block}
-use Rattle.arena_chunks.specs.declared.chunk.StoredChunk.{StoredChunk}
+use Rattle.arena_chunks.specs.declared.chunks.chunk.StoredChunk.{StoredChunk}
 use Rattle.arena_chunks.specs.declared.arena.Arena.TheInside.{Inside}
 use Rattle.arena_chunks.proofs.TableLemmas.{chunks_in, bytes_in, table_rises, some_below, range_held, range_bytes, IsSplice, same_chunk, same_chunks, range_written}
 use Rattle.arena_chunks.proofs.StoredLemmas.{view_with, view_of, Stands, differs, start_stored}
@@ -160,18 +159,17 @@ module _ (m : ℕ) (a : Inside m) (memory : Memory) where
       subst (λ (w : Memory). record { min_align = m; is_growing = a.is_growing; generation = a.generation; chunks = chunks_in (a.newest ∷ reverse a.older.items) } ≡ w.state) range.view (rw range.chunk refl)
 
   -- the chunk is replaced by another, in which the range is edited
-  part_written : (addr n : ℕ) (newer : List StoredChunk) (chunk : StoredChunk) (rest : List StoredChunk) (gives : List ℕ → List ℕ) (new newest : StoredChunk) (older : List StoredChunk)
-      → IsPart addr n newer chunk rest → newest ∷ reverse older ≡ newer ++ new ∷ rest → newest.base ≡ a.newest.base → IsEdited chunk new addr n gives
-      → IsWritten addr n (gives (bytes_from (image memory) addr n)) newest older
-  part_written addr n newer chunk rest gives new newest older part split base edited =
-      let list = gives (bytes_from (image memory) addr n) in
-      let sized : length list ≡ n = ap (λ (l : List ℕ). length (gives l)) (sym part.bytes) ∙ edited.sized in
+  part_written : (addr n : ℕ) (newer : List StoredChunk) (chunk : StoredChunk) (rest : List StoredChunk) (list : List ℕ) (new newest : StoredChunk) (older : List StoredChunk)
+      → IsPart addr n newer chunk rest → newest ∷ reverse older ≡ newer ++ new ∷ rest → newest.base ≡ a.newest.base → IsEdited chunk new addr n list
+      → IsWritten addr n list newest older
+  part_written addr n newer chunk rest list new newest older part split base edited =
+      let sized : length list ≡ n = edited.sized in
       let is : IsSplice chunk new addr list = record {
         base = edited.base;
         cursor = edited.cursor;
         low = part.low;
         high = omega (arith, part.high, sized);
-        bytes = edited.bytes ∙ ap (λ (l : List ℕ). splice chunk.bytes.items (addr - chunk.base) (gives l)) part.bytes;
+        bytes = edited.bytes;
       } in
       let test : (newest.base == 16) ≡ false = ap (λ (b : ℕ). b == 16) base ∙ part.range.chunk in
       let chunks : chunks_in (newest ∷ reverse older) ≡ chunks_in (a.newest ∷ reverse a.older.items) =
@@ -190,16 +188,16 @@ module _ (m : ℕ) (a : Inside m) (memory : Memory) where
         sized = sized;
       }
 
-  pub newest_written : (addr n : ℕ) (gives : List ℕ → List ℕ) (new : StoredChunk) → IsRange addr n → a.newest.base ≤ addr → IsEdited a.newest new addr n gives
-      → IsWritten addr n (gives (bytes_from (image memory) addr n)) new a.older.items
-  newest_written addr n gives new range above edited =
-      part_written addr n [] a.newest (reverse a.older.items) gives new new a.older.items (newest_part addr n range above) refl edited.base edited
+  pub newest_written : (addr n : ℕ) (list : List ℕ) (new : StoredChunk) → IsRange addr n → a.newest.base ≤ addr → IsEdited a.newest new addr n list
+      → IsWritten addr n list new a.older.items
+  newest_written addr n list new range above edited =
+      part_written addr n [] a.newest (reverse a.older.items) list new new a.older.items (newest_part addr n range above) refl edited.base edited
 
-  pub older_written : (addr n i : ℕ) (chunk : StoredChunk) (gives : List ℕ → List ℕ) (new : StoredChunk) → IsOlder addr n i chunk → IsEdited chunk new addr n gives
-      → IsWritten addr n (gives (bytes_from (image memory) addr n)) a.newest (slice_set a.older.items i new)
-  older_written addr n i chunk gives new old edited =
+  pub older_written : (addr n i : ℕ) (chunk : StoredChunk) (list : List ℕ) (new : StoredChunk) → IsOlder addr n i chunk → IsEdited chunk new addr n list
+      → IsWritten addr n list a.newest (slice_set a.older.items i new)
+  older_written addr n i chunk list new old edited =
       let table : slice_set a.older.items i new ≡ old.before ++ new ∷ old.after = ap (λ (l : List StoredChunk). slice_set l i new) old.table ∙ set_at old.before chunk old.after new i old.at in
-      part_written addr n (a.newest ∷ reverse old.after) chunk (reverse old.before) gives new a.newest (slice_set a.older.items i new) old.part
+      part_written addr n (a.newest ∷ reverse old.after) chunk (reverse old.before) list new a.newest (slice_set a.older.items i new) old.part
       (ap (λ (l : List StoredChunk). a.newest ∷ l) (ap reverse table ∙ reverse_split old.before new old.after)) refl edited
 
   -- ---- Bytes moved into a range of the newest chunk
@@ -219,7 +217,54 @@ module _ (m : ℕ) (a : Inside m) (memory : Memory) where
         above = omega (arith, above, start_stored m a memory stands view);
       }
 
-  pub newest_moved : (from to n : ℕ) (list : List ℕ) (new : StoredChunk) → IsMove from to n → list ≡ bytes_from (image memory) from n → IsEdited a.newest new to n (λ _. list)
+  pub newest_moved : (from to n : ℕ) (list : List ℕ) (new : StoredChunk) → IsMove from to n → list ≡ bytes_from (image memory) from n → IsEdited a.newest new to n list
       → IsWritten to n (bytes_from (image memory) from n) new a.older.items
   newest_moved from to n list new move is edited =
-      newest_written to n (λ _. bytes_from (image memory) from n) new move.target move.above (subst (λ (l : List ℕ). IsEdited a.newest new to n (λ _. l)) is edited)
+      newest_written to n (bytes_from (image memory) from n) new move.target move.above (subst (IsEdited a.newest new to n) is edited)
+
+  -- ---- Bytes copied into a range of an older chunk
+
+  pub record IsCopy (from to n : ℕ) : Type 0 where
+    pub source : IsRange from n
+    pub target : IsRange to n
+    pub below : to < a.newest.base
+
+  pub is_copy : (from to n : ℕ) → Stands m a → view_of m a ≡ memory → 0 < n → IsTrue (is_range_used memory.state.chunks from n) → IsTrue (is_range_used memory.state.chunks to n)
+      → to < start_of memory.state.chunks → IsCopy from to n
+  is_copy from to n stands view some source target below = record {
+    source = is_range from n stands view some source;
+    target = is_range to n stands view some target;
+    below = omega (arith, below, start_stored m a memory stands view);
+  }
+
+  -- the chunk that the search gave has the range
+  pub has_part : (addr n i : ℕ) (searched lent : List StoredChunk) → IsRange addr n → addr < a.newest.base → searched ≡ a.older.items → lent ≡ a.older.items
+      → IsLastBelow searched addr i → HasPart lent i addr n
+  has_part addr n i searched lent range below same_searched same_lent found =
+      let last = subst (λ (l : List StoredChunk). IsLastBelow l addr i) same_searched found in
+      let part = (λ (c : StoredChunk) (is : c ≡ get_or a.older.items i c). (is_older addr n i a.older.items c range below refl last is).part) in
+      subst (λ (l : List StoredChunk). HasPart l i addr n) (sym same_lent) (record {
+        within = last_within a.older.items addr i last;
+        low = λ c is. (part c is).low;
+        high = λ c is. (part c is).high;
+      })
+
+  -- from the newest chunk
+  pub older_from_newest : (from to n j : ℕ) (searched : List StoredChunk) (chunk new : StoredChunk) → IsCopy from to n → a.newest.base ≤ from → searched ≡ a.older.items
+      → IsLastBelow searched to j → chunk ≡ get_or a.older.items j chunk → IsEdited chunk new to n (part_of a.newest from n)
+      → IsWritten to n (bytes_from (image memory) from n) a.newest (slice_set a.older.items j new)
+  older_from_newest from to n j searched chunk new copy above same found is edited =
+      older_written to n j chunk (bytes_from (image memory) from n) new (is_older to n j searched chunk copy.target copy.below same found is)
+      (subst (IsEdited chunk new to n) (newest_part from n copy.source above).bytes edited)
+
+  -- from an older one
+  pub older_from_older : (from to n i j : ℕ) (sources targets lent new older : List StoredChunk) → IsCopy from to n → from < a.newest.base → sources ≡ a.older.items → targets ≡ a.older.items
+      → lent ≡ a.older.items → IsLastBelow sources from i → IsLastBelow targets to j → CopiesPart lent new i j from to n → older ≡ new
+      → IsWritten to n (bytes_from (image memory) from n) a.newest older
+  older_from_older from to n i j sources targets lent new older copy below same_sources same_targets same_lent found_source found_target copies same =
+      let copied = subst (λ (l : List StoredChunk). CopiesPart l new i j from to n) same_lent copies in
+      let source = is_older from n i sources copied.source copy.source below same_sources found_source copied.at_source in
+      let target = is_older to n j targets copied.target copy.target copy.below same_targets found_target copied.at_target in
+      let edited = subst (IsEdited copied.target copied.copied to n) source.part.bytes copied.edited in
+      subst (IsWritten to n (bytes_from (image memory) from n) a.newest) (sym (same ∙ copied.table))
+      (older_written to n j copied.target (bytes_from (image memory) from n) copied.copied target edited)

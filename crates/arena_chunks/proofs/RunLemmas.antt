@@ -1,6 +1,6 @@
 -- A run of calls over an arena, as far as it has come.
-use Rattle.std.proofs.Common.{◌≡◌, ℕ, ◌+◌, ◌≤◌, ap, refl, sym, ◌∙◌, arith, List, [], ◌∷◌, ◌++◌, Bool, true, false, Option, Some, None, length, take, sum, append_assoc, append-nil}
-use Rattle.std.specs.Prelude.{◌||◌}
+use Rattle.std.proofs.Common.{◌≡◌, ℕ, ◌+◌, ◌<◌, ◌≤◌, ap, refl, sym, ◌∙◌, arith, List, [], ◌∷◌, ◌++◌, Bool, true, false, IsTrue, Option, Some, None, length, take, sum, append_assoc, append-nil}
+use Rattle.std.specs.Prelude.{◌||◌, slice_get}
 use Rattle.std.specs.Option.{option_map}
 use Rattle.std.specs.List.{list_any}
 use Rattle.std.specs.FinMap as finite
@@ -9,18 +9,17 @@ use Rattle.std.proofs.lemmas.List.{map-append}
 use Rattle.std.proofs.lemmas.List.Folds.{list_any-append}
 use Rattle.std.proofs.lemmas.Option.{same_Some, none-some, option_and_then_some}
 use Rattle.placement.specs.State.{IsValid}
-use Rattle.placement.specs.Causes.{CountsRefusals, TellsRequests}
 use Rattle.placement.specs.Machine.{Machine, Held, Contents, step, run, run_from, fresh, reply_first, refused_of, told, is_reset}
-use Rattle.placement.specs.Requests.{call_requests, requests_from, requests_of}
+use Rattle.placement.specs.Requests.{call_requests, requests_from, requests_of, takes_memory}
+use Rattle.placement.specs.Statistics.{Statistics, call_statistics, statistics_from, statistics_of}
 use Rattle.placement.specs.declared.calls.Call.{Call}
 use Rattle.placement.specs.declared.calls.Reply.{Reply}
-use Rattle.placement.proofs.CauseLemmas.{counts_none, counts_more, tells_none, tells_more}
-use Rattle.arena_chunks.specs.Memory.{Memory}
 use Rattle.placement.proofs.DoublingRunLemmas.{run_doubling}
-use Rattle.arena_chunks.specs.Source.{Source}
-use Rattle.arena_chunks.specs.Runs.{HoldsBytes, Runs, RunsFirst, held_blocks}
+use Rattle.arena_chunks.specs.Source.{View, IsAsked}
+use Rattle.arena_chunks.specs.Runs.{HoldsBytes, StandsFor, RunLeaves, Runs, RunsFirst, held_blocks}
 use Rattle.arena_chunks.specs.Serving.{machine_of, Holds, Keeps, Serves}
 use Rattle.arena_chunks.specs.declared.block.Block.{Block}
+use Rattle.arena_chunks.proofs.AskedLemmas.{asked_none, asked_more}
 use Rattle.arena_chunks.proofs.ServingLemmas.{holds_none, no_bytes_held, none_kept}
 
 mapped : {A B P : Type 0} (f : A → B) → (o : Option A) (y : B) → option_map f o ≡ Some y → ((x : A) → o ≡ Some x → f x ≡ y → P) → P
@@ -32,12 +31,13 @@ run_more : (m mid next : Machine) (calls : List Call) (call : Call) (ks : List �
     → run_from m calls ks ≡ Some (replies, mid) → step call k mid ≡ Some (reply, next)
     → (run_from m (calls ++ call ∷ []) (ks ++ k ∷ []) ≡ Some (replies ++ reply ∷ [], next))
     × (requests_from m (calls ++ call ∷ []) (ks ++ k ∷ []) ≡ requests_from m calls ks ++ call_requests call k mid)
-unfolding run_from requests_from
+    × ((s : Statistics) → statistics_from m (calls ++ call ∷ []) (ks ++ k ∷ []) s ≡ call_statistics call reply mid (statistics_from m calls ks s))
+unfolding run_from requests_from statistics_from
 run_more m mid next [] call [] k replies reply ran stepped =
     let same = same_Some {A = List Reply × Machine} ([], m) (replies, mid) ran in
     let none : [] ≡ replies = ap (λ (p : List Reply × Machine). p.0) same in
     let here : m ≡ mid = ap (λ (p : List Reply × Machine). p.1) same in
-    (rw (here, stepped, ← none) refl, rw (here, stepped) (append-nil (call_requests call k mid)))
+    (rw (here, stepped, ← none) refl, rw (here, stepped) (append-nil (call_requests call k mid)), λ s. rw (here, stepped) refl)
 run_more m mid next [] call (j ∷ ks) k replies reply ran stepped = cc
 run_more m mid next (c ∷ calls) call [] k replies reply ran stepped = cc
 run_more m mid next (c ∷ calls) call (j ∷ ks) k replies reply ran stepped =
@@ -47,47 +47,48 @@ run_more m mid next (c ∷ calls) call (j ∷ ks) k replies reply ran stepped =
     let on = run_more first.1 mid next calls call ks k tail.0 reply there stepped in (
       rw (is, on.0) (ap (λ (p : List Reply × Machine). Some (p.0 ++ reply ∷ [], next)) same),
       rw (is, on.1) (sym (append_assoc (call_requests c j m) (requests_from first.1 calls ks) (call_requests call k mid))),
+      λ s. rw is (on.2 (call_statistics c first.0 m s)),
     )))
 
 -- The calls so far are a run of the machine that the arena and its names are.
-pub record IsRunning (entry memory : Memory) (names : Held) (calls : List Call) (replies : List Reply) (before after : Source) : Type 0 where
+pub record IsRunning (entry now : View) (names : Held) (calls : List Call) (replies : List Reply) : Type 0 where
   pub bytes : Contents
-  pub ran : run entry.state calls (told replies) ≡ Some (replies, machine_of memory names bytes)
-  pub held : HoldsBytes memory names bytes
-  pub holds : Holds memory.state names
-  pub refusals : CountsRefusals before.refusals after.refusals (sum (told replies))
-  pub requests : TellsRequests before.asked after.asked (requests_of entry.state calls (told replies))
-  pub keeps : list_any is_reset calls ≡ false → Keeps entry memory names
+  pub ran : run entry.memory.state calls (told replies) ≡ Some (replies, machine_of now.memory names bytes)
+  pub held : HoldsBytes now.memory names bytes
+  pub holds : Holds now.memory.state names
+  pub asked : IsAsked entry.source now.source (sum (told replies)) (requests_of entry.memory.state calls (told replies))
+  pub statistics : now.memory.statistics ≡ statistics_of entry.memory.state calls (told replies) entry.memory.statistics
+  pub keeps : list_any is_reset calls ≡ false → Keeps entry.memory now.memory names
 
-pub running_first : (memory : Memory) (source : Source) → IsValid memory.state → IsRunning memory memory finite.empty [] [] source source
-unfolding run_from requests_from
-running_first memory source valid = record {
+pub running_first : (now : View) → IsValid now.memory.state → IsRunning now now finite.empty [] []
+unfolding run_from requests_from statistics_from
+running_first now valid = record {
   bytes = finite.empty;
   ran = refl;
-  held = no_bytes_held memory finite.empty;
-  holds = holds_none memory.state valid;
-  refusals = counts_none source.refusals;
-  requests = tells_none source.asked;
-  keeps = λ kept. none_kept memory;
+  held = no_bytes_held now.memory finite.empty;
+  holds = holds_none now.memory.state valid;
+  asked = asked_none now.source;
+  statistics = refl;
+  keeps = λ kept. none_kept now.memory;
 }
 
-pub running_more : (entry old new : Memory) (names others : Held) (calls : List Call) (call : Call) (replies : List Reply) (reply : Reply) (before mid after : Source)
-    → IsRunning entry old names calls replies before mid → Serves call reply old names new others mid after
-    → IsRunning entry new others (calls ++ call ∷ []) (replies ++ reply ∷ []) before after
-running_more entry old new names others calls call replies reply before mid after running serves =
+pub running_more : (entry old new : View) (names others : Held) (calls : List Call) (call : Call) (replies : List Reply) (reply : Reply)
+    → IsRunning entry old names calls replies → Serves call reply old new names others
+    → IsRunning entry new others (calls ++ call ∷ []) (replies ++ reply ∷ [])
+running_more entry old new names others calls call replies reply running serves =
     let stepped = serves.steps running.bytes running.held in
     let k : ℕ = refused_of reply in
-    let more = run_more (fresh entry.state) (machine_of old names running.bytes) (machine_of new others stepped.0) calls call (told replies) k replies reply running.ran stepped.1 in
+    let more = run_more (fresh entry.memory.state) (machine_of old.memory names running.bytes) (machine_of new.memory others stepped.0) calls call (told replies) k replies reply running.ran stepped.1 in
     let telling : told (replies ++ reply ∷ []) ≡ told replies ++ k ∷ [] = map-append refused_of replies (reply ∷ []) in
     record {
       bytes = stepped.0;
       ran = rw telling more.0;
       held = stepped.2;
       holds = serves.holds;
-      refusals = rw (telling, total (told replies) k) (counts_more before.refusals mid.refusals after.refusals (sum (told replies)) k running.refusals serves.asks.refusals);
-      requests = rw (telling, more.1) (tells_more before.asked mid.asked after.asked _ _ running.requests (serves.asks.requests running.bytes));
+      asked = rw (telling, total (told replies) k, more.1) (asked_more entry.source old.source new.source (sum (told replies)) k _ _ running.asked (serves.asks.asked running.bytes));
+      statistics = rw (telling, more.2 entry.memory.statistics, ← running.statistics) (serves.asks.statistics running.bytes);
       keeps = λ kept. let both = neither (list_any is_reset calls) (is_reset call) (sym (list_any-append is_reset calls (call ∷ [])) ∙ kept) in
-          serves.keeps both.1 entry (running.keeps both.0);
+          serves.keeps both.1 entry.memory (running.keeps both.0);
     }
   where
     total : (ks : List ℕ) (k : ℕ) → sum (ks ++ k ∷ []) ≡ sum ks + k
@@ -98,36 +99,47 @@ running_more entry old new names others calls call replies reply before mid afte
     neither false true none = cc
     neither true b none = cc
 
-pub running_over : (entry memory : Memory) (names : Held) (calls : List Call) (replies : List Reply) (before after : Source) (blocks : List (ℕ × Block))
-    → IsRunning entry memory names calls replies before after → blocks ≡ held_blocks memory.state.generation names → Runs entry memory before after calls replies blocks
-running_over entry memory names calls replies before after blocks running held = record {
-  last = machine_of memory names running.bytes;
-  ran = running.ran;
+-- the machine that the arena and its names are, and what the calls leave beside it
+stands : (entry now : View) (names : Held) (calls : List Call) (replies : List Reply) → (running : IsRunning entry now names calls replies) → StandsFor now.memory (machine_of now.memory names running.bytes)
+stands entry now names calls replies running = record {
   state = refl;
-  held = held;
+  valid = running.holds.valid;
   sound = record {
     aligned = λ q p at. (running.holds.each q p at).aligned;
     used = λ q p at. (running.holds.each q p at).used;
     apart = running.holds.apart;
   };
   bytes = running.held;
-  refusals = running.refusals;
-  requests = running.requests;
-  kept = λ kept. (running.keeps kept).kept;
-  doubling = λ least small made double. run_doubling least (fresh entry.state) calls (told replies) replies _ small double running.ran made;
 }
 
--- where the next call, or what is made of the replies, finds no memory
-pub running_stopped : (entry memory : Memory) (names : Held) (calls : List Call) (done : ℕ) (replies : List Reply) (before after : Source) → done ≤ length calls
-    → IsRunning entry memory names (take done calls) replies before after → RunsFirst entry memory before after calls done
-running_stopped entry memory names calls done replies before after within running = record {
+leaves : (entry now : View) (names : Held) (calls : List Call) (replies : List Reply) → IsRunning entry now names calls replies → RunLeaves entry now calls (told replies)
+leaves entry now names calls replies running = record {
+  asked = running.asked;
+  statistics = running.statistics;
+  kept = λ kept. (running.keeps kept).kept;
+  doubling = λ least small made double. run_doubling least (fresh entry.memory.state) calls (told replies) replies _ small double running.ran made;
+}
+
+pub running_over : (entry now : View) (names : Held) (calls : List Call) (replies : List Reply) (blocks : List (ℕ × Block))
+    → IsRunning entry now names calls replies → blocks ≡ held_blocks now.memory.state.generation names → Runs entry now calls replies blocks
+running_over entry now names calls replies blocks running held = record {
+  last = machine_of now.memory names running.bytes;
+  ran = running.ran;
+  stands = stands entry now names calls replies running;
+  held = held;
+  leaves = leaves entry now names calls replies running;
+}
+
+-- Where the next call, or what is made of the replies, finds no memory: before the first call, at one that takes memory, or after the last.
+pub running_stopped : (entry now : View) (names : Held) (calls : List Call) (done : ℕ) (replies : List Reply) → done ≤ length calls
+    → (running : IsRunning entry now names (take done calls) replies)
+    → ((call : Call) → 0 < done → slice_get calls done ≡ Some call → IsTrue (takes_memory call (machine_of now.memory names running.bytes))) → RunsFirst entry now calls done
+running_stopped entry now names calls done replies within running stops = record {
   within = within;
   replies = replies;
-  last = machine_of memory names running.bytes;
+  last = machine_of now.memory names running.bytes;
   ran = running.ran;
-  state = refl;
-  refusals = running.refusals;
-  requests = running.requests;
-  kept = λ kept. (running.keeps kept).kept;
-  doubling = λ least small made double. run_doubling least (fresh entry.state) (take done calls) (told replies) replies _ small double running.ran made;
+  stands = stands entry now names (take done calls) replies running;
+  leaves = leaves entry now names (take done calls) replies running;
+  stops = stops;
 }

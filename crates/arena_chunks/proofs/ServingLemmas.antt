@@ -1,6 +1,6 @@
 -- What a call on one name's block does to an arena and its names.
-use Rattle.std.proofs.Common.{◌≡◌, ◌≢◌, ℕ, ◌+◌, ◌-◌, ◌%◌, ◌<◌, ◌≤◌, ◌⊎◌, inl, inr, ap, refl, sym, subst, ◌∙◌, arith, List, [], ◌∷◌, Bool, true, false, Option, Some, None, IsTrue, length, replicate, eq-eqb}
-use Rattle.std.specs.Prelude.{◌==◌, ◌||◌, ◌&&◌, nat_le, nat_lt}
+use Rattle.std.proofs.Common.{◌≡◌, ◌≢◌, ℕ, ◌+◌, ◌-◌, ◌%◌, ◌<◌, ◌≤◌, ◌⊎◌, min, inl, inr, ap, refl, sym, subst, ◌∙◌, arith, List, [], ◌∷◌, true, false, Option, Some, None, IsTrue, length, replicate, eq-eqb}
+use Rattle.std.specs.Prelude.{◌==◌, ◌&&◌, nat_le, nat_lt}
 use Rattle.std.specs.Option.{is_some}
 use Rattle.std.specs.FinMap as finite
 use Rattle.std.specs.FinMap.{get-empty}
@@ -10,11 +10,12 @@ use Rattle.std.proofs.lemmas.Bool.Decides.{nat_tests}
 use Rattle.std.proofs.lemmas.Option.{same_Some, none-some}
 use Rattle.std.proofs.lemmas.List.{length-replicate}
 use Rattle.placement.specs.Rounding.{up, is_layout}
-use Rattle.placement.specs.State.{State, IsValid, is_used, is_range_used}
-use Rattle.placement.specs.Blocks.{IsBlock, IsMovedBlock}
-use Rattle.placement.specs.Moves.{dealloc, grow, shrink, reset}
-use Rattle.placement.specs.Requests.{call_requests, grow_requests, shrink_requests}
-use Rattle.placement.specs.Machine.{Held, Contents, Next, AreApart, is_place_used, at_name, step, splice, refused_of}
+use Rattle.placement.specs.State.{State, IsValid, is_used, is_range_used, AreApart}
+use Rattle.placement.specs.Blocks.{IsBlock, IsMovedBlock, padded_size}
+use Rattle.placement.specs.Moves.{dealloc, grow, growing, shrink, shrinking, reset}
+use Rattle.placement.specs.Requests.{placed_anew}
+use Rattle.placement.specs.Statistics.{uncounted, call_statistics}
+use Rattle.placement.specs.Machine.{Held, Contents, Next, is_place_used, at_name, step, splice, refused_of}
 use Rattle.placement.specs.declared.place.Place.{Place}
 use Rattle.placement.specs.declared.calls.Call.{Call}
 use Rattle.placement.specs.declared.calls.Call.TheVariants.{Alloc, Grow, Shrink, Dealloc, Write, Reset}
@@ -22,17 +23,19 @@ use Rattle.placement.specs.declared.calls.Reply.{Reply}
 use Rattle.placement.specs.declared.calls.Reply.TheVariants.{Placed, Done, NoSuchName}
 use Rattle.placement.proofs.RoundingLemmas.{up_ge, up_same, up_least, min_align_positive, layout_power}
 use Rattle.placement.proofs.UsedLemmas.{used_part}
-use Rattle.placement.proofs.ReturnLemmas.{dealloc_min_align, used_filled}
+use Rattle.placement.proofs.ReturnLemmas.{used_filled}
 use Rattle.placement.proofs.MoveLemmas.{moved_anew, grow_moved, shrink_moved}
-use Rattle.placement.proofs.CauseLemmas.{counts_none, tells_none}
 use Rattle.arena_chunks.specs.Memory.{Memory, Writes, image, bytes_from, is_readable}
-use Rattle.arena_chunks.specs.Frame.{Frame, padded, in_blocks}
-use Rattle.arena_chunks.specs.Answers.{Allocates, Takes}
-use Rattle.arena_chunks.specs.Source.{Source}
+use Rattle.arena_chunks.specs.Source.{Source, view}
+use Rattle.arena_chunks.specs.Frame.{IsApart, Frame, padded}
+use Rattle.arena_chunks.specs.Answers.Answer.{Placed as PlacedAt}
+use Rattle.arena_chunks.specs.BlockCalls.{PlacesAfter, ResizesAfter, GivesBack, WritesBlock}
 use Rattle.arena_chunks.specs.Runs.{HoldsBytes, block_at}
 use Rattle.arena_chunks.specs.Serving.{machine_of, Holds, IsBeside, Keeps, Asks, Serves}
 use Rattle.arena_chunks.specs.declared.block.Block.{Block}
+use Rattle.arena_chunks.proofs.AskedLemmas.{asked_none}
 use Rattle.arena_chunks.proofs.HeldLemmas.{get-inserted, get-insert_other, get-removed, get-remove_other}
+use Rattle.arena_chunks.proofs.FrameLemmas.{apart_turned, beside_range}
 use Rattle.arena_chunks.proofs.BytesLemmas.{no_bytes, written_beside}
 use Rattle.arena_chunks.proofs.WrittenLemmas.{bytes_same, bytes_spliced, bytes_filled, take_bytes}
 
@@ -40,29 +43,24 @@ use Rattle.arena_chunks.proofs.WrittenLemmas.{bytes_same, bytes_spliced, bytes_f
 
 -- a part of a range that lies beside a place does too
 beside_part : (m : ℕ) (b : Place) (addr n i : ℕ) → i < n → IsBeside m b addr n → IsBeside m b (addr + i) 1
-beside_part m b addr n i below beside = λ filled. elim (beside filled) [ inl above ↦ inl (omega arith) | inr under ↦ inr (omega arith) ]
+beside_part m b addr n i below beside = λ filled one. elim (beside filled (omega arith)) [ inl above ↦ inl (omega arith) | inr under ↦ inr (omega arith) ]
 
-up_empty : (m : ℕ) (b : Place) → 0 < m → b.addr % m ≡ 0 → b.size ≡ 0 → up (b.addr + b.size) m ≡ b.addr
-up_empty m b positive aligned none =
+-- an empty place at a multiple has no addresses, padded
+padded_empty : (m : ℕ) (b : Place) → 0 < m → b.addr % m ≡ 0 → b.size ≡ 0 → padded_size m b.addr b.size ≡ 0
+padded_empty m b positive aligned none =
     let here : b.addr + b.size ≡ b.addr = omega arith in
-    ap (λ (x : ℕ). up x m) here ∙ up_same b.addr m positive aligned
+    omega (arith, ap (λ (x : ℕ). up x m) here ∙ up_same b.addr m positive aligned)
 
--- an address that lies beside an empty place at a multiple is above or below it
-lies_beside : (m : ℕ) (b : Place) (addr : ℕ) → 0 < m → b.addr % m ≡ 0 → IsBeside m b addr 1 → (up (b.addr + b.size) m ≤ addr) ⊎ (addr + 1 ≤ b.addr)
-lies_beside m b addr positive aligned beside = elim (cases_lt 0 b.size) [
-  | inl filled ↦ beside filled
-  | inr none ↦
-      let empty = up_empty m b positive aligned (omega arith) in
-      elim (cases_lt addr b.addr) [ inl under ↦ inr (omega arith) | inr above ↦ inl (omega arith) ]
-]
+-- what lies beside a place lies apart from its block
+beside_apart : (m : ℕ) (b : Place) (addr n : ℕ) → 0 < m → IsBeside m b addr n → AreApart addr n b.addr b.size
+beside_apart m b addr n positive beside = λ many some.
+    let reach = up_ge (b.addr + b.size) m positive in
+    elim (beside (omega arith) many) [ inl above ↦ inr (omega arith) | inr under ↦ inl (omega arith) ]
 
 -- an address beside a place is none of n addresses in it
-outside : (m : ℕ) (b : Place) (addr from n : ℕ) → b.addr ≤ from → from + n ≤ up (b.addr + b.size) m → (b.size ≡ 0 → n ≡ 0) → IsBeside m b addr 1
+outside : (m : ℕ) (b : Place) (addr from n : ℕ) → 0 < m → b.addr ≤ from → from + n ≤ b.addr + b.size → IsBeside m b addr 1
     → (nat_le from addr && nat_lt addr (from + n)) ≡ false
-outside m b addr from n low high empty beside = elim (cases_lt 0 b.size) [
-  | inl filled ↦ elim (beside filled) [ inl above ↦ grind (arith, nat_tests) | inr under ↦ grind (arith, nat_tests) ]
-  | inr none ↦ let no : n ≡ 0 = empty (omega arith) in grind (arith, nat_tests)
-]
+outside m b addr from n positive low high beside = beside_range addr b.addr b.size from n (beside_apart m b addr 1 positive beside) low high
 
 used_place : (state : State) (p : Place) → (0 < p.size → IsTrue (is_range_used state.chunks p.addr p.size)) → IsTrue (is_place_used state p)
 used_place state p used = elim (cases_lt 0 p.size) [
@@ -70,17 +68,17 @@ used_place state p used = elim (cases_lt 0 p.size) [
   | inr none ↦ or_left (p.size == 0) (is_range_used state.chunks p.addr p.size) (eq-eqb _ _ (omega arith))
 ]
 
-turned : (p q : Place) → AreApart p q → AreApart q p
-turned p q apart = λ first second. elim (apart second first) [ inl above ↦ inr above | inr under ↦ inl under ]
-
 -- other names' places lie beside a held one
 others_beside : (state : State) (names : Held) (name : ℕ) (b : Place) → Holds state names → finite.get names name ≡ Some b
     → (q : ℕ) (p : Place) → q ≢ name → finite.get names q ≡ Some p → 0 < p.size → IsBeside state.min_align b p.addr p.size
-others_beside state names name b holds found q p other at some = λ filled.
+others_beside state names name b holds found q p other at some = λ padded many.
     let positive = min_align_positive state.min_align holds.valid.min_align in
-    elim (holds.apart name q b p (λ same. other (sym same)) found at filled some) [
-      | inl above ↦ inl (up_least (b.addr + b.size) state.min_align p.addr positive (holds.each q p at).min_aligned above)
-      | inr under ↦ inr under
+    elim (cases_lt 0 b.size) [
+      | inr none ↦ absurd (omega (arith, padded_empty state.min_align b positive (holds.each name b found).min_aligned (omega arith)))
+      | inl filled ↦ elim (holds.apart name q b p (λ same. other (sym same)) found at filled some) [
+        | inl above ↦ inl (omega (arith, up_least (b.addr + b.size) state.min_align p.addr positive (holds.each q p at).min_aligned above))
+        | inr under ↦ inr under
+      ]
     ]
 
 -- ---- A change of one name's block
@@ -92,7 +90,7 @@ record IsChange (old new : Memory) (names after : Held) (name : ℕ) (a b : Plac
   min_align : new.state.min_align ≡ old.state.min_align
   used : (addr n : ℕ) → 0 < n → IsTrue (is_range_used old.state.chunks addr n) → IsBeside old.state.min_align a addr n → IsTrue (is_range_used new.state.chunks addr n)
   bytes : (addr : ℕ) → IsTrue (is_used old.state addr) → IsBeside old.state.min_align a addr 1 → image new addr ≡ image old addr
-  gone : 0 < a.size → finite.get names name ≡ Some a
+  gone : 0 < padded_size old.state.min_align a.addr a.size → finite.get names name ≡ Some a
   beside : (addr : ℕ) → IsTrue (is_used old.state addr) → IsBeside old.state.min_align a addr 1 → IsBeside old.state.min_align b addr 1
   rest : (q : ℕ) → q ≢ name → finite.get after q ≡ finite.get names q
   own : (p : Place) → finite.get after name ≡ Some p → (b ≡ p) × IsBlock new.state b
@@ -113,7 +111,7 @@ module _ (old new : Memory) (names after : Held) (name : ℕ) (a b : Place) (hol
   ]
 
   others : (q : ℕ) (p : Place) → q ≢ name → finite.get names q ≡ Some p → 0 < p.size → IsBeside old.state.min_align a p.addr p.size
-  others q p other at some = λ filled. others_beside old.state names name a holds (change.gone filled) q p other at some filled
+  others q p other at some = λ padded. others_beside old.state names name a holds (change.gone padded) q p other at some padded
 
   -- each address of another name's place is in use, beside the place that goes
   others_part : (q : ℕ) (p : Place) → q ≢ name → finite.get names q ≡ Some p → (i : ℕ) → i < p.size
@@ -129,13 +127,13 @@ module _ (old new : Memory) (names after : Held) (name : ℕ) (a b : Place) (hol
       let part = others_part q p other at i below in
       change.bytes (p.addr + i) part.0 part.1)
 
-  away : (q : ℕ) (p : Place) → q ≢ name → finite.get names q ≡ Some p → AreApart b p
+  away : (q : ℕ) (p : Place) → q ≢ name → finite.get names q ≡ Some p → AreApart b.addr b.size p.addr p.size
   away q p other at = λ filled some.
       let ends = up_ge (b.addr + b.size) old.state.min_align (min_align_positive old.state.min_align holds.valid.min_align) in
       elim (cases_lt (b.addr - p.addr) p.size) [
         | inl below ↦
             let part = others_part q p other at (b.addr - p.addr) below in
-            elim (change.beside (p.addr + (b.addr - p.addr)) part.0 part.1 filled) [ inl above ↦ inl (omega arith) | inr under ↦ absurd (omega arith) ]
+            elim (change.beside (p.addr + (b.addr - p.addr)) part.0 part.1 (omega arith) (omega arith)) [ inl above ↦ inl (omega arith) | inr under ↦ absurd (omega arith) ]
         | inr past ↦ inr (omega arith)
       ]
 
@@ -156,10 +154,10 @@ module _ (old new : Memory) (names after : Held) (name : ℕ) (a b : Place) (hol
     apart = λ m n p q differ first second. elim (held_cases m p first) [
       | inl left ↦ elim (held_cases n q second) [
         | inl right ↦ absurd (differ (left.0 ∙ sym right.0))
-        | inr right ↦ subst (λ (x : Place). AreApart x q) left.1 (away n q right.0 right.1)
+        | inr right ↦ subst (λ (x : Place). AreApart x.addr x.size q.addr q.size) left.1 (away n q right.0 right.1)
       ]
       | inr left ↦ elim (held_cases n q second) [
-        | inl right ↦ subst (λ (x : Place). AreApart p x) right.1 (turned b p (away m p left.0 left.1))
+        | inl right ↦ subst (λ (x : Place). AreApart p.addr p.size x.addr x.size) right.1 (apart_turned b.addr b.size p.addr p.size (away m p left.0 left.1))
         | inr right ↦ holds.apart m n p q differ left.1 right.1
       ]
     ];
@@ -167,7 +165,7 @@ module _ (old new : Memory) (names after : Held) (name : ℕ) (a b : Place) (hol
 
   keeps_changed : (entry : Memory) → Keeps entry old names → Keeps entry new after
   keeps_changed entry keeps =
-      let gone : (addr : ℕ) → IsTrue (is_used entry.state addr) → IsBeside old.state.min_align a addr 1 = λ addr used filled. keeps.beside name a (change.gone filled) addr used filled in
+      let gone : (addr : ℕ) → IsTrue (is_used entry.state addr) → IsBeside old.state.min_align a addr 1 = λ addr used padded. keeps.beside name a (change.gone padded) addr used padded in
       record {
         kept = record {
           used = λ addr used. change.used addr 1 (omega arith) (keeps.kept.used addr used) (gone addr used);
@@ -190,7 +188,7 @@ module _ (old new : Memory) (names after : Held) (name : ℕ) (a b : Place) (hol
   }
 
   serves_changed : (call : Call) (reply : Reply) (before later : Source) → ((bytes : Contents) → HoldsBytes old names bytes → IsStep call (refused_of reply) reply old new names after name b bytes)
-      → Asks call (refused_of reply) old names before later → Serves call reply old names new after before later
+      → Asks call reply (view old before) (view new later) names → Serves call reply (view old before) (view new later) names after
   serves_changed call reply before later steps asks = record {
     steps = λ bytes held. ((steps bytes held).next, (steps bytes held).step, bytes_changed call (refused_of reply) reply bytes held (steps bytes held));
     asks = asks;
@@ -202,14 +200,14 @@ module _ (old new : Memory) (names after : Held) (name : ℕ) (a b : Place) (hol
 change_written : (old mid new : Memory) (names after : Held) (name : ℕ) (a b : Place) (at : ℕ) (list : List ℕ) → IsValid old.state → IsChange old mid names after name a b
     → at + length list ≤ b.size → new.state ≡ mid.state → Writes mid new (b.addr + at) list → IsChange old new names after name a b
 change_written old mid new names after name a b at list valid change within same writes =
-    let ends = up_ge (b.addr + b.size) old.state.min_align (min_align_positive old.state.min_align valid.min_align) in
+    let positive = min_align_positive old.state.min_align valid.min_align in
     record {
       valid = subst IsValid (sym same) change.valid;
       min_align = ap (λ (s : State). s.min_align) same ∙ change.min_align;
       used = λ addr n some used beside. subst (λ (s : State). IsTrue (is_range_used s.chunks addr n)) (sym same) (change.used addr n some used beside);
       bytes = λ addr used beside. writes addr
           ∙ written_beside (image mid) (b.addr + at) addr list
-          (outside old.state.min_align b addr (b.addr + at) (length list) (omega arith) (omega arith) (λ none. omega arith) (change.beside addr used beside))
+          (outside old.state.min_align b addr (b.addr + at) (length list) positive (omega arith) (omega arith) (change.beside addr used beside))
           ∙ change.bytes addr used beside;
       gone = change.gone;
       beside = change.beside;
@@ -219,19 +217,19 @@ change_written old mid new names after name a b at list valid change within same
 
 -- A block was placed for a name, in place of the one that it had, or of none.
 change_placed : (old new : Memory) (names : Held) (name size align p : ℕ) (a : Place) (before blocks : List Block) → Holds old.state names
-    → (0 < a.size → finite.get names name ≡ Some a) → a.addr % old.state.min_align ≡ 0 → true ≡ is_layout size align → IsMovedBlock old.state a size align p new.state → IsValid new.state
-    → Frame old new before blocks → ((addr : ℕ) → IsBeside old.state.min_align a addr 1 → in_blocks addr before ≡ false)
+    → (0 < padded_size old.state.min_align a.addr a.size → finite.get names name ≡ Some a) → true ≡ is_layout size align → IsMovedBlock old.state a size align p new.state → IsValid new.state
+    → Frame old new before blocks → ((addr n : ℕ) → IsBeside old.state.min_align a addr n → IsApart addr n before)
     → IsChange old new names (finite.insert names name (record { addr = p; size = size; align = align })) name a (record { addr = p; size = size; align = align })
-change_placed old new names name size align p a before blocks holds gone aligned good moved valid frame misses =
+change_placed old new names name size align p a before blocks holds gone good moved valid frame apart =
     let m : ℕ = old.state.min_align in
     let b : Place = record { addr = p; size = size; align = align } in
     record {
       valid = valid;
       min_align = moved.min_align;
-      used = λ addr n some used beside. frame.kept addr n some used (λ i below. misses (addr + i) (beside_part m a addr n i below beside));
-      bytes = λ addr used beside. frame.bytes addr used (misses addr beside);
+      used = λ addr n some used beside. frame.kept addr n some used (apart addr n beside);
+      bytes = λ addr used beside. frame.bytes addr used (apart addr 1 beside);
       gone = gone;
-      beside = λ addr used beside filled. moved.beside addr 1 (omega arith) used (lies_beside m a addr (min_align_positive m holds.valid.min_align) aligned beside);
+      beside = λ addr used beside. moved.beside addr 1 (omega arith) used beside;
       rest = λ q other. get-insert_other names name q b other;
       own = λ o is. (
         same_Some b o (sym (get-inserted names name b) ∙ is),
@@ -241,13 +239,24 @@ change_placed old new names name size align p a before blocks holds gone aligned
 
 -- ---- Calls that change nothing, or give all blocks back
 
-pub asks_none : (call : Call) (memory : Memory) (names : Held) (source : Source) → ((bytes : Contents) → call_requests call 0 (machine_of memory names bytes) ≡ [])
-    → Asks call 0 memory names source source
-asks_none call memory names source none = record { refusals = counts_none source.refusals; requests = λ bytes. rw (none bytes) (tells_none source.asked) }
+-- a call that places nothing, and gives nothing back at once
+pub asks_none : (call : Call) (reply : Reply) (old new : Memory) (names : Held) (source : Source) → refused_of reply ≡ 0 → new.statistics ≡ old.statistics
+    → ((bytes : Contents) → placed_anew call (machine_of old names bytes) ≡ None)
+    → ((bytes : Contents) → call_statistics call reply (machine_of old names bytes) old.statistics ≡ old.statistics) → Asks call reply (view old source) (view new source) names
+asks_none call reply old new names source none same anew counts = record {
+  asked = λ bytes. rw (none, anew bytes) (asked_none source);
+  statistics = λ bytes. same ∙ sym (counts bytes);
+}
+
+-- a call that changes nothing
+pub asks_still : (call : Call) (reply : Reply) (memory : Memory) (names : Held) (source : Source) → refused_of reply ≡ 0
+    → ((bytes : Contents) → placed_anew call (machine_of memory names bytes) ≡ None)
+    → ((bytes : Contents) → call_statistics call reply (machine_of memory names bytes) memory.statistics ≡ memory.statistics) → Asks call reply (view memory source) (view memory source) names
+asks_still call reply memory names source none = asks_none call reply memory memory names source none refl
 
 pub serves_still : (call : Call) (reply : Reply) (memory : Memory) (names : Held) (before later : Source) → Holds memory.state names
     → ((bytes : Contents) → HoldsBytes memory names bytes → step call (refused_of reply) (machine_of memory names bytes) ≡ Some (reply, machine_of memory names bytes))
-    → Asks call (refused_of reply) memory names before later → Serves call reply memory names memory names before later
+    → Asks call reply (view memory before) (view memory later) names → Serves call reply (view memory before) (view memory later) names names
 serves_still call reply memory names before later holds steps asks = record {
   steps = λ bytes held. (bytes, steps bytes held, held);
   asks = asks;
@@ -267,11 +276,12 @@ no_bytes_held memory bytes = record { each = λ q p at. no_name q p at }
 pub none_kept : (memory : Memory) → Keeps memory memory finite.empty
 none_kept memory = record { kept = record { used = λ addr used. used; bytes = λ addr used. refl }; beside = λ q p at. no_name q p at }
 
-pub serves_reset : (old new : Memory) (names : Held) (source : Source) → new.state ≡ reset old.state → IsValid new.state → Serves Reset Done old names new finite.empty source source
-unfolding step call_requests
-serves_reset old new names source same valid = record {
+pub serves_reset : (old new : Memory) (names : Held) (source : Source) → new.state ≡ reset old.state → new.statistics ≡ uncounted → IsValid new.state
+    → Serves Reset Done (view old source) (view new source) names finite.empty
+unfolding step placed_anew
+serves_reset old new names source same statistics valid = record {
   steps = λ bytes held. (finite.empty, rw same refl, no_bytes_held new finite.empty);
-  asks = asks_none Reset old names source (λ bytes. refl);
+  asks = record { asked = λ bytes. asked_none source; statistics = λ bytes. statistics };
   holds = holds_none new.state valid;
   keeps = λ kept. absurd (cc);
 }
@@ -295,9 +305,11 @@ absent_at memory names bytes name go none = rw none refl
 
 -- Bytes are written in a name's block.
 pub serves_write : (old new : Memory) (names : Held) (name at : ℕ) (list : List ℕ) (b : Place) (source : Source) → Holds old.state names → finite.get names name ≡ Some b
-    → at + length list ≤ b.size → new.state ≡ old.state → Writes old new (b.addr + at) list → Serves (Write name at list) Done old names new names source source
-unfolding step call_requests
-serves_write old new names name at list b source holds found within same writes =
+    → at + length list ≤ b.size → WritesBlock old new (block_at old.state.generation b) at list → Serves (Write name at list) Done (view old source) (view new source) names names
+unfolding step placed_anew
+serves_write old new names name at list b source holds found within wrote =
+    let same = wrote.state in
+    let writes = wrote.bytes in
     let range : nat_lt b.size (at + length list) ≡ false = grind (arith, nat_tests) in
     let change = change_written old old new names names name b b at list holds.valid (record {
       valid = holds.valid;
@@ -314,26 +326,24 @@ serves_write old new names name at list b source holds found within same writes 
       step = found_at old names bytes name 0 b _ held found ∙ rw (range, same) refl;
       rest = λ q other. get-insert_other bytes name q _ other;
       own = λ _. get-inserted bytes name _ ∙ ap Some (sym (bytes_spliced (image old) (image new) b.addr b.size at list within writes));
-    }) (asks_none (Write name at list) old names source (λ bytes. refl))
+    }) (asks_none (Write name at list) Done old new names source refl wrote.statistics (λ bytes. refl) (λ bytes. refl))
 
 -- A name's block is given back.
-pub serves_dealloc : (old new : Memory) (names : Held) (name : ℕ) (b : Place) (source : Source) → Holds old.state names → finite.get names name ≡ Some b → IsValid new.state
-    → new.state ≡ dealloc old.state b.addr b.size → Frame old new (padded old.state.min_align (block_at old.state.generation b) ∷ []) []
-    → Serves (Dealloc name) Done old names new (finite.remove names name) source source
-unfolding step call_requests
-serves_dealloc old new names name b source holds found valid same frame =
+pub serves_dealloc : (old new : Memory) (names : Held) (name : ℕ) (b : Place) (source : Source) → Holds old.state names → finite.get names name ≡ Some b
+    → GivesBack old new (block_at old.state.generation b) → Serves (Dealloc name) Done (view old source) (view new source) names (finite.remove names name)
+unfolding step placed_anew
+serves_dealloc old new names name b source holds found gives =
     let m : ℕ = old.state.min_align in
-    let positive = min_align_positive m holds.valid.min_align in
-    let ends = up_ge (b.addr + b.size) m positive in
-    let empty = up_empty m b positive (holds.each name b found).min_aligned in
-    let misses : (addr : ℕ) → IsBeside m b addr 1 → in_blocks addr (padded m (block_at old.state.generation b) ∷ []) ≡ false =
-    λ addr beside. ap (λ (t : Bool). t || false) (outside m b addr b.addr (up (b.addr + b.size) m - b.addr) (omega arith) (omega arith) (λ none. omega (arith, empty none)) beside) in
+    let same : new.state ≡ dealloc old.state b.addr b.size = ap (λ (w : Memory). w.state) gives.memory in
+    let frame = gives.frame in
+    let apart : (addr n : ℕ) → IsBeside m b addr n → IsApart addr n (padded m (block_at old.state.generation b) ∷ []) =
+    λ addr n beside. (apart_turned b.addr (padded_size m b.addr b.size) addr n beside, tt) in
     let none : (p : Place) → finite.get (finite.remove names name) name ≡ Some p → ⊥ = λ p is. none-some p (sym (get-removed names name) ∙ is) in
     serves_changed old new names (finite.remove names name) name b b holds (record {
-      valid = valid;
-      min_align = ap (λ (s : State). s.min_align) same ∙ dealloc_min_align old.state b.addr b.size;
-      used = λ addr n some used beside. frame.kept addr n some used (λ i below. misses (addr + i) (beside_part m b addr n i below beside));
-      bytes = λ addr used beside. frame.bytes addr used (misses addr beside);
+      valid = gives.valid.exit;
+      min_align = frame.min_align;
+      used = λ addr n some used beside. frame.kept addr n some used (apart addr n beside);
+      bytes = λ addr used beside. frame.bytes addr used (apart addr 1 beside);
       gone = λ filled. found;
       beside = λ addr used beside. beside;
       rest = λ q other. get-remove_other names name q other;
@@ -343,7 +353,7 @@ serves_dealloc old new names name b source holds found valid same frame =
       step = found_at old names bytes name 0 b _ held found ∙ rw same refl;
       rest = λ q other. get-remove_other bytes name q other;
       own = λ is. absurd (none b is);
-    }) (asks_none (Dealloc name) old names source (λ bytes. refl))
+    }) (asks_none (Dealloc name) Done old new names source refl (ap (λ (w : Memory). w.statistics) gives.memory) (λ bytes. refl) (λ bytes. refl))
 
 -- ---- Calls that place a block for a name
 
@@ -352,7 +362,8 @@ serves_placed : (call : Call) (k : ℕ) (old new : Memory) (names : Held) (name 
     → IsChange old new names (finite.insert names name b) name a b
     → ((bytes : Contents) → HoldsBytes old names bytes → step call k (machine_of old names bytes)
     ≡ Some (Placed b.addr k, machine_of new (finite.insert names name b) (finite.insert bytes name (bytes_from (image new) b.addr b.size))))
-    → Asks call k old names before later → Serves call (Placed b.addr k) old names new (finite.insert names name b) before later
+    → Asks call (Placed b.addr k) (view old before) (view new later) names
+    → Serves call (Placed b.addr k) (view old before) (view new later) names (finite.insert names name b)
 serves_placed call k old new names name a b before later holds change steps asks =
     serves_changed old new names (finite.insert names name b) name a b holds change call (Placed b.addr k) before later (λ bytes held. record {
       next = finite.insert bytes name (bytes_from (image new) b.addr b.size);
@@ -361,63 +372,83 @@ serves_placed call k old new names name a b before later holds change steps asks
       own = λ _. get-inserted bytes name _;
     }) asks
 
-pub serves_alloc : (old mid new : Memory) (names : Held) (name size align fill k p : ℕ) (blocks : List Block) (before later : Source) → Holds old.state names → finite.get names name ≡ None
-    → true ≡ is_layout size align → Allocates old.state mid.state size align k (Some p) before later → IsValid mid.state → Frame old mid [] blocks
-    → new.state ≡ mid.state → Writes mid new (p + 0) (replicate (size - 0) fill)
-    → Serves (Alloc name size align fill) (Placed p k) old names new (finite.insert names name (record { addr = p; size = size; align = align })) before later
-unfolding step call_requests
-serves_alloc old mid new names name size align fill k p blocks before later holds none good takes valid frame same writes =
+-- a place of no bytes
+abbrev nothing : Place
+nothing = record { addr = 0; size = 0; align = 1 }
+
+nothing_padded : (m : ℕ) → 0 < m → padded_size m 0 0 ≡ 0
+nothing_padded m positive = padded_empty m nothing positive (omega arith) refl
+
+pub serves_alloc : (old mid new : Memory) (names : Held) (name size align fill k : ℕ) (block : Block) (before later : Source) → Holds old.state names → finite.get names name ≡ None
+    → true ≡ is_layout size align → PlacesAfter (view old before) (view mid later) size align k (PlacedAt block) → WritesBlock mid new block 0 (replicate (block.size - 0) fill)
+    → Serves (Alloc name size align fill) (Placed block.addr k) (view old before) (view new later) names
+    (finite.insert names name (record { addr = block.addr; size = size; align = align }))
+unfolding step placed_anew
+serves_alloc old mid new names name size align fill k block before later holds none good places wrote =
+    let placed = places.outcome in
+    let p : ℕ = block.addr in
     let b : Place = record { addr = p; size = size; align = align } in
-    let nothing : Place = record { addr = 0; size = 0; align = 1 } in
-    let sized = length-replicate (size - 0) fill in
-    let all : size - 0 ≡ size = omega arith in
-    let moved = moved_anew old.state nothing size align k (record { answer = Some p; state = mid.state }) holds.valid (layout_power size align (sym good)) takes.step in
-    let placed = change_placed old mid names name size align p nothing [] blocks holds (λ filled. absurd (omega arith)) (omega arith) good moved valid frame (λ addr beside. refl) in
+    let positive = min_align_positive old.state.min_align holds.valid.min_align in
+    let same = wrote.state in
+    let all : block.size - 0 ≡ size = omega (arith, placed.of_layout.of_size) in
+    let writes : Writes mid new (p + 0) (replicate size fill) = rw all at wrote.bytes in
+    let zero : size - 0 ≡ size = omega arith in
+    let sized = length-replicate size fill in
+    let moved = moved_anew old.state nothing size align k (record { answer = Some p; state = mid.state }) holds.valid (layout_power size align (sym good)) placed.step in
+    let change = change_placed old mid names name size align p nothing [] (block ∷ []) holds (λ filled. absurd (omega (arith, nothing_padded old.state.min_align positive))) good moved places.valid.exit placed.frame (λ addr n beside. tt) in
     serves_placed (Alloc name size align fill) k old new names name nothing b before later holds
-    (change_written old mid new names _ name nothing b 0 (replicate (size - 0) fill) holds.valid placed (omega arith) same writes)
-    (λ bytes held. rw (none, ← good, takes.step, bytes_filled (image mid) (image new) p size 0 fill (omega arith) writes, no_bytes (image mid) p 0 refl, all, same) refl)
-    (record { refusals = takes.refusals; requests = λ bytes. rw (none, ← good) takes.requests })
+    (change_written old mid new names _ name nothing b 0 (replicate size fill) holds.valid change (omega (arith, sized)) same writes)
+    (λ bytes held. rw (none, ← good, placed.step, bytes_filled (image mid) (image new) p size 0 fill (omega arith) (rw zero writes), no_bytes (image mid) p 0 refl, zero, same) refl)
+    (record { asked = λ bytes. rw (none, ← good) placed.asked; statistics = λ bytes. wrote.statistics ∙ placed.statistics })
 
 -- a block in place of the name's
 change_moved : (old new : Memory) (names : Held) (name size align p : ℕ) (a : Place) (blocks : List Block) → Holds old.state names → finite.get names name ≡ Some a
     → true ≡ is_layout size align → IsMovedBlock old.state a size align p new.state → IsValid new.state → Frame old new (block_at old.state.generation a ∷ []) blocks
     → IsChange old new names (finite.insert names name (record { addr = p; size = size; align = align })) name a (record { addr = p; size = size; align = align })
 change_moved old new names name size align p a blocks holds found good moved valid frame =
-    let m : ℕ = old.state.min_align in
-    let ends = up_ge (a.addr + a.size) m (min_align_positive m holds.valid.min_align) in
-    change_placed old new names name size align p a (block_at old.state.generation a ∷ []) blocks holds (λ filled. found) (holds.each name a found).min_aligned good moved valid frame
-    (λ addr beside. ap (λ (t : Bool). t || false) (outside m a addr a.addr a.size (omega arith) (omega arith) (λ none. none) beside))
+    change_placed old new names name size align p a (block_at old.state.generation a ∷ []) blocks holds (λ filled. found) good moved valid frame
+    (λ addr n beside. (beside_apart old.state.min_align a addr n (min_align_positive old.state.min_align holds.valid.min_align) beside, tt))
 
-pub serves_grow : (old mid new : Memory) (names : Held) (name size align fill k p : ℕ) (a : Place) (blocks : List Block) (before later : Source) → Holds old.state names
+pub serves_grow : (old mid new : Memory) (names : Held) (name size align fill k : ℕ) (a : Place) (block : Block) (before later : Source) → Holds old.state names
     → finite.get names name ≡ Some a → true ≡ is_layout size align → a.size ≤ size
-    → Takes (grow old.state a.addr a.size a.align size align) (grow_requests old.state a.addr a.size a.align size align) mid.state k (Some p) before later
-    → IsValid mid.state → Frame old mid (block_at old.state.generation a ∷ []) blocks → bytes_from (image mid) p a.size ≡ bytes_from (image old) a.addr a.size
-    → new.state ≡ mid.state → Writes mid new (p + a.size) (replicate (size - a.size) fill)
-    → Serves (Grow name size align fill) (Placed p k) old names new (finite.insert names name (record { addr = p; size = size; align = align })) before later
-unfolding step call_requests
-serves_grow old mid new names name size align fill k p a blocks before later holds found good larger takes valid frame kept same writes =
+    → ResizesAfter (growing old.state a.addr a.size a.align size align) (view old before) (view mid later) (block_at old.state.generation a) size align k (PlacedAt block)
+    → WritesBlock mid new block a.size (replicate (block.size - a.size) fill)
+    → Serves (Grow name size align fill) (Placed block.addr k) (view old before) (view new later) names
+    (finite.insert names name (record { addr = block.addr; size = size; align = align }))
+unfolding step placed_anew grow
+serves_grow old mid new names name size align fill k a block before later holds found good larger resizes wrote =
+    let resized = resizes.outcome in
+    let p : ℕ = block.addr in
     let b : Place = record { addr = p; size = size; align = align } in
     let range : nat_lt size a.size ≡ false = grind (arith, nat_tests) in
+    let same = wrote.state in
+    let all : min a.size size ≡ a.size = omega arith in
+    let kept : bytes_from (image mid) p a.size ≡ bytes_from (image old) a.addr a.size = rw all at resized.bytes in
+    let writes : Writes mid new (p + a.size) (replicate (size - a.size) fill) = rw resized.of_layout.of_size at wrote.bytes in
     let sized = length-replicate (size - a.size) fill in
-    let moved = grow_moved old.state a size align k (record { answer = Some p; state = mid.state }) holds.valid (holds.each name a found) (layout_power size align (sym good)) takes.step in
+    let moved = grow_moved old.state a size align k (record { answer = Some p; state = mid.state }) holds.valid (holds.each name a found) (layout_power size align (sym good)) resized.step in
     serves_placed (Grow name size align fill) k old new names name a b before later holds
     (change_written old mid new names _ name a b a.size (replicate (size - a.size) fill) holds.valid
-    (change_moved old mid names name size align p a blocks holds found good moved valid frame) (omega arith) same writes)
+    (change_moved old mid names name size align p a (block ∷ []) holds found good moved resizes.valid.exit resized.frame) (omega arith) same writes)
     (λ bytes held. found_at old names bytes name k a _ held found
-    ∙ rw (← good, range, takes.step, bytes_filled (image mid) (image new) p size a.size fill larger writes, kept, same) refl)
-    (record { refusals = takes.refusals; requests = λ bytes. rw (found, ← good, range) takes.requests })
+    ∙ rw (← good, range, resized.step, bytes_filled (image mid) (image new) p size a.size fill larger writes, kept, same) refl)
+    (record { asked = λ bytes. rw (found, ← good, range) resized.asked; statistics = λ bytes. wrote.statistics ∙ rw found resized.statistics })
 
-pub serves_shrink : (old new : Memory) (names : Held) (name size align k p : ℕ) (a : Place) (blocks : List Block) (before later : Source) → Holds old.state names
+pub serves_shrink : (old new : Memory) (names : Held) (name size align k : ℕ) (a : Place) (block : Block) (before later : Source) → Holds old.state names
     → finite.get names name ≡ Some a → true ≡ is_layout size align → size ≤ a.size
-    → Takes (shrink old.state a.addr a.size a.align size align) (shrink_requests old.state a.addr a.align size align) new.state k (Some p) before later
-    → IsValid new.state → Frame old new (block_at old.state.generation a ∷ []) blocks → bytes_from (image new) p size ≡ bytes_from (image old) a.addr size
-    → Serves (Shrink name size align) (Placed p k) old names new (finite.insert names name (record { addr = p; size = size; align = align })) before later
-unfolding step call_requests
-serves_shrink old new names name size align k p a blocks before later holds found good smaller takes valid frame kept =
+    → ResizesAfter (shrinking old.state a.addr a.size a.align size align) (view old before) (view new later) (block_at old.state.generation a) size align k (PlacedAt block)
+    → Serves (Shrink name size align) (Placed block.addr k) (view old before) (view new later) names
+    (finite.insert names name (record { addr = block.addr; size = size; align = align }))
+unfolding step placed_anew shrink
+serves_shrink old new names name size align k a block before later holds found good smaller resizes =
+    let resized = resizes.outcome in
+    let p : ℕ = block.addr in
     let b : Place = record { addr = p; size = size; align = align } in
     let range : nat_lt a.size size ≡ false = grind (arith, nat_tests) in
-    let moved = shrink_moved old.state a size align k (record { answer = Some p; state = new.state }) holds.valid (holds.each name a found) smaller (layout_power size align (sym good)) takes.step in
+    let all : min a.size size ≡ size = omega arith in
+    let kept : bytes_from (image new) p size ≡ bytes_from (image old) a.addr size = rw all at resized.bytes in
+    let moved = shrink_moved old.state a size align k (record { answer = Some p; state = new.state }) holds.valid (holds.each name a found) smaller (layout_power size align (sym good)) resized.step in
     serves_placed (Shrink name size align) k old new names name a b before later holds
-    (change_moved old new names name size align p a blocks holds found good moved valid frame)
-    (λ bytes held. found_at old names bytes name k a _ held found ∙ rw (← good, range, takes.step, kept, take_bytes (image old) a.addr a.size size smaller) refl)
-    (record { refusals = takes.refusals; requests = λ bytes. rw (found, ← good, range) takes.requests })
+    (change_moved old new names name size align p a (block ∷ []) holds found good moved resizes.valid.exit resized.frame)
+    (λ bytes held. found_at old names bytes name k a _ held found ∙ rw (← good, range, resized.step, kept, take_bytes (image old) a.addr a.size size smaller) refl)
+    (record { asked = λ bytes. rw (found, ← good, range) resized.asked; statistics = λ bytes. rw found resized.statistics })

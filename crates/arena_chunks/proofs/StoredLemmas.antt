@@ -13,7 +13,7 @@ use Rattle.placement.specs.Search.{place, place_below}
 use Rattle.placement.proofs.ResetLemmas.{reset_valid}
 use Rattle.arena_chunks.specs.Memory.{Memory}
 use Rattle.arena_chunks.specs.Stored.{stored_chunk, memory_of, IsNone, IsStored, IsOrdered}
-use Rattle.arena_chunks.specs.declared.chunk.StoredChunk.{StoredChunk}
+use Rattle.arena_chunks.specs.declared.chunks.chunk.StoredChunk.{StoredChunk}
 use Rattle.arena_chunks.specs.declared.arena.Arena.TheInside.{Inside}
 use Rattle.arena_chunks.proofs.TableLemmas.{chunks_in}
 

@@ -1,21 +1,22 @@
 -- The chunk that has a range in use, in the table and among all chunks.
-use Rattle.std.proofs.Common.{◌≡◌, ℕ, zero, suc, ◌+◌, ◌-◌, ◌<◌, ◌≤◌, ap, sym, refl, ◌∙◌, arith, IsTrue, List, [], ◌∷◌, ◌++◌, true, false, length, leb-true, leb-false, map, reverse, take, drop, get_or, drop-cons, inl, inr, subst}
-use Rattle.std.specs.Prelude.{nat_le, nat_lt, slice_index, ◌&&◌}
-use Rattle.std.specs.List.{list_any, AllByRecursion}
-use Rattle.std.specs.List.Sorted.{IsPartitionPoint, IsNonDecreasingBy}
+use Rattle.std.proofs.Common.{◌≡◌, ℕ, Bool, zero, suc, ◌+◌, ◌-◌, ◌<◌, ◌≤◌, ap, sym, refl, ◌∙◌, arith, IsTrue, List, [], ◌∷◌, ◌++◌, true, false, length, leb-true, leb-false, map, reverse, take, drop, get_or, drop-cons, inl, inr, subst}
+use Rattle.std.specs.Prelude.{nat_le, nat_lt, slice_index, ◌&&◌, cond}
+use Rattle.std.specs.List.{list_any, AllByRecursion, count_by}
+use Rattle.std.specs.List.Sorted.{IsPartitionPoint, IsPartitionedBy, IsNonDecreasingBy}
 use Rattle.std.proofs.lemmas.Bool.{or_cases, or_left, or_right, cases_lt}
 use Rattle.std.proofs.lemmas.Bool.Decides.{nat_tests}
 use Rattle.std.proofs.lemmas.List.{reverse-append, length-take-le, take-append-drop, get_or-drop, length-drop, length-append}
 use Rattle.std.proofs.Math.Seq.{get_or-append_seam}
 use Rattle.std.proofs.lemmas.List.Folds.{list_any_none}
 use Rattle.std.proofs.lemmas.List.Elements.{recursion_from_All}
-use Rattle.std.proofs.lemmas.List.Sorted.{IsNonDecreasingBy-push, IsNonDecreasingBy-short, list_any-IsPermutation, IsPermutation-reverse}
+use Rattle.std.proofs.lemmas.List.Sums.{sum_by-cons, count_by-le-length}
+use Rattle.std.proofs.lemmas.List.Sorted.{IsPartitionedBy-leb, IsNonDecreasingBy-push, IsNonDecreasingBy-short, list_any-IsPermutation, IsPermutation-reverse}
 use Rattle.placement.specs.Machine.{splice}
 use Rattle.placement.specs.State.{Chunk, AreChunks, floor_of, is_used_by, is_range_used}
 use Rattle.placement.proofs.UsedLemmas.{used_under}
 use Rattle.arena_chunks.specs.Memory.{byte_in, bytes_from, written}
-use Rattle.arena_chunks.specs.Stored.{stored_chunk, stored_bytes, IsLastBelow}
-use Rattle.arena_chunks.specs.declared.chunk.StoredChunk.{StoredChunk}
+use Rattle.arena_chunks.specs.Stored.{stored_chunk, stored_bytes, IsLastBelow, IsSearchable}
+use Rattle.arena_chunks.specs.declared.chunks.chunk.StoredChunk.{StoredChunk}
 use Rattle.arena_chunks.proofs.BytesLemmas.{bytes_part, splice_index, length-splice}
 
 abbrev pub chunks_in : List StoredChunk → List Chunk
@@ -47,6 +48,76 @@ last_below (x ∷ xs) addr (suc j) parts within some = (
         leb-false _ _ (ap (λ (c : StoredChunk). nat_le c.base addr) (get_or-drop (suc j) (x ∷ xs) k d) ∙ parts.1 (suc j + k) d (omega arith) (omega (arith, length-drop (suc j) (x ∷ xs)))));
   },
 )
+
+module _ {X : Type 0} (p : X → Bool) where
+  -- one more that passes, in front
+  first_passes : (x : X) (xs : List X) (n : ℕ) → p x ≡ true → IsPartitionPoint (λ y. p y ≡ true) (λ y. p y ≡ false) xs n → IsPartitionPoint (λ y. p y ≡ true) (λ y. p y ≡ false) (x ∷ xs) (suc n)
+  first_passes x xs n is parts = (low, high)
+    where
+      low : (k : ℕ) (d : X) → 0 ≤ k → k < suc n → p (get_or (x ∷ xs) k d) ≡ true
+      low zero d from below = is
+      low (suc k) d from below = parts.0 k d (omega arith) (omega arith)
+
+      high : (k : ℕ) (d : X) → suc n ≤ k → k < suc (length xs) → p (get_or (x ∷ xs) k d) ≡ false
+      high zero d from below = absurd (omega arith)
+      high (suc k) d from below = parts.1 k d (omega arith) (omega arith)
+
+  -- where the first fails all do
+  all_fail : (x : X) (xs : List X) → p x ≡ false → IsPartitionedBy p (x ∷ xs) → (k : ℕ) (d : X) → k < suc (length xs) → p (get_or (x ∷ xs) k d) ≡ false
+  all_fail x xs is rises k d below = go (p (get_or (x ∷ xs) k d)) refl
+    where
+      clash : p x ≡ true → p x ≡ false → ⊥
+      clash passes fails = cc
+
+      go : (b : Bool) → p (get_or (x ∷ xs) k d) ≡ b → b ≡ false
+      go false same = refl
+      go true same = absurd (clash (rises 0 k d (omega arith) below same) is)
+
+  counted_next : (x : X) (xs : List X) → IsPartitionedBy p (x ∷ xs) → IsPartitionPoint (λ y. p y ≡ true) (λ y. p y ≡ false) xs (count_by p xs)
+      → IsPartitionPoint (λ y. p y ≡ true) (λ y. p y ≡ false) (x ∷ xs) (count_by p (x ∷ xs))
+  counted_next x xs rises parts = go (p x) refl
+    where
+      one : (b : Bool) → p x ≡ b → count_by p (x ∷ xs) ≡ cond b 1 0 + count_by p xs
+      one b is = sum_by-cons (λ (y : X). cond (p y) 1 0) x xs ∙ ap (λ (c : Bool). cond c 1 0 + count_by p xs) is
+
+      clash : p (get_or xs 0 x) ≡ true → p (get_or xs 0 x) ≡ false → ⊥
+      clash passes fails = cc
+
+      none : p x ≡ false → (n : ℕ) → count_by p xs ≡ n → n ≡ 0
+      none is zero same = refl
+      none is (suc n) same =
+          absurd (clash (parts.0 0 x (omega arith) (omega (arith, same))) (all_fail x xs is rises 1 x (omega (arith, same, count_by-le-length p xs))))
+
+      go : (b : Bool) → p x ≡ b → IsPartitionPoint (λ (y : X). p y ≡ true) (λ (y : X). p y ≡ false) (x ∷ xs) (count_by p (x ∷ xs))
+      go true is =
+          let n : count_by p (x ∷ xs) ≡ suc (count_by p xs) = omega (arith, one true is) in
+          subst (IsPartitionPoint (λ (y : X). p y ≡ true) (λ (y : X). p y ≡ false) (x ∷ xs)) (sym n) (first_passes x xs (count_by p xs) is parts)
+      go false is =
+          let n : count_by p (x ∷ xs) ≡ 0 = omega (arith, one false is, none is (count_by p xs) refl) in
+          subst (IsPartitionPoint (λ (y : X). p y ≡ true) (λ (y : X). p y ≡ false) (x ∷ xs)) (sym n)
+          (λ k d from below. absurd (omega arith), λ k d from below. all_fail x xs is rises k d below)
+
+  -- Where those that pass stand first, their number is the place that the search gives.
+  counted : (xs : List X) → IsPartitionedBy p xs → IsPartitionPoint (λ y. p y ≡ true) (λ y. p y ≡ false) xs (count_by p xs)
+  counted [] rises = (λ k d from below. absurd (omega arith), λ k d from below. absurd (omega arith))
+  counted (x ∷ xs) rises = counted_next x xs rises (counted xs (λ i j d le below passes. rises (suc i) (suc j) d (omega arith) (omega arith) passes))
+
+-- the chunks past the first that begin at or below the address give the index of the last one
+pub last_counted : (older rest : List StoredChunk) (addr n : ℕ) → IsSearchable older addr → rest ≡ drop 1 older → n ≡ count_by (λ c. nat_le c.base addr) rest → IsLastBelow older addr n
+last_counted [] rest addr n table rest_is n_is = absurd (none table.some)
+  where
+    none : IsTrue false → ⊥
+    none no_way = cc
+last_counted (x ∷ xs) rest addr n table rest_is n_is =
+    let below = (λ (c : StoredChunk). nat_le c.base addr) in
+    let rises = IsPartitionedBy-leb (λ (c : StoredChunk). c.base) (x ∷ xs) addr table.sorted in
+    let parts = counted below (x ∷ xs) rises in
+    let found = last_below (x ∷ xs) addr (count_by below (x ∷ xs)) parts (count_by-le-length below (x ∷ xs)) table.some in
+    let first : nat_le x.base addr ≡ true = parts.0 0 x (omega arith) (omega (arith, found.0)) in
+    let more : count_by below (x ∷ xs) ≡ cond true 1 0 + count_by below xs =
+    sum_by-cons (λ (c : StoredChunk). cond (nat_le c.base addr) 1 0) x xs ∙ ap (λ (b : Bool). cond b 1 0 + count_by below xs) first in
+    let same : count_by below (x ∷ xs) - 1 ≡ n = omega (arith, more, n_is, ap (count_by below) rest_is) in
+    subst (IsLastBelow (x ∷ xs) addr) same found.1
 
 -- the table, oldest first, rises
 pub table_rises : (m : ℕ) (chunks : List StoredChunk) → AreChunks m (chunks_in chunks) → IsNonDecreasingBy (λ c. c.base) (reverse chunks)

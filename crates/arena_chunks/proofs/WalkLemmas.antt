@@ -12,7 +12,7 @@ use Rattle.placement.specs.State.{Chunk, AreChunks, used_length}
 use Rattle.arena_chunks.specs.Memory.{Memory, bytes_from, used_parts, used_ranges}
 use Rattle.arena_chunks.specs.Stored.{stored_chunk, IsOrdered, all_chunks, chunks_left}
 use Rattle.arena_chunks.specs.Walks.{used_part, used_range}
-use Rattle.arena_chunks.specs.declared.chunk.StoredChunk.{StoredChunk}
+use Rattle.arena_chunks.specs.declared.chunks.chunk.StoredChunk.{StoredChunk}
 use Rattle.arena_chunks.specs.declared.arena.Arena.TheInside.{Inside}
 use Rattle.arena_chunks.proofs.TableLemmas.{chunks_in, bytes_in, range_bytes}
 use Rattle.arena_chunks.proofs.StoredLemmas.{kind, view_of, Stands, newest_ordered, older_ordered}

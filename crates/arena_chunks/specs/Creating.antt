@@ -3,25 +3,24 @@ use Rattle.std.specs.Prelude.{◌≡◌, ℕ, Option, Some, None, Result, Ok, Er
 use Rattle.std.specs.Option.{option_map}
 use Rattle.placement.specs.State.{State, Chunk}
 use Rattle.placement.specs.Creation.{create, create_requests}
-use Rattle.placement.specs.Causes.{CountsRefusals, TellsRequests}
+use Rattle.placement.specs.Statistics.{uncounted}
 use Rattle.arena_chunks.specs.Memory.{Memory}
-use Rattle.arena_chunks.specs.Source.{Source}
+use Rattle.arena_chunks.specs.Source.{Source, IsAsked}
 use Rattle.arena_chunks.specs.declared.block.ArenaErr.{ArenaErr}
 use Rattle.arena_chunks.specs.declared.block.ArenaErr.TheVariants.{AllocErr, OutOfMemory}
 
 -- an arena that has counted nothing yet, with these bytes in its chunks
 abbrev pub uncounted_memory : State → List (List ℕ) → Memory
-uncounted_memory state bytes = record { state = state; statistics = record { allocations = 0; reallocations = 0 }; bytes = bytes }
+uncounted_memory state bytes = record { state = state; statistics = uncounted; bytes = bytes }
 
 -- the same with zeros in its chunks
 abbrev pub zeroed_memory : State → Memory
 zeroed_memory state = uncounted_memory state (map (λ (c : Chunk). replicate c.size 0) state.chunks)
 
--- The constructor's rule, where k requests are refused; the source's count rose by k or more, and it tells the one request.
+-- The constructor's rule, where k requests are refused, which are the source's; it tells the one request.
 pub record IsCreation (min_align capacity k : ℕ) (answer : Option Memory) (before after : Source) : Type 0 where
   pub step : option_map (option_map zeroed_memory) (create min_align capacity k) ≡ Some answer
-  pub refusals : CountsRefusals before.refusals after.refusals k
-  pub requests : TellsRequests before.asked after.asked (create_requests min_align capacity)
+  pub asked : IsAsked before after k (create_requests min_align capacity)
 
 -- What a constructor with a capacity answers. Its memory is the source's, so that want of memory is told as a refusal.
 abbrev pub Creates : ℕ → ℕ → Source → Source → Result Memory ArenaErr → Type 0

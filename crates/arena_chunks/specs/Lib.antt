@@ -2,12 +2,13 @@ pub mod Memory
 pub mod Source
 pub mod Frame
 pub mod Answers
+pub mod BlockCalls
+pub mod Adding
+pub mod Resizes
 pub mod Runs
 pub mod Stored
 pub mod PlaceCode
 pub mod Serving
-pub mod Resizes
-pub mod BlockCalls
 pub mod Creating
 pub mod Walks
 pub mod Messages

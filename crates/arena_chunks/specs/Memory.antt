@@ -1,19 +1,8 @@
 -- An arena as contracts see it: its places, its statistics, and the bytes of its chunks.
-use Rattle.std.specs.Prelude.{◌≡◌, ℕ, zero, suc, ◌+◌, ◌-◌, ◌^◌, Bool, ◌&&◌, ◌||◌, ◌==◌, nat_le, nat_lt, if◌then◌else◌, List, [], ◌∷◌, map, slice_index, length, IsTrue, min}
+use Rattle.std.specs.Prelude.{◌≡◌, ℕ, zero, suc, ◌+◌, ◌-◌, Bool, ◌&&◌, ◌||◌, ◌==◌, nat_le, nat_lt, if◌then◌else◌, List, [], ◌∷◌, map, slice_index, length, IsTrue}
 use Rattle.placement.specs.State.{State, Chunk, data_end, used_length, is_used, is_range_used}
+use Rattle.placement.specs.Statistics.{Statistics}
 use Rattle.arena_chunks.specs.declared.block.Block.{Block}
-
--- how many blocks were placed, and how many were grown or shrunk
-pub record Statistics : Type 0 where
-  pub allocations : ℕ
-  pub reallocations : ℕ
-
--- one more, where 64 bits hold it
-abbrev pub count_up : ℕ → ℕ
-count_up n = min (n + 1) (2 ^ 64 - 1)
-
-abbrev pub one_allocation : Statistics → Statistics
-one_allocation statistics = record statistics { allocations = count_up statistics.allocations }
 
 -- The bytes stand newest chunk first, each list from its chunk's base on.
 pub record Memory : Type 0 where
@@ -25,7 +14,8 @@ pub record Memory : Type 0 where
 abbrev pub byte_in : List Chunk → List (List ℕ) → ℕ → ℕ
 byte_in [] bytes addr = 0
 byte_in (newest ∷ older) [] addr = 0
-byte_in (newest ∷ older) (list ∷ bytes) addr = if nat_le newest.base addr then slice_index list (addr - newest.base) else byte_in older bytes addr
+byte_in (newest ∷ older) (list ∷ bytes) addr =
+    if nat_le newest.base addr then slice_index list (addr - newest.base) else byte_in older bytes addr
 
 -- where a further chunk may begin; 16 where there is none
 abbrev pub end_of : List Chunk → ℕ

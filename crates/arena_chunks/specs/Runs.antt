@@ -1,20 +1,20 @@
 -- What a run of calls over an arena shows.
-use Rattle.std.specs.Prelude.{◌≡◌, false, ℕ, ◌≤◌, Some, IsTrue, List, map, sum, take, length}
+use Rattle.std.specs.Prelude.{◌≡◌, false, ℕ, ◌<◌, ◌≤◌, Some, IsTrue, List, map, sum, take, length, slice_get}
 use Rattle.std.specs.FinMap as finite
 use Rattle.std.specs.List.{list_any}
-use Rattle.placement.specs.State.{State}
+use Rattle.placement.specs.State.{State, IsValid}
 use Rattle.placement.specs.Doubling.{IsDoubling, made_first}
-use Rattle.placement.specs.Causes.{CountsRefusals, TellsRequests}
 use Rattle.placement.specs.Machine.{Machine, Held, Contents, IsSound, run, told, is_reset}
-use Rattle.placement.specs.Requests.{requests_of}
+use Rattle.placement.specs.Requests.{requests_of, takes_memory}
+use Rattle.placement.specs.Statistics.{statistics_of}
 use Rattle.placement.specs.declared.place.Place.{Place}
 use Rattle.placement.specs.declared.calls.Call.{Call}
 use Rattle.placement.specs.declared.calls.Reply.{Reply}
 use Rattle.arena_chunks.specs.Memory.{Memory, KeepsUsed, image, bytes_from}
-use Rattle.arena_chunks.specs.Source.{Source}
+use Rattle.arena_chunks.specs.Source.{View, IsAsked}
 use Rattle.arena_chunks.specs.declared.block.Block.{Block}
-use Rattle.arena_chunks.specs.declared.run.Stopped.{Stopped}
-use Rattle.arena_chunks.specs.declared.run.Stopped.TheVariants.{OutOfMemory}
+use Rattle.arena_chunks.specs.declared.runs.run.Stopped.{Stopped}
+use Rattle.arena_chunks.specs.declared.runs.run.Stopped.TheVariants.{OutOfMemory}
 
 -- the block of a generation at a place
 abbrev pub block_at : ℕ → Place → Block
@@ -38,32 +38,40 @@ abbrev pub KeepsDoubling : List Call → List ℕ → State → State → Type 0
 KeepsDoubling calls ks entry exit =
     (least : ℕ) → least ≤ 16320 → IsTrue (made_first entry calls ks) → IsDoubling least entry.chunks → IsDoubling least exit.chunks
 
--- The replies are the machine's, when it is told the refusals that they tell; the arena is in the machine's last state, and
--- holds its blocks with their bytes; the source refused as often, or more, and was asked for what the rules ask for; what was
--- used before is as it was, unless all blocks were given back; and chunks still double, if they may.
-pub record Runs (entry exit : Memory) (before after : Source) (calls : List Call) (replies : List Reply) (blocks : List (ℕ × Block)) : Type 0 where
-  pub last : Machine
-  pub ran : run entry.state calls (told replies) ≡ Some (replies, last)
-  pub state : exit.state ≡ last.state
-  pub held : blocks ≡ held_blocks last.state.generation last.held
+-- The arena is in the machine's last state, which is valid, and holds its blocks, which are sound, with their bytes.
+pub record StandsFor (memory : Memory) (last : Machine) : Type 0 where
+  pub state : memory.state ≡ last.state
+  pub valid : IsValid memory.state
   pub sound : IsSound last.state last.held
-  pub bytes : HoldsBytes exit last.held last.bytes
-  pub refusals : CountsRefusals before.refusals after.refusals (sum (told replies))
-  pub requests : TellsRequests before.asked after.asked (requests_of entry.state calls (told replies))
-  pub kept : KeepsUnlessReset calls entry exit
-  pub doubling : KeepsDoubling calls (told replies) entry.state exit.state
+  pub bytes : HoldsBytes memory last.held last.bytes
 
--- The arena is as after the first calls, so many: they are a run of the machine, to the state that the arena is in.
-pub record RunsFirst (entry exit : Memory) (before after : Source) (calls : List Call) (done : ℕ) : Type 0 where
+-- What the calls of a run show beside their replies: the source refused exactly as often as is told, and was asked for what
+-- the rules ask for; the statistics are the rules'; what was in use before is as it was, unless all blocks were given back;
+-- and chunks still double, if they may.
+pub record RunLeaves (entry exit : View) (calls : List Call) (ks : List ℕ) : Type 0 where
+  pub asked : IsAsked entry.source exit.source (sum ks) (requests_of entry.memory.state calls ks)
+  pub statistics : exit.memory.statistics ≡ statistics_of entry.memory.state calls ks entry.memory.statistics
+  pub kept : KeepsUnlessReset calls entry.memory exit.memory
+  pub doubling : KeepsDoubling calls ks entry.memory.state exit.memory.state
+
+-- The replies are the machine's, when it is told the refusals that they tell, and the blocks are those that it holds.
+pub record Runs (entry exit : View) (calls : List Call) (replies : List Reply) (blocks : List (ℕ × Block)) : Type 0 where
+  pub last : Machine
+  pub ran : run entry.memory.state calls (told replies) ≡ Some (replies, last)
+  pub stands : StandsFor exit.memory last
+  pub held : blocks ≡ held_blocks last.state.generation last.held
+  pub leaves : RunLeaves entry exit calls (told replies)
+
+-- The arena is as after the first calls, so many: they are a run of the machine. The run stopped before its first call, after
+-- its last, or at one that takes memory.
+pub record RunsFirst (entry exit : View) (calls : List Call) (done : ℕ) : Type 0 where
   pub within : done ≤ length calls
   pub replies : List Reply
   pub last : Machine
-  pub ran : run entry.state (take done calls) (told replies) ≡ Some (replies, last)
-  pub state : exit.state ≡ last.state
-  pub refusals : CountsRefusals before.refusals after.refusals (sum (told replies))
-  pub requests : TellsRequests before.asked after.asked (requests_of entry.state (take done calls) (told replies))
-  pub kept : KeepsUnlessReset (take done calls) entry exit
-  pub doubling : KeepsDoubling (take done calls) (told replies) entry.state exit.state
+  pub ran : run entry.memory.state (take done calls) (told replies) ≡ Some (replies, last)
+  pub stands : StandsFor exit.memory last
+  pub leaves : RunLeaves entry exit (take done calls) (told replies)
+  pub stops : (call : Call) → 0 < done → slice_get calls done ≡ Some call → IsTrue (takes_memory call last)
 
-abbrev pub Stops : Memory → Memory → Source → Source → List Call → Stopped → Type 0
-Stops entry exit before after calls (OutOfMemory done) = RunsFirst entry exit before after calls done
+abbrev pub Stops : View → View → List Call → Stopped → Type 0
+Stops entry exit calls (OutOfMemory done) = RunsFirst entry exit calls done

@@ -1,12 +1,12 @@
 -- How an arena stores its chunks: the newest in a field of its own, the others in a table, oldest first.
-use Rattle.std.specs.Prelude.{◌≡◌, ℕ, ◌+◌, ◌-◌, ◌^◌, ◌<◌, ◌≤◌, ◌==◌, Bool, Option, Some, None, List, [], ◌∷◌, ◌++◌, length, map, reverse, IsTrue, nat_le, take, drop, if◌then◌else◌}
+use Rattle.std.specs.Prelude.{◌≡◌, ℕ, ◌+◌, ◌-◌, ◌^◌, ◌<◌, ◌≤◌, ◌==◌, Bool, Option, Some, None, List, [], ◌∷◌, ◌++◌, length, map, reverse, IsTrue, nat_le, take, drop, get_or, slice_set, if◌then◌else◌}
 use Rattle.std.specs.Borrow.{Bor}
 use Rattle.std.specs.List.{AllByRecursion, list_any}
 use Rattle.std.specs.List.Sorted.{IsNonDecreasingBy}
 use Rattle.placement.specs.State.{Chunk, IsValid}
 use Rattle.placement.specs.Machine.{splice}
 use Rattle.arena_chunks.specs.Memory.{Memory}
-use Rattle.arena_chunks.specs.declared.chunk.StoredChunk.{StoredChunk}
+use Rattle.arena_chunks.specs.declared.chunks.chunk.StoredChunk.{StoredChunk}
 
 abbrev pub stored_chunk : StoredChunk → Chunk
 stored_chunk c = record { base = c.base; size = length c.bytes.items; cursor = c.cursor }
@@ -20,7 +20,12 @@ all_chunks newest older = if newest.base == 16 then [] else newest ∷ reverse o
 
 abbrev pub memory_of : ℕ → Bool → ℕ → ℕ → ℕ → StoredChunk → List StoredChunk → Memory
 memory_of min_align is_growing generation allocations reallocations newest older = record {
-  state = record { min_align = min_align; is_growing = is_growing; generation = generation; chunks = map stored_chunk (all_chunks newest older) };
+  state = record {
+    min_align = min_align;
+    is_growing = is_growing;
+    generation = generation;
+    chunks = map stored_chunk (all_chunks newest older);
+  };
   statistics = record { allocations = allocations; reallocations = reallocations };
   bytes = map stored_bytes (all_chunks newest older);
 }
@@ -57,12 +62,39 @@ pub record IsLastBelow (chunks : List StoredChunk) (addr i : ℕ) : Type 0 where
   pub low : chunk.base ≤ addr
   pub above : AllByRecursion (λ (c : StoredChunk). addr < c.base) after
 
--- n bytes of the chunk from this address on are replaced by a function of them
-pub record IsEdited (old new : StoredChunk) (addr n : ℕ) (gives : List ℕ → List ℕ) : Type 0 where
+-- n bytes of the chunk from this address on are replaced by a list
+pub record IsEdited (old new : StoredChunk) (addr n : ℕ) (list : List ℕ) : Type 0 where
   pub base : new.base ≡ old.base
   pub cursor : new.cursor ≡ old.cursor
-  pub sized : length (gives (take n (drop (addr - old.base) old.bytes.items))) ≡ n
-  pub bytes : new.bytes.items ≡ splice old.bytes.items (addr - old.base) (gives (take n (drop (addr - old.base) old.bytes.items)))
+  pub sized : length list ≡ n
+  pub bytes : new.bytes.items ≡ splice old.bytes.items (addr - old.base) list
+
+-- n bytes of the chunk from this address on
+abbrev pub part_of : StoredChunk → ℕ → ℕ → List ℕ
+part_of c addr n = take n (drop (addr - c.base) c.bytes.items)
+
+-- the same by a change of the bytes there, of which this list may stand there afterwards
+pub record EditsPart (old new : StoredChunk) (addr n : ℕ) (relates : List ℕ → List ℕ → Type 0) : Type 0 where
+  pub list : List ℕ
+  pub related : relates (part_of old addr n) list
+  pub edited : IsEdited old new addr n list
+
+-- the chunk at this index has n bytes from an address on
+pub record HasPart (chunks : List StoredChunk) (i addr n : ℕ) : Type 0 where
+  pub within : i < length chunks
+  pub low : (c : StoredChunk) → c ≡ get_or chunks i c → c.base ≤ addr
+  pub high : (c : StoredChunk) → c ≡ get_or chunks i c → addr + n ≤ c.base + length c.bytes.items
+
+-- The chunk at the index j holds, from the address `to` on, the n bytes that the one at i had from the address `from` on. The
+-- table is otherwise as it was.
+pub record CopiesPart (old new : List StoredChunk) (i j from to n : ℕ) : Type 0 where
+  pub source : StoredChunk
+  pub target : StoredChunk
+  pub copied : StoredChunk
+  pub at_source : source ≡ get_or old i source
+  pub at_target : target ≡ get_or old j target
+  pub table : new ≡ slice_set old j copied
+  pub edited : IsEdited target copied to n (part_of source from n)
 
 -- what is left of a walk: the newest chunk, if it is still to come, and the others, newest first
 abbrev pub chunks_left : Option (Bor StoredChunk) → List StoredChunk → List StoredChunk

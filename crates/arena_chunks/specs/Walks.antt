@@ -2,9 +2,9 @@
 use Rattle.std.specs.Prelude.{ℕ, ◌-◌, List, drop, map}
 use Rattle.placement.specs.State.{used_length}
 use Rattle.arena_chunks.specs.Stored.{stored_chunk, stored_bytes, chunks_left}
-use Rattle.arena_chunks.specs.declared.chunk.StoredChunk.{StoredChunk}
-use Rattle.arena_chunks.specs.declared.iter.ChunksLeft.{ChunksLeft}
-use Rattle.arena_chunks.specs.declared.iter.ChunkIter.{ChunkIter}
+use Rattle.arena_chunks.specs.declared.chunks.chunk.StoredChunk.{StoredChunk}
+use Rattle.arena_chunks.specs.declared.arena.iter.ChunksLeft.{ChunksLeft}
+use Rattle.arena_chunks.specs.declared.arena.iter.ChunkIter.{ChunkIter}
 
 -- the bytes of a chunk that are used, and where they begin and how many they are
 abbrev pub used_part : StoredChunk → List ℕ

@@ -1,39 +1,59 @@
 // An arena with its source of chunks.
-ghost use Rattle.std.specs.Prelude.{◌≡◌, ◌+◌, ◌-◌, ◌%◌, ◌≤◌, [], ◌∷◌, Some, Ok, Err, IfOk, IfErr, IsTrue, length, take};
+ghost use Rattle.std.specs.Prelude.{◌≡◌, ◌+◌, ◌-◌, ◌%◌, ◌≤◌, [], ◌∷◌, Some, Ok, Err, IfOk, IfErr, IsOk, IsTrue, length, take};
 ghost use Rattle.placement.specs.State.{IsValid, used_bytes, allocated_bytes, top_of};
 ghost use Rattle.placement.specs.Moves.{reset};
 ghost use Rattle.placement.specs.Creation.{empty_state, fixed_state};
+ghost use Rattle.placement.specs.Statistics.{uncounted};
 ghost use Rattle.arena_chunks.specs.Memory.{is_readable, image, bytes_from};
+ghost use Rattle.arena_chunks.specs.Source.{View, view};
+ghost use Rattle.arena_chunks.specs.Answers.{answer_of};
 ghost use Rattle.arena_chunks.specs.Resizes.{NoneReadable};
 ghost use Rattle.arena_chunks.specs.Creating.{uncounted_memory, IsCreation, Creates};
-ghost use Rattle.arena_chunks.specs.BlockCalls.{PlacesBlock, WritesBlock};
+ghost use Rattle.arena_chunks.specs.BlockCalls.{PlacesBlock, WritesBlock, EditsBlock};
 
-use crate::arena::Arena;
+mod alloc;
+mod block_alloc;
+mod over_arena;
+mod text;
+
+use crate::arena::{Arena, RawErr};
 use crate::block::{ArenaErr, Block};
-use crate::create::RawErr;
-use crate::edit::Edit;
-use crate::source::ChunkSource;
+use crate::chunks::{ChunkSource, Edit};
+pub use alloc::Alloc;
 use arena_place::Layout;
+pub use block_alloc::BlockAlloc;
+pub use over_arena::OverArena;
 use std::alloc::Global;
+use std::marker::Model;
+pub use text::Str;
 
-/// An arena of least alignment 1 together with the source of its chunks.
+/// An arena of least alignment 1 together with the source of its chunks. Contracts see the arena's memory and what the source
+/// shows.
 #[derive(Drop)]
 pub struct Allocator<C: ChunkSource> {
     pub(crate) arena: Arena<1>,
     pub(crate) chunks: C,
 }
 
+impl<C: ChunkSource> Model for Allocator<C> {
+    ghost use Rattle.arena_chunks.specs.Source.{View};
+
+    ghost Value = { View };
+
+    ghost view = { λ a. record { memory = a.arena; source = C.source a.chunks } };
+}
+
 impl<C: ChunkSource> Allocator<C> {
     /// An allocator over an empty arena that grows. Takes no memory.
     pub fn new(alloc: Global, chunks: C) -> Allocator<C>
-        ensures { result ≡ record { arena = uncounted_memory (empty_state 1) []; chunks = chunks } }
+        ensures { result ≡ view (uncounted_memory (empty_state 1) []) (C.source chunks) }
     {
         Allocator::of(Arena::new(alloc), chunks)
     }
 
     /// Joins an arena and a source.
     pub fn of(arena: Arena<1>, chunks: C) -> Allocator<C>
-        ensures { result ≡ record { arena = arena; chunks = chunks } }
+        ensures { result ≡ view arena (C.source chunks) }
     {
         Allocator { arena, chunks }
     }
@@ -48,7 +68,7 @@ impl<C: ChunkSource> Allocator<C> {
         chunks: C,
         capacity: u64,
     ) -> Result<Allocator<C>, (ArenaErr, C)>
-        ensures ok { IfOk result (λ a. IsCreation 1 capacity 0 (Some a.arena) (C.source chunks) (C.source a.chunks)) }
+        ensures ok { IfOk result (λ a. IsCreation 1 capacity 0 (Some a.memory) (C.source chunks) a.source) }
         ensures err { IfErr result (λ e. Creates 1 capacity (C.source chunks) (C.source e.1) (Err e.0)) }
     {
         let mut chunks = chunks;
@@ -66,8 +86,10 @@ impl<C: ChunkSource> Allocator<C> {
     ) -> Result<Allocator<C>, (RawErr, C)>
         requires units { length region.items % 16 ≡ 0 }
         requires room { 48 ≤ length region.items }
-        ensures { let size = length region.items - 48 in
-            result ≡ Ok (record { arena = uncounted_memory (fixed_state 1 size) (take size region.items ∷ []); chunks = chunks }) }
+        ensures ok { IsOk result }
+        ensures view { let size = length region.items - 48 in IfOk result (λ a.
+            a ≡ view (uncounted_memory (fixed_state 1 size) (take size region.items ∷ []))
+            (C.source chunks)) }
     {
         match Arena::from_raw_parts(alloc, region) {
             Ok(arena) => Ok(Allocator::of(arena, chunks)),
@@ -77,7 +99,8 @@ impl<C: ChunkSource> Allocator<C> {
 
     /// Both parts. `of` joins them again.
     pub fn into_parts(self) -> (Arena<1>, C)
-        ensures { result ≡ (self.arena, self.chunks) }
+        ensures memory { result.0 ≡ self.memory }
+        ensures source { C.source result.1 ≡ self.source }
     {
         let Allocator { arena, chunks } = self;
         (arena, chunks)
@@ -90,101 +113,128 @@ impl<C: ChunkSource> Allocator<C> {
     /// As of the arena's call.
     #[inline]
     pub fn alloc_layout(&mut self, layout: Layout) -> Result<Block, ArenaErr>
-        ensures { PlacesBlock self.old.arena self.new.arena (C.source self.old.chunks) (C.source self.new.chunks) layout.size layout.align result }
+        ensures { PlacesBlock self.old self.new layout.size layout.align (answer_of result) }
     {
         self.arena.try_alloc_layout(&mut self.chunks, layout)
     }
 
     /// Gives all blocks back, and all chunks but the newest, as the arena's `reset` does.
     pub fn reset(&mut self)
-        ensures state { self.new.arena.state ≡ reset self.old.arena.state }
-        ensures statistics { self.new.arena.statistics ≡ record { allocations = 0; reallocations = 0 } }
-        ensures source { self.new.chunks ≡ self.old.chunks }
-        ensures ends { NoneReadable self.new.arena.state }
-        ensures valid { IsValid self.new.arena.state }
+        ensures memory { self.new.memory ≡ record {
+          state = reset self.old.memory.state;
+          statistics = uncounted;
+          bytes = take 1 self.old.memory.bytes;
+        } }
+        ensures source { self.new.source ≡ self.old.source }
+        ensures ends { NoneReadable self.new.memory.state }
+        ensures valid { IsValid self.new.memory.state }
     {
         self.arena.reset();
     }
 
     /// How many bytes the chunks have.
     pub fn capacity(&self) -> u64
-        ensures { result ≡ allocated_bytes self.now.arena.state }
+        ensures { result ≡ allocated_bytes self.now.memory.state }
     {
         self.arena.allocated_bytes()
     }
 
     /// How many bytes of the chunks are used.
     pub fn used_bytes(&self) -> u64
-        ensures { result ≡ used_bytes self.now.arena.state }
+        ensures { result ≡ used_bytes self.now.memory.state }
     {
         self.arena.used_bytes()
     }
 
     /// How many blocks were placed, and how many were grown or shrunk, since the arena began or was reset.
     pub fn get_allocation_stats(&self) -> (u64, u64)
-        ensures { result ≡ (self.now.arena.statistics.allocations, self.now.arena.statistics.reallocations) }
+        ensures { let s = self.now.memory.statistics in result ≡ (s.allocations, s.reallocations) }
     {
         self.arena.get_allocation_stats()
     }
 
     /// The data end of the newest chunk; 16 without a chunk.
     pub fn data_end(&self) -> u64
-        ensures { result ≡ top_of self.now.arena.state.chunks }
+        ensures { result ≡ top_of self.now.memory.state.chunks }
     {
         self.arena.data_end()
     }
 
+    /// 1, the least alignment of the arena's blocks. By this call a caller knows that the arena's state is valid.
+    pub fn min_align(&self) -> u64
+        ensures value { result ≡ 1 }
+        ensures state { self.now.memory.state.min_align ≡ 1 }
+        ensures valid { IsValid self.now.memory.state }
+    {
+        self.arena.min_align()
+    }
+
     /// Whether the arena grows.
     pub fn is_growing(&self) -> bool
-        ensures { result ≡ self.now.arena.state.is_growing }
+        ensures { result ≡ self.now.memory.state.is_growing }
     {
         self.arena.is_growing()
     }
 
     /// Whether a block is readable, as the arena's `is_held_place` tells.
     pub fn is_held_place(&self, block: Block) -> bool
-        ensures { result ≡ is_readable self.now.arena.state block }
+        ensures { result ≡ is_readable self.now.memory.state block }
     {
         self.arena.is_held_place(block)
     }
 
     /// The bytes of a block.
     pub fn read(&self, block: Block) -> &[u8]
-        requires { IsTrue (is_readable self.now.arena.state block) }
-        ensures { result.now ≡ bytes_from (image self.now.arena) block.addr block.size }
+        requires { IsTrue (is_readable self.now.memory.state block) }
+        ensures { result.now ≡ bytes_from (image self.now.memory) block.addr block.size }
     {
         self.arena.read(block)
     }
 
     /// Replaces a range of a block's bytes.
     pub fn write(&mut self, block: Block, at: u64, bytes: &[u8])
-        requires readable { IsTrue (is_readable self.old.arena.state block) }
+        requires readable { IsTrue (is_readable self.old.memory.state block) }
         requires range { at + length bytes.now ≤ block.size }
-        ensures writes { WritesBlock self.old.arena self.new.arena block at bytes.now }
-        ensures source { self.new.chunks ≡ self.old.chunks }
+        ensures writes { WritesBlock self.old.memory self.new.memory block at bytes.now }
+        ensures source { self.new.source ≡ self.old.source }
     {
         self.arena.write(block, at, bytes);
     }
 
     /// Changes a range of a block's bytes in their place, as the arena's `write_with` does.
     pub fn write_with<E: Edit>(&mut self, block: Block, at: u64, size: u64, e: &E)
-        requires readable { IsTrue (is_readable self.old.arena.state block) }
+        requires readable { IsTrue (is_readable self.old.memory.state block) }
         requires range { at + size ≤ block.size }
-        requires suits { E.suits e.now size }
-        ensures writes { WritesBlock self.old.arena self.new.arena block at (E.after e.now (bytes_from (image self.old.arena) (block.addr + at) size)) }
-        ensures source { self.new.chunks ≡ self.old.chunks }
+        requires suits { E.suits e.now (bytes_from (image self.old.memory) (block.addr + at) size) }
+        ensures edits { EditsBlock self.old.memory self.new.memory block at size (E.relates e.now) }
+        ensures source { self.new.source ≡ self.old.source }
     {
         self.arena.write_with(block, at, size, e);
     }
 
     /// Moves a range of a block's bytes to another place in the block, in one move of memory. The two may overlap.
     pub fn move_within(&mut self, block: Block, from: u64, to: u64, size: u64)
-        requires readable { IsTrue (is_readable self.old.arena.state block) }
+        requires readable { IsTrue (is_readable self.old.memory.state block) }
         requires source_range { from + size ≤ block.size }
         requires target_range { to + size ≤ block.size }
-        ensures writes { WritesBlock self.old.arena self.new.arena block to (bytes_from (image self.old.arena) (block.addr + from) size) }
-        ensures source { self.new.chunks ≡ self.old.chunks }
+        ensures writes { WritesBlock self.old.memory self.new.memory block to
+            (bytes_from (image self.old.memory) (block.addr + from) size) }
+        ensures source { self.new.source ≡ self.old.source }
     {
         self.arena.move_within(block, from, to, size);
+    }
+
+    /// Copies `size` bytes of a block, from the index `from` on, to the index `to` of another block of this arena or of
+    /// the same, in one move of memory. The two ranges may overlap.
+    pub fn copy_between(&mut self, source: Block, from: u64, target: Block, to: u64, size: u64)
+        requires source { IsTrue (is_readable self.old.memory.state source) }
+        requires target { IsTrue (is_readable self.old.memory.state target) }
+        requires source_range { from + size ≤ source.size }
+        requires target_range { to + size ≤ target.size }
+        ensures writes { WritesBlock self.old.memory self.new.memory target to
+            (bytes_from (image self.old.memory) (source.addr + from) size) }
+        ensures source { self.new.source ≡ self.old.source }
+    {
+        self.arena.copy_between(source, from, target, to, size);
     }
 }

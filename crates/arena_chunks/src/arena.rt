@@ -1,9 +1,18 @@
 // The arena.
 ghost use Rattle.std.specs.Prelude.{◌≡◌, ◌≢◌, ◌-◌, ◌%◌, ◌≤◌, []};
 
+mod access;
+mod create;
+mod iter;
+mod moves;
+mod realloc;
+mod resize;
+
 use crate::block::Block;
-use crate::chunk::{NOWHERE, StoredChunk};
+use crate::chunks::chunk::{NOWHERE, StoredChunk};
 use arena_place::CHUNK_FOOTER_SIZE;
+pub use create::RawErr;
+pub use iter::{ChunkIter, ChunkRawIter};
 use placement::Place;
 use std::marker::Model;
 
@@ -11,10 +20,15 @@ use std::marker::Model;
 /// 1, 2, 4, 8 or 16. Its type keeps that its state is valid.
 #[derive(Drop)]
 pub struct Arena<const MIN_ALIGN: usize> {
+    // The newest chunk, in which blocks are placed. A base of 16 stands for none: then there are no older ones either.
     pub(crate) newest: StoredChunk,
+    // The other chunks, oldest first, so that their bases rise.
     pub(crate) older: Vec<StoredChunk>,
+    // Whether further chunks are asked for.
     pub(crate) is_growing: bool,
+    // How often all blocks were given back, as far as 2^64 - 1.
     pub(crate) generation: u64,
+    // The statistics.
     pub(crate) allocations: u64,
     pub(crate) reallocations: u64,
 }
@@ -26,9 +40,11 @@ impl<const MIN_ALIGN: usize> Model for Arena<MIN_ALIGN> {
 
     ghost use Rattle.arena_chunks.specs.Stored.{memory_of, IsStored};
 
-    ghost view = { λ a. memory_of MIN_ALIGN a.is_growing a.generation a.allocations a.reallocations a.newest a.older.items };
+    ghost view = { λ a. memory_of MIN_ALIGN a.is_growing a.generation a.allocations a.reallocations a.newest
+        a.older.items };
 
-    ghost invariant = { λ a. IsStored (memory_of MIN_ALIGN a.is_growing a.generation a.allocations a.reallocations a.newest a.older.items) a.newest a.older.items };
+    ghost invariant = { λ a. IsStored (memory_of MIN_ALIGN a.is_growing a.generation a.allocations
+        a.reallocations a.newest a.older.items) a.newest a.older.items };
 }
 
 impl<const MIN_ALIGN: usize> Arena<MIN_ALIGN> {
@@ -89,6 +105,7 @@ impl<const MIN_ALIGN: usize> Arena<MIN_ALIGN> {
     pub fn min_align(&self) -> u64
         ensures value { result ≡ MIN_ALIGN }
         ensures state { result ≡ self.now.state.min_align }
+        ensures valid { IsValid self.now.state }
     {
         // The state is known to have it only once a field is used.
         let _ = &self.newest;

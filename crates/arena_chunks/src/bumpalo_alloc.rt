@@ -1,12 +1,12 @@
 //! The allocator trait of the fork of bumpalo.
 ghost use Rattle.std.specs.Prelude.{◌≡◌, ◌*◌, ◌<◌, ◌≤◌, ◌↔◌, ◌&&◌, false, Some, is_some, IfSome, Ok, IfOk, IsErr, IsTrue, codes, replicate};
 ghost use Rattle.arena_chunks.specs.Memory.{is_readable, image, bytes_from};
-ghost use Rattle.arena_chunks.specs.BlockCalls.{PlacesBlock, GivesBack, Reallocates, Refuses, is_array, map_ok};
+ghost use Rattle.arena_chunks.specs.Answers.{answer_of, answer_by};
+ghost use Rattle.arena_chunks.specs.BlockCalls.{PlacesBlock, GivesBack, Reallocates, Refuses, is_array};
 
-use crate::allocator::Allocator;
+use crate::allocator::{Allocator, OverArena};
 use crate::block::{ArenaErr, Block};
-use crate::over_arena::OverArena;
-use crate::source::ChunkSource;
+use crate::chunks::ChunkSource;
 use arena_place::Layout;
 use std::error::Error;
 use std::fmt;
@@ -41,7 +41,8 @@ impl Error for CannotReallocInPlace {}
 // The layout of `n` elements in a row, where it has some bytes.
 fn array_of(element: Layout, n: u64) -> Option<Layout>
     ensures answer { is_some result ≡ is_array element.size element.align n }
-    ensures value { IfSome result (λ layout. (layout.size ≡ n * element.size) × (layout.align ≡ element.align)) }
+    ensures value { IfSome result (λ layout. (layout.size ≡ n * element.size)
+        × (layout.align ≡ element.align)) }
 {
     let layout = Layout::array(n, element.size, element.align)?;
     if layout.size == 0 {
@@ -59,13 +60,14 @@ pub trait Alloc: OverArena {
     /// `AllocErr` where all requests for a chunk were refused, `OutOfMemory` where memory for the table of chunks is
     /// wanting. Nothing changes.
     fn alloc(&mut self, layout: Layout) -> Result<Block, ArenaErr>
-        ensures { PlacesBlock (Self.memory self.old) (Self.memory self.new) (Self.source self.old) (Self.source self.new) layout.size layout.align result };
+        ensures { PlacesBlock (Self.view self.old) (Self.view self.new) layout.size layout.align
+            (answer_of result) };
 
     /// Gives a block back.
     fn dealloc(&mut self, block: Block)
-        requires { IsTrue (is_readable (Self.memory self.old).state block) }
-        ensures given { GivesBack (Self.memory self.old) (Self.memory self.new) block }
-        ensures source { Self.source self.new ≡ Self.source self.old };
+        requires { IsTrue (is_readable (Self.view self.old).memory.state block) }
+        ensures given { GivesBack (Self.view self.old).memory (Self.view self.new).memory block }
+        ensures source { (Self.view self.new).source ≡ (Self.view self.old).source };
 
     /// Gives a block another size at its alignment. An empty block is placed anew.
     ///
@@ -74,8 +76,8 @@ pub trait Alloc: OverArena {
     /// `AllocErr` with no request where the new size and the alignment are no layout, and otherwise as of `alloc`. The
     /// block stays as it was.
     fn realloc(&mut self, block: Block, new_size: u64) -> Result<Block, ArenaErr>
-        requires { IsTrue (is_readable (Self.memory self.old).state block) }
-        ensures { Reallocates (Self.memory self.old) (Self.memory self.new) (Self.source self.old) (Self.source self.new) block new_size result };
+        requires { IsTrue (is_readable (Self.view self.old).memory.state block) }
+        ensures { Reallocates (Self.view self.old) (Self.view self.new) block new_size (answer_of result) };
 
     /// Places a block, as `alloc` does; each byte of it is 0.
     ///
@@ -83,8 +85,10 @@ pub trait Alloc: OverArena {
     ///
     /// As of `alloc`.
     fn alloc_zeroed(&mut self, layout: Layout) -> Result<Block, ArenaErr>
-        ensures placed { PlacesBlock (Self.memory self.old) (Self.memory self.new) (Self.source self.old) (Self.source self.new) layout.size layout.align result }
-        ensures zeros { IfOk result (λ b. bytes_from (image (Self.memory self.new)) b.addr layout.size ≡ replicate layout.size 0) };
+        ensures placed { PlacesBlock (Self.view self.old) (Self.view self.new) layout.size layout.align
+            (answer_of result) }
+        ensures zeros { IfOk result (λ b.
+            bytes_from (image (Self.view self.new).memory) b.addr layout.size ≡ replicate layout.size 0) };
 
     /// The least and the greatest size that a block of this layout may be given back with: both are its own.
     fn usable_size(&self, layout: Layout) -> (u64, u64)
@@ -99,7 +103,8 @@ pub trait Alloc: OverArena {
     ///
     /// As of `alloc`.
     fn alloc_excess(&mut self, layout: Layout) -> Result<Excess, ArenaErr>
-        ensures placed { PlacesBlock (Self.memory self.old) (Self.memory self.new) (Self.source self.old) (Self.source self.new) layout.size layout.align (map_ok (λ e. e.0) result) }
+        ensures placed { PlacesBlock (Self.view self.old) (Self.view self.new) layout.size layout.align
+            (answer_by (λ e. e.0) result) }
         ensures size { IfOk result (λ e. e.1 ≡ layout.size) }
     {
         let block = self.alloc(layout)?;
@@ -112,8 +117,9 @@ pub trait Alloc: OverArena {
     ///
     /// As of `realloc`.
     fn realloc_excess(&mut self, block: Block, new_size: u64) -> Result<Excess, ArenaErr>
-        requires { IsTrue (is_readable (Self.memory self.old).state block) }
-        ensures moved { Reallocates (Self.memory self.old) (Self.memory self.new) (Self.source self.old) (Self.source self.new) block new_size (map_ok (λ e. e.0) result) }
+        requires { IsTrue (is_readable (Self.view self.old).memory.state block) }
+        ensures moved { Reallocates (Self.view self.old) (Self.view self.new) block new_size
+            (answer_by (λ e. e.0) result) }
         ensures size { IfOk result (λ e. e.1 ≡ new_size) }
     {
         let moved = self.realloc(block, new_size)?;
@@ -158,8 +164,10 @@ pub trait Alloc: OverArena {
     ///
     /// `AllocErr` with no request for an element of no bytes, and otherwise as of `alloc`.
     fn alloc_one(&mut self, element: Layout) -> Result<Block, ArenaErr>
-        ensures empty { element.size ≡ 0 → Refuses (Self.memory self.old) (Self.memory self.new) (Self.source self.old) (Self.source self.new) result }
-        ensures placed { 0 < element.size → PlacesBlock (Self.memory self.old) (Self.memory self.new) (Self.source self.old) (Self.source self.new) element.size element.align result }
+        ensures empty { element.size ≡ 0 → Refuses (Self.view self.old) (Self.view self.new)
+            (answer_of result) }
+        ensures placed { 0 < element.size
+            → PlacesBlock (Self.view self.old) (Self.view self.new) element.size element.align (answer_of result) }
     {
         if element.size == 0 {
             return Err(ArenaErr::AllocErr { refused: 0 });
@@ -169,10 +177,11 @@ pub trait Alloc: OverArena {
 
     /// Gives the block of one element back; one of no bytes is left alone.
     fn dealloc_one(&mut self, block: Block)
-        requires { IsTrue (is_readable (Self.memory self.old).state block) }
+        requires { IsTrue (is_readable (Self.view self.old).memory.state block) }
         ensures empty { block.size ≡ 0 → self.new ≡ self.old }
-        ensures given { 0 < block.size → GivesBack (Self.memory self.old) (Self.memory self.new) block }
-        ensures source { Self.source self.new ≡ Self.source self.old }
+        ensures given { 0 < block.size
+            → GivesBack (Self.view self.old).memory (Self.view self.new).memory block }
+        ensures source { (Self.view self.new).source ≡ (Self.view self.old).source }
     {
         if block.size > 0 {
             self.dealloc(block);
@@ -185,8 +194,10 @@ pub trait Alloc: OverArena {
     ///
     /// `AllocErr` with no request where the array is no layout or has no bytes, and otherwise as of `alloc`.
     fn alloc_array(&mut self, element: Layout, n: u64) -> Result<Block, ArenaErr>
-        ensures refused { is_array element.size element.align n ≡ false → Refuses (Self.memory self.old) (Self.memory self.new) (Self.source self.old) (Self.source self.new) result }
-        ensures placed { IsTrue (is_array element.size element.align n) → PlacesBlock (Self.memory self.old) (Self.memory self.new) (Self.source self.old) (Self.source self.new) (n * element.size) element.align result }
+        ensures refused { is_array element.size element.align n ≡ false
+            → Refuses (Self.view self.old) (Self.view self.new) (answer_of result) }
+        ensures placed { IsTrue (is_array element.size element.align n) → PlacesBlock
+            (Self.view self.old) (Self.view self.new) (n * element.size) element.align (answer_of result) }
     {
         match array_of(element, n) {
             Some(layout) => self.alloc(layout),
@@ -206,11 +217,14 @@ pub trait Alloc: OverArena {
         n_old: u64,
         n_new: u64,
     ) -> Result<Block, ArenaErr>
-        requires readable { IsTrue (is_readable (Self.memory self.old).state block) }
+        requires readable { IsTrue (is_readable (Self.view self.old).memory.state block) }
         requires size { block.size ≡ n_old * element.size }
         requires align { block.align ≡ element.align }
-        ensures refused { (is_array element.size element.align n_old && is_array element.size element.align n_new) ≡ false → Refuses (Self.memory self.old) (Self.memory self.new) (Self.source self.old) (Self.source self.new) result }
-        ensures moved { IsTrue (is_array element.size element.align n_old && is_array element.size element.align n_new) → Reallocates (Self.memory self.old) (Self.memory self.new) (Self.source self.old) (Self.source self.new) block (n_new * element.size) result }
+        ensures refused { let are = is_array element.size element.align in (are n_old && are n_new) ≡ false
+            → Refuses (Self.view self.old) (Self.view self.new) (answer_of result) }
+        ensures moved { let are = is_array element.size element.align in IsTrue (are n_old && are n_new)
+            → Reallocates (Self.view self.old) (Self.view self.new) block (n_new * element.size)
+            (answer_of result) }
     {
         match (array_of(element, n_old), array_of(element, n_new)) {
             (Some(_), Some(layout)) => self.realloc(block, layout.size),
@@ -224,11 +238,13 @@ pub trait Alloc: OverArena {
     ///
     /// `AllocErr` where the array is no layout or has no bytes. Nothing changes.
     fn dealloc_array(&mut self, block: Block, element: Layout, n: u64) -> Result<(), ArenaErr>
-        requires { IsTrue (is_readable (Self.memory self.old).state block) }
-        ensures refused { is_array element.size element.align n ≡ false → Refuses (Self.memory self.old) (Self.memory self.new) (Self.source self.old) (Self.source self.new) result }
+        requires { IsTrue (is_readable (Self.view self.old).memory.state block) }
+        ensures refused { is_array element.size element.align n ≡ false
+            → (result ≡ Err (ArenaErr.AllocErr 0)) × (Self.view self.new ≡ Self.view self.old) }
         ensures answer { IsTrue (is_array element.size element.align n) → result ≡ Ok tt }
-        ensures given { IsTrue (is_array element.size element.align n) → GivesBack (Self.memory self.old) (Self.memory self.new) block }
-        ensures source { Self.source self.new ≡ Self.source self.old }
+        ensures given { IsTrue (is_array element.size element.align n)
+            → GivesBack (Self.view self.old).memory (Self.view self.new).memory block }
+        ensures source { (Self.view self.new).source ≡ (Self.view self.old).source }
     {
         if array_of(element, n).is_none() {
             return Err(ArenaErr::AllocErr { refused: 0 });

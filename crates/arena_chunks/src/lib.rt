@@ -4,44 +4,17 @@
 //! place, and calls take the arena. The rules are the definitions of the crate `placement`.
 #![tactic(auto)]
 
-mod access;
-mod alloc;
 mod allocator;
 mod arena;
 mod block;
-mod block_alloc;
 pub mod bumpalo_alloc;
-mod chunk;
-mod create;
-mod edit;
-pub mod frame_laws;
-mod iter;
-mod moves;
-mod names;
-mod over_arena;
-mod realloc;
-mod refusing;
-mod resize;
-mod run;
-mod search;
-mod serve;
-mod shift;
-mod source;
-#[cfg(test)]
-mod tests;
-mod text;
+mod chunks;
+pub mod laws;
+mod runs;
 
-pub use alloc::Alloc;
-pub use allocator::Allocator;
-pub use arena::Arena;
+pub use allocator::{Alloc, Allocator, BlockAlloc, OverArena, Str};
+pub use arena::{Arena, ChunkIter, ChunkRawIter, RawErr};
 pub use block::{ArenaErr, Block};
-pub use block_alloc::BlockAlloc;
-pub use create::RawErr;
-pub use edit::Edit;
-pub use iter::{ChunkIter, ChunkRawIter};
-pub use over_arena::OverArena;
+pub use chunks::{ChunkSource, Edit, MemoryChunks, RefusingChunks};
 pub use placement::{Bytes, Call, OutOfMemory, Reply};
-pub use refusing::RefusingChunks;
-pub use run::{Ran, Stopped, run_calls};
-pub use source::{ChunkSource, MemoryChunks};
-pub use text::Str;
+pub use runs::{Ran, Stopped, run_calls};

@@ -62,7 +62,8 @@ pub fn chunk_data_size(n: u64, layout: Layout) -> Option<u64>
 pub fn next_base(end: Option<u64>, align: u64) -> Option<u64>
     requires power { IsTrue (is_power align) }
     requires chunk { 16 ≤ align }
-    ensures { let base = next_base (option_map_or (λ e. e + 48) end 4096) align in SomeIff result (base < 2 ^ 64) base }
+    ensures { let base = next_base (option_map_or (λ e. e + 48) end 4096) align in SomeIff result
+        (base < 2 ^ 64) base }
 {
     let floor = match end {
         None => TYPICAL_PAGE_SIZE,

@@ -1,98 +1,92 @@
--- What is read as hexadecimal digits is spelled so, and the other way round.
-use Rattle.std.proofs.Common.{◌≡◌, ℕ, suc, ◌+◌, ◌-◌, ◌*◌, ◌/◌, ◌%◌, ◌<◌, Bool, true, false, List, [], ◌∷◌, ◌++◌, length, Option, Some, None, refl, sym, ap, ◌∙◌, subst, arith, codes}
-use Rattle.std.specs.Prelude.{if◌then◌else◌, ◌==◌}
-use Rattle.std.specs.Char.{is_ascii_digit}
-use Rattle.std.specs.Int.{is_in_range}
-use Rattle.std.specs.Option.{option_map, option_or}
+-- Bytes that are read from hexadecimal digits.
+use Rattle.std.proofs.Common.{◌≡◌, ◌≢◌, ℕ, ◌/◌, ◌%◌, ◌<◌, IsTrue, List, [], ◌∷◌, ◌++◌, length, Option, Some, refl, sym, ap, ◌∙◌, subst, arith, codes}
 use Rattle.std.specs.List.{AllByRecursion, flat_map}
-use Rattle.std.proofs.lemmas.Bool.{eqb-true}
 use Rattle.std.proofs.lemmas.Bool.Decides.{nat_tests}
 use Rattle.placement.specs.Grammar.{hex, hex_digit, hex_pair, IsByte}
-use Rattle.arena_run.specs.Reading.{◌>>=◌, digit_of, byte_of, byte_before, pairs_at, if_some, hex_at, behind}
-use Rattle.arena_run.specs.Lines.{is_line_end}
-use Rattle.arena_run.proofs.ReadingLemmas.{bind_some, behind_sound}
+use Rattle.arena_run.specs.Lines.{is_word_end, ReadsFront, HasNoPair}
 
-digit_sound : (c d : ℕ) → digit_of c ≡ Some d → (hex_digit d ≡ c) × (d < 16)
-digit_sound c d e = step (is_ascii_digit c) refl (is_in_range 97 102 c) refl e
+-- these bytes were read, and this is left
+pub record HasRead (bytes items left : List ℕ) : Type 0 where
+  pub text : bytes ≡ flat_map hex_pair items ++ left
+  pub fit : AllByRecursion IsByte items
+
+-- nothing was read yet
+pub read_none : (bytes items : List ℕ) → items ≡ [] → HasRead bytes items bytes
+read_none bytes items none = subst (λ xs. HasRead bytes xs bytes) (sym none) (record { text = refl; fit = tt })
+
+-- one byte more
+pub read_more : (bytes items left : List ℕ) (b : ℕ) (rest : List ℕ) → HasRead bytes items left → IsByte b × (left ≡ hex_pair b ++ rest) → HasRead bytes (items ++ b ∷ []) rest
+read_more bytes items left b rest h next = record { text = h.text ∙ ap (λ xs. flat_map hex_pair items ++ xs) next.1 ∙ joined items; fit = longer items h.fit }
   where
-    step : (p : Bool) → is_ascii_digit c ≡ p → (q : Bool) → is_in_range 97 102 c ≡ q → (if p then Some (c - 48) else (if q then Some (c - 87) else None)) ≡ Some d → (hex_digit d ≡ c) × (d < 16)
-    step true h q i e' = let same : c - 48 ≡ d = cc in (grind (arith, nat_tests), grind (arith, nat_tests))
-    step false h true i e' = let same : c - 87 ≡ d = cc in (grind (arith, nat_tests), grind (arith, nat_tests))
-    step false h false i e' = cc
+    joined : (xs : List ℕ) → flat_map hex_pair xs ++ (hex_pair b ++ rest) ≡ flat_map hex_pair (xs ++ b ∷ []) ++ rest
+    joined [] = refl
+    joined (x ∷ xs) = ap (λ ys. hex_digit (x / 16) ∷ hex_digit (x % 16) ∷ ys) (joined xs)
 
-digit_complete : (d : ℕ) → d < 16 → digit_of (hex_digit d) ≡ Some d
-digit_complete d h = grind (arith, nat_tests)
+    longer : (xs : List ℕ) → AllByRecursion IsByte xs → AllByRecursion IsByte (xs ++ b ∷ [])
+    longer [] fit = (next.0, tt)
+    longer (x ∷ xs) fit = (fit.0, longer xs fit.1)
 
-byte_sound : (a b byte : ℕ) → byte_of a b ≡ Some byte → (a ∷ b ∷ [] ≡ hex_pair byte) × IsByte byte
-byte_sound a b byte e =
-    let p = bind_some (digit_of a) (λ high. digit_of b >>= λ low. Some (high * 16 + low)) byte e in
-    let q = bind_some (digit_of b) (λ low. Some (p.0 * 16 + low)) byte p.2 in
-    let high = p.0 in
-    let low = q.0 in
-    let x = digit_sound a high p.1 in
-    let y = digit_sound b low q.1 in
-    let value : high * 16 + low ≡ byte = cc in
-    let first : byte / 16 ≡ high = omega arith in
-    let second : byte % 16 ≡ low = omega arith in
-    (sym (rw (first, second, x.0, y.0)), omega arith)
+-- less is left behind a byte
+pub less_left : (left : List ℕ) (b : ℕ) (rest : List ℕ) → left ≡ hex_pair b ++ rest → length rest < length left
+less_left left b rest e = omega (arith, ap length e)
 
-byte_complete : (b : ℕ) → IsByte b → byte_of (hex_digit (b / 16)) (hex_digit (b % 16)) ≡ Some b
-byte_complete b h =
-    let high : digit_of (hex_digit (b / 16)) ≡ Some (b / 16) = digit_complete (b / 16) (omega arith) in
-    let low : digit_of (hex_digit (b % 16)) ≡ Some (b % 16) = digit_complete (b % 16) (omega arith) in
-    let whole : b / 16 * 16 + b % 16 ≡ b = omega arith in
-    ap (λ o. o >>= λ h. digit_of (hex_digit (b % 16)) >>= λ l. Some (h * 16 + l)) high ∙ ap (λ o. o >>= λ l. Some (b / 16 * 16 + l)) low ∙ ap Some whole
+-- one hexadecimal digit for each number below 16
+same_digit : (c d : ℕ) → c < 16 → d < 16 → hex_digit c ≡ hex_digit d → c ≡ d
+same_digit c d h g e = grind (arith, nat_tests)
 
-record ArePairs (bytes : List ℕ) (read : List ℕ × List ℕ) : Type 0 where
-  pub text : bytes ≡ flat_map hex_pair read.0 ++ read.1
-  pub fit : AllByRecursion IsByte read.0
+-- two bytes with the same digits
+same_byte : (b c : ℕ) → IsByte b → IsByte c → hex_digit (b / 16) ≡ hex_digit (c / 16) → hex_digit (b % 16) ≡ hex_digit (c % 16) → b ≡ c
+same_byte b c h g high low =
+    let first = same_digit (b / 16) (c / 16) (omega arith) (omega arith) high in
+    let second = same_digit (b % 16) (c % 16) (omega arith) (omega arith) low in
+    omega arith
 
-pairs_sound : (bytes : List ℕ) → ArePairs bytes (pairs_at bytes)
-unfolding pairs_at
-pairs_sound [] = record { text = refl; fit = tt }
-pairs_sound (a ∷ []) = record { text = refl; fit = tt }
-pairs_sound (a ∷ b ∷ cs) = step (byte_of a b) refl (pairs_sound cs)
+-- no word ends before two digits
+no_end : (b : ℕ) (rest : List ℕ) → IsByte b → IsTrue (is_word_end (hex_pair b ++ rest)) → ⊥
+no_end b rest byte end = let small : b / 16 < 16 = omega arith in grind (arith, nat_tests)
+
+-- all pairs were read
+one_way : (xs ys left rest : List ℕ) → AllByRecursion IsByte xs → AllByRecursion IsByte ys → HasNoPair left → IsTrue (is_word_end rest)
+    → flat_map hex_pair xs ++ left ≡ flat_map hex_pair ys ++ rest → (xs ≡ ys) × (left ≡ rest)
+one_way [] [] left rest p q none end e = (refl, e)
+one_way [] (y ∷ ys) left rest p q none end e = absurd (none y (flat_map hex_pair ys ++ rest) q.0 e)
+one_way (x ∷ xs) [] left rest p q none end e = absurd (no_end x (flat_map hex_pair xs ++ left) p.0 (subst (λ bytes. IsTrue (is_word_end bytes)) (sym e) end))
+one_way (x ∷ xs) (y ∷ ys) left rest p q none end e =
+    let high : hex_digit (x / 16) ≡ hex_digit (y / 16) = first e in
+    let low : hex_digit (x % 16) ≡ hex_digit (y % 16) = second e in
+    let more = one_way xs ys left rest p.1 q.1 none end (others e) in
+    let same : x ≡ y = same_byte x y p.0 q.0 high low in
+    let front = more.0 in
+    (cc, more.1)
   where
-    step : (o : Option ℕ) → byte_of a b ≡ o → ArePairs cs (pairs_at cs) → ArePairs (a ∷ b ∷ cs) (byte_before (a ∷ b ∷ cs) o (pairs_at cs))
-    step None e more = record { text = refl; fit = tt }
-    step (Some byte) e more =
-        let p = byte_sound a b byte e in
-        record { text = ap (λ xs. xs ++ cs) p.0 ∙ ap (λ xs. hex_pair byte ++ xs) more.text; fit = (p.1, more.fit) }
+    first : {a b c d : ℕ} {xs ys : List ℕ} → a ∷ b ∷ xs ≡ c ∷ d ∷ ys → a ≡ c
+    first e' = cc
 
-pairs_complete : (bytes rest : List ℕ) → AllByRecursion IsByte bytes → is_line_end rest ≡ true → pairs_at (flat_map hex_pair bytes ++ rest) ≡ (bytes, rest)
-unfolding pairs_at
-pairs_complete [] [] h e = refl
-pairs_complete [] (c ∷ []) h e = refl
-pairs_complete [] (c ∷ d ∷ cs) h e = ap (λ x. byte_before (c ∷ d ∷ cs) (byte_of x d) (pairs_at cs)) (eqb-true c 10 e)
-pairs_complete (b ∷ bytes) rest h e =
-    let behind = flat_map hex_pair bytes ++ rest in
-    ap (λ o. byte_before (hex_digit (b / 16) ∷ hex_digit (b % 16) ∷ behind) o (pairs_at behind)) (byte_complete b h.0)
-    ∙ ap (λ (more : List ℕ × List ℕ). (b ∷ more.0, more.1)) (pairs_complete bytes rest h.1 e)
+    second : {a b c d : ℕ} {xs ys : List ℕ} → a ∷ b ∷ xs ≡ c ∷ d ∷ ys → b ≡ d
+    second e' = cc
 
-pub record AreHex (bytes : List ℕ) (read : List ℕ × List ℕ) : Type 0 where
-  pub text : bytes ≡ hex read.0 ++ read.1
-  pub fit : AllByRecursion IsByte read.0
+    others : {a b c d : ℕ} {xs ys : List ℕ} → a ∷ b ∷ xs ≡ c ∷ d ∷ ys → xs ≡ ys
+    others e' = cc
 
-pub hex_sound : (bytes : List ℕ) (read : List ℕ × List ℕ) → hex_at bytes ≡ Some read → AreHex bytes read
-unfolding hex_at
-hex_sound bytes read e = step (behind (codes "-") bytes) refl e
+-- ---- HEX
+
+abbrev pub ReadsHex : List ℕ → Option (List ℕ × List ℕ) → Type 0
+ReadsHex bytes read = ReadsFront (AllByRecursion IsByte) hex bytes read
+
+-- what stands at the front is what was read
+abbrev OnlyHex : List ℕ → Option (List ℕ × List ℕ) → Type 0
+OnlyHex bytes read = (items rest : List ℕ) → AllByRecursion IsByte items → IsTrue (is_word_end rest) → bytes ≡ hex items ++ rest → ◌≡◌ {A = Option (List ℕ × List ℕ)} read (Some (items, rest))
+
+-- the bytes of all pairs at the front, if there are some and there is no dash
+pub hex_some : (bytes items left : List ℕ) → ((rest : List ℕ) → bytes ≢ codes "-" ++ rest) → bytes ≡ flat_map hex_pair items ++ left → AllByRecursion IsByte items → HasNoPair left → length items ≢ 0
+    → ReadsHex bytes (Some (items, left))
+hex_some bytes [] left no_dash text fit none some = absurd (some refl)
+hex_some bytes (b ∷ items) left no_dash text fit none some = record { found = (fit, text); only = only }
   where
-    some : (all : List ℕ × List ℕ) → ArePairs bytes all → if_some all ≡ Some read → AreHex bytes read
-    some ([], rest) pairs e' = cc
-    some (b ∷ bs, rest) pairs e' =
-        let test : (suc (length bs) == 0) ≡ false = grind (arith, nat_tests) in
-        let found : Some (b ∷ bs, rest) ≡ Some read = rw test at e' in
-        let same : (b ∷ bs, rest) ≡ read = cc in
-        subst (AreHex bytes) same (record { text = pairs.text; fit = pairs.fit })
-
-    step : (o : Option (List ℕ)) → behind (codes "-") bytes ≡ o → option_or (option_map (λ rest. ([], rest)) o) (if_some (pairs_at bytes)) ≡ Some read → AreHex bytes read
-    step (Some rest) dash e' = let same : ([], rest) ≡ read = cc in subst (AreHex bytes) same (record { text = behind_sound (codes "-") bytes rest dash; fit = tt })
-    step None dash e' = some (pairs_at bytes) (pairs_sound bytes) e'
-
-pub hex_complete : (bytes rest : List ℕ) → AllByRecursion IsByte bytes → is_line_end rest ≡ true → hex_at (hex bytes ++ rest) ≡ Some (bytes, rest)
-unfolding hex_at
-hex_complete [] rest h e = refl
-hex_complete (b ∷ bytes) rest h e =
-    let dash : (hex_digit (b / 16) == 45) ≡ false = grind (arith, nat_tests) in
-    let some : (suc (length bytes) == 0) ≡ false = grind (arith, nat_tests) in
-    rw dash (ap if_some (pairs_complete (b ∷ bytes) rest h e) ∙ rw some)
+    only : OnlyHex bytes (Some (b ∷ items, left))
+    only [] rest fits end e = absurd (no_dash rest e)
+    only (c ∷ others) rest fits end e =
+        let same = one_way (b ∷ items) (c ∷ others) left rest fit fits none end (sym text ∙ e) in
+        let front = same.0 in
+        let behind = same.1 in
+        cc

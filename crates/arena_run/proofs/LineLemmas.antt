@@ -1,17 +1,15 @@
 -- Lines one after another.
-use Rattle.std.proofs.Common.{◌≡◌, ◌≢◌, ℕ, ◌+◌, ◌/◌, ◌%◌, ◌≤◌, Bool, true, false, ◌||◌, List, [], ◌∷◌, ◌++◌, length, Some, None, refl, sym, ap, ◌∙◌, subst, arith, append_assoc, length-append}
+use Rattle.std.proofs.Common.{◌≡◌, ◌≢◌, ℕ, ◌+◌, ◌/◌, ◌%◌, ◌≤◌, Bool, true, false, ◌||◌, IsTrue, List, [], ◌∷◌, ◌++◌, length, Some, None, refl, sym, ap, ◌∙◌, subst, arith, append_assoc, length-append}
 use Rattle.std.specs.Prelude.{◌==◌}
 use Rattle.std.specs.List.{onto_first, flat_map}
 use Rattle.std.proofs.lemmas.List.Splits.{slice_split-cons_yes, slice_split-cons_no}
 use Rattle.std.proofs.lemmas.Option.{some_pair_parts}
 use Rattle.std.proofs.lemmas.Bool.Decides.{nat_tests}
-use Rattle.placement.specs.Grammar.{lines_of, AreCalls, IsCall, IsFirstRefused, number, fields, hex, hex_digit, hex_pair, call_line}
+use Rattle.placement.specs.Grammar.{lines_of, Fits, AreCalls, IsCall, IsFirstRefused, number, fields, hex, hex_digit, hex_pair, call_line}
 use Rattle.placement.specs.declared.calls.Call.{Call}
 use Rattle.placement.specs.declared.calls.Call.TheVariants.{Alloc, Grow, Shrink, Dealloc, Write, Read, Reset, Used, Allocated}
 use Rattle.placement.proofs.NumberLemmas.{number_by_steps}
-use Rattle.arena_run.specs.Lines.{is_line_end, lines_behind, TakesLine, RefusesLine}
-use Rattle.arena_run.specs.Reading.{front_at}
-use Rattle.arena_run.proofs.CallLemmas.{front_sound, front_complete}
+use Rattle.arena_run.specs.Lines.{is_word_end, is_line_end, lines_behind, ReadsFront, TakesLine, RefusesLine}
 
 -- ---- Line feeds
 
@@ -114,18 +112,17 @@ some_line Reset e = cc
 some_line Used e = cc
 some_line Allocated e = cc
 
-pub takes_call : (bytes behind : List ℕ) (call : Call) (old new : List Call) → Some (call, behind) ≡ front_at bytes → true ≡ is_line_end behind → new ≡ old ++ call ∷ [] → TakesLine bytes behind old new
+pub takes_call : (bytes behind : List ℕ) (call : Call) (old new : List Call) → ReadsFront Fits call_line bytes (Some (call, behind)) → true ≡ is_line_end behind → new ≡ old ++ call ∷ [] → TakesLine bytes behind old new
 takes_call bytes behind call old new read e pushed =
-    let r = front_sound bytes (call, behind) (sym read) in
     let line = call_line call in
     record {
       line = line;
-      first = ap lines_of r.text ∙ ended line behind (plain_call call) (sym e);
-      shorter = omega (arith, ap length r.text, length-append line behind);
-      adds = λ lines are. subst (AreCalls (lines ++ line ∷ [])) (sym pushed) (add_call line call (some_line call) (record { fits = r.fits; text = refl }) lines old are);
+      first = ap lines_of read.found.1 ∙ ended line behind (plain_call call) (sym e);
+      shorter = omega (arith, ap length read.found.1, length-append line behind);
+      adds = λ lines are. subst (AreCalls (lines ++ line ∷ [])) (sym pushed) (add_call line call (some_line call) (record { fits = read.found.0; text = refl }) lines old are);
     }
 
-refuses : (bytes : List ℕ) → false ≡ is_line_end bytes → ((call : Call) (rest : List ℕ) → front_at bytes ≡ Some (call, rest) → is_line_end rest ≡ true → ⊥) → RefusesLine bytes
+refuses : (bytes : List ℕ) → false ≡ is_line_end bytes → ((call : Call) (rest : List ℕ) → Fits call → is_line_end rest ≡ true → bytes ≡ call_line call ++ rest → ⊥) → RefusesLine bytes
 refuses bytes some none =
     let s = first_line bytes in
     record {
@@ -134,15 +131,21 @@ refuses bytes some none =
       first = ap lines_of s.all ∙ ended s.line s.rest s.plain_line s.ends;
       refused = record {
         some = λ e. let all : bytes ≡ s.rest = s.all ∙ ap (λ xs. xs ++ s.rest) e in let ends : is_line_end bytes ≡ true = ap is_line_end all ∙ s.ends in cc;
-        none = λ call is. none call s.rest (ap front_at (s.all ∙ ap (λ xs. xs ++ s.rest) is.text) ∙ front_complete call s.rest is.fits s.ends) s.ends;
+        none = λ call is. none call s.rest is.fits s.ends (s.all ∙ ap (λ xs. xs ++ s.rest) is.text);
       };
     }
 
-pub refuses_start : (bytes : List ℕ) → false ≡ is_line_end bytes → None ≡ front_at bytes → RefusesLine bytes
-refuses_start bytes some none = refuses bytes some (λ call rest read ends. cc)
+-- a word ends where a line ends
+word_ends : (rest : List ℕ) → is_line_end rest ≡ true → IsTrue (is_word_end rest)
+word_ends [] e = refl
+word_ends (c ∷ cs) e = grind (arith, nat_tests)
 
-pub refuses_more : (bytes behind : List ℕ) (call : Call) → false ≡ is_line_end bytes → Some (call, behind) ≡ front_at bytes → false ≡ is_line_end behind → RefusesLine bytes
-refuses_more bytes behind call some found more = refuses bytes some (λ other rest read ends. let same = (some_pair_parts call other behind rest (found ∙ read)).1 in cc)
+pub refuses_start : (bytes : List ℕ) → false ≡ is_line_end bytes → ReadsFront Fits call_line bytes None → RefusesLine bytes
+refuses_start bytes some read = refuses bytes some (λ call rest fits ends e. let none = read.only call rest fits (word_ends rest ends) e in cc)
+
+pub refuses_more : (bytes behind : List ℕ) (call : Call) → false ≡ is_line_end bytes → ReadsFront Fits call_line bytes (Some (call, behind)) → false ≡ is_line_end behind → RefusesLine bytes
+refuses_more bytes behind call some read more =
+    refuses bytes some (λ other rest fits ends e. let same = (some_pair_parts call other behind rest (read.only other rest fits (word_ends rest ends) e)).1 in cc)
 
 -- ---- Progress
 
@@ -178,4 +181,4 @@ all_read bytes rest behind calls new count p t none =
 
 pub first_refused : (bytes rest : List ℕ) (calls : List Call) (count : ℕ) → Progress bytes rest calls count → RefusesLine rest → IsFirstRefused (lines_of bytes) (count + 1)
 first_refused bytes rest calls count p r =
-    record { before = p.before; calls = calls; line = r.line; after = r.after; all = p.all ∙ ap (λ xs. p.before ++ xs) r.first; place = ap (λ n. n + 1) p.counted; good = p.are; bad = r.refused }
+    record { before = p.before; calls = calls; line = r.line; after = r.after; all = p.all ∙ ap (λ xs. p.before ++ xs) r.first; number = ap (λ n. n + 1) p.counted; good = p.are; bad = r.refused }

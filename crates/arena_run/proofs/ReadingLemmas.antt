@@ -1,46 +1,26 @@
--- What is read from the front of a line is spelled there, and what is spelled there is read.
-use Rattle.std.proofs.Common.{◌≡◌, ◌≢◌, ℕ, zero, suc, ◌+◌, ◌-◌, ◌*◌, ◌/◌, ◌%◌, ◌^◌, ◌<◌, ◌≤◌, Bool, true, false, List, [], ◌∷◌, ◌++◌, Option, Some, None, MatchOption, Bor, refl, sym, ap, ◌∙◌, subst, arith, append_assoc}
-use Rattle.std.specs.Prelude.{nat_le, ◌==◌, if◌then◌else◌}
+-- Numbers that are read at the front of bytes.
+use Rattle.std.proofs.Common.{◌≡◌, ◌≢◌, ℕ, zero, suc, ◌+◌, ◌-◌, ◌*◌, ◌^◌, ◌<◌, ◌≤◌, Bool, true, false, IsTrue, List, [], ◌∷◌, ◌++◌, length, get_or, take, drop, Option, Some, None, refl, sym, ap, ◌∙◌, subst, arith, append_assoc, length-append, length-drop, drop-cons, add-one}
+use Rattle.std.specs.Prelude.{if◌then◌else◌, ◌/◌, ◌%◌}
 use Rattle.std.specs.Char.{is_ascii_digit}
+use Rattle.std.specs.Str.{all_ascii_digits}
 use Rattle.std.specs.Fmt.{decimal}
-use Rattle.std.specs.Option.{option_map}
-use Rattle.std.proofs.lemmas.Option.{some_pair_parts}
 use Rattle.std.proofs.lemmas.Fmt.{decimal_digit, decimal_step}
-use Rattle.std.proofs.lemmas.Bool.{eqb-true}
+use Rattle.std.proofs.lemmas.List.{take_all}
+use Rattle.std.proofs.Math.ListN.{drop_of_length-le}
+use Rattle.std.proofs.Math.Seq.{drop-length}
 use Rattle.std.proofs.lemmas.Bool.Decides.{nat_tests}
-use Rattle.placement.specs.Grammar.{number, fields}
-use Rattle.placement.proofs.NumberLemmas.{number_by_steps, number-decimal, Stops}
-use Rattle.arena_run.specs.Reading.{◌>>=◌, digits_at, number_at, field_at, fields_at, behind}
+use Rattle.placement.specs.Grammar.{number}
+use Rattle.placement.proofs.NumberLemmas.{number-decimal, number_digits, number_nonempty, first_number, read_front, read_number, read_number_on, Stops}
+use Rattle.arena_run.specs.Lines.{is_word_end, ReadsFront}
 
-pub bind_some : {A B : Type 0} (o : Option A) (f : A → Option B) (y : B) → (o >>= f) ≡ Some y → (x : A) × (o ≡ Some x) × (f x ≡ Some y)
-bind_some None f y e = cc
-bind_some (Some x) f y e = (x, refl, e)
-
--- ---- Words
-
-pub behind_sound : (word bytes rest : List ℕ) → behind word bytes ≡ Some rest → bytes ≡ word ++ rest
-behind_sound [] bytes rest e = cc
-behind_sound (w ∷ word) [] rest e = cc
-behind_sound (w ∷ word) (c ∷ cs) rest e = step (c == w) refl (behind_sound word cs rest) e
-  where
-    step : (t : Bool) → (c == w) ≡ t → (behind word cs ≡ Some rest → cs ≡ word ++ rest) → (if t then behind word cs else None) ≡ Some rest → c ∷ cs ≡ w ∷ (word ++ rest)
-    step true same more e' = rw (eqb-true c w same) (ap (λ xs. w ∷ xs) (more e'))
-    step false same more e' = cc
-
-pub behind_complete : (word rest : List ℕ) → behind word (word ++ rest) ≡ Some rest
-behind_complete [] rest = refl
-behind_complete (w ∷ word) rest = let same : (w == w) ≡ true = grind (arith, nat_tests) in rw same (behind_complete word rest)
-
-pub stripped : (word bytes : List ℕ) (r : Option (Bor (List ℕ))) → MatchOption r ((rest : List ℕ) → bytes ≢ word ++ rest) (λ x. bytes ≡ word ++ x.now) → option_map (λ (x : Bor (List ℕ)). x.now) r ≡ behind word bytes
-stripped word bytes (Some x) h = sym (ap (behind word) h ∙ behind_complete word x.now)
-stripped word bytes None h = none (behind word bytes) refl
-  where
-    none : (o : Option (List ℕ)) → behind word bytes ≡ o → None ≡ o
-    none None e = refl
-    none (Some rest) e = absurd (h rest (behind_sound word bytes rest e))
+-- a number stops where a word ends
+pub stops : (rest : List ℕ) → IsTrue (is_word_end rest) → Stops rest
+stops [] e = tt
+stops (c ∷ cs) e = grind (arith, nat_tests)
 
 -- ---- Numbers
 
+-- a number below 10 is one digit
 number-digit : (n : ℕ) → n < 10 → number n ≡ (48 + n) ∷ []
 number-digit n h = number-decimal n (omega arith) ∙ decimal_digit n h
 
@@ -54,125 +34,140 @@ number_longer n c some digit h =
     ∙ ap (λ k. decimal k ++ (48 + (n * 10 + (c - 48)) % 10) ∷ []) front
     ∙ ap (λ d. decimal n ++ d ∷ []) last ∙ ap (λ ds. ds ++ c ∷ []) (sym (number-decimal n (omega arith)))
 
--- these bytes are the number's digits and then the rest
-pub record IsNumber (max : ℕ) (bytes : List ℕ) (m : ℕ) (rest : List ℕ) : Type 0 where
-  pub text : bytes ≡ number m ++ rest
+-- the first byte of a number is a digit
+starts_digit : (n c : ℕ) (cs rest : List ℕ) → c ∷ cs ≡ number n ++ rest → is_ascii_digit c ≡ true
+starts_digit n c cs rest e = go (number n) (number_digits n) (number_nonempty n) e
+  where
+    go : (ds : List ℕ) → all_ascii_digits ds ≡ true → 0 < length ds → c ∷ cs ≡ ds ++ rest → is_ascii_digit c ≡ true
+    go [] all some e' = absurd (omega arith)
+    go (d ∷ ds) all some e' = let same : c ≡ d = cc in rw same (grind (arith, nat_tests))
+
+-- a number that begins with the digit 0 is 0
+starts_zero : (n : ℕ) (cs rest : List ℕ) → 48 ∷ cs ≡ number n ++ rest → n ≡ 0
+starts_zero zero cs rest e = refl
+starts_zero (suc n) cs rest e = absurd (go (number (suc n)) (first_number (suc n) (omega arith)) e)
+  where
+    go : (ds : List ℕ) → 48 < get_or ds 0 0 → 48 ∷ cs ≡ ds ++ rest → ⊥
+    go [] above e' = omega arith
+    go (d ∷ ds) above e' = let same : 48 ≡ d = cc in omega arith
+
+-- what was read is the number at the front, if it is at most this
+abbrev pub ReadsNumber : ℕ → List ℕ → Option (ℕ × List ℕ) → Type 0
+ReadsNumber max bytes read = ReadsFront (λ n. n ≤ max) number bytes read
+
+-- no number without a byte
+pub number_of_none : (max : ℕ) (bytes : List ℕ) → length bytes ≡ 0 → ReadsNumber max bytes None
+number_of_none max bytes none = record { found = tt; only = λ n rest within ends e. absurd (omega (arith, ap length e, length-append (number n) rest, number_nonempty n)) }
+
+-- a digit 0 in front is the number 0
+pub number_zero : (max : ℕ) (bytes : List ℕ) (c : ℕ) (cs : List ℕ) → bytes ≡ c ∷ cs → c ≡ 48 → ReadsNumber max bytes (Some (0, cs))
+number_zero max bytes c cs front digit = record { found = (omega arith, zero ∙ ap (λ ds. ds ++ cs) (sym (number-digit 0 (omega arith)))); only = only }
+  where
+    zero : bytes ≡ 48 ∷ cs
+    zero = front ∙ ap (λ d. d ∷ cs) digit
+
+    only : (n : ℕ) (rest : List ℕ) → n ≤ max → IsTrue (is_word_end rest) → bytes ≡ number n ++ rest → ◌≡◌ {A = Option (ℕ × List ℕ)} (Some (0, cs)) (Some (n, rest))
+    only n rest within ends e =
+        let none = starts_zero n cs rest (sym zero ∙ e) in
+        let spelled : 48 ∷ cs ≡ 48 ∷ rest = sym zero ∙ e ∙ ap (λ m. number m ++ rest) none ∙ ap (λ ds. ds ++ rest) (number-digit 0 (omega arith)) in
+        let same : cs ≡ rest = cc in
+        cc
+
+-- no number where the first byte is no digit
+pub number_no_digit : (max : ℕ) (bytes : List ℕ) (c : ℕ) (cs : List ℕ) → bytes ≡ c ∷ cs → is_ascii_digit c ≡ false → ReadsNumber max bytes None
+number_no_digit max bytes c cs front other = record { found = tt; only = λ n rest within ends e. let digit = starts_digit n c cs rest (sym front ∙ e) in cc }
+
+-- a digit above 0 and the digits behind it
+pub number_by_digit : (max : ℕ) (bytes : List ℕ) (c : ℕ) (cs : List ℕ) (read : Option (ℕ × List ℕ)) → bytes ≡ c ∷ cs → c ≢ 48 → is_ascii_digit c ≡ true
+    → ReadsNumber max (number (c - 48) ++ cs) read → ReadsNumber max bytes read
+number_by_digit max bytes c cs read front other digit h =
+    let low : (48 ≤ c) × (c < 58) = (grind (arith, nat_tests), grind (arith, nat_tests)) in
+    let spelled : 48 + (c - 48) ≡ c = omega arith in
+    subst (λ bytes. ReadsNumber max bytes read) (ap (λ ds. ds ++ cs) (number-digit (c - 48) (omega arith) ∙ ap (λ d. d ∷ []) spelled) ∙ sym front) h
+
+-- ---- Digits one after another
+
+-- m is spelled by n's digits and those of the bytes up to what is left
+pub record Spells (max n : ℕ) (bytes : List ℕ) (m : ℕ) (left : List ℕ) : Type 0 where
+  pub text : number n ++ bytes ≡ number m ++ left
+  pub some : 0 < m
   pub within : m ≤ max
 
-digits_sound : (max n : ℕ) (bytes : List ℕ) (m : ℕ) (rest : List ℕ) → max < 2 ^ 64 → 0 < n → n ≤ max → digits_at max n bytes ≡ Some (m, rest) → IsNumber max (number n ++ bytes) m rest
-digits_sound max n [] m rest fits some h e =
-    let p = some_pair_parts n m [] rest e in
-    record { text = ap (λ k. number k ++ []) p.0 ∙ ap (λ xs. number m ++ xs) p.1; within = subst (λ k. k ≤ max) p.0 h }
-digits_sound max n (c ∷ cs) m rest fits some h e = step (is_ascii_digit c) refl (nat_le (n * 10 + (c - 48)) max) refl (digits_sound max (n * 10 + (c - 48)) cs m rest fits) e
+pub spells_first : (max n : ℕ) (bytes : List ℕ) → 0 < n → n ≤ max → Spells max n bytes n bytes
+spells_first max n bytes some within = record { text = refl; some = some; within = within }
+
+-- one digit more
+spells_more : (max n : ℕ) (bytes : List ℕ) (m c : ℕ) (left cs : List ℕ) → max < 2 ^ 64 → Spells max n bytes m left → left ≡ c ∷ cs → is_ascii_digit c ≡ true → m * 10 + (c - 48) ≤ max
+    → Spells max n bytes (m * 10 + (c - 48)) cs
+spells_more max n bytes m c left cs fits s front digit small =
+    let some = s.some in
+    record {
+      text = s.text ∙ ap (λ xs. number m ++ xs) front ∙ sym (append_assoc (number m) (c ∷ []) cs) ∙ ap (λ ds. ds ++ cs) (sym (number_longer m c some digit (omega arith)));
+      some = omega arith;
+      within = small;
+    }
+
+-- the digits end
+spells_end : (max n : ℕ) (bytes : List ℕ) (m : ℕ) (left : List ℕ) → Spells max n bytes m left → Stops left → ReadsNumber max (number n ++ bytes) (Some (m, left))
+spells_end max n bytes m left s end = record {
+  found = (s.within, s.text);
+  only = λ a rest within ends e.
+      let same : ◌≡◌ {A = ℕ × List ℕ} (m, left) (a, rest) = sym (read_number m left end) ∙ ap (read_front 0) (sym s.text ∙ e) ∙ read_number a rest (stops rest ends) in
+      ap Some same;
+}
+
+-- more digits make no smaller number
+no_smaller : (n : ℕ) (cs : List ℕ) → n ≤ (read_front n cs).0
+no_smaller n [] = omega arith
+no_smaller n (c ∷ cs) = step (is_ascii_digit c) (no_smaller (n * 10 + (c - 48)) cs)
   where
-    step : (d : Bool) → is_ascii_digit c ≡ d → (l : Bool) → nat_le (n * 10 + (c - 48)) max ≡ l
-        → (0 < n * 10 + (c - 48) → n * 10 + (c - 48) ≤ max → digits_at max (n * 10 + (c - 48)) cs ≡ Some (m, rest) → IsNumber max (number (n * 10 + (c - 48)) ++ cs) m rest)
-        → (if d then (if l then digits_at max (n * 10 + (c - 48)) cs else None) else Some (n, c ∷ cs)) ≡ Some (m, rest) → IsNumber max (number n ++ c ∷ cs) m rest
-    step true is true small more e' =
-        let low : n * 10 + (c - 48) ≤ max = grind (arith, nat_tests) in
-        let r = more (omega arith) low e' in
-        record { text = sym (append_assoc (number n) (c ∷ []) cs) ∙ ap (λ ds. ds ++ cs) (sym (number_longer n c some is (omega arith))) ∙ r.text; within = r.within }
-    step true is false small more e' = cc
-    step false is l small more e' =
-        let p = some_pair_parts n m (c ∷ cs) rest e' in
-        record { text = ap (λ k. number k ++ c ∷ cs) p.0 ∙ ap (λ xs. number m ++ xs) p.1; within = subst (λ k. k ≤ max) p.0 h }
+    step : (t : Bool) → n * 10 + (c - 48) ≤ (read_front (n * 10 + (c - 48)) cs).0 → n ≤ (if t then read_front (n * 10 + (c - 48)) cs else (n, c ∷ cs)).0
+    step true h = omega arith
+    step false h = omega arith
 
-number_sound : (max : ℕ) (bytes : List ℕ) (m : ℕ) (rest : List ℕ) → 9 ≤ max → max < 2 ^ 64 → number_at max bytes ≡ Some (m, rest) → IsNumber max bytes m rest
-number_sound max [] m rest low fits e = cc
-number_sound max (c ∷ cs) m rest low fits e = step (c == 48) refl (is_ascii_digit c) refl e
-  where
-    step : (z : Bool) → (c == 48) ≡ z → (d : Bool) → is_ascii_digit c ≡ d
-        → (if z then Some (0, cs) else (if d then digits_at max (c - 48) cs else None)) ≡ Some (m, rest) → IsNumber max (c ∷ cs) m rest
-    step true test d digit e' =
-        let p = some_pair_parts 0 m cs rest e' in
-        let first : c ∷ [] ≡ number m = ap (λ b. b ∷ []) (eqb-true c 48 test) ∙ sym (number-digit 0 (omega arith)) ∙ ap number p.0 in
-        record { text = ap (λ xs. c ∷ xs) p.1 ∙ ap (λ ds. ds ++ rest) first; within = subst (λ k. k ≤ max) p.0 (omega arith) }
-    step false test true digit e' =
-        let above : (48 < c) × (c < 58) = (grind (arith, nat_tests), grind (arith, nat_tests)) in
-        let spelled : 48 + (c - 48) ≡ c = omega arith in
-        let first : number (c - 48) ≡ c ∷ [] = number-digit (c - 48) (omega arith) ∙ ap (λ b. b ∷ []) spelled in
-        let r = digits_sound max (c - 48) cs m rest fits (omega arith) (omega arith) e' in
-        record { text = ap (λ ds. ds ++ cs) (sym first) ∙ r.text; within = r.within }
-    step false test false digit e' = cc
+-- one digit more makes too great a number, and so do all others behind it
+spells_over : (max n : ℕ) (bytes : List ℕ) (m c : ℕ) (left cs : List ℕ) → Spells max n bytes m left → left ≡ c ∷ cs → is_ascii_digit c ≡ true → max < m * 10 + (c - 48)
+    → ReadsNumber max (number n ++ bytes) None
+spells_over max n bytes m c left cs s front digit large = record {
+  found = tt;
+  only = λ a rest within ends e.
+      let next : read_front m (c ∷ cs) ≡ read_front (m * 10 + (c - 48)) cs = rw digit refl in
+      let same : read_front (m * 10 + (c - 48)) cs ≡ (a, rest)
+      = sym next ∙ sym (read_number_on m (c ∷ cs)) ∙ ap (read_front 0) (ap (λ xs. number m ++ xs) (sym front) ∙ sym s.text ∙ e) ∙ read_number a rest (stops rest ends) in
+      let least = no_smaller (m * 10 + (c - 48)) cs in
+      let value : (read_front (m * 10 + (c - 48)) cs).0 ≡ a = ap (λ (f : ℕ × List ℕ). f.0) same in
+      absurd (omega arith);
+}
 
--- the digits of a number are read one after another
-number_read : (max n : ℕ) → 0 < n → n ≤ max → (rest : List ℕ) → number_at max (number n ++ rest) ≡ digits_at max n rest
-number_read max = number_by_steps (λ n ds. 0 < n → n ≤ max → (rest : List ℕ) → number_at max (ds ++ rest) ≡ digits_at max n rest)
-    (λ n low some h rest. let zero : (48 + n == 48) ≡ false = grind (arith, nat_tests) in
-    let digit : is_ascii_digit (48 + n) ≡ true = grind (arith, nat_tests) in
-    let value : 48 + n - 48 ≡ n = omega arith in
-    rw (zero, digit, value))
-    (λ n ds high front some h rest. let digit : is_ascii_digit (48 + n % 10) ≡ true = grind (arith, nat_tests) in
-    let value : n / 10 * 10 + (48 + n % 10 - 48) ≡ n = omega arith in
-    let within : nat_le n max ≡ true = grind (arith, nat_tests) in
-    ap (number_at max) (append_assoc ds ((48 + n % 10) ∷ []) rest) ∙ front (omega arith) (omega arith) ((48 + n % 10) ∷ rest) ∙ rw (digit, value, within))
+-- the byte at this index, and those behind it
+at_byte : (bytes : List ℕ) (i : ℕ) → i < length bytes → drop i bytes ≡ get_or bytes i 0 ∷ drop (i + 1) bytes
+at_byte bytes i h = drop-cons bytes i 0 h ∙ ap (λ k. get_or bytes i 0 ∷ drop k bytes) (sym (add-one i))
 
-number_complete : (max n : ℕ) (rest : List ℕ) → n ≤ max → Stops rest → number_at max (number n ++ rest) ≡ Some (n, rest)
-number_complete max zero rest h s = ap (λ ds. number_at max (ds ++ rest)) (number-digit 0 (omega arith))
-number_complete max (suc n) rest h s = number_read max (suc n) (omega arith) h rest ∙ stopped rest s
-  where
-    stopped : (cs : List ℕ) → Stops cs → digits_at max (suc n) cs ≡ Some (suc n, cs)
-    stopped [] t = refl
-    stopped (c ∷ cs) t = rw t
+-- all bytes from this index on
+from_index : (bytes : List ℕ) (i : ℕ) → take (length bytes - i) (drop i bytes) ≡ drop i bytes
+from_index bytes i = take_all (length bytes - i) (drop i bytes) (omega (arith, length-drop i bytes))
 
--- ---- Fields
+-- the digit at this index is taken
+pub digit_taken : (max n : ℕ) (bytes : List ℕ) (m i : ℕ) → max < 2 ^ 64 → Spells max n bytes m (drop i bytes) → i < length bytes → is_ascii_digit (get_or bytes i 0) ≡ true
+    → m * 10 + (get_or bytes i 0 - 48) ≤ max → Spells max n bytes (m * 10 + (get_or bytes i 0 - 48)) (drop (i + 1) bytes)
+digit_taken max n bytes m i fits s h digit small = spells_more max n bytes m (get_or bytes i 0) (drop i bytes) (drop (i + 1) bytes) fits s (at_byte bytes i h) digit small
 
-field_sound : (max : ℕ) (bytes : List ℕ) (m : ℕ) (rest : List ℕ) → 9 ≤ max → max < 2 ^ 64 → field_at max bytes ≡ Some (m, rest) → (bytes ≡ 32 ∷ number m ++ rest) × (m ≤ max)
-unfolding field_at
-field_sound max [] m rest low fits e = cc
-field_sound max (c ∷ cs) m rest low fits e = step (c == 32) refl e
-  where
-    step : (z : Bool) → (c == 32) ≡ z → (if z then number_at max cs else None) ≡ Some (m, rest) → (c ∷ cs ≡ 32 ∷ number m ++ rest) × (m ≤ max)
-    step true space e' =
-        let r = number_sound max cs m rest low fits e' in
-        (rw (eqb-true c 32 space) (ap (λ xs. 32 ∷ xs) r.text), r.within)
-    step false space e' = cc
+-- with the digit at this index the number is too great
+pub too_great : (max n : ℕ) (bytes : List ℕ) (m i : ℕ) → Spells max n bytes m (drop i bytes) → i < length bytes → is_ascii_digit (get_or bytes i 0) ≡ true
+    → max < m * 10 + (get_or bytes i 0 - 48) → ReadsNumber max (number n ++ bytes) None
+too_great max n bytes m i s h digit large = spells_over max n bytes m (get_or bytes i 0) (drop i bytes) (drop (i + 1) bytes) s (at_byte bytes i h) digit large
 
-field_complete : (max n : ℕ) (rest : List ℕ) → n ≤ max → Stops rest → field_at max (32 ∷ number n ++ rest) ≡ Some (n, rest)
-unfolding field_at
-field_complete max n rest h s = number_complete max n rest h s
+-- no digit stands at this index
+pub digits_stopped : (max n : ℕ) (bytes : List ℕ) (m i : ℕ) → Spells max n bytes m (drop i bytes) → i < length bytes → is_ascii_digit (get_or bytes i 0) ≡ false
+    → ReadsNumber max (number n ++ bytes) (Some (m, take (length bytes - i) (drop i bytes)))
+digits_stopped max n bytes m i s h other =
+    let end : Stops (drop i bytes) = subst Stops (sym (at_byte bytes i h)) other in
+    subst (λ left. ReadsNumber max (number n ++ bytes) (Some (m, left))) (sym (from_index bytes i)) (spells_end max n bytes m (drop i bytes) s end)
 
--- the numbers are at most these
-abbrev pub Below : List ℕ → List ℕ → Type 0
-Below [] [] = Unit {0}
-Below [] (max ∷ maxima) = ⊥
-Below (n ∷ ns) [] = ⊥
-Below (n ∷ ns) (max ∷ maxima) = (n ≤ max) × Below ns maxima
-
--- each of them is 9 or more, and has 64 bits
-abbrev pub AreMaxima : List ℕ → Type 0
-AreMaxima [] = Unit {0}
-AreMaxima (max ∷ maxima) = (9 ≤ max) × (max < 2 ^ 64) × AreMaxima maxima
-
-pub record AreFields (maxima bytes ns rest : List ℕ) : Type 0 where
-  pub text : bytes ≡ fields ns ++ rest
-  pub below : Below ns maxima
-
-pub fields_sound : (maxima bytes : List ℕ) (f : List ℕ × List ℕ) → AreMaxima maxima → fields_at maxima bytes ≡ Some f → AreFields maxima bytes f.0 f.1
-fields_sound [] bytes f m e = let same : ([], bytes) ≡ f = cc in subst (λ (g : List ℕ × List ℕ). AreFields [] bytes g.0 g.1) same (record { text = refl; below = tt })
-fields_sound (max ∷ maxima) bytes f m e =
-    let first = bind_some (field_at max bytes) (λ g. fields_at maxima g.1 >>= λ h. Some (g.0 ∷ h.0, h.1)) f e in
-    let g = first.0 in
-    let more = bind_some (fields_at maxima g.1) (λ h. Some (g.0 ∷ h.0, h.1)) f first.2 in
-    let h = more.0 in
-    let same : (g.0 ∷ h.0, h.1) ≡ f = cc in
-    let p = field_sound max bytes g.0 g.1 m.0 m.1 first.1 in
-    let q = fields_sound maxima g.1 h m.2 more.1 in
-    subst (λ (x : List ℕ × List ℕ). AreFields (max ∷ maxima) bytes x.0 x.1) same (record {
-      text = p.0 ∙ ap (λ xs. 32 ∷ number g.0 ++ xs) q.text ∙ ap (λ xs. 32 ∷ xs) (sym (append_assoc (number g.0) (fields h.0) h.1));
-      below = (p.1, q.below);
-    })
-
-pub fields_complete : (maxima ns rest : List ℕ) → Below ns maxima → Stops rest → fields_at maxima (fields ns ++ rest) ≡ Some (ns, rest)
-fields_complete [] [] rest b s = refl
-fields_complete [] (n ∷ ns) rest b s = absurd b
-fields_complete (max ∷ maxima) [] rest b s = absurd b
-fields_complete (max ∷ maxima) (n ∷ ns) rest b s =
-    let first : field_at max (fields (n ∷ ns) ++ rest) ≡ Some (n, fields ns ++ rest)
-    = ap (λ xs. field_at max (32 ∷ xs)) (append_assoc (number n) (fields ns) rest) ∙ field_complete max n (fields ns ++ rest) b.0 (stops ns) in
-    ap (λ o. o >>= λ f. fields_at maxima f.1 >>= λ g. Some (f.0 ∷ g.0, g.1)) first
-    ∙ ap (λ o. o >>= λ g. Some (n ∷ g.0, g.1)) (fields_complete maxima ns rest b.1 s)
-  where
-    stops : (ms : List ℕ) → Stops (fields ms ++ rest)
-    stops [] = s
-    stops (k ∷ ms) = refl
+-- there are no more bytes
+pub digits_ended : (max n : ℕ) (bytes : List ℕ) (m i : ℕ) → Spells max n bytes m (drop i bytes) → length bytes ≤ i
+    → ReadsNumber max (number n ++ bytes) (Some (m, take (length bytes - length bytes) (drop (length bytes) bytes)))
+digits_ended max n bytes m i s end =
+    let none : drop i bytes ≡ take (length bytes - length bytes) (drop (length bytes) bytes)
+    = drop_of_length-le bytes end ∙ sym (drop-length bytes) ∙ sym (from_index bytes (length bytes)) in
+    subst (λ left. ReadsNumber max (number n ++ bytes) (Some (m, left))) none (spells_end max n bytes m (drop i bytes) s (subst Stops (sym (drop_of_length-le bytes end)) tt))

@@ -1,5 +1,6 @@
 // The call that the program makes.
 ghost use Rattle.std.specs.Prelude.{◌≡◌, ◌∷◌, [], codes, IsTrue, ◌↔◌};
+ghost use Rattle.arena_chunks.specs.Source.{view};
 ghost use Rattle.arena_run.specs.Ends.{Ends, Outside, code_of};
 
 use crate::lines::{LinesErr, parse_calls};
@@ -41,11 +42,12 @@ impl Status {
     }
 }
 
-fn is_calls(words: &[Bytes]) -> bool
-    ensures { IsTrue result ↔ (words.now ≡ codes "calls" ∷ []) }
+/// Whether there is one word, and it is this one.
+pub fn is_one_word(words: &[Bytes], word: &[u8]) -> bool
+    ensures { IsTrue result ↔ (words.now ≡ word.now ∷ []) }
 {
     match words {
-        [word] => word.as_slice() == b"calls".as_slice(),
+        [only] => only.as_slice() == word,
         _ => false,
     }
 }
@@ -62,10 +64,22 @@ pub fn arena_main<C: ChunkSource, I: Input, O: Output>(
 ) -> Status
     ensures usage { (result ≡ Status.Usage) ↔ (words.now ≡ codes "calls" ∷ [] → ⊥) }
     ensures ends { Ends result
-        (record { left = I.left input.old; reads = I.faults input.old; written = O.written output.old; writes = O.faults output.old; memory = arena.old; source = C.source chunks.old })
-        (record { left = I.left input.new; reads = I.faults input.new; written = O.written output.new; writes = O.faults output.new; memory = arena.new; source = C.source chunks.new }) }
+        (record {
+          left = I.left input.old;
+          read_faults = I.faults input.old;
+          written = O.written output.old;
+          write_faults = O.faults output.old;
+          arena = view arena.old (C.source chunks.old);
+        })
+        (record {
+          left = I.left input.new;
+          read_faults = I.faults input.new;
+          written = O.written output.new;
+          write_faults = O.faults output.new;
+          arena = view arena.new (C.source chunks.new);
+        }) }
 {
-    if !is_calls(words) {
+    if !is_one_word(words, b"calls") {
         return Status::Usage;
     }
     let bytes = match read_all(alloc, input) {

@@ -1,6 +1,8 @@
 //! Reads calls on a bump arena from standard input, a line for each, and prints a line for each reply.
 #![tactic(auto)]
 
+ghost use Rattle.std.specs.Prelude.{◌≡◌, ◌≢◌, ◌∷◌, [], codes, IsNone, IsSomeAnd};
+
 mod arena_main;
 mod laws;
 mod lines;
@@ -10,7 +12,7 @@ mod streams;
 mod tests;
 
 use arena_chunks::{Arena, Bytes, MemoryChunks};
-use arena_main::{Status, arena_main};
+use arena_main::{Status, arena_main, is_one_word};
 use std::process::ExitCode;
 use std::{env, io};
 use streams::{StdInput, StdOutput};
@@ -39,14 +41,15 @@ calls: alloc NAME SIZE ALIGN FILL
 const VERSION: &str = "arena_run 0.1.0\n";
 
 // What is to be printed in place of a run.
-fn information(words: &[Bytes]) -> Option<&'static str> {
-    let [word] = words else {
-        return None;
-    };
-    if word.as_slice() == b"--help".as_slice() {
+fn information(words: &[Bytes]) -> Option<&'static str>
+    ensures help { words.now ≡ codes "--help" ∷ [] → IsSomeAnd result (λ text. text.now ≡ HELP.now) }
+    ensures version { words.now ≡ codes "--version" ∷ [] → IsSomeAnd result (λ text. text.now ≡ VERSION.now) }
+    ensures none { words.now ≢ codes "--help" ∷ [] → words.now ≢ codes "--version" ∷ [] → IsNone result }
+{
+    if is_one_word(words, b"--help") {
         return Some(HELP);
     }
-    if word.as_slice() == b"--version".as_slice() {
+    if is_one_word(words, b"--version") {
         return Some(VERSION);
     }
     None

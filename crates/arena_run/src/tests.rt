@@ -1,5 +1,4 @@
 // Worked examples of the program, over inputs and outputs in memory.
-mod beside;
 mod calls;
 mod endings;
 mod lines;

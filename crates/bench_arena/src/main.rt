@@ -5,7 +5,7 @@ ghost use Rattle.std.specs.Prelude.{◌<◌};
 
 mod loops;
 
-use loops::{Failed, Timed, alloc_and_reset, alloc_warm, grow_at_cursor, reset_chunks};
+use loops::{Failed, Timed, alloc_and_reset, alloc_warm, grow_at_cursor, read_older, reset_chunks};
 use std::process::ExitCode;
 use std::{env, io};
 
@@ -18,14 +18,16 @@ enum Loop {
     GrowAtCursor,
     AllocAndReset,
     ResetChunks,
+    ReadOlder,
 }
 
 impl Loop {
-    const ALL: [Loop; 4] = [
+    const ALL: [Loop; 5] = [
         Loop::AllocWarm,
         Loop::GrowAtCursor,
         Loop::AllocAndReset,
         Loop::ResetChunks,
+        Loop::ReadOlder,
     ];
 
     fn name(self) -> &'static str {
@@ -34,6 +36,7 @@ impl Loop {
             Loop::GrowAtCursor => "grow_at_cursor",
             Loop::AllocAndReset => "reset_empty",
             Loop::ResetChunks => "reset_chunks",
+            Loop::ReadOlder => "read_older",
         }
     }
 
@@ -52,6 +55,7 @@ impl Loop {
             Loop::GrowAtCursor => grow_at_cursor(rt, calls),
             Loop::AllocAndReset => alloc_and_reset(rt, calls),
             Loop::ResetChunks => reset_chunks(rt, calls),
+            Loop::ReadOlder => read_older(rt, calls),
         }
     }
 

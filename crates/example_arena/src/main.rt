@@ -38,7 +38,7 @@ fn layout(size: u64, align: u64) -> Result<Layout, Failed>
 }
 
 fn place_text(rt: &HostRuntime, a: &mut Allocator<MemoryChunks>) -> Result<Str, Failed>
-    ensures { IfOk result (λ s. IsTrue (is_readable a.new.arena.state s.block)) }
+    ensures { IfOk result (λ s. IsTrue (is_readable a.new.memory.state s.block)) }
 {
     let text = a.alloc_str("hello")?;
     let at = text.block.addr;

@@ -4,7 +4,8 @@ use Rattle.std.specs.Prelude.{◌==◌, if◌then◌else◌}
 use Rattle.std.proofs.lemmas.Bool.{cond_both, eqb-false}
 use Rattle.std.proofs.lemmas.Option.{none-some, same_Some, cond_some}
 use Rattle.placement.specs.Rounding.{is_layout}
-use Rattle.placement.specs.State.{State, is_min_align, IsValid}
+use Rattle.placement.proofs.UsedBytesLemmas.{used_with_chunk}
+use Rattle.placement.specs.State.{used_bytes, State, is_min_align, IsValid}
 use Rattle.placement.specs.Search.{possible, next_base}
 use Rattle.placement.specs.Moves.{with_chunk}
 use Rattle.placement.specs.Creation.{empty_state, fixed_state, capacity_chunk, create, create_at}
@@ -70,3 +71,21 @@ created_valid m capacity k state min_align =
         subst IsValid (same_Some (with_chunk e (empty_state m)) state (same_Some (Some (with_chunk e (empty_state m))) (Some state) at)) (capacity_valid m capacity e min_align some is)
     go (Some e) (suc zero) is some at = absurd (none-some state (same_Some None (Some state) at))
     go (Some e) (suc (suc k)) is some at = absurd (none-some (Some state) at)
+
+-- an arena that is made has no byte in use
+pub created_unused : (m capacity k : ℕ) (state : State) → create m capacity k ≡ Some (Some state) → used_bytes state ≡ 0
+unfolding create
+created_unused m capacity k state =
+    let IsUnused : State → Type 0 = λ (s : State). used_bytes s ≡ 0 in
+    cond_both (capacity == 0) _ _ (λ (o : Option (Option State)). o ≡ Some (Some state) → used_bytes state ≡ 0)
+    (λ none made. subst IsUnused (same_Some (empty_state m) state (cond_some (k == 0) (Some (empty_state m)) (Some state) made).1) refl)
+    (λ more. go (capacity_chunk capacity m) k)
+  where
+    go : (o : Option (ℕ × ℕ)) (k : ℕ) → create_at o m k ≡ Some (Some state) → used_bytes state ≡ 0
+    go None zero at = cc
+    go None (suc k) at = cc
+    go (Some e) zero at =
+        subst (λ (s : State). used_bytes s ≡ 0) (same_Some (with_chunk e (empty_state m)) state (same_Some (Some (with_chunk e (empty_state m))) (Some state) at))
+        (used_with_chunk (empty_state m) e)
+    go (Some e) (suc zero) at = cc
+    go (Some e) (suc (suc k)) at = cc

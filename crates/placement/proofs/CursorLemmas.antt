@@ -29,12 +29,16 @@ cursor_aligned state valid = go state.chunks valid.chunks
     go [] fine = min_align_multiple 16 state.min_align valid.min_align refl
     go (newest ∷ older) fine = fine.0.cursor_aligned
 
-pub top_aligned : (state : State) → IsValid state → top_of state.chunks % state.min_align ≡ 0
-top_aligned state valid = min_align_multiple (top_of state.chunks) state.min_align valid.min_align (go state.chunks valid.chunks)
+-- data ends are multiples of 16
+pub top_units : (state : State) → IsValid state → top_of state.chunks % 16 ≡ 0
+top_units state valid = go state.chunks valid.chunks
   where
     go : (chunks : List Chunk) → AreChunks state.min_align chunks → top_of chunks % 16 ≡ 0
     go [] fine = refl
     go (newest ∷ older) fine = omega (arith, fine.0.base_aligned, fine.0.size_aligned)
+
+pub top_aligned : (state : State) → IsValid state → top_of state.chunks % state.min_align ≡ 0
+top_aligned state valid = min_align_multiple (top_of state.chunks) state.min_align valid.min_align (top_units state valid)
 
 -- the newest chunk ends 48 addresses before the last one or earlier
 pub top_le : (state : State) → IsValid state → top_of state.chunks + 48 ≤ 2 ^ 64 - 1

@@ -1,17 +1,18 @@
 -- Chunks that double.
-use Rattle.std.proofs.Common.{◌≡◌, ℕ, suc, ◌+◌, ◌-◌, ◌*◌, ◌^◌, ◌≤◌, max, refl, sym, subst, ◌∙◌, arith, eqb-true, ◌%◌, IsTrue, Some, None, Option, List, [], ◌∷◌, length, true, false, Bool, ap, sum, map}
-use Rattle.std.specs.Prelude.{◌==◌, ◌&&◌, not, nat_le, nat_lt, slice_get, if◌then◌else◌}
-use Rattle.std.specs.Option.{is_some, option_map, option_map_or}
+use Rattle.std.proofs.Common.{◌≡◌, ℕ, suc, ◌+◌, ◌-◌, ◌*◌, ◌^◌, ◌≤◌, max, refl, sym, subst, ◌∙◌, arith, eqb-true, IsTrue, Some, None, Option, List, [], ◌∷◌, length, true, ap, sum, map}
+use Rattle.std.specs.Prelude.{◌==◌, ◌&&◌, slice_get}
+use Rattle.std.specs.Option.{is_some, option_map}
 use Rattle.std.proofs.lemmas.Bool.{and_parts, cond_both}
 use Rattle.std.proofs.lemmas.List.Sums.{sum_by-cons}
 use Rattle.std.proofs.lemmas.Option.{none-some, same_Some, cond_some}
 use Rattle.std.proofs.lemmas.Nat.{pow_pos}
 use Rattle.std.proofs.Math.Nat.{pow-suc}
-use Rattle.placement.specs.Rounding.{up, is_layout}
+use Rattle.placement.specs.Rounding.{up}
 use Rattle.placement.specs.State.{State, Chunk, newest_size, cursor_of, floor_of, allocated_bytes, with_newest_cursor, with_cursor}
 use Rattle.placement.specs.Search.{place, possible, entries, asked, asked_above, least_size, next_base, chunk_align}
-use Rattle.placement.specs.Moves.{Outcome, alloc, alloc_at, alloc_in_new, grow, grow_at, shrink, shrink_step, dealloc, reset, emptied, placed, stays, fails, unasked, with_chunk}
-use Rattle.placement.specs.Doubling.{IsDoubling, first_entry, is_made_first, unless_placed, grown_anew, shrunk_anew}
+use Rattle.placement.specs.Moves.{Outcome, Resizing, alloc, alloc_at, alloc_in_new, grow, growing, shrink, shrinking, resize, anew, dealloc, reset, emptied, placed, stays, fails, unasked, with_chunk}
+use Rattle.placement.specs.Moves.Resizing.{Stays, Moves, Anew, Refused}
+use Rattle.placement.specs.Doubling.{IsDoubling, first_entry, is_made_first, is_anew_made_first}
 use Rattle.placement.proofs.RoundingLemmas.{up_ge}
 use Rattle.placement.proofs.SearchLemmas.{halves_first, size_is}
 use Rattle.placement.proofs.EntryLemmas.{possible_is, rounded_large}
@@ -77,7 +78,7 @@ doubling_kept z state double = omega (arith, reset_allocated state, doubling_new
 -- ---- One call
 
 -- another cursor changes no size, so chunks stay doubling
-doubling_moved : (z p : ℕ) (chunks : List Chunk) → IsDoubling z chunks → IsDoubling z (with_newest_cursor p chunks)
+pub doubling_moved : (z p : ℕ) (chunks : List Chunk) → IsDoubling z chunks → IsDoubling z (with_newest_cursor p chunks)
 doubling_moved z p [] double = tt
 doubling_moved z p (newest ∷ older) double = double
 
@@ -138,48 +139,31 @@ alloc_doubling z state size align k outcome small double made step = by_place (p
 
 -- an allocation of this layout, if there is one, makes no chunk or makes it first
 abbrev pub IsMadeFirst : State → ℕ → Option (ℕ × ℕ) → Type 0
-IsMadeFirst state k layout = IsTrue (option_map_or (λ (l : ℕ × ℕ). is_made_first state l.0 l.1 k) layout true)
+IsMadeFirst state k layout = IsTrue (is_anew_made_first state layout k)
 
 -- a call that asks for nothing
 unasked_doubling : (z k : ℕ) (r outcome : Outcome) → Doubles z r → unasked k r ≡ Some outcome → Doubles z outcome
 unasked_doubling z k r outcome holds at = subst (Doubles z) (cond_some (k == 0) r outcome at).1 holds
 
+-- a block that is given another size
+pub resize_doubling : (z : ℕ) (way : Resizing) (state : State) (p size align k : ℕ) (outcome : Outcome) → z ≤ 16320 → IsDoubling z state.chunks
+    → IsMadeFirst state k (anew way (size, align)) → resize way state p size align k ≡ Some outcome → Doubles z outcome
+resize_doubling z Stays state p size align k outcome small double made step = unasked_doubling z k (stays state p) outcome double step
+resize_doubling z (Moves q) state p size align k outcome small double made step = unasked_doubling z k (placed state q) outcome (doubling_moved z q state.chunks double) step
+resize_doubling z Anew state p size align k outcome small double made step = alloc_doubling z state size align k outcome small double made step
+resize_doubling z Refused state p size align k outcome small double made step = unasked_doubling z k (fails state) outcome double step
+
 -- a block that grows
 pub grow_doubling : (z : ℕ) (state : State) (p size align new_size new_align k : ℕ) (outcome : Outcome) → z ≤ 16320 → IsDoubling z state.chunks
-    → IsMadeFirst state k (grown_anew state p size align new_size new_align) → grow state p size align new_size new_align k ≡ Some outcome → Doubles z outcome
-unfolding grow grown_anew
-grow_doubling z state p size align new_size new_align k outcome small double made step =
-    by_case (nat_le new_align align && p == cursor_of state.chunks) (is_layout more align) (place state more align) made step
-  where
-    more : ℕ
-    more = up new_size state.min_align - size
-
-    by_case : (here fine : Bool) (o : Option ℕ)
-        → IsMadeFirst state k (if here then (if fine then unless_placed o (new_size, new_align) else None) else Some (new_size, new_align))
-        → (if here then (if fine then grow_at o state new_size new_align k else unasked k (fails state)) else alloc state new_size new_align k) ≡ Some outcome
-        → Doubles z outcome
-    by_case true true (Some q) made step = unasked_doubling z k (placed state q) outcome (doubling_moved z q state.chunks double) step
-    by_case true true None made step = alloc_doubling z state new_size new_align k outcome small double made step
-    by_case true false o made step = unasked_doubling z k (fails state) outcome double step
-    by_case false fine o made step = alloc_doubling z state new_size new_align k outcome small double made step
+    → IsMadeFirst state k (anew (growing state p size align new_size new_align) (new_size, new_align)) → grow state p size align new_size new_align k ≡ Some outcome → Doubles z outcome
+unfolding grow
+grow_doubling z state p size align new_size new_align k outcome = resize_doubling z (growing state p size align new_size new_align) state p new_size new_align k outcome
 
 -- a block that shrinks
 pub shrink_doubling : (z : ℕ) (state : State) (p size align new_size new_align k : ℕ) (outcome : Outcome) → z ≤ 16320 → IsDoubling z state.chunks
-    → IsMadeFirst state k (shrunk_anew state p align new_size new_align) → shrink state p size align new_size new_align k ≡ Some outcome → Doubles z outcome
-unfolding shrink shrunk_anew
-shrink_doubling z state p size align new_size new_align k outcome small double made step =
-    by_case (nat_lt align new_align) (p % new_align == 0) (p == cursor_of state.chunks && nat_le size (2 * shrink_step state size new_size new_align)) made step
-  where
-    by_case : (higher aligned last : Bool)
-        → IsMadeFirst state k (if higher && not aligned then Some (new_size, new_align) else None)
-        → (if higher then (if aligned then unasked k (stays state p) else alloc state new_size new_align k)
-        else unasked k (if last then placed state (p + shrink_step state size new_size new_align) else stays state p)) ≡ Some outcome
-        → Doubles z outcome
-    by_case true true last made step = unasked_doubling z k (stays state p) outcome double step
-    by_case true false last made step = alloc_doubling z state new_size new_align k outcome small double made step
-    by_case false aligned true made step =
-        unasked_doubling z k (placed state (p + shrink_step state size new_size new_align)) outcome (doubling_moved z (p + shrink_step state size new_size new_align) state.chunks double) step
-    by_case false aligned false made step = unasked_doubling z k (stays state p) outcome double step
+    → IsMadeFirst state k (anew (shrinking state p size align new_size new_align) (new_size, new_align)) → shrink state p size align new_size new_align k ≡ Some outcome → Doubles z outcome
+unfolding shrink
+shrink_doubling z state p size align new_size new_align k outcome = resize_doubling z (shrinking state p size align new_size new_align) state p new_size new_align k outcome
 
 -- a block that is given back
 pub dealloc_doubling : (z p size : ℕ) (state : State) → IsDoubling z state.chunks → IsDoubling z (dealloc state p size).chunks

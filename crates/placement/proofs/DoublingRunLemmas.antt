@@ -7,9 +7,10 @@ use Rattle.std.proofs.lemmas.Bool.{and_parts}
 use Rattle.std.proofs.lemmas.Option.{none-some, same_Some, cond_some, option_and_then_some}
 use Rattle.placement.specs.Rounding.{is_layout}
 use Rattle.placement.specs.State.{State, used_bytes, allocated_bytes}
-use Rattle.placement.specs.Moves.{Outcome, alloc, grow, shrink, dealloc, reset}
+use Rattle.placement.specs.Moves.{Outcome, alloc, grow, growing, shrink, shrinking, anew, dealloc, reset}
 use Rattle.placement.specs.Machine.{Machine, Next, step, run, run_from, reply_first, settles, answers, at_found, fresh, Contents, lets_go, splice}
-use Rattle.placement.specs.Doubling.{IsDoubling, grown_anew, shrunk_anew, placed_anew, call_made_first, made_first_from, made_first}
+use Rattle.placement.specs.Requests.{placed_anew}
+use Rattle.placement.specs.Doubling.{IsDoubling, call_made_first, made_first_from, made_first}
 use Rattle.placement.specs.declared.place.Place.{Place}
 use Rattle.placement.specs.declared.calls.Call.{Call}
 use Rattle.placement.specs.declared.calls.Call.TheVariants.{Alloc, Grow, Shrink, Dealloc, Write, Read, Reset, Used, Allocated}
@@ -59,7 +60,7 @@ alloc_called z k name size align fill m next small double false true made at =
 
 -- A grow of a block, by whether the layout is one and too small.
 grow_called : (z k name size align fill : ℕ) (m : Machine) (next : Next) → z ≤ 16320 → IsDoubling z m.state.chunks → (p : Place) (bs : List ℕ) (fine shorter : Bool)
-    → IsMadeFirst m.state k (if fine && not shorter then grown_anew m.state p.addr p.size p.align size align else None)
+    → IsMadeFirst m.state k (if fine && not shorter then anew (growing m.state p.addr p.size p.align size align) (size, align) else None)
     → (if not fine then answers k BadLayout m else (if shorter then answers k OutOfRange m
     else option_map (λ (o : Outcome). settles m k name size align (bs ++ replicate (size - p.size) fill) o.state o.answer) (grow m.state p.addr p.size p.align size align k))) ≡ Some next
     → DoublesNext z next
@@ -71,7 +72,7 @@ grow_called z k name size align fill m next small double p bs true false made at
 
 -- A shrink of a block, by whether the layout is one and too large.
 shrink_called : (z k name size align : ℕ) (m : Machine) (next : Next) → z ≤ 16320 → IsDoubling z m.state.chunks → (p : Place) (bs : List ℕ) (fine longer : Bool)
-    → IsMadeFirst m.state k (if fine && not longer then shrunk_anew m.state p.addr p.align size align else None)
+    → IsMadeFirst m.state k (if fine && not longer then anew (shrinking m.state p.addr p.size p.align size align) (size, align) else None)
     → (if not fine then answers k BadLayout m else (if longer then answers k OutOfRange m
     else option_map (λ (o : Outcome). settles m k name size align (take size bs) o.state o.answer) (shrink m.state p.addr p.size p.align size align k))) ≡ Some next
     → DoublesNext z next

@@ -6,8 +6,11 @@ pub mod PlaceLemmas
 pub mod CursorLemmas
 pub mod AllocLemmas
 pub mod UsedLemmas
+pub mod UsedBytesLemmas
+pub mod UsedResizeLemmas
 pub mod NewBlockLemmas
 pub mod ReturnLemmas
+pub mod AllocatedLemmas
 pub mod MoveLemmas
 pub mod ResetLemmas
 pub mod CreationLemmas
@@ -16,9 +19,12 @@ pub mod CauseLemmas
 pub mod DoublingLemmas
 pub mod DoublingRunLemmas
 mod Rows
+mod UsedRows
 pub mod NumberLemmas
 pub mod LineLemmas
 pub mod TextLemmas
 pub mod ReadingLemmas
+pub mod ReplyByteLemmas
+pub mod DecisionLemmas
 pub mod TextRows
 pub mod MapLemmas

@@ -1,14 +1,14 @@
 -- Blocks that shrink or grow: the cases, the states, and the block afterwards.
-use Rattle.std.proofs.Common.{◌≡◌, ℕ, ◌+◌, ◌-◌, ◌*◌, ◌%◌, ◌≤◌, max, refl, subst, arith, inl, inr, IsTrue, Option, Some, None, eqb-true, leb-true}
+use Rattle.std.proofs.Common.{◌≡◌, ℕ, ◌+◌, ◌-◌, ◌*◌, ◌%◌, ◌<◌, ◌≤◌, max, refl, subst, arith, inl, inr, IsTrue, Option, Some, None, eqb-true, leb-true}
 use Rattle.std.specs.Prelude.{◌==◌, ◌&&◌, nat_le, nat_lt, MatchOption}
-use Rattle.std.proofs.lemmas.Bool.{and_parts, cond_both, ltb-false}
+use Rattle.std.proofs.lemmas.Bool.{and_parts, cond_both, ltb-false, cases_lt}
 use Rattle.std.proofs.lemmas.Option.{cond_some}
 use Rattle.placement.specs.Rounding.{up, is_layout, is_power}
 use Rattle.placement.specs.State.{State, is_min_align, IsValid, start_of, cursor_of, with_cursor}
 use Rattle.placement.specs.Search.{place}
-use Rattle.placement.specs.Moves.{Outcome, alloc, shrink, shrink_step, grow, grow_at, placed, stays, fails, unasked}
+use Rattle.placement.specs.Moves.{Outcome, Resizing, alloc, shrink, shrink_step, grow, resize, down_to, placed, stays, fails, unasked}
 use Rattle.placement.specs.Machine.{is_place_used}
-use Rattle.placement.specs.Blocks.{IsNewBlock, IsMovedBlock, IsBlock, LieBeside}
+use Rattle.placement.specs.Blocks.{IsNewBlock, IsMovedBlock, IsBlock, LieBeside, padded_size}
 use Rattle.placement.specs.declared.place.Place.{Place}
 use Rattle.placement.proofs.RoundingLemmas.{down_le, down_mod, up_ge, up_mono, sum_multiple, power_multiple, max_power, min_align_power, min_align_positive, layout_power}
 use Rattle.placement.proofs.PlaceLemmas.{IsPlace, is_place}
@@ -29,12 +29,13 @@ shrink_each : (P : Outcome → Type 0) (state : State) (block : Place) (size ali
     → shrink state block.addr block.size block.align size align k ≡ Some outcome → P outcome
 unfolding shrink
 shrink_each P state block size align k outcome here anew still moved =
-    let Gives : Option Outcome → Type 0 = λ (o : Option Outcome). o ≡ Some outcome → P outcome in
+    let Gives : Resizing → Type 0 = λ (way : Resizing). resize way state block.addr size align k ≡ Some outcome → P outcome in
     cond_both (nat_lt block.align align) _ _ Gives
     (λ higher. cond_both (block.addr % align == 0) _ _ Gives (λ at. unasked_each P k (stays state block.addr) outcome (here (eqb-true _ _ at))) (λ away. anew))
     (λ lower. let low = ltb-false _ _ lower in
-    unasked_each P k _ outcome (cond_both (block.addr == cursor_of state.chunks && nat_le block.size (2 * shrink_step state block.size size align)) _ _ P
-    (λ both. moved low (eqb-true _ _ (and_parts _ _ both).0)) (λ other. still low)))
+    cond_both (block.addr == cursor_of state.chunks && nat_le block.size (2 * shrink_step state block.size size align)) _ _ Gives
+    (λ both. unasked_each P k (placed state (block.addr + shrink_step state block.size size align)) outcome (moved low (eqb-true _ _ (and_parts _ _ both).0)))
+    (λ other. unasked_each P k (stays state block.addr) outcome (still low)))
 
 -- A fact holds after a block grew, if it holds where it moves down at the cursor, where the call fails, and where a new one is placed.
 grow_each : (P : Outcome → Type 0) (state : State) (block : Place) (size align k : ℕ) (outcome : Outcome)
@@ -44,7 +45,7 @@ grow_each : (P : Outcome → Type 0) (state : State) (block : Place) (size align
     → grow state block.addr block.size block.align size align k ≡ Some outcome → P outcome
 unfolding grow
 grow_each P state block size align k outcome moved failed anew =
-    let Gives : Option Outcome → Type 0 = λ (o : Option Outcome). o ≡ Some outcome → P outcome in
+    let Gives : Resizing → Type 0 = λ (way : Resizing). resize way state block.addr size align k ≡ Some outcome → P outcome in
     let more : ℕ = up size state.min_align - block.size in
     cond_both (nat_le align block.align && block.addr == cursor_of state.chunks) _ _ Gives
     (λ here. let parts = and_parts _ _ here in
@@ -54,7 +55,7 @@ grow_each P state block size align k outcome moved failed anew =
     (λ away. anew)
   where
     go : (o : Option ℕ) → place state (up size state.min_align - block.size) block.align ≡ o → align ≤ block.align → block.addr ≡ cursor_of state.chunks → IsTrue (is_power block.align)
-        → grow_at o state size align k ≡ Some outcome → P outcome
+        → resize (down_to o) state block.addr size align k ≡ Some outcome → P outcome
     go (Some q) found low at power = unasked_each P k (placed state q) outcome (moved q low at power found)
     go None none low at power = anew
 
@@ -121,7 +122,7 @@ moved_anew state block size align k outcome valid power step = go outcome.answer
 beside_part : (state : State) (p size q n addr len : ℕ) → IsValid state → p ≤ q → q + n ≤ p + size → LieBeside state p size addr len → LieBeside state q n addr len
 beside_part state p size q n addr len valid low high apart =
     let shorter = up_mono (q + n) (p + size) state.min_align (min_align_positive state.min_align valid.min_align) high in
-    elim apart [ inl above ↦ inl (omega arith) | inr below ↦ inr (omega arith) ]
+    λ filled many. elim (apart (omega arith) many) [ inl above ↦ inl (omega arith) | inr below ↦ inr (omega arith) ]
 
 moved_not : (state : State) (block : Place) (size align : ℕ) → IsValid state → IsBlock state block → size ≤ block.size → block.addr % align ≡ 0
     → IsMovedBlock state block size align block.addr state
@@ -150,12 +151,19 @@ moved_cursor state block size align q valid is at low fits aligned min_aligned =
       aligned = aligned;
       min_aligned = min_aligned;
       used = λ some. used_from q size state.chunks some low (omega (arith, block_end state block valid is.used at));
-      keeps = λ addr n some used apart. used_set q addr n state.chunks (λ from. elim apart [ inl above ↦ omega arith | inr below ↦ absurd (omega arith) ]) used;
-      beside = λ addr n some used apart. elim (used_beside state.min_align addr n state.chunks valid.chunks some used) [
-        | inl from ↦ elim apart [ inl above ↦ inl (omega arith) | inr below ↦ absurd (omega arith) ]
+      keeps = λ addr n some used apart. used_set q addr n state.chunks (λ from. omega (arith, past addr n some from apart)) used;
+      beside = λ addr n some used apart filled many. elim (used_beside state.min_align addr n state.chunks valid.chunks some used) [
+        | inl from ↦ inl (omega (arith, past addr n some from apart))
         | inr under ↦ inr (omega arith)
       ];
     }
+  where
+    -- what lies at the cursor or above it and apart from the block lies behind it
+    past : (addr n : ℕ) → 0 < n → cursor_of state.chunks ≤ addr → LieBeside state block.addr block.size addr n → up (block.addr + block.size) state.min_align ≤ addr
+    past addr n some from apart = elim (cases_lt 0 (padded_size state.min_align block.addr block.size)) [
+      | inl filled ↦ elim (apart filled some) [ inl above ↦ omega arith | inr below ↦ absurd (omega arith) ]
+      | inr none ↦ omega arith
+    ]
 
 pub shrink_moved : (state : State) (block : Place) (size align k : ℕ) (outcome : Outcome) → IsValid state → IsBlock state block → size ≤ block.size → IsTrue (is_power align)
     → shrink state block.addr block.size block.align size align k ≡ Some outcome → IsMoved state block size align outcome

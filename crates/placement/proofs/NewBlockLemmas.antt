@@ -1,22 +1,22 @@
 -- What an allocation gives: a new block, or the state as it was.
-use Rattle.std.proofs.Common.{◌≡◌, ℕ, ◌+◌, ◌-◌, ◌<◌, ◌≤◌, ◌⊎◌, max, inl, inr, refl, sym, subst, ◌∙◌, arith, Some, None, Option, IsTrue, length}
+use Rattle.std.proofs.Common.{◌≡◌, ℕ, ◌+◌, ◌-◌, ◌<◌, ◌≤◌, max, inl, inr, refl, sym, subst, ◌∙◌, arith, Some, None, Option, IsTrue, length}
 use Rattle.std.specs.Prelude.{MatchOption, slice_get, ◌==◌}
 use Rattle.std.proofs.lemmas.Option.{same_Some, cond_some}
-use Rattle.placement.specs.Rounding.{up, down, is_power}
+use Rattle.placement.specs.Rounding.{down, is_power}
 use Rattle.placement.specs.State.{State, IsValid, start_of, cursor_of, is_range_used}
 use Rattle.placement.specs.Search.{place, asked}
 use Rattle.placement.specs.Moves.{Outcome, alloc, alloc_at, alloc_in_new, placed, fails, with_chunk}
-use Rattle.placement.specs.Blocks.{IsNewBlock}
+use Rattle.placement.specs.Blocks.{IsNewBlock, LieBeside}
 use Rattle.placement.proofs.RoundingLemmas.{up_least, min_align_positive}
 use Rattle.placement.proofs.PlaceLemmas.{IsPlace, is_place}
 use Rattle.placement.proofs.CursorLemmas.{top_set, top_floor, start_positive, cursor_within, cursor_aligned, valid_moved}
 use Rattle.placement.proofs.AllocLemmas.{is_granted, growing_of}
 use Rattle.placement.proofs.UsedLemmas.{used_set, used_grown, used_under, used_beside, used_from}
 
--- a block below the cursor, padded, lies beside what was in use
+-- a block below the cursor, padded, lies apart from what was in use
 beside : (state : State) (addr n p size : ℕ) → IsValid state → 0 < n → start_of state.chunks ≤ p → p + size ≤ cursor_of state.chunks → IsTrue (is_range_used state.chunks addr n)
-    → (up (p + size) state.min_align ≤ addr) ⊎ (addr + n ≤ p)
-beside state addr n p size valid some low high used =
+    → LieBeside state p size addr n
+beside state addr n p size valid some low high used = λ filled many.
     let positive = min_align_positive state.min_align valid.min_align in
     let padded = up_least (p + size) state.min_align (cursor_of state.chunks) positive (cursor_aligned state valid) high in
     elim (used_beside state.min_align addr n state.chunks valid.chunks some used) [
@@ -61,7 +61,7 @@ in_new state size align p e valid grown place = record {
     within = place.high;
     later = omega (arith, top_floor state.chunks, grown.chunks.1);
     keeps = λ addr n used. used_grown addr n (record { base = e.0; size = e.1; cursor = p }) state.chunks used;
-    beside = λ addr n some used. inr (omega (arith, used_under state.min_align addr n state.chunks valid.chunks some used, grown.chunks.1, place.low));
+    beside = λ addr n some used filled many. inr (omega (arith, used_under state.min_align addr n state.chunks valid.chunks some used, grown.chunks.1, place.low));
   };
 }
 

@@ -73,7 +73,7 @@ read_digit m d n cs low e =
     let value : m * 10 + (48 + d - 48) ≡ n = omega arith in
     rw (test, value)
 
-read_number_on : (n : ℕ) (cs : List ℕ) → read_front 0 (number n ++ cs) ≡ read_front n cs
+pub read_number_on : (n : ℕ) (cs : List ℕ) → read_front 0 (number n ++ cs) ≡ read_front n cs
 read_number_on = number_by_steps (λ n ds. (cs : List ℕ) → read_front 0 (ds ++ cs) ≡ read_front n cs)
     (λ n low cs. read_digit 0 n n cs low (omega arith))
     (λ n ds high front cs. ap (read_front 0) (append_assoc ds ((48 + n % 10) ∷ []) cs)

@@ -6,21 +6,21 @@ use Rattle.placement.specs.declared.calls.Call.{Call}
 use Rattle.placement.specs.declared.calls.Call.TheVariants.{Alloc, Grow, Shrink, Dealloc, Write, Read, Reset, Used, Allocated}
 use Rattle.placement.proofs.LineLemmas.{read_by, read_fields, read_fields_back, read_field, read_field_back, read_hex, read_hex_back}
 
-abbrev alloc_of : List ℕ → Call
+abbrev pub alloc_of : List ℕ → Call
 alloc_of ns = Alloc (get_or ns 0 0) (get_or ns 1 0) (get_or ns 2 0) (get_or ns 3 0)
 
-abbrev grow_of : List ℕ → Call
+abbrev pub grow_of : List ℕ → Call
 grow_of ns = Grow (get_or ns 0 0) (get_or ns 1 0) (get_or ns 2 0) (get_or ns 3 0)
 
-abbrev shrink_of : List ℕ → Call
+abbrev pub shrink_of : List ℕ → Call
 shrink_of ns = Shrink (get_or ns 0 0) (get_or ns 1 0) (get_or ns 2 0)
 
 -- a name and a place in front of bytes
-abbrev write_of : List ℕ × List ℕ → Call
+abbrev pub write_of : List ℕ × List ℕ → Call
 write_of f = Write (get_or f.0 0 0) (get_or f.0 1 0) (read_hex (drop 1 f.1)).0
 
 -- the call of a line with a line feed
-abbrev read_call : List ℕ → Call
+abbrev pub read_call : List ℕ → Call
 read_call = read_by Used
     ((codes "allocated", λ text. Allocated)
     ∷ (codes "alloc", λ text. alloc_of (read_fields 4 text).0)
@@ -33,7 +33,7 @@ read_call = read_by Used
     ∷ (codes "used", λ text. Used)
     ∷ [])
 
-read_call_back : (c : Call) → Fits c → read_call (call_line c ++ 10 ∷ []) ≡ c
+pub read_call_back : (c : Call) → Fits c → read_call (call_line c ++ 10 ∷ []) ≡ c
 read_call_back (Alloc name size align fill) h = ap (λ f. alloc_of f.0) (read_fields_back (name ∷ size ∷ align ∷ fill ∷ []) (10 ∷ []) refl)
 read_call_back (Grow name size align fill) h = ap (λ f. grow_of f.0) (read_fields_back (name ∷ size ∷ align ∷ fill ∷ []) (10 ∷ []) refl)
 read_call_back (Shrink name size align) h = ap (λ f. shrink_of f.0) (read_fields_back (name ∷ size ∷ align ∷ []) (10 ∷ []) refl)
@@ -100,4 +100,4 @@ same_reading bytes (Err n) (Ok a) p q =
     absurd (none_refused p.before p.after p.line a (subst (λ lines. AreCalls lines a) p.all q) p.bad)
 same_reading bytes (Err n) (Err m) p q =
     let same = same_place p.before q.before p.line q.line p.after q.after p.calls q.calls p.good q.good p.bad q.bad (sym p.all ∙ q.all) in
-    ap Err (p.place ∙ ap (λ k. k + 1) same ∙ sym q.place)
+    ap Err (p.number ∙ ap (λ k. k + 1) same ∙ sym q.number)

@@ -1,13 +1,10 @@
 -- States with nothing in use.
-use Rattle.std.proofs.Common.{◌≡◌, ℕ, ◌+◌, ◌<◌, ◌≤◌, refl, arith, List, [], ◌∷◌, IsTrue, Bool, true, false, sum, map}
+use Rattle.std.proofs.Common.{◌≡◌, ℕ, ◌+◌, ◌<◌, refl, arith, List, [], ◌∷◌, IsTrue, Bool, true, false, sum, map}
 use Rattle.placement.specs.State.{State, Chunk, is_min_align, AreChunks, FitsKind, IsValid, floor_of, is_range_used, newest_size, used_length, used_bytes, allocated_bytes}
 use Rattle.std.proofs.lemmas.Bool.Decides.{nat_tests}
 use Rattle.placement.specs.Moves.{reset, emptied}
 use Rattle.placement.proofs.RoundingLemmas.{min_align_multiple}
-
-floor_least : (m : ℕ) → (chunks : List Chunk) → AreChunks m chunks → 4096 ≤ floor_of chunks
-floor_least m [] valid = omega arith
-floor_least m (newest ∷ older) valid = omega (arith, floor_least m older valid.2, valid.1)
+use Rattle.placement.proofs.UsedLemmas.{floor_least}
 
 kind_emptied : (growing : Bool) (chunks : List Chunk) → FitsKind growing chunks → FitsKind growing (emptied chunks)
 kind_emptied true [] fits = tt

@@ -1,12 +1,13 @@
 -- Blocks that are given back.
-use Rattle.std.proofs.Common.{◌≡◌, ℕ, ◌+◌, ◌%◌, ◌<◌, ◌≤◌, ◌⊎◌, inl, inr, refl, ap, sym, subst, ◌∙◌, arith, List, [], ◌∷◌, IsTrue, Bool, eq-eqb, ne_eqb}
+use Rattle.std.proofs.Common.{◌≡◌, ℕ, ◌+◌, ◌%◌, ◌<◌, ◌≤◌, inl, inr, refl, ap, sym, subst, ◌∙◌, arith, List, [], ◌∷◌, IsTrue, Bool, eq-eqb, ne_eqb, sum, map}
 use Rattle.std.specs.Prelude.{◌==◌, ◌||◌}
 use Rattle.std.proofs.lemmas.Bool.{or_left, or_right, cases_eq, cases_lt}
 use Rattle.std.proofs.lemmas.Bool.Decides.{nat_tests}
 use Rattle.placement.specs.Rounding.{up}
-use Rattle.placement.specs.State.{State, Chunk, IsValid, start_of, cursor_of, top_of, with_cursor, with_newest_cursor, is_range_used}
+use Rattle.placement.specs.State.{State, Chunk, IsValid, start_of, cursor_of, top_of, with_cursor, with_newest_cursor, is_range_used, allocated_bytes, AreApart}
 use Rattle.placement.specs.Moves.{dealloc}
-use Rattle.placement.specs.Machine.{is_place_used, AreApart}
+use Rattle.placement.specs.Machine.{is_place_used}
+use Rattle.placement.specs.Blocks.{padded_size, LieBeside}
 use Rattle.placement.specs.declared.place.Place.{Place}
 use Rattle.placement.proofs.RoundingLemmas.{up_ge, up_mod, up_same, up_least, min_align_positive}
 use Rattle.placement.proofs.CursorLemmas.{cursor_within, cursor_aligned, top_aligned, valid_set}
@@ -37,12 +38,24 @@ dealloc_is_growing state p size = dealloc_by (λ (s : State). s.is_growing ≡ s
 pub dealloc_generation : (state : State) (p size : ℕ) → (dealloc state p size).generation ≡ state.generation
 dealloc_generation state p size = dealloc_by (λ (s : State). s.generation ≡ state.generation) state p size (λ at. refl) refl
 
+-- another cursor changes no size
+pub allocated_moved : (p : ℕ) (chunks : List Chunk) → sum (map (λ (c : Chunk). c.size) (with_newest_cursor p chunks)) ≡ sum (map (λ (c : Chunk). c.size) chunks)
+allocated_moved p [] = refl
+allocated_moved p (newest ∷ older) = refl
+
+pub dealloc_allocated : (state : State) (p size : ℕ) → allocated_bytes (dealloc state p size) ≡ allocated_bytes state
+dealloc_allocated state p size =
+    dealloc_by (λ (s : State). allocated_bytes s ≡ allocated_bytes state) state p size (λ at. allocated_moved (up (p + size) state.min_align) state.chunks) refl
+
 -- A range in use that lies apart from the padded block stays in use.
-pub dealloc_keeps : (state : State) (p size addr n : ℕ) → 0 < n → IsTrue (is_range_used state.chunks addr n) → (addr + n ≤ p) ⊎ (up (p + size) state.min_align ≤ addr)
+pub dealloc_keeps : (state : State) (p size addr n : ℕ) → 0 < n → IsTrue (is_range_used state.chunks addr n) → LieBeside state p size addr n
     → IsTrue (is_range_used (dealloc state p size).chunks addr n)
 dealloc_keeps state p size addr n some used apart =
     dealloc_by (λ (s : State). IsTrue (is_range_used s.chunks addr n)) state p size
-    (λ at. used_set (up (p + size) state.min_align) addr n state.chunks (λ from. elim apart [ inl below ↦ absurd (omega arith) | inr above ↦ above ]) used) used
+    (λ at. used_set (up (p + size) state.min_align) addr n state.chunks (λ from. elim (cases_lt 0 (padded_size state.min_align p size)) [
+      | inl filled ↦ elim (apart filled some) [ inl above ↦ omega arith | inr below ↦ absurd (omega arith) ]
+      | inr none ↦ omega arith
+    ]) used) used
 
 -- Where a block at the cursor is given back.
 pub record IsReturn (state : State) (p size q : ℕ) : Type 0 where
@@ -100,7 +113,7 @@ dealloc_empty state p valid =
     ∙ ap (λ (chunks : List Chunk). record state { chunks = chunks }) (cursor_same state.chunks)) refl
 
 -- A place apart from the block stays in use, if it begins at a multiple of the least alignment.
-pub place_kept : (state : State) (block other : Place) → IsValid state → other.addr % state.min_align ≡ 0 → AreApart block other → IsTrue (is_place_used state other)
+pub place_kept : (state : State) (block other : Place) → IsValid state → other.addr % state.min_align ≡ 0 → AreApart block.addr block.size other.addr other.size → IsTrue (is_place_used state other)
     → IsTrue (is_place_used (dealloc state block.addr block.size) other)
 place_kept state block other valid aligned apart used =
     let positive = min_align_positive state.min_align valid.min_align in
@@ -111,9 +124,9 @@ place_kept state block other valid aligned apart used =
             subst (λ (s : State). IsTrue (is_place_used s other)) (sym (ap (dealloc state block.addr) empty ∙ dealloc_empty state block.addr valid)) used
         | inl filled ↦
             or_right (other.size == 0) (is_range_used (dealloc state block.addr block.size).chunks other.addr other.size)
-            (dealloc_keeps state block.addr block.size other.addr other.size some (used_filled state other some used) (elim (apart filled some) [
-              | inl behind ↦ inr (up_least (block.addr + block.size) state.min_align other.addr positive aligned behind)
-              | inr before ↦ inl before
+            (dealloc_keeps state block.addr block.size other.addr other.size some (used_filled state other some used) (λ padded many. elim (apart filled some) [
+              | inl behind ↦ inl (omega (arith, up_least (block.addr + block.size) state.min_align other.addr positive aligned behind))
+              | inr before ↦ inr before
             ]))
       ]
     ]

@@ -22,6 +22,9 @@ multiple_of_multiple x a b outer inner = mod-eq-zero_of_dvd a (dvd_trans a (dvd_
 pub sum_multiple : (a b d : ℕ) → a % d ≡ 0 → b % d ≡ 0 → (a + b) % d ≡ 0
 sum_multiple a b d first second = mod-eq-zero_of_dvd d (dvd-add d (dvd_of_mod-eq-zero d first) (dvd_of_mod-eq-zero d second))
 
+pub difference_multiple : (a b d : ℕ) → a % d ≡ 0 → b % d ≡ 0 → (a - b) % d ≡ 0
+difference_multiple a b d first second = mod-eq-zero_of_dvd d (dvd-sub d (dvd_of_mod-eq-zero d first) (dvd_of_mod-eq-zero d second))
+
 -- two multiples lie apart by the divisor or more
 pub multiples_apart : (m n d : ℕ) → m % d ≡ 0 → n % d ≡ 0 → m < n → m + d ≤ n
 multiples_apart m n d low high below =
@@ -44,6 +47,10 @@ down_greatest n d m positive multiple within = elim (cases_lt (down n d) m) [
   | inl past ↦ absurd (omega (arith, down_close n d positive, multiples_apart (down n d) m d (down_mod n d) multiple past))
   | inr fine ↦ fine
 ]
+
+-- a multiple is rounded to itself
+pub down_same : (n d : ℕ) → 0 < d → n % d ≡ 0 → down n d ≡ n
+down_same n d positive multiple = omega (arith, down_le n d, down_greatest n d n positive multiple (omega arith))
 
 pub up_ge : (n d : ℕ) → 0 < d → n ≤ up n d
 unfolding up

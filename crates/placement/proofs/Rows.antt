@@ -3,9 +3,10 @@ use Rattle.std.proofs.Common.{◌≡◌, ℕ, ◌+◌, ◌-◌, ◌*◌, ◌^◌
 use Rattle.placement.specs.Rounding.{up, down, is_power_among}
 use Rattle.placement.specs.State.{State, Chunk}
 use Rattle.placement.specs.Search.{place_below, doubled, power_at_least, size_for, halves, possible, entries, asked_above, asked, requests}
-use Rattle.placement.specs.Moves.{Outcome, alloc, dealloc, shrink, grow, stays, placed, fails, with_chunk}
+use Rattle.placement.specs.Moves.{Outcome, alloc, dealloc, shrink, shrinking, grow, growing, stays, placed, fails, with_chunk}
+use Rattle.placement.specs.Moves.Resizing.{Moves, Anew}
 use Rattle.placement.specs.Creation.{empty_state, fixed_state, capacity_chunk, create, create_requests}
-use Rattle.placement.specs.Doubling.{IsDoubling, is_made_first, grown_anew, shrunk_anew}
+use Rattle.placement.specs.Doubling.{IsDoubling, is_made_first}
 
 -- with the first chunk, and the cursor there
 first_chunk : ℕ → State
@@ -169,20 +170,22 @@ two_chunks_double : IsDoubling 16320 two_chunks
 unfolding two_chunks
 two_chunks_double = (omega arith, (omega arith, tt))
 
+-- ---- What becomes of a block that is given another size
+
 -- a block that grows is placed anew only where it has no room to grow in place
-grows_in_place : grown_anew (first_chunk 20406) 20406 10 1 11 1 ≡ None
-unfolding grown_anew is_power_among up down first_chunk
+grows_in_place : growing (first_chunk 20406) 20406 10 1 11 1 ≡ Moves 20405
+unfolding is_power_among up down first_chunk
 grows_in_place = refl
 
-grows_elsewhere : grown_anew (first_chunk 20406) 20406 10 1 16321 1 ≡ Some (16321, 1)
-unfolding grown_anew is_power_among up down first_chunk
+grows_elsewhere : growing (first_chunk 20406) 20406 10 1 16321 1 ≡ Anew
+unfolding is_power_among up down first_chunk
 grows_elsewhere = refl
 
 -- and one that shrinks only for a greater alignment
-shrinks_in_place : shrunk_anew (first_chunk 20406) 20406 1 5 1 ≡ None
-unfolding shrunk_anew first_chunk
+shrinks_in_place : shrinking (first_chunk 20406) 20406 10 1 5 1 ≡ Moves 20411
+unfolding up down first_chunk
 shrinks_in_place = refl
 
-shrinks_elsewhere : shrunk_anew (first_chunk 20406) 20406 1 5 4 ≡ Some (5, 4)
-unfolding shrunk_anew first_chunk
+shrinks_elsewhere : shrinking (first_chunk 20406) 20406 10 1 5 4 ≡ Anew
+unfolding first_chunk
 shrinks_elsewhere = refl

@@ -1,8 +1,9 @@
 -- Ranges in use: where they lie, and what a new cursor or a new chunk leaves of them.
-use Rattle.std.proofs.Common.{ℕ, ◌+◌, ◌<◌, ◌≤◌, ◌⊎◌, inl, inr, arith, List, [], ◌∷◌, IsTrue}
+use Rattle.std.proofs.Common.{ℕ, ◌+◌, ◌^◌, ◌<◌, ◌≤◌, ◌⊎◌, inl, inr, arith, List, [], ◌∷◌, IsTrue}
 use Rattle.std.proofs.lemmas.Bool.{or_cases, or_left, or_right}
 use Rattle.std.proofs.lemmas.Bool.Decides.{nat_tests}
-use Rattle.placement.specs.State.{Chunk, AreChunks, start_of, cursor_of, top_of, floor_of, data_end, with_newest_cursor, is_used_by, is_range_used}
+use Rattle.placement.proofs.CursorLemmas.{top_le}
+use Rattle.placement.specs.State.{State, Chunk, AreChunks, IsValid, start_of, cursor_of, top_of, floor_of, data_end, with_newest_cursor, is_used_by, is_range_used}
 
 -- the bounds that the test compares
 record IsWithin (addr n : ℕ) (chunk : Chunk) : Type 0 where
@@ -35,6 +36,37 @@ used_under m addr n (newest ∷ older) valid some used = elim (or_cases (is_used
   | inl here ↦ omega (arith, within addr n newest here)
   | inr there ↦ omega (arith, used_under m addr n older valid.2 some there, valid.0.cursor_low, valid.0.cursor_high, valid.1)
 ]
+
+-- each chunk begins at 4096 or above
+pub floor_least : (m : ℕ) → (chunks : List Chunk) → AreChunks m chunks → 4096 ≤ floor_of chunks
+floor_least m [] valid = omega arith
+floor_least m (newest ∷ older) valid = omega (arith, floor_least m older valid.2, valid.1)
+
+-- what is in use lies at 4096 or above
+pub used_low : (state : State) (addr n : ℕ) → IsValid state → 0 < n → IsTrue (is_range_used state.chunks addr n) → 4096 ≤ addr
+used_low state addr n valid some = go state.chunks valid.chunks
+  where
+    go : (chunks : List Chunk) → AreChunks state.min_align chunks → IsTrue (is_range_used chunks addr n) → 4096 ≤ addr
+    go [] fine used = cc
+    go (newest ∷ older) fine used = elim (or_cases (is_used_by addr n newest) (is_range_used older addr n) used) [
+      | inl here ↦ omega (arith, within addr n newest here, fine.0.cursor_low, fine.1, floor_least state.min_align older fine.2)
+      | inr there ↦ go older fine.2 there
+    ]
+
+-- what is in use ends with the newest chunk's data or before
+pub used_high : (state : State) (addr n : ℕ) → IsValid state → 0 < n → IsTrue (is_range_used state.chunks addr n) → addr + n ≤ top_of state.chunks
+used_high state addr n valid some = go state.chunks valid.chunks
+  where
+    go : (chunks : List Chunk) → AreChunks state.min_align chunks → IsTrue (is_range_used chunks addr n) → addr + n ≤ top_of chunks
+    go [] fine used = cc
+    go (newest ∷ older) fine used = elim (or_cases (is_used_by addr n newest) (is_range_used older addr n) used) [
+      | inl here ↦ omega (arith, within addr n newest here)
+      | inr there ↦ omega (arith, used_under state.min_align addr n older fine.2 some there, fine.1)
+    ]
+
+-- and so below the last address
+pub used_below_last : (state : State) (addr n : ℕ) → IsValid state → 0 < n → IsTrue (is_range_used state.chunks addr n) → addr + n < 2 ^ 64
+used_below_last state addr n valid some used = omega (arith, used_high state addr n valid some used, top_le state valid)
 
 -- what is in use lies at the cursor or above, or below the newest chunk
 pub used_beside : (m addr n : ℕ) → (chunks : List Chunk) → AreChunks m chunks → 0 < n → IsTrue (is_range_used chunks addr n)

@@ -1,13 +1,18 @@
 -- What a block that was just placed, or that shrank or grew, is to the states before and after.
-use Rattle.std.specs.Prelude.{◌≡◌, ℕ, ◌+◌, ◌%◌, ◌<◌, ◌≤◌, ◌⊎◌, IsTrue}
+use Rattle.std.specs.Prelude.{◌≡◌, ℕ, ◌+◌, ◌-◌, ◌%◌, ◌<◌, ◌≤◌, IsTrue, Option}
 use Rattle.placement.specs.Rounding.{up, is_layout}
-use Rattle.placement.specs.State.{State, is_range_used, top_of}
+use Rattle.placement.specs.State.{State, is_range_used, top_of, AreApart}
+use Rattle.placement.specs.Moves.{Outcome, Resizing, growing, grow, shrinking, shrink}
 use Rattle.placement.specs.Machine.{is_place_used}
 use Rattle.placement.specs.declared.place.Place.{Place}
 
--- n addresses from this one on lie beside the block at p and the addresses up to the next multiple of the least alignment
+-- the size of a block at p with the addresses up to the next multiple of the least alignment
+abbrev pub padded_size : ℕ → ℕ → ℕ → ℕ
+padded_size min_align p size = up (p + size) min_align - p
+
+-- n addresses from this one on lie apart from a block at p, padded
 abbrev pub LieBeside : State → ℕ → ℕ → ℕ → ℕ → Type 0
-LieBeside state p size addr n = (up (p + size) state.min_align ≤ addr) ⊎ (addr + n ≤ p)
+LieBeside state p size addr n = AreApart p (padded_size state.min_align p size) addr n
 
 -- The block is aligned and in use, at or below the newest data end, which never falls; what was in use still is, and lies beside the block.
 pub record IsNewBlock (old : State) (size align p : ℕ) (new : State) : Type 0 where
@@ -37,5 +42,22 @@ pub record IsMovedBlock (old : State) (block : Place) (size align p : ℕ) (new 
   pub aligned : p % align ≡ 0
   pub min_aligned : p % old.min_align ≡ 0
   pub used : 0 < size → IsTrue (is_range_used new.chunks p size)
-  pub keeps : (addr n : ℕ) → 0 < n → IsTrue (is_range_used old.chunks addr n) → LieBeside old block.addr block.size addr n → IsTrue (is_range_used new.chunks addr n)
-  pub beside : (addr n : ℕ) → 0 < n → IsTrue (is_range_used old.chunks addr n) → LieBeside old block.addr block.size addr n → LieBeside old p size addr n
+  pub keeps : (addr n : ℕ) → 0 < n → IsTrue (is_range_used old.chunks addr n) → LieBeside old block.addr block.size addr n
+      → IsTrue (is_range_used new.chunks addr n)
+  pub beside : (addr n : ℕ) → 0 < n → IsTrue (is_range_used old.chunks addr n) → LieBeside old block.addr block.size addr n
+      → LieBeside old p size addr n
+
+-- ---- A block that is given another size
+
+-- what becomes of it, and the move
+abbrev pub growing_block : State → Place → ℕ → ℕ → Resizing
+growing_block state block size align = growing state block.addr block.size block.align size align
+
+abbrev pub grow_block : State → Place → ℕ → ℕ → ℕ → Option Outcome
+grow_block state block size align k = grow state block.addr block.size block.align size align k
+
+abbrev pub shrinking_block : State → Place → ℕ → ℕ → Resizing
+shrinking_block state block size align = shrinking state block.addr block.size block.align size align
+
+abbrev pub shrink_block : State → Place → ℕ → ℕ → ℕ → Option Outcome
+shrink_block state block size align k = shrink state block.addr block.size block.align size align k

@@ -86,7 +86,7 @@ pub record IsFirstRefused (lines : List (List ℕ)) (n : ℕ) : Type 0 where
   pub line : List ℕ
   pub after : List (List ℕ)
   pub all : lines ≡ before ++ line ∷ after
-  pub place : n ≡ length before + 1
+  pub number : n ≡ length before + 1
   pub good : AreCalls before calls
   pub bad : IsRefused line
 

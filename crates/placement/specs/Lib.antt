@@ -7,6 +7,8 @@ pub mod Blocks
 pub mod Causes
 pub mod Machine
 pub mod Requests
+pub mod Statistics
+pub mod Used
 pub mod Doubling
 pub mod Grammar
 pub mod Replies

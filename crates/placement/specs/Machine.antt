@@ -1,10 +1,10 @@
 -- The placement machine: calls by name, one after another, each told how many of its requests were refused.
-use Rattle.std.specs.Prelude.{◌≡◌, ◌≢◌, ℕ, ◌+◌, ◌-◌, ◌%◌, ◌<◌, ◌≤◌, ◌⊎◌, nat_lt, ◌==◌, Bool, true, false, ◌||◌, not, if◌then◌else◌, Option, Some, None, List, [], ◌∷◌, ◌++◌, length, take, drop, replicate, map, IsTrue}
+use Rattle.std.specs.Prelude.{◌≡◌, ◌≢◌, ℕ, ◌+◌, ◌-◌, ◌%◌, nat_lt, ◌==◌, Bool, true, false, ◌||◌, not, if◌then◌else◌, Option, Some, None, List, [], ◌∷◌, ◌++◌, length, take, drop, replicate, map, IsTrue}
 use Rattle.std.specs.Ordering.{nat_cmp}
 use Rattle.std.specs.Option.{option_map, option_and_then}
 use Rattle.std.specs.FinMap as map
 use Rattle.placement.specs.Rounding.{is_layout}
-use Rattle.placement.specs.State.{State, used_bytes, allocated_bytes, is_range_used}
+use Rattle.placement.specs.State.{State, used_bytes, allocated_bytes, is_range_used, AreApart}
 use Rattle.placement.specs.Moves.{Outcome, alloc, grow, shrink, dealloc, reset}
 use Rattle.placement.specs.declared.place.Place.{Place}
 use Rattle.placement.specs.declared.calls.Call.{Call}
@@ -34,7 +34,7 @@ fresh state = record { state = state; held = map.empty; bytes = map.empty }
 abbrev pub Next : Type 0
 Next = Reply × Machine
 
--- a call that asks for nothing has a step for no refusals alone
+-- a call that asks for nothing has a step only where k is 0
 abbrev pub answers : ℕ → Reply → Machine → Option Next
 answers k reply m = if k == 0 then Some (reply, m) else None
 
@@ -138,9 +138,6 @@ is_reset Allocated = false
 
 -- ---- What held blocks are to each other and to the state
 
-abbrev pub AreApart : Place → Place → Type 0
-AreApart p q = 0 < p.size → 0 < q.size → (p.addr + p.size ≤ q.addr) ⊎ (q.addr + q.size ≤ p.addr)
-
 -- the addresses of a place, if it has any, lie in the used part of one chunk
 abbrev pub is_place_used : State → Place → Bool
 is_place_used state place = place.size == 0 || is_range_used state.chunks place.addr place.size
@@ -149,4 +146,5 @@ is_place_used state place = place.size == 0 || is_range_used state.chunks place.
 pub record IsSound (state : State) (held : Held) : Type 0 where
   pub aligned : (name : ℕ) (p : Place) → map.get held name ≡ Some p → p.addr % p.align ≡ 0
   pub used : (name : ℕ) (p : Place) → map.get held name ≡ Some p → IsTrue (is_place_used state p)
-  pub apart : (m n : ℕ) (p q : Place) → m ≢ n → map.get held m ≡ Some p → map.get held n ≡ Some q → AreApart p q
+  pub apart : (m n : ℕ) (p q : Place) → m ≢ n → map.get held m ≡ Some p → map.get held n ≡ Some q
+      → AreApart p.addr p.size q.addr q.size

@@ -1,50 +1,47 @@
--- The requests that calls make of the source, where so many of each are refused.
-use Rattle.std.specs.Prelude.{ℕ, ◌-◌, ◌%◌, nat_le, nat_lt, ◌==◌, ◌&&◌, not, if◌then◌else◌, Option, Some, None, List, [], ◌∷◌, ◌++◌}
+-- What calls by name place anew, and so what they ask the source for.
+use Rattle.std.specs.Prelude.{ℕ, nat_lt, Bool, false, ◌&&◌, ◌||◌, not, if◌then◌else◌, Option, Some, None, List, [], ◌∷◌, ◌++◌}
 use Rattle.std.specs.FinMap as map
-use Rattle.std.specs.Option.{option_map_or}
-use Rattle.placement.specs.Rounding.{up, is_layout}
-use Rattle.placement.specs.State.{State, cursor_of}
-use Rattle.placement.specs.Search.{place, alloc_requests}
+use Rattle.std.specs.Option.{is_some, option_and_then, option_map_or}
+use Rattle.placement.specs.Rounding.{is_layout}
+use Rattle.placement.specs.State.{State}
+use Rattle.placement.specs.Search.{alloc_requests}
+use Rattle.placement.specs.Moves.{Resizing, growing, shrinking, anew}
 use Rattle.placement.specs.Machine.{Machine, Next, step, fresh}
 use Rattle.placement.specs.declared.place.Place.{Place}
 use Rattle.placement.specs.declared.calls.Call.{Call}
 use Rattle.placement.specs.declared.calls.Call.TheVariants.{Alloc, Grow, Shrink, Dealloc, Write, Read, Reset, Used, Allocated}
 
--- of a shrink: those of a new block where the old place is no multiple of a greater alignment
-unfoldable pub shrink_requests : State → ℕ → ℕ → ℕ → ℕ → ℕ → List (ℕ × ℕ)
-shrink_requests state p align new_size new_align k =
-    if nat_lt align new_align && not (p % new_align == 0) then alloc_requests state new_size new_align k else []
+-- the requests for this layout, if any, where k are refused
+abbrev pub requests_anew : Option (ℕ × ℕ) → State → ℕ → List (ℕ × ℕ)
+requests_anew None state k = []
+requests_anew (Some layout) state k = alloc_requests state layout.0 layout.1 k
 
-abbrev pub grow_requests_at : Option ℕ → State → ℕ → ℕ → ℕ → List (ℕ × ℕ)
-grow_requests_at (Some q) state new_size new_align k = []
-grow_requests_at None state new_size new_align k = alloc_requests state new_size new_align k
+-- the requests of a call that gives a block this layout
+abbrev pub resize_requests : Resizing → State → ℕ → ℕ → ℕ → List (ℕ × ℕ)
+resize_requests way state size align k = requests_anew (anew way (size, align)) state k
 
--- of a grow: those of a new block where the old one doesn't grow in place
-unfoldable pub grow_requests : State → ℕ → ℕ → ℕ → ℕ → ℕ → ℕ → List (ℕ × ℕ)
-grow_requests state p size align new_size new_align k =
-    if nat_le new_align align && p == cursor_of state.chunks
-    then (if is_layout (up new_size state.min_align - size) align
-    then grow_requests_at (place state (up new_size state.min_align - size) align) state new_size new_align k else [])
-    else alloc_requests state new_size new_align k
+-- the layout that a call places by an allocation, if any
+unfoldable pub placed_anew : Call → Machine → Option (ℕ × ℕ)
+placed_anew (Alloc name size align fill) m =
+    if map.contains_key m.held name then None else (if is_layout size align then Some (size, align) else None)
+placed_anew (Grow name size align fill) m = option_and_then {U = ℕ × ℕ} (λ (p : Place).
+    if is_layout size align && not (nat_lt size p.size)
+    then anew (growing m.state p.addr p.size p.align size align) (size, align) else None)
+    (map.get m.held name)
+placed_anew (Shrink name size align) m = option_and_then {U = ℕ × ℕ} (λ (p : Place).
+    if is_layout size align && not (nat_lt p.size size)
+    then anew (shrinking m.state p.addr p.size p.align size align) (size, align) else None)
+    (map.get m.held name)
+placed_anew (Dealloc name) m = None
+placed_anew (Write name at bytes) m = None
+placed_anew (Read name) m = None
+placed_anew Reset m = None
+placed_anew Used m = None
+placed_anew Allocated m = None
 
--- a call on a name that isn't held, or with no layout, asks for nothing
-abbrev pub at_held : Option Place → ℕ → ℕ → (Place → List (ℕ × ℕ)) → List (ℕ × ℕ)
-at_held (Some place) size align go = if is_layout size align then go place else []
-at_held None size align go = []
-
-unfoldable pub call_requests : Call → ℕ → Machine → List (ℕ × ℕ)
-call_requests (Alloc name size align fill) k m =
-    if map.contains_key m.held name then [] else (if is_layout size align then alloc_requests m.state size align k else [])
-call_requests (Grow name size align fill) k m = at_held (map.get m.held name) size align (λ place.
-    if nat_lt size place.size then [] else grow_requests m.state place.addr place.size place.align size align k)
-call_requests (Shrink name size align) k m = at_held (map.get m.held name) size align (λ place.
-    if nat_lt place.size size then [] else shrink_requests m.state place.addr place.align size align k)
-call_requests (Dealloc name) k m = []
-call_requests (Write name at bytes) k m = []
-call_requests (Read name) k m = []
-call_requests Reset k m = []
-call_requests Used k m = []
-call_requests Allocated k m = []
+-- the requests of a call, where k are refused
+abbrev pub call_requests : Call → ℕ → Machine → List (ℕ × ℕ)
+call_requests call k m = requests_anew (placed_anew call m) m.state k
 
 -- of a run: call after call
 unfoldable pub requests_from : Machine → List Call → List ℕ → List (ℕ × ℕ)
@@ -56,3 +53,19 @@ requests_from m (call ∷ calls) (k ∷ ks) =
 -- A run begins with no names.
 abbrev pub requests_of : State → List Call → List ℕ → List (ℕ × ℕ)
 requests_of state calls ks = requests_from (fresh state) calls ks
+
+-- a call that answers the bytes of a block
+abbrev pub reads : Call → Machine → Bool
+reads (Read name) m = map.contains_key m.held name
+reads (Alloc name size align fill) m = false
+reads (Grow name size align fill) m = false
+reads (Shrink name size align) m = false
+reads (Dealloc name) m = false
+reads (Write name at bytes) m = false
+reads Reset m = false
+reads Used m = false
+reads Allocated m = false
+
+-- A call for which memory can be wanting: one that places a block by an allocation, or answers bytes.
+abbrev pub takes_memory : Call → Machine → Bool
+takes_memory call m = is_some (placed_anew call m) || reads call m

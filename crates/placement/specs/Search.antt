@@ -54,7 +54,8 @@ least_size size = max size 16320
 -- the base and data size for a tried size, where such a chunk ends below the last address
 unfoldable pub possible : ℕ → ℕ → ℕ → ℕ → Option (ℕ × ℕ)
 possible base size align tried =
-    option_and_then {U = ℕ × ℕ} (λ bytes. if nat_le (base + bytes + 48) (2 ^ 64 - 1) then Some (base, bytes) else None) (size_for tried size align)
+    option_and_then {U = ℕ × ℕ} (λ bytes. if nat_le (base + bytes + 48) (2 ^ 64 - 1) then Some (base, bytes) else None)
+    (size_for tried size align)
 
 -- the possible chunks of this base for the tried sizes from the first one on
 unfoldable pub entries : ℕ → ℕ → ℕ → ℕ → ℕ → List (ℕ × ℕ)

@@ -1,5 +1,5 @@
 -- What an arena holds, without its bytes.
-use Rattle.std.specs.Prelude.{◌≡◌, ℕ, ◌+◌, ◌-◌, ◌%◌, ◌^◌, ◌≤◌, Bool, true, false, List, [], ◌∷◌, sum, map, IsTrue, ◌&&◌, ◌||◌, ◌==◌, nat_le}
+use Rattle.std.specs.Prelude.{◌≡◌, ℕ, ◌+◌, ◌-◌, ◌%◌, ◌^◌, ◌<◌, ◌≤◌, ◌⊎◌, Bool, true, false, List, [], ◌∷◌, sum, map, IsTrue, ◌&&◌, ◌||◌, ◌==◌, nat_le}
 use Rattle.std.specs.List.{list_any}
 
 -- A chunk has the addresses from base to its data end. Those from the cursor on are used.
@@ -55,6 +55,10 @@ is_range_used chunks addr n = list_any (is_used_by addr n) chunks
 
 abbrev pub is_used : State → ℕ → Bool
 is_used state addr = is_range_used state.chunks addr 1
+
+-- two ranges of addresses, of m and of n of them, have none in common
+abbrev pub AreApart : ℕ → ℕ → ℕ → ℕ → Type 0
+AreApart p m q n = 0 < m → 0 < n → (p + m ≤ q) ⊎ (q + n ≤ p)
 
 -- the newest chunk with another cursor
 abbrev pub with_newest_cursor : ℕ → List Chunk → List Chunk

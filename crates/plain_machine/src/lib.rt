@@ -13,6 +13,3 @@ mod state;
 mod unasked;
 
 pub use machine::PlainMachine;
-
-#[cfg(test)]
-mod tests;

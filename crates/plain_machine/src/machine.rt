@@ -96,7 +96,8 @@ impl PlainMachine {
         fill: u8,
         refused: u32,
     ) -> Result<Option<Reply>, OutOfMemory>
-        ensures step { IfOk result (λ reply. gives self.new reply ≡ machine.step (Call.Alloc name size align fill) refused self.old) }
+        ensures step { IfOk result (λ reply. gives self.new reply
+            ≡ machine.step (Call.Alloc name size align fill) refused self.old) }
         ensures none { IfOk result (λ reply. IfNone reply (self.new ≡ self.old)) }
     {
         if self.held.contains(name) {
@@ -125,7 +126,8 @@ impl PlainMachine {
         fill: u8,
         refused: u32,
     ) -> Result<Option<Reply>, OutOfMemory>
-        ensures step { IfOk result (λ reply. gives self.new reply ≡ machine.step (Call.Grow name size align fill) refused self.old) }
+        ensures step { IfOk result (λ reply. gives self.new reply
+            ≡ machine.step (Call.Grow name size align fill) refused self.old) }
         ensures none { IfOk result (λ reply. IfNone reply (self.new ≡ self.old)) }
     {
         let Some(block) = self.held.get(name).copied() else {
@@ -159,7 +161,8 @@ impl PlainMachine {
         align: u64,
         refused: u32,
     ) -> Result<Option<Reply>, OutOfMemory>
-        ensures step { IfOk result (λ reply. gives self.new reply ≡ machine.step (Call.Shrink name size align) refused self.old) }
+        ensures step { IfOk result (λ reply. gives self.new reply
+            ≡ machine.step (Call.Shrink name size align) refused self.old) }
         ensures none { IfOk result (λ reply. IfNone reply (self.new ≡ self.old)) }
     {
         let Some(block) = self.held.get(name).copied() else {
@@ -209,7 +212,8 @@ impl PlainMachine {
         new: &Bytes,
         refused: u32,
     ) -> Result<Option<Reply>, OutOfMemory>
-        ensures step { IfOk result (λ reply. gives self.new reply ≡ machine.step (Call.Write name at new.now) refused self.old) }
+        ensures step { IfOk result (λ reply. gives self.new reply
+            ≡ machine.step (Call.Write name at new.now) refused self.old) }
         ensures none { IfOk result (λ reply. IfNone reply (self.new ≡ self.old)) }
     {
         let Some(place) = self.held.get(name).copied() else {
@@ -230,7 +234,8 @@ impl PlainMachine {
     }
 
     fn read(&self, alloc: Global, name: u32, refused: u32) -> Result<Option<Reply>, OutOfMemory>
-        ensures { IfOk result (λ reply. gives self.now reply ≡ machine.step (Call.Read name) refused self.now) }
+        ensures { IfOk result (λ reply. gives self.now reply
+            ≡ machine.step (Call.Read name) refused self.now) }
     {
         if !self.held.contains(name) {
             return Ok(unasked(refused, Reply::NoSuchName));

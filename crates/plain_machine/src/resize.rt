@@ -24,7 +24,8 @@ impl PlainState {
     ) -> Result<Option<Answer>, OutOfMemory>
         requires size { block.size ≤ layout.size }
         requires end { block.addr + block.size ≤ top_of self.old.chunks }
-        ensures step { IfOk result (λ answer. leaves self.new answer ≡ moves.grow self.old block.addr block.size block.align layout.size layout.align refused) }
+        ensures step { IfOk result (λ answer. leaves self.new answer
+            ≡ moves.grow self.old block.addr block.size block.align layout.size layout.align refused) }
         ensures err { OnErr result (self.new ≡ self.old) }
         ensures none { IfOk result (λ answer. IfNone answer (self.new ≡ self.old)) }
         ensures later { top_of self.old.chunks ≤ top_of self.new.chunks }
@@ -49,7 +50,8 @@ impl PlainState {
         requires at { block.addr ≡ cursor_of self.old.chunks }
         requires size { block.size ≤ layout.size }
         requires end { block.addr + block.size ≤ top_of self.old.chunks }
-        ensures step { IfOk result (λ answer. leaves self.new answer ≡ moves.grow self.old block.addr block.size block.align layout.size layout.align refused) }
+        ensures step { IfOk result (λ answer. leaves self.new answer
+            ≡ moves.grow self.old block.addr block.size block.align layout.size layout.align refused) }
         ensures err { OnErr result (self.new ≡ self.old) }
         ensures none { IfOk result (λ answer. IfNone answer (self.new ≡ self.old)) }
         ensures later { top_of self.old.chunks ≤ top_of self.new.chunks }
@@ -83,7 +85,8 @@ impl PlainState {
     ) -> Result<Option<Answer>, OutOfMemory>
         requires size { layout.size ≤ block.size }
         requires end { block.addr + block.size ≤ top_of self.old.chunks }
-        ensures step { IfOk result (λ answer. leaves self.new answer ≡ moves.shrink self.old block.addr block.size block.align layout.size layout.align refused) }
+        ensures step { IfOk result (λ answer. leaves self.new answer
+            ≡ moves.shrink self.old block.addr block.size block.align layout.size layout.align refused) }
         ensures err { OnErr result (self.new ≡ self.old) }
         ensures none { IfOk result (λ answer. IfNone answer (self.new ≡ self.old)) }
         ensures later { top_of self.old.chunks ≤ top_of self.new.chunks }
@@ -106,7 +109,8 @@ impl PlainState {
         requires align { layout.align ≤ block.align }
         requires size { layout.size ≤ block.size }
         requires end { block.addr + block.size ≤ top_of self.old.chunks }
-        ensures step { leaves self.new (Some (Some result)) ≡ moves.shrink self.old block.addr block.size block.align layout.size layout.align 0 }
+        ensures step { leaves self.new (Some (Some result))
+            ≡ moves.shrink self.old block.addr block.size block.align layout.size layout.align 0 }
         ensures top { top_of self.new.chunks ≡ top_of self.old.chunks }
         ensures within { result + layout.size ≤ block.addr + block.size }
     {

@@ -17,7 +17,8 @@ impl PlainMachine {
         calls: &[Call],
         refused: &[u32],
     ) -> Result<Option<Vec<Reply>>, OutOfMemory>
-        ensures { IfOk result (λ replies. gives_all self.new replies ≡ machine.run_from self.old calls.now refused.now) }
+        ensures { IfOk result (λ replies. gives_all self.new replies
+            ≡ machine.run_from self.old calls.now refused.now) }
     {
         if calls.len() != refused.len() {
             return Ok(None);
@@ -42,7 +43,8 @@ impl PlainMachine {
         refused: &[u32],
     ) -> Result<Option<Vec<Reply>>, OutOfMemory>
         requires { IsTrue (is_min_align min_align) }
-        ensures { IfOk result (λ replies. replies_of replies ≡ option_map (λ r. r.0) (machine.run (first_state min_align) calls.now refused.now)) }
+        ensures { IfOk result (λ replies. replies_of replies
+            ≡ option_map (λ r. r.0) (machine.run (first_state min_align) calls.now refused.now)) }
     {
         PlainMachine::new(alloc, min_align).run_from(alloc, calls, refused)
     }

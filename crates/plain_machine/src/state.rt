@@ -159,7 +159,8 @@ impl PlainState {
         layout: Layout,
     ) -> Result<Option<Answer>, OutOfMemory>
         requires { IsValid (moves.with_chunk (base, size) self.old) }
-        ensures step { IfOk result (λ answer. leaves self.new answer ≡ option_map (moves.placed (moves.with_chunk (base, size) self.old))
+        ensures step { IfOk result (λ answer. leaves self.new answer
+            ≡ option_map (moves.placed (moves.with_chunk (base, size) self.old))
             (place (moves.with_chunk (base, size) self.old) layout.size layout.align)) }
         ensures err { OnErr result (self.new ≡ self.old) }
         ensures none { IfOk result (λ answer. IfNone answer (self.new ≡ self.old)) }
@@ -188,7 +189,8 @@ impl PlainState {
         refused: u32,
     ) -> Result<Option<Answer>, OutOfMemory>
         requires { place self.old layout.size layout.align ≡ None }
-        ensures step { IfOk result (λ answer. leaves self.new answer ≡ moves.alloc self.old layout.size layout.align refused) }
+        ensures step { IfOk result (λ answer. leaves self.new answer
+            ≡ moves.alloc self.old layout.size layout.align refused) }
         ensures err { OnErr result (self.new ≡ self.old) }
         ensures none { IfOk result (λ answer. IfNone answer (self.new ≡ self.old)) }
         ensures later { top_of self.old.chunks ≤ top_of self.new.chunks }
@@ -212,7 +214,8 @@ impl PlainState {
         refused: u32,
     ) -> Result<Option<Answer>, OutOfMemory>
         ensures valid { IsValid self.old }
-        ensures step { IfOk result (λ answer. leaves self.new answer ≡ moves.alloc self.old layout.size layout.align refused) }
+        ensures step { IfOk result (λ answer. leaves self.new answer
+            ≡ moves.alloc self.old layout.size layout.align refused) }
         ensures err { OnErr result (self.new ≡ self.old) }
         ensures none { IfOk result (λ answer. IfNone answer (self.new ≡ self.old)) }
         ensures later { top_of self.old.chunks ≤ top_of self.new.chunks }

@@ -1,7 +1,7 @@
 // Reads a call from the front of a line.
-ghost use Rattle.std.specs.Prelude.{◌≡◌, ◌∷◌, [], IfOk, codes};
-ghost use Rattle.std.specs.Option.{option_map, option_or};
-ghost use Rattle.arena_run.specs.Reading.{front_at, placing, fields_at, alloc_at, grow_at, shrink_at, dealloc_at, read_at, write_at, word_at};
+ghost use Rattle.std.specs.Prelude.{IfOk, codes};
+ghost use Rattle.placement.specs.Grammar.{Fits, call_line};
+ghost use Rattle.arena_run.specs.Lines.{Reads, FitsPlacing, placing_fields, BeginsWith};
 
 use super::hex::hex_bytes;
 use super::number::{field, name_field};
@@ -11,7 +11,7 @@ use std::alloc::{AllocError, Global};
 
 // A name, a size, an alignment and a fill byte, and what comes behind them.
 fn placing(bytes: &[u8]) -> Option<((u32, u64, u64, u8), &[u8])>
-    ensures { option_map (λ x. (x.0.0 ∷ x.0.1 ∷ x.0.2 ∷ x.0.3 ∷ [], x.1.now)) result ≡ fields_at placing bytes.now }
+    ensures { Reads FitsPlacing placing_fields bytes.now result }
 {
     let (name, rest) = name_field(bytes)?;
     let (size, rest) = field(rest, u64::MAX)?;
@@ -21,7 +21,7 @@ fn placing(bytes: &[u8]) -> Option<((u32, u64, u64, u8), &[u8])>
 }
 
 fn read_alloc(bytes: &[u8]) -> Option<(Call, &[u8])>
-    ensures { option_map (λ x. (x.0, x.1.now)) result ≡ alloc_at bytes.now }
+    ensures { Reads (BeginsWith (codes "alloc ")) call_line bytes.now result }
 {
     let rest = behind(bytes, b"alloc")?;
     let ((name, size, align, fill), rest) = placing(rest)?;
@@ -35,7 +35,7 @@ fn read_alloc(bytes: &[u8]) -> Option<(Call, &[u8])>
 }
 
 fn read_grow(bytes: &[u8]) -> Option<(Call, &[u8])>
-    ensures { option_map (λ x. (x.0, x.1.now)) result ≡ grow_at bytes.now }
+    ensures { Reads (BeginsWith (codes "g")) call_line bytes.now result }
 {
     let rest = behind(bytes, b"grow")?;
     let ((name, size, align, fill), rest) = placing(rest)?;
@@ -49,7 +49,7 @@ fn read_grow(bytes: &[u8]) -> Option<(Call, &[u8])>
 }
 
 fn read_shrink(bytes: &[u8]) -> Option<(Call, &[u8])>
-    ensures { option_map (λ x. (x.0, x.1.now)) result ≡ shrink_at bytes.now }
+    ensures { Reads (BeginsWith (codes "s")) call_line bytes.now result }
 {
     let rest = behind(bytes, b"shrink")?;
     let (name, rest) = name_field(rest)?;
@@ -59,7 +59,7 @@ fn read_shrink(bytes: &[u8]) -> Option<(Call, &[u8])>
 }
 
 fn read_dealloc(bytes: &[u8]) -> Option<(Call, &[u8])>
-    ensures { option_map (λ x. (x.0, x.1.now)) result ≡ dealloc_at bytes.now }
+    ensures { Reads (BeginsWith (codes "d")) call_line bytes.now result }
 {
     let rest = behind(bytes, b"dealloc")?;
     let (name, rest) = name_field(rest)?;
@@ -67,7 +67,7 @@ fn read_dealloc(bytes: &[u8]) -> Option<(Call, &[u8])>
 }
 
 fn read_read(bytes: &[u8]) -> Option<(Call, &[u8])>
-    ensures { option_map (λ x. (x.0, x.1.now)) result ≡ read_at bytes.now }
+    ensures { Reads (BeginsWith (codes "read")) call_line bytes.now result }
 {
     let rest = behind(bytes, b"read")?;
     let (name, rest) = name_field(rest)?;
@@ -75,7 +75,7 @@ fn read_read(bytes: &[u8]) -> Option<(Call, &[u8])>
 }
 
 fn read_write(alloc: Global, bytes: &[u8]) -> Result<Option<(Call, &[u8])>, AllocError>
-    ensures { IfOk result (λ o. option_map (λ x. (x.0, x.1.now)) o ≡ write_at bytes.now) }
+    ensures { IfOk result (λ o. Reads (BeginsWith (codes "w")) call_line bytes.now o) }
 {
     let Some(rest) = behind(bytes, b"write") else {
         return Ok(None);
@@ -98,7 +98,7 @@ fn read_write(alloc: Global, bytes: &[u8]) -> Result<Option<(Call, &[u8])>, Allo
 
 // `alloc` is the front of `allocated`.
 fn read_alloc_or_allocated(bytes: &[u8]) -> Option<(Call, &[u8])>
-    ensures { option_map (λ x. (x.0, x.1.now)) result ≡ option_or (word_at (codes "allocated") Call.Allocated bytes.now) (alloc_at bytes.now) }
+    ensures { Reads (BeginsWith (codes "a")) call_line bytes.now result }
 {
     if let Some(rest) = behind(bytes, b"allocated") {
         return Some((Call::Allocated, rest));
@@ -107,7 +107,7 @@ fn read_alloc_or_allocated(bytes: &[u8]) -> Option<(Call, &[u8])>
 }
 
 fn read_read_or_reset(bytes: &[u8]) -> Option<(Call, &[u8])>
-    ensures { option_map (λ x. (x.0, x.1.now)) result ≡ option_or (word_at (codes "reset") Call.Reset bytes.now) (read_at bytes.now) }
+    ensures { Reads (BeginsWith (codes "r")) call_line bytes.now result }
 {
     if let Some(rest) = behind(bytes, b"reset") {
         return Some((Call::Reset, rest));
@@ -116,16 +116,15 @@ fn read_read_or_reset(bytes: &[u8]) -> Option<(Call, &[u8])>
 }
 
 fn read_used(bytes: &[u8]) -> Option<(Call, &[u8])>
-    ensures { option_map (λ x. (x.0, x.1.now)) result ≡ word_at (codes "used") Call.Used bytes.now }
+    ensures { Reads (BeginsWith (codes "u")) call_line bytes.now result }
 {
     let rest = behind(bytes, b"used")?;
     Some((Call::Used, rest))
 }
 
 /// The call at the front, and what comes behind it.
-#[tactic(auto, unfolding(crate::specs::Reading::front_at))]
 pub fn read_call(alloc: Global, bytes: &[u8]) -> Result<Option<(Call, &[u8])>, AllocError>
-    ensures { IfOk result (λ o. option_map (λ x. (x.0, x.1.now)) o ≡ front_at bytes.now) }
+    ensures { IfOk result (λ o. Reads Fits call_line bytes.now o) }
 {
     let Some((first, _)) = bytes.split_first() else {
         return Ok(None);

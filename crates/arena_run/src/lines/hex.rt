@@ -1,14 +1,15 @@
 // Reads bytes from hexadecimal digits.
-ghost use Rattle.std.specs.Prelude.{◌≡◌, ◌∷◌, ◌<◌, [], IfOk, MatchOption, length};
-ghost use Rattle.std.specs.Option.{option_map};
-ghost use Rattle.arena_run.specs.Reading.{digit_of, pairs_at, hex_at};
+ghost use Rattle.std.specs.Prelude.{◌≡◌, ◌≢◌, ◌++◌, ◌<◌, ℕ, IfOk, MatchOption};
+ghost use Rattle.std.specs.List.{AllByRecursion, flat_map};
+ghost use Rattle.placement.specs.Grammar.{IsByte, hex, hex_digit, hex_pair};
+ghost use Rattle.arena_run.specs.Lines.{Reads, HasNoPair};
 
 use super::word::behind;
 use placement::Bytes;
 use std::alloc::{AllocError, Global};
 
 fn digit_value(c: u8) -> Option<u8>
-    ensures { result ≡ digit_of c }
+    ensures { MatchOption result ((d : ℕ) → d < 16 → c ≢ hex_digit d) (λ d. (d < 16) × (c ≡ hex_digit d)) }
 {
     match c {
         b'0'..=b'9' => Some(c - b'0'),
@@ -18,11 +19,10 @@ fn digit_value(c: u8) -> Option<u8>
 }
 
 // The byte of the two digits at the front.
-#[tactic(auto, unfolding(crate::specs::Reading::pairs_at))]
 fn pair(bytes: &[u8]) -> Option<(u8, &[u8])>
     ensures { MatchOption result
-        (pairs_at bytes.now ≡ ([], bytes.now))
-        (λ x. (pairs_at bytes.now ≡ (x.0 ∷ (pairs_at x.1.now).0, (pairs_at x.1.now).1)) × (length x.1.now < length bytes.now)) }
+        (HasNoPair bytes.now)
+        (λ x. IsByte x.0 × (bytes.now ≡ hex_pair x.0 ++ x.1.now)) }
 {
     let (high, rest) = bytes.split_first()?;
     let (low, rest) = rest.split_first()?;
@@ -31,9 +31,11 @@ fn pair(bytes: &[u8]) -> Option<(u8, &[u8])>
     Some((high * 16 + low, rest))
 }
 
-// The bytes of the pairs of digits at the front, with room for so many.
+// The bytes of all pairs of digits at the front, with room for so many.
 fn pairs(alloc: Global, bytes: &[u8], room: usize) -> Result<(Vec<u8>, &[u8]), AllocError>
-    ensures { IfOk result (λ x. (x.0.items, x.1.now) ≡ pairs_at bytes.now) }
+    ensures there { IfOk result (λ x. bytes.now ≡ flat_map hex_pair x.0.items ++ x.1.now) }
+    ensures fit { IfOk result (λ x. AllByRecursion IsByte x.0.items) }
+    ensures all { IfOk result (λ x. HasNoPair x.1.now) }
 {
     let mut items = Vec::with_capacity(alloc, room)?;
     let mut rest = bytes;
@@ -47,9 +49,8 @@ fn pairs(alloc: Global, bytes: &[u8], room: usize) -> Result<(Vec<u8>, &[u8]), A
 }
 
 /// The bytes that the digits at the front stand for, and what comes behind. A dash stands for no byte.
-#[tactic(auto, unfolding(crate::specs::Reading::hex_at))]
 pub fn hex_bytes(alloc: Global, bytes: &[u8]) -> Result<Option<(Bytes, &[u8])>, AllocError>
-    ensures { IfOk result (λ o. option_map (λ x. (x.0, x.1.now)) o ≡ hex_at bytes.now) }
+    ensures { IfOk result (λ o. Reads (AllByRecursion IsByte) hex bytes.now o) }
 {
     if let Some(rest) = behind(bytes, b"-") {
         return Ok(Some((Bytes::new(alloc), rest)));

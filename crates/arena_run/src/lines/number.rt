@@ -1,13 +1,12 @@
 // Reads numbers from the front of a line.
-ghost use Rattle.std.specs.Prelude.{◌≡◌, ◌≤◌, IfSome};
-ghost use Rattle.std.specs.Option.{option_map};
-ghost use Rattle.arena_run.specs.Reading.{digits_at, number_at, field_at, max_32};
+ghost use Rattle.std.specs.Prelude.{◌<◌, ◌≤◌, ◌^◌, ◌-◌, ◌++◌, ◌∷◌};
+ghost use Rattle.placement.specs.Grammar.{number};
+ghost use Rattle.arena_run.specs.Lines.{Reads};
 
-// The digits at the front, read on from `n`.
+// The number that the digits of `n`, and then those at the front, spell.
 fn digits(bytes: &[u8], n: u64, max: u64) -> Option<(u64, &[u8])>
-    requires { n ≤ max }
-    ensures read { option_map (λ x. (x.0, x.1.now)) result ≡ digits_at max n bytes.now }
-    ensures within { IfSome result (λ x. x.0 ≤ max) }
+    requires { (0 < n) × (n ≤ max) }
+    ensures { Reads (λ m. m ≤ max) number (number n ++ bytes.now) result }
 {
     let mut number = n;
     for (i, b) in bytes.iter().enumerate() {
@@ -26,8 +25,7 @@ fn digits(bytes: &[u8], n: u64, max: u64) -> Option<(u64, &[u8])>
 // The number at the front.
 fn number(bytes: &[u8], max: u64) -> Option<(u64, &[u8])>
     requires { 9 ≤ max }
-    ensures read { option_map (λ x. (x.0, x.1.now)) result ≡ number_at max bytes.now }
-    ensures within { IfSome result (λ x. x.0 ≤ max) }
+    ensures { Reads (λ n. n ≤ max) number bytes.now result }
 {
     let (first, rest) = bytes.split_first()?;
     if *first == b'0' {
@@ -40,11 +38,9 @@ fn number(bytes: &[u8], max: u64) -> Option<(u64, &[u8])>
 }
 
 /// A space and a number, and what comes behind them.
-#[tactic(auto, unfolding(crate::specs::Reading::field_at))]
 pub fn field(bytes: &[u8], max: u64) -> Option<(u64, &[u8])>
     requires { 9 ≤ max }
-    ensures read { option_map (λ x. (x.0, x.1.now)) result ≡ field_at max bytes.now }
-    ensures within { IfSome result (λ x. x.0 ≤ max) }
+    ensures { Reads (λ n. n ≤ max) (λ n. 32 ∷ number n) bytes.now result }
 {
     let (first, rest) = bytes.split_first()?;
     if *first != b' ' {
@@ -55,7 +51,7 @@ pub fn field(bytes: &[u8], max: u64) -> Option<(u64, &[u8])>
 
 /// A space and a name.
 pub fn name_field(bytes: &[u8]) -> Option<(u32, &[u8])>
-    ensures { option_map (λ x. (x.0, x.1.now)) result ≡ field_at max_32 bytes.now }
+    ensures { Reads (λ n. n ≤ 2 ^ 32 - 1) (λ n. 32 ∷ number n) bytes.now result }
 {
     let (name, rest) = field(bytes, u64::from(u32::MAX))?;
     Some((name as u32, rest))

@@ -30,7 +30,9 @@ fn take_line<'a>(
     bytes: &'a [u8],
     calls: &mut Vec<Call>,
 ) -> Result<Option<&'a [u8]>, AllocError>
-    ensures { IfOk result (λ o. MatchOption o (RefusesLine bytes.now) (λ behind. TakesLine bytes.now behind.now calls.old.items calls.new.items)) }
+    ensures { IfOk result (λ o. MatchOption o
+        (RefusesLine bytes.now)
+        (λ behind. TakesLine bytes.now behind.now calls.old.items calls.new.items)) }
 {
     if at_line_end(bytes) {
         return Ok(Some(bytes));

@@ -4,7 +4,7 @@ use Rattle.arena_chunks.proofs.TextLemmas.{no_texts, one_more_text}
 use Rattle.arena_chunks.proofs.allocator.Allocator.write_strings.Goals as goal
 
 pub loop-s-init : goal.loop-s-init
-loop-s-init g c = (no_texts g.T.AsStr.text c.args.strings.now c.args.self.now.arena c.args.block, refl)
+loop-s-init g c = (no_texts g.T.AsStr.text c.args.strings.now c.args.self.now.memory c.args.block c.min_align.ensures.valid, refl)
 
 pub write-requires-clause-readable : goal.write-requires-clause-readable
 write-requires-clause-readable g c = search rules
@@ -16,4 +16,4 @@ pub overflow_add-at : goal.overflow_add-at
 overflow_add-at g c = let more = length-flat_map-take g.T.AsStr.text c.args.strings.now c.loop-s.s-index c.s-item.result in search rules
 
 pub loop-s-preserved : goal.loop-s-preserved
-loop-s-preserved g c = let one = one_more_text g.T.AsStr.text c.args.strings.now c.loop-s.s-index c.s-item.result c.args.self.now.arena c.loop-s.self.arena c.write.new.self.arena c.args.block c.loop-s.at in search rules
+loop-s-preserved g c = let one = one_more_text g.T.AsStr.text c.args.strings.now c.loop-s.s-index c.s-item.result c.args.self.now.memory c.loop-s.self.memory c.write.new.self.memory c.args.block c.loop-s.at in search rules

@@ -3,7 +3,7 @@ use Rattle.placement.specs.Rounding.{down}
 use Rattle.placement.specs.Moves.{with_chunk}
 use Rattle.placement.proofs.RoundingLemmas.{max_power, min_align_power, layout_power}
 use Rattle.arena_chunks.specs.Memory.{Memory}
-use Rattle.arena_chunks.specs.declared.chunk.StoredChunk.{StoredChunk}
+use Rattle.arena_chunks.specs.declared.chunks.chunk.StoredChunk.{StoredChunk}
 use Rattle.arena_chunks.proofs.GrowthLemmas.{adds_none, asked_stored, IsRoom, room_stored, IsInstalled, installed}
 use Rattle.arena_chunks.proofs.arena.Arena.add_chunk.Given.{Over}
 use Rattle.arena_chunks.proofs.arena.Arena.add_chunk.Goals as goal
@@ -16,8 +16,7 @@ returns-in_default-clause-added g c =
     let all = asked_stored g.row.MIN_ALIGN c.self.inside c.args.self.now c.args.layout.size c.args.layout.align c.size.result c.end.result c.self.invariant c.self.view_is c.if-not-self.false c.size.ensures c.end.ensures in
     rw (c.reserve.ensures.items) (record {
       added = rw (← all) (rw c.in_default.is at c.ask_above-base.ensures.granted);
-      refusals = c.ask_above-base.ensures.refusals;
-      requests = rw (← all) c.ask_above-base.ensures.requests;
+      asked = rw (← all) c.ask_above-base.ensures.asked;
     })
 
 pub install-requires-clause-fits : goal.install-requires-clause-fits
@@ -63,6 +62,5 @@ returns-clause-added g c =
         growing = (room g c).growing;
         valid = (room g c).old;
       };
-      refusals = c.ask_above-base.ensures.refusals;
-      requests = rw (← all) c.ask_above-base.ensures.requests;
+      asked = rw (← all) c.ask_above-base.ensures.asked;
     }

@@ -1,6 +1,6 @@
 use Rattle.std.proofs.Common.{ap, arith, length, ◌∙◌, sum_by, take_all}
 use Rattle.placement.specs.State.{Chunk}
-use Rattle.arena_chunks.specs.declared.chunk.StoredChunk.{StoredChunk}
+use Rattle.arena_chunks.specs.declared.chunks.chunk.StoredChunk.{StoredChunk}
 use Rattle.arena_chunks.proofs.StoredLemmas.{sum_all, sum_on_way}
 use Rattle.arena_chunks.proofs.arena.Arena.allocated_bytes.Goals as goal
 

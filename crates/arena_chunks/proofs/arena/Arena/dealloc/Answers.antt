@@ -1,11 +1,10 @@
-use Rattle.std.proofs.Common.{◌∙◌, sym, ap, refl, subst, arith}
-use Rattle.placement.specs.State.{IsValid}
+use Rattle.std.proofs.Common.{◌∙◌, sym, ap, subst, arith}
+use Rattle.placement.specs.State.{State, IsValid}
 use Rattle.placement.proofs.RoundingLemmas.{min_align_power}
 use Rattle.placement.proofs.ReturnLemmas.{IsReturn, dealloc_elsewhere}
 use Rattle.arena_chunks.specs.Memory.{Memory}
 use Rattle.arena_chunks.proofs.StoredLemmas.{cursor_stored, cursor_moved, cursor_view}
-use Rattle.arena_chunks.proofs.LastLemmas.{IsLast, is_last, last_returned, frame_returned}
-use Rattle.arena_chunks.proofs.FrameLemmas.{frame_dealloc}
+use Rattle.arena_chunks.proofs.LastLemmas.{IsLast, is_last, last_returned, gives_back}
 use Rattle.arena_chunks.proofs.arena.Arena.dealloc.Given.{Over}
 use Rattle.arena_chunks.proofs.arena.Arena.dealloc.Goals as goal
 
@@ -35,16 +34,10 @@ invariant_of-self g c =
 pub returns-then-block-self : goal.returns-then-block-self
 returns-then-block-self g c =
     let view = cursor_view g.row.MIN_ALIGN c.self.inside c.args.self.now c.round_up_to_unchecked-self-inside.result c.self.view_is in
-    record {
-      state = ap (λ (w : Memory). w.state) view ∙ sym (back g c).step;
-      statistics = ap (λ (w : Memory). w.statistics) view;
-      frame = frame_returned g.row.MIN_ALIGN c.self.inside c.args.self.now c.args.block c.round_up_to_unchecked-self-inside.result c.self.view_is (last g c) c.round_up_to_unchecked-self-inside.ensures;
-      valid = subst (λ (w : Memory). IsValid w.state) (sym view) (back g c).valid;
-    }
+    gives_back c.args.self.now _ c.args.block (last g c).valid c.requires (view ∙ ap (λ (s : State). record c.args.self.now { state = s }) (sym (back g c).step))
 
 pub returns-else-block-self : goal.returns-else-block-self
 returns-else-block-self g c =
     let memory = c.args.self.now in
     let same = sym (dealloc_elsewhere memory.state c.args.block.addr c.args.block.size (λ at. c.if-block-self.false (at ∙ sym (cursor_stored g.row.MIN_ALIGN c.self.inside memory c.self.invariant c.self.view_is)))) in
-    let valid = subst (λ (w : Memory). IsValid w.state) c.self.view_is c.self.invariant.valid in
-    record { state = same; statistics = refl; frame = frame_dealloc memory memory c.args.block valid same (λ p. refl); valid = valid }
+    gives_back memory memory c.args.block (subst (λ (w : Memory). IsValid w.state) c.self.view_is c.self.invariant.valid) c.requires (ap (λ (s : State). record memory { state = s }) same)

@@ -1,17 +1,24 @@
-use Rattle.std.proofs.Common.{ℕ, ◌+◌, ap, refl, sym, ◌∙◌, arith, List, length}
+use Rattle.std.proofs.Common.{ℕ, ◌+◌, ap, refl, sym, subst, arith, List}
+use Rattle.placement.specs.State.{IsValid}
 use Rattle.std.specs.Prelude.{slice_set}
-use Rattle.arena_chunks.specs.Memory.{Memory, image, bytes_from}
+use Rattle.arena_chunks.specs.Memory.{Memory, image}
 use Rattle.arena_chunks.proofs.BytesLemmas.{no_bytes, written_none}
 use Rattle.arena_chunks.proofs.BlockCallLemmas.{writes_block}
 use Rattle.arena_chunks.proofs.PartLemmas.{block_range, range_fits, newest_part, searchable, is_older, IsWritten, newest_written, older_written}
 use Rattle.arena_chunks.proofs.arena.Arena.edit.Given.{Over}
 use Rattle.arena_chunks.proofs.arena.Arena.edit.Goals as goal
 
+pub edit-requires : goal.edit-requires
+edit-requires g c = rw (no_bytes (image c.args.self.now) (c.args.block.addr + c.args.at) c.args.size c.if-size-eq0.true) at c.requires.suits
+
 pub returns-then-size-eq0 : goal.returns-then-size-eq0
 returns-then-size-eq0 g c =
     let none = no_bytes (image c.args.self.now) (c.args.block.addr + c.args.at) c.args.size c.if-size-eq0.true in
-    let sized = ap (λ (l : List ℕ). length (g.E.Edit.after c.args.e.now l)) none ∙ ap length (sym c.edit.ensures) ∙ c.edit.auto.place in
-    writes_block _ _ c.args.block c.args.at _ refl refl (λ p. sym (written_none (image c.args.self.now) (c.args.block.addr + c.args.at) p _ sized)) (omega (arith, sized, c.requires.range))
+    record {
+      list = c.edit.new.place;
+      related = rw none c.edit.ensures;
+      writes = writes_block _ _ c.args.block c.args.at _ (subst (λ (w : Memory). IsValid w.state) c.self.view_is c.self.invariant.valid) refl refl (λ p. sym (written_none (image c.args.self.now) (c.args.block.addr + c.args.at) p _ c.edit.auto.place)) (omega (arith, c.edit.auto.place, c.requires.range));
+    }
 
 pub overflow_add-addr : goal.overflow_add-addr
 overflow_add-addr g c =
@@ -26,18 +33,28 @@ edit_at-requires-clause-high g c =
     omega (arith, (newest_part _ _ _ _ _ range c.if-addr-newest.true).high, c.if-addr-newest.true)
 
 in_newest : (g : Over) (c : goal.After-edit_at g) → IsWritten g.row.MIN_ALIGN c.self.inside c.args.self.now (c.args.block.addr + c.args.at) c.args.size
-    (g.E.Edit.after c.args.e.now (bytes_from (image c.args.self.now) (c.args.block.addr + c.args.at) c.args.size)) c.edit_at.new.chunk c.self.inside.older.items
+    c.edit_at.ensures.list c.edit_at.new.chunk c.self.inside.older.items
 in_newest g c =
     let range = block_range g.row.MIN_ALIGN c.self.inside c.args.self.now c.args.block (c.args.block.addr + c.args.at) c.args.size c.self.invariant c.self.view_is c.requires.readable (omega arith) (omega (arith, c.requires.range)) c.if-size-eq0.false in
-    newest_written _ _ _ _ _ (g.E.Edit.after c.args.e.now) c.edit_at.new.chunk range c.if-addr-newest.true c.edit_at.ensures
+    newest_written _ _ _ _ _ c.edit_at.ensures.list c.edit_at.new.chunk range c.if-addr-newest.true c.edit_at.ensures.edited
 
 pub invariant_of-self : goal.invariant_of-self
 invariant_of-self g c = (in_newest g c).stored
 
 pub returns-then-addr-newest : goal.returns-then-addr-newest
 returns-then-addr-newest g c =
+    let range = block_range g.row.MIN_ALIGN c.self.inside c.args.self.now c.args.block (c.args.block.addr + c.args.at) c.args.size c.self.invariant c.self.view_is c.requires.readable (omega arith) (omega (arith, c.requires.range)) c.if-size-eq0.false in
     let is = in_newest g c in
-    writes_block _ _ c.args.block c.args.at _ is.state (ap (λ (w : Memory). w.statistics) c.self.view_is) is.image (omega (arith, is.sized, c.requires.range))
+    record {
+      list = c.edit_at.ensures.list;
+      related = subst (λ (l : List ℕ). g.E.Edit.relates c.args.e.now l c.edit_at.ensures.list) (newest_part _ _ _ _ _ range c.if-addr-newest.true).bytes c.edit_at.ensures.related;
+      writes = writes_block _ _ c.args.block c.args.at _ (subst (λ (w : Memory). IsValid w.state) c.self.view_is c.self.invariant.valid) is.state (ap (λ (w : Memory). w.statistics) c.self.view_is) is.image (omega (arith, is.sized, c.requires.range));
+    }
+
+pub edit_at-requires-clause-suits : goal.edit_at-requires-clause-suits
+edit_at-requires-clause-suits g c =
+    let range = block_range g.row.MIN_ALIGN c.self.inside c.args.self.now c.args.block (c.args.block.addr + c.args.at) c.args.size c.self.invariant c.self.view_is c.requires.readable (omega arith) (omega (arith, c.requires.range)) c.if-size-eq0.false in
+    rw (newest_part _ _ _ _ _ range c.if-addr-newest.true).bytes c.requires.suits
 
 -- ---- In an older chunk
 
@@ -53,17 +70,29 @@ edit_at-requires-else-addr-newest-clause-high g c =
     omega (arith, older.part.low, older.part.high)
 
 in_older : (g : Over) (c : goal.After-self-1 g) → IsWritten g.row.MIN_ALIGN c.self.inside c.args.self.now (c.args.block.addr + c.args.at) c.args.size
-    (g.E.Edit.after c.args.e.now (bytes_from (image c.args.self.now) (c.args.block.addr + c.args.at) c.args.size)) c.self.inside.newest
+    c.edit_at-else-addr-newest.ensures.list c.self.inside.newest
     (slice_set c.self.inside.older.items c.find_chunk-i.result c.edit_at-else-addr-newest.new.chunk)
 in_older g c =
     let range = block_range g.row.MIN_ALIGN c.self.inside c.args.self.now c.args.block (c.args.block.addr + c.args.at) c.args.size c.self.invariant c.self.view_is c.requires.readable (omega arith) (omega (arith, c.requires.range)) c.if-size-eq0.false in
     let older = is_older _ _ _ _ _ c.find_chunk-i.result c.deref.result.now c.index_mut.result.now range c.if-addr-newest.false c.deref.ensures.value c.find_chunk-i.ensures c.index_mut.ensures.value in
-    older_written _ _ _ _ _ _ _ (g.E.Edit.after c.args.e.now) c.edit_at-else-addr-newest.new.chunk older c.edit_at-else-addr-newest.ensures
+    older_written _ _ _ _ _ _ _ c.edit_at-else-addr-newest.ensures.list c.edit_at-else-addr-newest.new.chunk older c.edit_at-else-addr-newest.ensures.edited
 
 pub invariant_of-self-else-addr-newest : goal.invariant_of-self-else-addr-newest
 invariant_of-self-else-addr-newest g c = (in_older g c).stored
 
 pub returns-else-addr-newest : goal.returns-else-addr-newest
 returns-else-addr-newest g c =
+    let range = block_range g.row.MIN_ALIGN c.self.inside c.args.self.now c.args.block (c.args.block.addr + c.args.at) c.args.size c.self.invariant c.self.view_is c.requires.readable (omega arith) (omega (arith, c.requires.range)) c.if-size-eq0.false in
+    let older = is_older _ _ _ _ _ c.find_chunk-i.result c.deref.result.now c.index_mut.result.now range c.if-addr-newest.false c.deref.ensures.value c.find_chunk-i.ensures c.index_mut.ensures.value in
     let is = in_older g c in
-    writes_block _ _ c.args.block c.args.at _ is.state (ap (λ (w : Memory). w.statistics) c.self.view_is) is.image (omega (arith, is.sized, c.requires.range))
+    record {
+      list = c.edit_at-else-addr-newest.ensures.list;
+      related = subst (λ (l : List ℕ). g.E.Edit.relates c.args.e.now l c.edit_at-else-addr-newest.ensures.list) older.part.bytes c.edit_at-else-addr-newest.ensures.related;
+      writes = writes_block _ _ c.args.block c.args.at _ (subst (λ (w : Memory). IsValid w.state) c.self.view_is c.self.invariant.valid) is.state (ap (λ (w : Memory). w.statistics) c.self.view_is) is.image (omega (arith, is.sized, c.requires.range));
+    }
+
+pub edit_at-requires-else-addr-newest-clause-suits : goal.edit_at-requires-else-addr-newest-clause-suits
+edit_at-requires-else-addr-newest-clause-suits g c =
+    let range = block_range g.row.MIN_ALIGN c.self.inside c.args.self.now c.args.block (c.args.block.addr + c.args.at) c.args.size c.self.invariant c.self.view_is c.requires.readable (omega arith) (omega (arith, c.requires.range)) c.if-size-eq0.false in
+    let older = is_older _ _ _ _ _ c.find_chunk-i.result c.deref.result.now c.index_mut.result.now range c.if-addr-newest.false c.deref.ensures.value c.find_chunk-i.ensures c.index_mut.ensures.value in
+    rw older.part.bytes c.requires.suits

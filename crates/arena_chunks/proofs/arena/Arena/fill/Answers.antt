@@ -1,7 +1,10 @@
-use Rattle.std.proofs.Common.{◌+◌, ◌-◌}
+use Rattle.std.proofs.Common.{ℕ, ◌+◌, ◌-◌, List, length, replicate}
 use Rattle.arena_chunks.specs.Memory.{image}
 use Rattle.arena_chunks.proofs.BytesLemmas.{length-bytes}
+use Rattle.arena_chunks.proofs.BlockCallLemmas.{edits_by}
 use Rattle.arena_chunks.proofs.arena.Arena.fill.Goals as goal
 
 pub returns : goal.returns
-returns g c = rw (length-bytes (image c.args.self.now) (c.args.block.addr + c.args.at) (c.args.block.size - c.args.at)) at c.edit.ensures
+returns g c =
+    rw (length-bytes (image c.args.self.now) (c.args.block.addr + c.args.at) (c.args.block.size - c.args.at)) at
+    (edits_by c.args.self.now c.edit.new.self c.args.block c.args.at _ (λ (before : List ℕ). replicate (length before) c.args.value) c.edit.ensures)

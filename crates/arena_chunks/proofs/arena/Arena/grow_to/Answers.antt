@@ -1,5 +1,6 @@
-use Rattle.std.proofs.Common.{arith}
+use Rattle.std.proofs.Common.{◌≡◌, ◌∙◌, ap, refl, arith, min}
 use Rattle.placement.proofs.CursorLemmas.{start_set}
+use Rattle.arena_chunks.specs.Memory.{Memory}
 use Rattle.arena_chunks.proofs.ResizedLemmas.{resized_at_cursor, is_grown, grown_used, grown}
 use Rattle.arena_chunks.proofs.arena.Arena.grow_to.Goals as goal
 
@@ -15,8 +16,15 @@ move_bytes-requires g c =
     rw c.move_cursor.ensures
     (omega arith, (λ some. used _ _ down down.below (omega arith) some, (λ some. used _ _ down (omega arith) (omega (arith, down.below)) some, omega (arith, start_set c.args.addr c.args.self.now.state.chunks, down.low))))
 
-pub returns-clause-resized : goal.returns-clause-resized
-returns-clause-resized g c =
+pub returns : goal.returns
+returns g c =
     let down = is_grown c.args.self.now c.args.block c.args.layout.size c.args.addr c.resized-grown.ensures.valid c.requires.readable c.requires.last c.requires.align c.requires.place in
     let moves = grown _ c.move_cursor.new.self c.move_bytes.new.self _ _ _ down c.requires.size c.move_cursor.ensures c.move_bytes.ensures.state c.move_bytes.ensures.bytes in
-    rw c.resized-grown.ensures.block (resized_at_cursor _ _ c.args.block _ _ c.args.layout.align _ moves)
+    let all : min c.args.block.size c.args.layout.size ≡ c.args.block.size = omega (arith, c.requires.size) in
+    rw c.resized-grown.ensures.block (record {
+      entry = c.resized-grown.ensures.valid;
+      step = rw moves.state refl;
+      unasked = refl;
+      statistics = c.move_bytes.ensures.statistics ∙ ap (λ (w : Memory). w.statistics) c.move_cursor.ensures;
+      resizes = rw all (resized_at_cursor _ _ c.args.block _ _ c.args.layout.align _ moves);
+    })

@@ -4,7 +4,7 @@ use Rattle.std.specs.List.{All, list_any}
 use Rattle.placement.specs.State.{is_used_by}
 use Rattle.arena_chunks.specs.Memory.{Memory}
 use Rattle.arena_chunks.specs.Stored.{stored_chunk, IsOrdered}
-use Rattle.arena_chunks.specs.declared.chunk.StoredChunk.{StoredChunk}
+use Rattle.arena_chunks.specs.declared.chunks.chunk.StoredChunk.{StoredChunk}
 use Rattle.arena_chunks.proofs.StoredLemmas.{older_ordered, used_all}
 use Rattle.arena_chunks.proofs.arena.Arena.is_held_place.Goals as goal
 

@@ -1,6 +1,6 @@
-use Rattle.std.proofs.Common.{◌∙◌, ap, sym, arith, length}
+use Rattle.std.proofs.Common.{ap, sym, arith, length}
 use Rattle.arena_chunks.specs.Memory.{image, bytes_from}
-use Rattle.arena_chunks.proofs.BytesLemmas.{length-bytes, no_bytes, written_none}
+use Rattle.arena_chunks.proofs.BytesLemmas.{no_bytes, written_none}
 use Rattle.arena_chunks.proofs.PartLemmas.{newest_part, searchable, is_older, is_move, newest_moved, IsWritten}
 use Rattle.arena_chunks.proofs.arena.Arena.move_bytes.Given.{Over}
 use Rattle.arena_chunks.proofs.arena.Arena.move_bytes.Goals as goal
@@ -38,34 +38,28 @@ returns-then-from-self-clause-bytes g c = (in_newest g c).image
 
 -- ---- From an older chunk
 
-pub find_chunk-requires : goal.find_chunk-requires
-find_chunk-requires g c =
+pub find_chunk-i-requires : goal.find_chunk-i-requires
+find_chunk-i-requires g c =
     let move = is_move g.row.MIN_ALIGN c.self.inside c.args.self.now c.args.from c.args.to c.args.n c.self.invariant c.self.view_is c.requires.source c.requires.target c.requires.newest c.if-n-eq0.false in
     rw c.deref.ensures.value (searchable _ _ _ _ _ move.source c.if-from-self.false)
 
-pub part_at-requires-clause-high : goal.part_at-requires-clause-high
-part_at-requires-clause-high g c =
+pub copy_across-requires-clause-source : goal.copy_across-requires-clause-source
+copy_across-requires-clause-source g c =
     let move = is_move g.row.MIN_ALIGN c.self.inside c.args.self.now c.args.from c.args.to c.args.n c.self.invariant c.self.view_is c.requires.source c.requires.target c.requires.newest c.if-n-eq0.false in
-    let older = is_older _ _ _ _ _ c.find_chunk.result c.deref.result.now c.index-chunk.result.now move.source c.if-from-self.false c.deref.ensures.value c.find_chunk.ensures c.index-chunk.ensures in
+    let older = is_older _ _ _ _ _ c.find_chunk-i.result c.deref.result.now c.index.result.now move.source c.if-from-self.false c.deref.ensures.value c.find_chunk-i.ensures c.index.ensures in
     omega (arith, older.part.low, older.part.high)
 
-pub edit_at-requires-clause-high : goal.edit_at-requires-clause-high
-edit_at-requires-clause-high g c =
+pub copy_across-requires-clause-target : goal.copy_across-requires-clause-target
+copy_across-requires-clause-target g c =
     let move = is_move g.row.MIN_ALIGN c.self.inside c.args.self.now c.args.from c.args.to c.args.n c.self.invariant c.self.view_is c.requires.source c.requires.target c.requires.newest c.if-n-eq0.false in
     omega (arith, (newest_part _ _ _ _ _ move.target move.above).high, move.above)
 
-pub edit_at-requires-clause-suits : goal.edit_at-requires-clause-suits
-edit_at-requires-clause-suits g c =
-    let move = is_move g.row.MIN_ALIGN c.self.inside c.args.self.now c.args.from c.args.to c.args.n c.self.invariant c.self.view_is c.requires.source c.requires.target c.requires.newest c.if-n-eq0.false in
-    let older = is_older _ _ _ _ _ c.find_chunk.result c.deref.result.now c.index-chunk.result.now move.source c.if-from-self.false c.deref.ensures.value c.find_chunk.ensures c.index-chunk.ensures in
-    sym (ap length (c.part_at.ensures ∙ older.part.bytes) ∙ length-bytes (image c.args.self.now) c.args.from c.args.n)
-
-from_older : (g : Over) (c : goal.After-edit_at g) → IsWritten g.row.MIN_ALIGN c.self.inside c.args.self.now c.args.to c.args.n
-    (bytes_from (image c.args.self.now) c.args.from c.args.n) c.edit_at.new.chunk c.self.inside.older.items
+from_older : (g : Over) (c : goal.After-copy_across g) → IsWritten g.row.MIN_ALIGN c.self.inside c.args.self.now c.args.to c.args.n
+    (bytes_from (image c.args.self.now) c.args.from c.args.n) c.copy_across.new.target c.self.inside.older.items
 from_older g c =
     let move = is_move g.row.MIN_ALIGN c.self.inside c.args.self.now c.args.from c.args.to c.args.n c.self.invariant c.self.view_is c.requires.source c.requires.target c.requires.newest c.if-n-eq0.false in
-    let older = is_older _ _ _ _ _ c.find_chunk.result c.deref.result.now c.index-chunk.result.now move.source c.if-from-self.false c.deref.ensures.value c.find_chunk.ensures c.index-chunk.ensures in
-    newest_moved _ _ _ _ _ _ _ c.edit_at.new.chunk move (c.part_at.ensures ∙ older.part.bytes) c.edit_at.ensures
+    let older = is_older _ _ _ _ _ c.find_chunk-i.result c.deref.result.now c.index.result.now move.source c.if-from-self.false c.deref.ensures.value c.find_chunk-i.ensures c.index.ensures in
+    newest_moved _ _ _ _ _ _ _ c.copy_across.new.target move older.part.bytes c.copy_across.ensures
 
 pub invariant_of-self-else-from-self : goal.invariant_of-self-else-from-self
 invariant_of-self-else-from-self g c = (from_older g c).stored

@@ -1,21 +1,21 @@
-use Rattle.arena_chunks.proofs.ResizeSteps.{takes_unasked, takes_anew, shrink_unasked, shrinks_aligned, shrinks_anew}
-use Rattle.arena_chunks.proofs.ResizedLemmas.{resized_still}
+use Rattle.arena_chunks.proofs.ResizeSteps.{shrinks_aligned, shrinks_anew}
+use Rattle.arena_chunks.proofs.ResizedLemmas.{resized_unasked, shrunk_aligned, shrunk_still}
 use Rattle.arena_chunks.proofs.arena.Arena.shrink_counted.Goals as goal
 
-pub returns-then-layout-block-clause-step : goal.returns-then-layout-block-clause-step
-returns-then-layout-block-clause-step g c = takes_unasked _ _ _ _ _ c.shrink_here.ensures.step (shrink_unasked c.args.self.now.state c.args.block.addr c.args.block.size c.args.block.align c.args.layout.size c.args.layout.align c.if-layout-block.true 0)
+pub returns-then-layout-block-clause-shrunk : goal.returns-then-layout-block-clause-shrunk
+returns-then-layout-block-clause-shrunk g c =
+    let is = c.shrink_here.ensures in
+    resized_unasked _ c.args.self.now c.shrink_here.new.self _ c.args.block c.args.layout.size c.args.layout.align c.shrink_here.result
+    (shrunk_aligned _ _ c.args.block c.args.layout.size c.args.layout.align c.shrink_here.result is.entry c.args.layout.valid is.resizes.of_layout.of_align c.requires.size is.step) is
 
-pub returns-then-is_aligned_to-clause-step : goal.returns-then-is_aligned_to-clause-step
-returns-then-is_aligned_to-clause-step g c =
-    let call = shrinks_aligned c.args.self.now.state c.args.block.addr c.args.block.size c.args.block.align c.args.layout.size c.args.layout.align c.if-layout-block.false (c.is_aligned_to.ensures.0 c.if-is_aligned_to.true) in
-    takes_unasked _ _ _ _ _ (rw c.resized.ensures.block (call.step 0)) (call.requests 0)
+pub returns-then-is_aligned_to-clause-shrunk : goal.returns-then-is_aligned_to-clause-shrunk
+returns-then-is_aligned_to-clause-shrunk g c =
+    let is = shrunk_still c.args.self.now c.args.block c.args.layout.size c.args.layout.align c.resized.ensures.valid c.requires.readable c.requires.size
+    (shrinks_aligned c.args.self.now.state c.args.block.addr c.args.block.size c.args.block.align c.args.layout.size c.args.layout.align c.if-layout-block.false (c.is_aligned_to.ensures.0 c.if-is_aligned_to.true)) in
+    rw c.resized.ensures.block (resized_unasked _ c.args.self.now c.args.self.now _ c.args.block c.args.layout.size c.args.layout.align _
+    (shrunk_aligned _ _ c.args.block c.args.layout.size c.args.layout.align _ is.entry c.args.layout.valid is.resizes.of_layout.of_align c.requires.size is.step) is)
 
-pub returns-then-is_aligned_to-clause-readable : goal.returns-then-is_aligned_to-clause-readable
-returns-then-is_aligned_to-clause-readable g c =
-    rw c.resized.ensures.block
-    (resized_still c.args.self.now c.args.block c.args.layout.size c.args.layout.align c.args.layout.size c.resized.ensures.valid c.requires.readable c.requires.size).readable
-
-pub returns-clause-step : goal.returns-clause-step
-returns-clause-step g c =
-    let call = shrinks_anew c.args.self.now.state c.args.block.addr c.args.block.size c.args.block.align c.args.layout.size c.args.layout.align c.if-layout-block.false (λ aligned. let never = c.if-is_aligned_to.ensures.1 aligned in cc) in
-    takes_anew _ _ c.args.self.now.state c.copy_to_new.new.self.state c.args.layout.size c.args.layout.align _ _ c.copy_to_new.result call.step call.requests c.copy_to_new.ensures.step
+pub returns-clause-shrunk : goal.returns-clause-shrunk
+returns-clause-shrunk g c =
+    let way = shrinks_anew c.args.self.now.state c.args.block.addr c.args.block.size c.args.block.align c.args.layout.size c.args.layout.align c.if-layout-block.false (λ aligned. let never = c.if-is_aligned_to.ensures.1 aligned in cc) in
+    rw way c.copy_to_new.ensures

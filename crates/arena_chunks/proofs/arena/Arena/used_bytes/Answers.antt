@@ -1,7 +1,7 @@
 use Rattle.std.proofs.Common.{ap, arith, ◌∙◌, sum_by, take_all}
 use Rattle.placement.specs.State.{used_length}
 use Rattle.arena_chunks.specs.Stored.{stored_chunk}
-use Rattle.arena_chunks.specs.declared.chunk.StoredChunk.{StoredChunk}
+use Rattle.arena_chunks.specs.declared.chunks.chunk.StoredChunk.{StoredChunk}
 use Rattle.arena_chunks.proofs.StoredLemmas.{newest_ordered, item_ordered, none_used, sum_all, sum_on_way}
 use Rattle.arena_chunks.proofs.arena.Arena.used_bytes.Goals as goal
 

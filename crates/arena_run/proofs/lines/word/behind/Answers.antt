@@ -1,7 +1,6 @@
 use Rattle.std.proofs.lemmas.Slice.Eq.{strip_prefix_is}
 use Rattle.std.proofs.lemmas.Bool.Decides.{Decides-eqb}
-use Rattle.arena_run.proofs.ReadingLemmas.{stripped}
 use Rattle.arena_run.proofs.lines.word.behind.Goals as goal
 
 pub returns : goal.returns
-returns c = stripped c.args.word.now c.args.bytes.now c.strip_prefix.result (strip_prefix_is Decides-eqb _ _ _ c.strip_prefix.ensures.cases)
+returns c = strip_prefix_is Decides-eqb _ _ _ c.strip_prefix.ensures.cases

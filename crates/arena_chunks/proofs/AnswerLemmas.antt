@@ -1,0 +1,21 @@
+-- Answers of calls that place a block.
+use Rattle.std.proofs.Common.{ℕ, Result, Ok, Err}
+use Rattle.std.specs.Prelude.{OnErr}
+use Rattle.arena_chunks.specs.Answers.{Answer, answer_of, OnCounted}
+use Rattle.arena_chunks.specs.declared.block.ArenaErr.{ArenaErr}
+use Rattle.arena_chunks.specs.declared.block.ArenaErr.TheVariants.{AllocErr, OutOfMemory}
+
+-- An error that tells the number of refusals does so where the number isn't told beside it.
+pub uncounted_err : (P : ℕ → Answer → Type 0) (e : ArenaErr) → OnCounted (Err e) P → (k : ℕ) × P k (answer_of (Err e))
+uncounted_err P (AllocErr k) holds = (k, holds)
+uncounted_err P OutOfMemory holds = (0, holds)
+
+-- What holds, holds on an error.
+pub on_err : {X E P : Type 0} → (r : Result X E) → P → OnErr r P
+on_err (Ok x) holds = tt
+on_err (Err e) holds = holds
+
+-- What holds on an error may be less.
+pub on_err_less : {X E P Q : Type 0} → (r : Result X E) → (P → Q) → OnErr r P → OnErr r Q
+on_err_less (Ok x) less holds = tt
+on_err_less (Err e) less holds = less holds

@@ -1,5 +1,0 @@
-use Rattle.arena_chunks.proofs.WalkLemmas.{all_ordered}
-use Rattle.arena_chunks.proofs.iter.ChunksLeft.of.Goals as goal
-
-pub invariant_of-result-2 : goal.invariant_of-result-2
-invariant_of-result-2 c = record { ordered = all_ordered c.args.newest.now c.args.older.now c.if-newest-eq-NOWHERE.false c.requires.ordered }

@@ -1,0 +1,13 @@
+use Rattle.std.proofs.Common.{ℕ, List, map, ap, sym, ◌∙◌, append-nil}
+use Rattle.placement.specs.declared.place.Place.{Place}
+use Rattle.arena_chunks.specs.Runs.{block_at}
+use Rattle.placement.proofs.MapLemmas.{tree_entries}
+use Rattle.arena_chunks.proofs.runs.names.Names.blocks.Goals as goal
+
+pub returns : goal.returns
+returns c =
+    let gives = c.into_iter-name-iterator.ensures.into_iter_gives in
+    let all = gives.0 ∙ sym (tree_entries c.self.inside.places.entries gives.5) in
+    rw (← c.self.view_is)
+    (sym (append-nil c.loop-name.blocks.items) ∙ rw c.in-None.ensures.steps.0 at c.loop-name.invariant
+    ∙ ap (λ (es : List (ℕ × Place)). map (λ (e : ℕ × Place). (e.0, block_at c.args.generation e.1)) es) all)

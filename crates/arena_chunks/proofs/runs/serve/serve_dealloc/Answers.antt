@@ -1,0 +1,22 @@
+use Rattle.std.proofs.Common.{arith, sym, ◌∙◌, refl}
+use Rattle.placement.specs.Machine.{step}
+use Rattle.placement.specs.Requests.{placed_anew}
+use Rattle.arena_chunks.proofs.HeldLemmas.{remove_absent}
+use Rattle.arena_chunks.proofs.ServingLemmas.{readable_at, asks_still, serves_still, absent_at, serves_dealloc}
+use Rattle.arena_chunks.proofs.runs.serve.serve_dealloc.Goals as goal
+
+pub returns-in_default : goal.returns-in_default
+unfolding step placed_anew
+returns-in_default g c = λ source.
+    let none = sym c.remove.ensures.place ∙ c.in_default.is in
+    rw (c.remove.ensures.rest, remove_absent c.args.names.now c.args.name none)
+    (serves_still _ _ _ _ _ _ c.requires (λ bytes held. absent_at c.args.arena.now c.args.names.now bytes c.args.name _ none) (asks_still _ _ _ _ _ refl (λ bytes. refl) (λ bytes. refl)))
+
+pub dealloc-requires : goal.dealloc-requires
+dealloc-requires g c = (omega arith, rw c.block_at.ensures (readable_at _ _ c.args.name c.in-Some.place c.requires (sym c.remove.ensures.place ∙ c.in-Some.is)))
+
+pub returns : goal.returns
+returns g c = λ source.
+    let found = sym c.remove.ensures.place ∙ c.in-Some.is in
+    rw c.remove.ensures.rest
+    (serves_dealloc c.args.arena.now c.dealloc.new.self c.args.names.now c.args.name c.in-Some.place source c.requires found (rw c.block_at.ensures at c.dealloc.ensures))

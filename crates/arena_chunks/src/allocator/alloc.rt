@@ -1,0 +1,71 @@
+// The trait by which collections place their blocks.
+ghost use Rattle.std.specs.Prelude.{◌≡◌, ◌≤◌, IsTrue, IsOk};
+ghost use Rattle.arena_chunks.specs.Memory.{is_readable};
+ghost use Rattle.arena_chunks.specs.Answers.{answer_of};
+ghost use Rattle.arena_chunks.specs.BlockCalls.{PlacesBlock, GivesBack, GrowsBlock, ShrinksBlock};
+
+use crate::allocator::{Allocator, OverArena};
+use crate::block::{ArenaErr, Block};
+use crate::chunks::ChunkSource;
+use arena_place::Layout;
+
+/// What places blocks in an arena.
+pub trait Alloc: OverArena {
+    /// Places a block.
+    ///
+    /// # Errors
+    ///
+    /// `AllocErr` where all requests for a chunk were refused, `OutOfMemory` where memory for the table of chunks is
+    /// wanting. Nothing changes.
+    fn alloc(&mut self, layout: Layout) -> Result<Block, ArenaErr>
+        ensures { PlacesBlock (Self.view self.old) (Self.view self.new) layout.size layout.align
+            (answer_of result) };
+
+    /// Gives a block back.
+    fn dealloc(&mut self, block: Block)
+        requires { IsTrue (is_readable (Self.view self.old).memory.state block) }
+        ensures given { GivesBack (Self.view self.old).memory (Self.view self.new).memory block }
+        ensures source { (Self.view self.new).source ≡ (Self.view self.old).source };
+
+    /// Grows a block, which may move it. Its bytes are kept.
+    ///
+    /// # Errors
+    ///
+    /// As of `alloc`, where it doesn't grow in place; also `AllocErr` with no request where what is wanted more is no
+    /// layout. The block stays as it was.
+    fn grow(&mut self, block: Block, layout: Layout) -> Result<Block, ArenaErr>
+        requires readable { IsTrue (is_readable (Self.view self.old).memory.state block) }
+        requires size { block.size ≤ layout.size }
+        ensures { GrowsBlock (Self.view self.old) (Self.view self.new) block layout.size layout.align
+            (answer_of result) };
+
+    /// Shrinks a block, which may move it. Its first bytes are kept.
+    ///
+    /// # Errors
+    ///
+    /// As of `alloc`, where the block must move to a greater alignment; the block stays as it was.
+    fn shrink(&mut self, block: Block, layout: Layout) -> Result<Block, ArenaErr>
+        requires readable { IsTrue (is_readable (Self.view self.old).memory.state block) }
+        requires size { layout.size ≤ block.size }
+        ensures shrunk { ShrinksBlock (Self.view self.old) (Self.view self.new)
+            block layout.size layout.align (answer_of result) }
+        ensures succeeds { layout.align ≤ block.align → IsOk result };
+}
+
+impl<C: ChunkSource> Alloc for Allocator<C> {
+    fn alloc(&mut self, layout: Layout) -> Result<Block, ArenaErr> {
+        self.arena.alloc_layout(&mut self.chunks, layout)
+    }
+
+    fn dealloc(&mut self, block: Block) {
+        self.arena.dealloc(block);
+    }
+
+    fn grow(&mut self, block: Block, layout: Layout) -> Result<Block, ArenaErr> {
+        self.arena.grow(&mut self.chunks, block, layout)
+    }
+
+    fn shrink(&mut self, block: Block, layout: Layout) -> Result<Block, ArenaErr> {
+        self.arena.shrink(&mut self.chunks, block, layout)
+    }
+}

@@ -1,0 +1,287 @@
+// How an arena grows and shrinks blocks, and gives all of them back.
+ghost use Rattle.std.specs.Prelude.{◌≡◌, ℕ, ◌+◌, ◌-◌, ◌^◌, ◌%◌, nat_lt, ◌≤◌, ◌<◌, if◌then◌else◌, IsOk, IsTrue, Some, min, take};
+
+use crate::arena::Arena;
+use crate::block::{ArenaErr, Block};
+use crate::chunks::ChunkSource;
+use crate::chunks::chunk::find_chunk;
+use crate::chunks::edit::{copy_across, move_within};
+use arena_place::{Layout, is_aligned_to, place, round_down_to, round_up_to_unchecked};
+
+// One fewer, unless the count stands at its last value.
+fn uncounted(count: u64) -> u64
+    requires { 0 < count }
+    ensures { result ≡ (if nat_lt count (2 ^ 64 - 1) then count - 1 else count) }
+{
+    if count < u64::MAX { count - 1 } else { count }
+}
+
+impl<const MIN_ALIGN: usize> Arena<MIN_ALIGN> {
+    ghost use Rattle.placement.specs.Rounding.{up, is_layout};
+    ghost use Rattle.placement.specs.State.{IsValid, start_of, cursor_of, top_of, with_cursor, is_range_used};
+    ghost use Rattle.placement.specs.Search.{place};
+    ghost use Rattle.placement.specs.Moves.{reset};
+    ghost use Rattle.placement.specs.Moves.Resizing.{Moves, Anew};
+    ghost use Rattle.placement.specs.Statistics.{uncounted, one_reallocation};
+    ghost use Rattle.arena_chunks.specs.Memory.{Memory, Writes, is_readable, image, bytes_from};
+    ghost use Rattle.arena_chunks.specs.Source.{view};
+    ghost use Rattle.arena_chunks.specs.Answers.{answer_of, OnCounted};
+    ghost use Rattle.arena_chunks.specs.BlockCalls.{GrowsBlock, ShrinksBlock, ResizesAfter, growing_of, shrinking_of};
+    ghost use Rattle.arena_chunks.specs.Resizes.{IsResizedUnasked, replaced, NoneReadable};
+
+    /// Shrinks a block, which may move it. Its first bytes are kept. To no greater alignment this takes no memory and
+    /// can't fail.
+    ///
+    /// # Errors
+    ///
+    /// As of `try_alloc_layout`, where the block must move to a greater alignment; the block stays as it was.
+    #[inline]
+    pub fn shrink<C: ChunkSource>(
+        &mut self,
+        chunks: &mut C,
+        block: Block,
+        layout: Layout,
+    ) -> Result<Block, ArenaErr>
+        requires readable { IsTrue (is_readable self.old.state block) }
+        requires size { layout.size ≤ block.size }
+        ensures shrunk { ShrinksBlock
+            (view self.old (C.source chunks.old)) (view self.new (C.source chunks.new))
+            block layout.size layout.align (answer_of result) }
+        ensures succeeds { layout.align ≤ block.align → IsOk result }
+    {
+        match self.shrink_counted(chunks, block, layout) {
+            Ok((b, _)) => Ok(b),
+            Err(e) => Err(e),
+        }
+    }
+
+    /// Grows a block, which may move it. Its bytes are kept. Where it grows in place this takes no memory, and moves its
+    /// bytes in one go.
+    ///
+    /// # Errors
+    ///
+    /// As of `try_alloc_layout`, where it doesn't grow in place; also `AllocErr` with no request where what is wanted
+    /// more is no layout. The block stays as it was.
+    #[inline]
+    pub fn grow<C: ChunkSource>(
+        &mut self,
+        chunks: &mut C,
+        block: Block,
+        layout: Layout,
+    ) -> Result<Block, ArenaErr>
+        requires readable { IsTrue (is_readable self.old.state block) }
+        requires size { block.size ≤ layout.size }
+        ensures { GrowsBlock (view self.old (C.source chunks.old)) (view self.new (C.source chunks.new))
+            block layout.size layout.align (answer_of result) }
+    {
+        match self.grow_counted(chunks, block, layout) {
+            Ok((b, _)) => Ok(b),
+            Err(e) => Err(e),
+        }
+    }
+
+    /// Gives all blocks back, and all chunks but the newest. Blocks placed before are readable no more, but for those
+    /// of no bytes: the generation rises, up to 2^64 - 1. The statistics begin anew. The
+    /// bytes of the chunk that is kept don't change.
+    #[inline]
+    pub fn reset(&mut self)
+        ensures memory { self.new ≡ record {
+          state = reset self.old.state;
+          statistics = uncounted;
+          bytes = take 1 self.old.bytes;
+        } }
+        ensures ends { NoneReadable self.new.state }
+        ensures valid { IsValid self.new.state }
+    {
+        self.newest.cursor = self.newest.base + self.newest.size();
+        self.older.clear();
+        self.generation = self.generation.saturating_add(1);
+        self.allocations = 0;
+        self.reallocations = 0;
+    }
+
+    // Shrinks a block, and counts the requests that were refused.
+    pub(crate) fn shrink_counted<C: ChunkSource>(
+        &mut self,
+        chunks: &mut C,
+        block: Block,
+        layout: Layout,
+    ) -> Result<(Block, u32), ArenaErr>
+        requires readable { IsTrue (is_readable self.old.state block) }
+        requires size { layout.size ≤ block.size }
+        ensures shrunk { OnCounted result (ResizesAfter (shrinking_of self.old block layout.size layout.align)
+            (view self.old (C.source chunks.old)) (view self.new (C.source chunks.new))
+            block layout.size layout.align) }
+        ensures succeeds { layout.align ≤ block.align → IsOk result }
+    {
+        if layout.align <= block.align {
+            return Ok((self.shrink_here(block, layout), 0));
+        }
+        if is_aligned_to(block.addr, layout.align) {
+            return Ok((self.resized(block.addr, layout), 0));
+        }
+        self.copy_to_new(chunks, block, layout, layout.size)
+    }
+
+    // Grows a block, and counts the requests that were refused.
+    #[inline]
+    pub(crate) fn grow_counted<C: ChunkSource>(
+        &mut self,
+        chunks: &mut C,
+        block: Block,
+        layout: Layout,
+    ) -> Result<(Block, u32), ArenaErr>
+        requires readable { IsTrue (is_readable self.old.state block) }
+        requires size { block.size ≤ layout.size }
+        ensures { OnCounted result (ResizesAfter (growing_of self.old block layout.size layout.align)
+            (view self.old (C.source chunks.old)) (view self.new (C.source chunks.new))
+            block layout.size layout.align) }
+    {
+        if block.align < layout.align || block.addr != self.newest.cursor {
+            return self.copy_to_new(chunks, block, layout, block.size);
+        }
+        let more = round_up_to_unchecked(layout.size, MIN_ALIGN as u64) - block.size;
+        let Some(below) = Layout::new(more, block.align) else {
+            return Err(ArenaErr::AllocErr { refused: 0 });
+        };
+        match place(
+            self.newest.base,
+            self.newest.cursor,
+            below,
+            MIN_ALIGN as u64,
+        ) {
+            Some(addr) => Ok((self.grow_to(block, addr, layout), 0)),
+            None => self.copy_to_new(chunks, block, layout, block.size),
+        }
+    }
+
+    // Shrinks a block to no greater alignment. At the cursor it moves up, if that gives half of it back, or more.
+    fn shrink_here(&mut self, block: Block, layout: Layout) -> Block
+        requires readable { IsTrue (is_readable self.old.state block) }
+        requires size { layout.size ≤ block.size }
+        requires align { layout.align ≤ block.align }
+        ensures { IsResizedUnasked (shrinking_of self.old block layout.size layout.align) self.old self.new
+            block layout.size layout.align result }
+    {
+        if block.addr != self.newest.cursor {
+            return self.resized(block.addr, layout);
+        }
+        let delta = round_down_to(block.size - layout.size, layout.align.max(MIN_ALIGN as u64));
+        if delta < block.size - delta {
+            return self.resized(block.addr, layout);
+        }
+        let addr = block.addr + delta;
+        let shrunk = self.resized(addr, layout);
+        self.move_bytes(block.addr, addr, layout.size);
+        self.move_cursor(addr);
+        shrunk
+    }
+
+    // Grows a block at the cursor down to its new place.
+    fn grow_to(&mut self, block: Block, addr: u64, layout: Layout) -> Block
+        requires readable { IsTrue (is_readable self.old.state block) }
+        requires size { block.size ≤ layout.size }
+        requires last { block.addr ≡ cursor_of self.old.state.chunks }
+        requires align { let more = up layout.size self.old.state.min_align - block.size in
+            IsTrue (is_layout more block.align) }
+        requires place { let more = up layout.size self.old.state.min_align - block.size in
+            place self.old.state more block.align ≡ Some addr }
+        ensures { IsResizedUnasked (Moves addr) self.old self.new block layout.size layout.align result }
+    {
+        let grown = self.resized(addr, layout);
+        self.move_cursor(addr);
+        self.move_bytes(block.addr, addr, block.size);
+        grown
+    }
+
+    // Places a block anew, with the first n bytes of the old one.
+    #[inline(never)]
+    fn copy_to_new<C: ChunkSource>(
+        &mut self,
+        chunks: &mut C,
+        block: Block,
+        layout: Layout,
+        n: u64,
+    ) -> Result<(Block, u32), ArenaErr>
+        requires readable { IsTrue (is_readable self.old.state block) }
+        requires n { n ≡ min block.size layout.size }
+        ensures { OnCounted result (ResizesAfter Anew
+            (view self.old (C.source chunks.old)) (view self.new (C.source chunks.new))
+            block layout.size layout.align) }
+    {
+        match self.alloc_counted(chunks, layout) {
+            Ok((new, refused)) => {
+                self.move_bytes(block.addr, new.addr, n);
+                self.count_move();
+                Ok((new, refused))
+            }
+            Err(e) => Err(e),
+        }
+    }
+
+    // The block at an address.
+    fn resized(&self, addr: u64, layout: Layout) -> Block
+        ensures block { result ≡ record {
+          generation = self.now.state.generation;
+          addr = addr;
+          size = layout.size;
+          align = layout.align;
+        } }
+        ensures valid { IsValid self.now.state }
+    {
+        Block {
+            generation: self.generation,
+            addr,
+            size: layout.size,
+            align: layout.align,
+        }
+    }
+
+    // Sets the cursor, and counts a reallocation.
+    fn move_cursor(&mut self, addr: u64)
+        requires low { start_of self.old.state.chunks ≤ addr }
+        requires high { addr ≤ top_of self.old.state.chunks }
+        requires aligned { addr % self.old.state.min_align ≡ 0 }
+        ensures { self.new ≡ record {
+          state = with_cursor addr self.old.state;
+          statistics = one_reallocation self.old.statistics;
+          bytes = self.old.bytes;
+        } }
+    {
+        self.newest.cursor = addr;
+        self.reallocations = self.reallocations.saturating_add(1);
+    }
+
+    // Counts the last allocation as a reallocation.
+    fn count_move(&mut self)
+        requires { 0 < self.old.statistics.allocations }
+        ensures { self.new ≡ record {
+          state = self.old.state;
+          statistics = replaced self.old.statistics;
+          bytes = self.old.bytes;
+        } }
+    {
+        self.allocations = uncounted(self.allocations);
+        self.reallocations = self.reallocations.saturating_add(1);
+    }
+
+    // Moves n bytes to a place in the newest chunk, in one move of memory. The two may overlap.
+    pub(crate) fn move_bytes(&mut self, from: u64, to: u64, n: u64)
+        requires source { 0 < n → IsTrue (is_range_used self.old.state.chunks from n) }
+        requires target { 0 < n → IsTrue (is_range_used self.old.state.chunks to n) }
+        requires newest { start_of self.old.state.chunks ≤ to }
+        ensures state { self.new.state ≡ self.old.state }
+        ensures statistics { self.new.statistics ≡ self.old.statistics }
+        ensures bytes { Writes self.old self.new to (bytes_from (image self.old) from n) }
+    {
+        if n == 0 {
+            return;
+        }
+        if from >= self.newest.base {
+            move_within(&mut self.newest, from, to, n);
+        } else {
+            let i = find_chunk(&self.older, from);
+            copy_across(&self.older[i], &mut self.newest, from, to, n);
+        }
+    }
+}

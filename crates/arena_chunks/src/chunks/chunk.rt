@@ -1,0 +1,158 @@
+// A chunk with its bytes.
+ghost use Rattle.std.specs.Prelude.{◌≡◌, ◌<◌, ◌^◌, [], ◌∷◌, ◌++◌, ◌==◌, if◌then◌else◌, vec_len, vec_capacity, length, take, drop, ◌≤◌, ◌+◌, ◌-◌, Some, None, nat_le};
+ghost use Rattle.std.specs.List.{All, list_any, count_by};
+ghost use Rattle.placement.specs.State.{used_length, is_used_by};
+ghost use Rattle.arena_chunks.specs.Stored.{stored_chunk, IsOrdered, IsSearchable, IsLastBelow};
+
+use crate::block::Block;
+use std::alloc::Global;
+use std::mem;
+
+// Where what stands for no chunk begins and ends.
+pub(crate) const NOWHERE: u64 = 16;
+
+// How many older chunks are few.
+const FEW: usize = 32;
+
+// The bytes of a chunk stand from its base on; those from the cursor on are used. What begins at 16 stands for no chunk: no
+// chunk does, since the lowest base is 4096, and a cursor there has room for nothing.
+#[derive(Drop)]
+pub struct StoredChunk {
+    pub(crate) base: u64,
+    pub(crate) cursor: u64,
+    pub(crate) bytes: Vec<u8>,
+}
+
+impl StoredChunk {
+    // What stands for no chunk.
+    pub(crate) fn none(alloc: Global) -> StoredChunk
+        ensures base { result.base ≡ 16 }
+        ensures cursor { result.cursor ≡ 16 }
+        ensures bytes { result.bytes.items ≡ [] }
+    {
+        StoredChunk {
+            base: NOWHERE,
+            cursor: NOWHERE,
+            bytes: Vec::new(alloc),
+        }
+    }
+
+    // A chunk with nothing used.
+    pub(crate) fn unused(base: u64, bytes: Vec<u8>) -> StoredChunk
+        requires { base + length bytes.items < 2 ^ 64 }
+        ensures { result ≡ record { base = base; cursor = base + length bytes.items; bytes = bytes } }
+    {
+        let cursor = base + bytes.len() as u64;
+        StoredChunk {
+            base,
+            cursor,
+            bytes,
+        }
+    }
+
+    pub(crate) fn size(&self) -> u64
+        ensures { result ≡ length self.now.bytes.items }
+    {
+        self.bytes.len() as u64
+    }
+
+    // The data end, if there is a chunk.
+    pub(crate) fn end(&self) -> Option<u64>
+        requires { IsOrdered self.now }
+        ensures { let end = self.now.base + length self.now.bytes.items in
+            result ≡ (if self.now.base == 16 then None else Some end) }
+    {
+        if self.base == NOWHERE {
+            None
+        } else {
+            Some(self.base + self.size())
+        }
+    }
+
+    // How many bytes are used.
+    pub(crate) fn used(&self) -> u64
+        requires { IsOrdered self.now }
+        ensures { result ≡ used_length (stored_chunk self.now) }
+    {
+        self.base + self.size() - self.cursor
+    }
+
+    // Whether the block's bytes lie in the used part.
+    pub(crate) fn has(&self, block: Block) -> bool
+        requires { IsOrdered self.now }
+        ensures { result ≡ is_used_by block.addr block.size (stored_chunk self.now) }
+    {
+        let end = self.base + self.size();
+        self.cursor <= block.addr && block.addr <= end && block.size <= end - block.addr
+    }
+}
+
+// Whether the block's bytes lie in the used part of one of these chunks.
+pub(crate) fn some_has(chunks: &[StoredChunk], block: Block) -> bool
+    requires { All IsOrdered chunks.now }
+    ensures { result ≡ list_any (λ c. is_used_by block.addr block.size (stored_chunk c)) chunks.now }
+{
+    for chunk in chunks {
+        if chunk.has(block) {
+            return true;
+        }
+    }
+    false
+}
+
+// A granted chunk becomes the newest, with nothing used in it. What was the newest, if there was one, goes into the
+// table, which has room for it.
+pub(crate) fn install(
+    newest: &mut StoredChunk,
+    older: &mut Vec<StoredChunk>,
+    base: u64,
+    bytes: Vec<u8>,
+)
+    requires room { vec_len older.old < vec_capacity older.old }
+    requires fits { base + length bytes.items < 2 ^ 64 }
+    ensures newest { newest.new ≡ record { base = base; cursor = base + length bytes.items; bytes = bytes } }
+    ensures older { older.new.items
+        ≡ (if newest.old.base == 16 then older.old.items else older.old.items ++ newest.old ∷ []) }
+{
+    let last = mem::replace(newest, StoredChunk::unused(base, bytes));
+    if last.base == NOWHERE {
+        return;
+    }
+    match older.push(last) {
+        Ok(()) => {}
+        Err(_) => unreachable!(),
+    }
+}
+
+// How many of these chunks begin at or below the address. No branch depends on the address.
+fn count_below(chunks: &[StoredChunk], addr: u64) -> usize
+    ensures { result ≡ count_by (λ c. nat_le c.base addr) chunks.now }
+{
+    let mut n = 0;
+    for chunk in chunks {
+        n += (chunk.base <= addr) as usize;
+    }
+    n
+}
+
+// The last of these chunks that begins at or below the address; the first does so in any case. In few chunks a count is
+// faster than a search, each of whose branches may be mispredicted.
+pub(crate) fn find_chunk(older: &[StoredChunk], addr: u64) -> usize
+    requires { IsSearchable older.now addr }
+    ensures { IsLastBelow older.now addr result }
+{
+    if older.len() <= FEW {
+        return count_below(&older[1..], addr);
+    }
+    older.partition_point(|chunk| chunk.base <= addr) - 1
+}
+
+// The part of a chunk's bytes at these addresses.
+pub(crate) fn part_at(chunk: &StoredChunk, addr: u64, size: u64) -> &[u8]
+    requires low { chunk.now.base ≤ addr }
+    requires high { addr - chunk.now.base + size ≤ length chunk.now.bytes.items }
+    ensures { result.now ≡ take size (drop (addr - chunk.now.base) chunk.now.bytes.items) }
+{
+    let from = (addr - chunk.base) as usize;
+    &chunk.bytes[from..from + size as usize]
+}

@@ -1,0 +1,142 @@
+// Changes of the bytes that stand in one place.
+ghost use Rattle.std.specs.Prelude.{◌≡◌, ℕ, ◌+◌, ◌-◌, ◌≤◌, List, length, take, drop, replicate};
+ghost use Rattle.placement.specs.Machine.{splice};
+ghost use Rattle.arena_chunks.specs.Stored.{IsEdited, EditsPart, part_of, HasPart, CopiesPart};
+
+use crate::chunks::chunk::{StoredChunk, part_at};
+use crate::chunks::shift::shift;
+
+/// A change of the bytes of a place, which keeps their number. What is written there may be encoded straight into the place,
+/// and a loop may work in it.
+pub trait Edit {
+    // Whether it suits a place with these bytes.
+    ghost suits: { Self → List ℕ → Type 0 };
+
+    // Whether, of the bytes that stood there, these may come. A function is the case of `λ s old new. new ≡ f s old`.
+    ghost relates: { Self → List ℕ → List ℕ → Type 0 };
+
+    /// Changes the bytes.
+    fn edit(&self, place: &mut [u8])
+        requires { suits self.now place.old }
+        ensures { relates self.now place.old place.new };
+}
+
+// Changes the part of a chunk's bytes at these addresses.
+pub(crate) fn edit_at<E: Edit>(chunk: &mut StoredChunk, addr: u64, size: u64, e: &E)
+    requires low { chunk.old.base ≤ addr }
+    requires high { addr - chunk.old.base + size ≤ length chunk.old.bytes.items }
+    requires suits { E.suits e.now (part_of chunk.old addr size) }
+    ensures { EditsPart chunk.old chunk.new addr size (E.relates e.now) }
+{
+    let from = (addr - chunk.base) as usize;
+    e.edit(&mut chunk.bytes[from..from + size as usize]);
+}
+
+// Copies bytes of a chunk into another.
+#[tactic(auto, using(crate::proofs::EditLemmas::put_edited, crate::proofs::EditLemmas::part_length))]
+pub(crate) fn copy_across(
+    source: &StoredChunk,
+    target: &mut StoredChunk,
+    from: u64,
+    to: u64,
+    size: u64,
+)
+    requires low { (source.now.base ≤ from) × (target.old.base ≤ to) }
+    requires source { from - source.now.base + size ≤ length source.now.bytes.items }
+    requires target { to - target.old.base + size ≤ length target.old.bytes.items }
+    ensures { IsEdited target.old target.new to size (part_of source.now from size) }
+{
+    let bytes = part_at(source, from, size);
+    edit_at(target, to, size, &Put { bytes });
+}
+
+// Moves bytes of a chunk to another place in it. The two may overlap.
+pub(crate) fn move_within(chunk: &mut StoredChunk, from: u64, to: u64, size: u64)
+    requires low { (chunk.old.base ≤ from) × (chunk.old.base ≤ to) }
+    requires source { from - chunk.old.base + size ≤ length chunk.old.bytes.items }
+    requires target { to - chunk.old.base + size ≤ length chunk.old.bytes.items }
+    ensures { IsEdited chunk.old chunk.new to size (part_of chunk.old from size) }
+{
+    let start = (from - chunk.base) as usize;
+    let target = (to - chunk.base) as usize;
+    shift(&mut chunk.bytes, start, target, size as usize);
+}
+
+// Copies bytes of one chunk of a table into another or the same. The two ranges may overlap.
+pub(crate) fn copy_in_table(
+    chunks: &mut [StoredChunk],
+    i: usize,
+    j: usize,
+    from: u64,
+    to: u64,
+    size: u64,
+)
+    requires source { HasPart chunks.old i from size }
+    requires target { HasPart chunks.old j to size }
+    ensures { CopiesPart chunks.old chunks.new i j from to size }
+{
+    if i == j {
+        move_within(&mut chunks[j], from, to, size);
+    } else if i < j {
+        let (low, high) = chunks.split_at_mut(j);
+        copy_across(&low[i], &mut high[0], from, to, size);
+    } else {
+        let (low, high) = chunks.split_at_mut(i);
+        copy_across(&high[0], &mut low[j], from, to, size);
+    }
+}
+
+/// Puts these bytes in the place of others.
+#[derive(Drop)]
+pub(crate) struct Put<'a> {
+    pub(crate) bytes: &'a [u8],
+}
+
+impl Edit for Put<'_> {
+    ghost suits = { λ s old. length old ≡ length s.bytes.now };
+
+    ghost relates = { λ s old new. new ≡ s.bytes.now };
+
+    fn edit(&self, place: &mut [u8]) {
+        place.copy_from_slice(self.bytes);
+    }
+}
+
+/// Sets all bytes of the place.
+#[derive(Drop)]
+pub(crate) struct Fill {
+    pub(crate) value: u8,
+}
+
+impl Edit for Fill {
+    ghost suits = { λ s old. Unit {0} };
+
+    ghost relates = { λ s old new. new ≡ replicate (length old) s.value };
+
+    fn edit(&self, place: &mut [u8]) {
+        place.fill(self.value);
+    }
+}
+
+/// Moves bytes within the place. The two ranges may overlap.
+#[derive(Drop)]
+pub(crate) struct Shift {
+    pub(crate) from: u64,
+    pub(crate) to: u64,
+    pub(crate) size: u64,
+}
+
+impl Edit for Shift {
+    ghost suits = { λ s old. (s.from + s.size ≤ length old) × (s.to + s.size ≤ length old) };
+
+    ghost relates = { λ s old new. new ≡ splice old s.to (take s.size (drop s.from old)) };
+
+    fn edit(&self, place: &mut [u8]) {
+        shift(
+            place,
+            self.from as usize,
+            self.to as usize,
+            self.size as usize,
+        );
+    }
+}

@@ -1,0 +1,50 @@
+// Blocks that lie apart, that may be read, and their bytes.
+ghost use Rattle.std.specs.Prelude.{◌≡◌, ℕ, ◌+◌, ◌^◌, ◌<◌, ◌≤◌, ◌↔◌, IsTrue, List, ◌∷◌, [], ◌++◌, length, take, drop};
+ghost use Rattle.placement.specs.State.{State, IsValid};
+ghost use Rattle.placement.specs.Moves.{reset};
+ghost use Rattle.arena_chunks.specs.Memory.{Memory, is_readable, image, bytes_from};
+ghost use Rattle.arena_chunks.specs.Frame.{IsApart, AreBlocksApart, ArePairwiseApart, AreAllApart, IsInUse};
+ghost use Rattle.arena_chunks.specs.Resizes.{NoneReadable};
+ghost use Rattle.arena_chunks.specs.declared.block.Block.{Block};
+
+/// Blocks lie apart in either order. What lies apart from blocks does so with each part of it, and from two lists of blocks
+/// where it does from both together. Two lists of blocks that lie pairwise apart do so together, if each block of one lies
+/// apart from each of the other.
+pub fn apart()
+    ensures turned { (b c : Block) → AreBlocksApart b c → AreBlocksApart c b }
+    ensures within { (addr n from k : ℕ) (bs : List Block) → addr ≤ from → from + k ≤ addr + n
+        → IsApart addr n bs
+        → IsApart from k bs }
+    ensures both { (addr n : ℕ) (xs ys : List Block)
+        → IsApart addr n (xs ++ ys) ↔ (IsApart addr n xs × IsApart addr n ys) }
+    ensures empty { (addr n : ℕ) (bs : List Block) → n ≡ 0 → IsApart addr n bs }
+    ensures all { (b : Block) (bs : List Block) → IsApart b.addr b.size bs → AreAllApart bs (b ∷ []) }
+    ensures pairwise { (xs ys : List Block) → ArePairwiseApart xs → ArePairwiseApart ys → AreAllApart xs ys
+        → ArePairwiseApart (xs ++ ys) }
+{}
+
+/// An empty block is readable in every state. A block of some bytes is exactly where it is of the arena's generation
+/// and its bytes lie in the used part of one chunk; it lies at 4096 or above, and below 2^64. Once all blocks are given
+/// back none is readable.
+pub fn readable()
+    ensures empty { (state : State) (b : Block) → b.size ≡ 0 → IsTrue (is_readable state b) }
+    ensures filled { (state : State) (b : Block) → 0 < b.size
+        → IsTrue (is_readable state b) ↔ IsInUse state b }
+    ensures low { (state : State) (b : Block) → IsValid state → 0 < b.size → IsTrue (is_readable state b)
+        → 4096 ≤ b.addr }
+    ensures high { (state : State) (b : Block) → IsValid state → 0 < b.size → IsTrue (is_readable state b)
+        → b.addr + b.size < 2 ^ 64 }
+    ensures ended { (state : State) → NoneReadable (reset state) }
+{}
+
+/// A block has as many bytes as its size; they are the same in two arenas that have the same bytes at its addresses; and
+/// those of a range are that part of all of them.
+pub fn bytes()
+    ensures length { (memory : Memory) (addr n : ℕ) → length (bytes_from (image memory) addr n) ≡ n }
+    ensures same { (a c : Memory) (b : Block)
+        → ((i : ℕ) → i < b.size → image a (b.addr + i) ≡ image c (b.addr + i))
+        → bytes_from (image a) b.addr b.size ≡ bytes_from (image c) b.addr b.size }
+    ensures range { (memory : Memory) (b : Block) (from n : ℕ) → from + n ≤ b.size
+        → take n (drop from (bytes_from (image memory) b.addr b.size))
+        ≡ bytes_from (image memory) (b.addr + from) n }
+{}

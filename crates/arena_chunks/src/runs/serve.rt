@@ -1,0 +1,242 @@
+// One call after another.
+ghost use Rattle.std.specs.Prelude.{◌≡◌, IfOk, OnErr, IsSome};
+ghost use Rattle.std.specs.FinMap as map;
+ghost use Rattle.placement.specs.declared.calls.Call.{Call};
+ghost use Rattle.arena_chunks.specs.Source.{Source, view};
+ghost use Rattle.arena_chunks.specs.Serving.{Serves, Wants, Holds};
+
+use crate::arena::Arena;
+use crate::block::ArenaErr;
+use crate::chunks::ChunkSource;
+use crate::runs::names::Names;
+use arena_place::Layout;
+use placement::{Bytes, Call, OutOfMemory, Place, Reply};
+use std::alloc::Global;
+
+// The size and the alignment wanted for the block of a name.
+#[derive(Clone, Copy)]
+struct Wanted {
+    name: u32,
+    size: u64,
+    align: u64,
+}
+
+impl Wanted {
+    // The place of the block at this address.
+    fn at(self, addr: u64) -> Place
+        ensures { result ≡ record { addr = addr; size = self.size; align = self.align } }
+    {
+        Place {
+            addr,
+            size: self.size,
+            align: self.align,
+        }
+    }
+}
+
+fn serve_alloc<const M: usize, C: ChunkSource>(
+    arena: &mut Arena<M>,
+    chunks: &mut C,
+    names: &mut Names,
+    wanted: Wanted,
+    fill: u8,
+) -> Result<Reply, OutOfMemory>
+    requires { Holds arena.old.state names.old }
+    ensures serves { IfOk result (λ reply. Serves (Call.Alloc wanted.name wanted.size wanted.align fill) reply
+        (view arena.old (C.source chunks.old)) (view arena.new (C.source chunks.new)) names.old names.new) }
+    ensures wants { OnErr result (Wants (Call.Alloc wanted.name wanted.size wanted.align fill)
+        (view arena.old (C.source chunks.old)) (view arena.new (C.source chunks.new)) names.old) }
+{
+    let name = wanted.name;
+    if names.get(name).is_some() {
+        return Ok(Reply::NameTaken);
+    }
+    let Some(layout) = Layout::new(wanted.size, wanted.align) else {
+        return Ok(Reply::BadLayout);
+    };
+    // The name's entry is made first, since memory may be wanting for it.
+    names.insert(name, wanted.at(0))?;
+    match arena.alloc_counted(chunks, layout) {
+        Ok((block, refused)) => {
+            let addr = block.addr;
+            names.replace(name, wanted.at(addr));
+            arena.fill(block, 0, fill);
+            Ok(Reply::Placed { addr, refused })
+        }
+        Err(ArenaErr::AllocErr { refused }) => {
+            names.remove(name);
+            Ok(Reply::AllocErr { refused })
+        }
+        Err(ArenaErr::OutOfMemory) => Err(OutOfMemory),
+    }
+}
+
+fn serve_grow<const M: usize, C: ChunkSource>(
+    arena: &mut Arena<M>,
+    chunks: &mut C,
+    names: &mut Names,
+    wanted: Wanted,
+    fill: u8,
+) -> Result<Reply, OutOfMemory>
+    requires { Holds arena.old.state names.old }
+    ensures serves { IfOk result (λ reply. Serves (Call.Grow wanted.name wanted.size wanted.align fill) reply
+        (view arena.old (C.source chunks.old)) (view arena.new (C.source chunks.new)) names.old names.new) }
+    ensures wants { OnErr result (Wants (Call.Grow wanted.name wanted.size wanted.align fill)
+        (view arena.old (C.source chunks.old)) (view arena.new (C.source chunks.new)) names.old) }
+{
+    let Some(place) = names.get(wanted.name) else {
+        return Ok(Reply::NoSuchName);
+    };
+    let Some(layout) = Layout::new(wanted.size, wanted.align) else {
+        return Ok(Reply::BadLayout);
+    };
+    if wanted.size < place.size {
+        return Ok(Reply::OutOfRange);
+    }
+    match arena.grow_counted(chunks, arena.block_at(place), layout) {
+        Ok((block, refused)) => {
+            let addr = block.addr;
+            names.replace(wanted.name, wanted.at(addr));
+            arena.fill(block, place.size, fill);
+            Ok(Reply::Placed { addr, refused })
+        }
+        Err(ArenaErr::AllocErr { refused }) => Ok(Reply::AllocErr { refused }),
+        Err(ArenaErr::OutOfMemory) => Err(OutOfMemory),
+    }
+}
+
+fn serve_shrink<const M: usize, C: ChunkSource>(
+    arena: &mut Arena<M>,
+    chunks: &mut C,
+    names: &mut Names,
+    wanted: Wanted,
+) -> Result<Reply, OutOfMemory>
+    requires { Holds arena.old.state names.old }
+    ensures serves { IfOk result (λ reply. Serves (Call.Shrink wanted.name wanted.size wanted.align) reply
+        (view arena.old (C.source chunks.old)) (view arena.new (C.source chunks.new)) names.old names.new) }
+    ensures wants { OnErr result (Wants (Call.Shrink wanted.name wanted.size wanted.align)
+        (view arena.old (C.source chunks.old)) (view arena.new (C.source chunks.new)) names.old) }
+{
+    let Some(place) = names.get(wanted.name) else {
+        return Ok(Reply::NoSuchName);
+    };
+    let Some(layout) = Layout::new(wanted.size, wanted.align) else {
+        return Ok(Reply::BadLayout);
+    };
+    if wanted.size > place.size {
+        return Ok(Reply::OutOfRange);
+    }
+    match arena.shrink_counted(chunks, arena.block_at(place), layout) {
+        Ok((block, refused)) => {
+            let addr = block.addr;
+            names.replace(wanted.name, wanted.at(addr));
+            Ok(Reply::Placed { addr, refused })
+        }
+        Err(ArenaErr::AllocErr { refused }) => Ok(Reply::AllocErr { refused }),
+        Err(ArenaErr::OutOfMemory) => Err(OutOfMemory),
+    }
+}
+
+fn serve_dealloc<const M: usize>(arena: &mut Arena<M>, names: &mut Names, name: u32) -> Reply
+    requires { Holds arena.old.state names.old }
+    ensures { (source : Source) → Serves (Call.Dealloc name) result (view arena.old source)
+        (view arena.new source) names.old names.new }
+{
+    let Some(place) = names.remove(name) else {
+        return Reply::NoSuchName;
+    };
+    arena.dealloc(arena.block_at(place));
+    Reply::Done
+}
+
+fn serve_write<const M: usize>(
+    arena: &mut Arena<M>,
+    names: &Names,
+    name: u32,
+    at: u64,
+    bytes: &[u8],
+) -> Reply
+    requires { Holds arena.old.state names.now }
+    ensures { (source : Source) → Serves (Call.Write name at bytes.now) result
+        (view arena.old source) (view arena.new source) names.now names.now }
+{
+    let Some(place) = names.get(name) else {
+        return Reply::NoSuchName;
+    };
+    let len = bytes.len() as u64;
+    if len > place.size || at > place.size - len {
+        return Reply::OutOfRange;
+    }
+    arena.write(arena.block_at(place), at, bytes);
+    Reply::Done
+}
+
+fn serve_read<const M: usize>(
+    alloc: Global,
+    arena: &Arena<M>,
+    names: &Names,
+    name: u32,
+) -> Result<Reply, OutOfMemory>
+    requires { Holds arena.now.state names.now }
+    ensures serves { (source : Source) → IfOk result (λ reply. Serves (Call.Read name) reply
+        (view arena.now source) (view arena.now source) names.now names.now) }
+    ensures wants { OnErr result (IsSome (map.get names.now name)) }
+{
+    let Some(place) = names.get(name) else {
+        return Ok(Reply::NoSuchName);
+    };
+    let bytes = Bytes::of(alloc, arena.read(arena.block_at(place)))?;
+    Ok(Reply::Bytes(bytes))
+}
+
+fn serve_reset<const M: usize>(arena: &mut Arena<M>, names: &mut Names) -> Reply
+    ensures { (source : Source) → Serves Call.Reset result (view arena.old source)
+        (view arena.new source) names.old names.new }
+{
+    arena.reset();
+    names.clear();
+    Reply::Done
+}
+
+// Serves a call. Where memory is wanting the arena and the source are as they were.
+pub(crate) fn serve<const M: usize, C: ChunkSource>(
+    alloc: Global,
+    arena: &mut Arena<M>,
+    chunks: &mut C,
+    names: &mut Names,
+    call: &Call,
+) -> Result<Reply, OutOfMemory>
+    requires { Holds arena.old.state names.old }
+    ensures serves { IfOk result (λ reply. Serves call.now reply
+        (view arena.old (C.source chunks.old)) (view arena.new (C.source chunks.new)) names.old names.new) }
+    ensures wants { OnErr result (Wants call.now
+        (view arena.old (C.source chunks.old)) (view arena.new (C.source chunks.new)) names.old) }
+{
+    match *call {
+        Call::Alloc {
+            name,
+            size,
+            align,
+            fill,
+        } => serve_alloc(arena, chunks, names, Wanted { name, size, align }, fill),
+        Call::Grow {
+            name,
+            size,
+            align,
+            fill,
+        } => serve_grow(arena, chunks, names, Wanted { name, size, align }, fill),
+        Call::Shrink { name, size, align } => {
+            serve_shrink(arena, chunks, names, Wanted { name, size, align })
+        }
+        Call::Dealloc { name } => Ok(serve_dealloc(arena, names, name)),
+        Call::Write {
+            name,
+            at,
+            ref bytes,
+        } => Ok(serve_write(arena, names, name, at, bytes.as_slice())),
+        Call::Read { name } => serve_read(alloc, arena, names, name),
+        Call::Reset => Ok(serve_reset(arena, names)),
+        Call::Used => Ok(Reply::Number(arena.used_bytes())),
+        Call::Allocated => Ok(Reply::Number(arena.allocated_bytes())),
+    }
+}

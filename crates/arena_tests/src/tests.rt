@@ -1,0 +1,89 @@
+// Worked examples of the rules, and one call of each function that takes memory. Most are tables of calls (`steps`), since
+// a table costs its proof next to nothing.
+mod allocators;
+mod beside;
+mod blocks;
+mod creation;
+mod growth;
+mod layers;
+mod machine;
+mod reallocation;
+mod resizes;
+mod steps;
+mod texts;
+mod traits;
+
+ghost use Rattle.std.specs.Prelude.{◌≡◌, Ok, IsTrue};
+ghost use Rattle.arena_chunks.specs.Memory.{is_readable};
+
+use arena_chunks::{Allocator, ArenaErr, Block, ChunkSource, MemoryChunks, RefusingChunks};
+use arena_place::Layout;
+use std::alloc::{AllocError, Global};
+use std::process::Abort;
+
+fn layout(rt: &impl Abort, size: u64, align: u64) -> Layout
+    ensures size { result.size ≡ size }
+    ensures align { result.align ≡ align }
+{
+    Layout::new(size, align).expect(rt, "a layout")
+}
+
+// An allocator with ample memory.
+fn ample(alloc: Global) -> Allocator<MemoryChunks> {
+    Allocator::new(alloc, MemoryChunks::new(alloc, 1 << 20))
+}
+
+// A source that refuses these requests, by their numbers from 1.
+fn refusing(alloc: Global, refuse: &[u64]) -> Result<RefusingChunks, AllocError> {
+    let refuse = refuse.to_vec(alloc)?;
+    Ok(RefusingChunks::new(alloc, refuse))
+}
+
+// The block, which must be held.
+fn held<C: ChunkSource>(rt: &impl Abort, a: &Allocator<C>, block: Block) -> Block
+    ensures readable { IsTrue (is_readable a.now.memory.state result) }
+    ensures block { result ≡ block }
+{
+    assert!(rt; a.is_held_place(block), "a held block");
+    block
+}
+
+// A block that was answered at this address, which is held.
+fn placed<C: ChunkSource>(
+    rt: &impl Abort,
+    what: &str,
+    a: &Allocator<C>,
+    answered: Result<Block, ArenaErr>,
+    addr: u64,
+) -> Block
+    ensures readable { IsTrue (is_readable a.now.memory.state result) }
+    ensures block { answered ≡ Ok result }
+{
+    let block = answered.expect(rt, what);
+    assert_eq!(rt; block.addr, addr, "{what}");
+    held(rt, a, block)
+}
+
+// The block is held and has these bytes.
+fn reads<C: ChunkSource>(
+    rt: &impl Abort,
+    what: &str,
+    a: &Allocator<C>,
+    block: Block,
+    wanted: &[u8],
+) {
+    let block = held(rt, a, block);
+    assert_eq!(rt; a.read(block), wanted, "{what}");
+}
+
+// So many bytes are used, and so many blocks were placed, and grown or shrunk.
+fn has<C: ChunkSource>(
+    rt: &impl Abort,
+    what: &str,
+    a: &Allocator<C>,
+    used: u64,
+    counts: (u64, u64),
+) {
+    assert_eq!(rt; a.used_bytes(), used, "{what}");
+    assert_eq!(rt; a.get_allocation_stats(), counts, "{what}");
+}

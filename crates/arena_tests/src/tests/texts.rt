@@ -1,0 +1,79 @@
+// Texts in an arena.
+use super::{ample, has, held, layout};
+use arena_chunks::{Allocator, ArenaErr, Block, ChunkSource, MemoryChunks, Str};
+use std::convert::AsStr;
+use std::process::Abort;
+use std::test::Fail;
+
+// Where a text was placed, which must be this one.
+fn address_of<C: ChunkSource>(
+    rt: &impl Abort,
+    a: &Allocator<C>,
+    text: Result<Str, ArenaErr>,
+    wanted: &str,
+) -> u64 {
+    let text = text.expect(rt, "a text");
+    let block = held(rt, a, text.block);
+    let text = Str { block };
+    assert_eq!(rt; text.get(a), Some(wanted));
+    block.addr
+}
+
+#[test]
+fn a_text_lies_below_the_cursor(rt: HostRuntime) {
+    let mut a = ample(rt.alloc());
+    for (text, addr) in [("hello", 20411), ("", 20411), ("é", 20409)] {
+        let placed = a.alloc_str(text);
+        assert_eq!(rt; address_of(&rt, &a, placed, text), addr);
+    }
+    assert_eq!(rt; a.get_allocation_stats(), (3, 0));
+}
+
+#[test]
+fn bytes_that_are_no_text(rt: HostRuntime) {
+    let mut a = ample(rt.alloc());
+    let block = a.alloc_layout(layout(&rt, 2, 1)).expect(&rt, "a block");
+    a.write(block, 0, &[0xc3, 0x28]);
+    let block = held(&rt, &a, block);
+    assert_eq!(rt; Str { block }.get(&a), None);
+}
+
+// Joins texts, and finds the whole at this address.
+fn joins<T: AsStr + Drop, const N: usize>(
+    rt: &impl Abort,
+    a: &mut Allocator<MemoryChunks>,
+    texts: [T; N],
+    wanted: &str,
+    addr: u64,
+) {
+    let joined = a.alloc_concat_strs_array(texts);
+    assert_eq!(rt; address_of(rt, a, joined, wanted), addr, "{wanted}");
+}
+
+#[test]
+fn texts_that_are_joined(rt: HostRuntime) -> Result<(), Fail> {
+    let mut a = ample(rt.alloc());
+    joins(&rt, &mut a, ["hello"], "hello", 20411);
+    joins(&rt, &mut a, ["hello", "world!"], "helloworld!", 20400);
+    joins(&rt, &mut a, ["", "hello", ""], "hello", 20395);
+    let hello = "hello".to_string(rt.alloc())?;
+    let world = "world".to_string(rt.alloc())?;
+    // Texts that strings lend, references to strings, and strings.
+    joins(&rt, &mut a, ["hello", &world, "!"], "helloworld!", 20384);
+    joins(&rt, &mut a, [&hello, &world], "helloworld", 20374);
+    joins(&rt, &mut a, [hello, world], "helloworld", 20364);
+    Ok(())
+}
+
+#[test]
+fn no_texts_that_are_joined(rt: HostRuntime) {
+    let mut a = ample(rt.alloc());
+    let texts: [&str; 0] = [];
+    joins(&rt, &mut a, texts, "", 1);
+    let empty = a
+        .alloc_concat_strs_array(["", "", ""])
+        .expect(&rt, "a text");
+    assert_eq!(rt; empty.block, Block::empty(1));
+    assert_eq!(rt; a.capacity(), 0);
+    has(&rt, "afterwards", &a, 0, (0, 0));
+}

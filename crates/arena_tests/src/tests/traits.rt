@@ -1,0 +1,118 @@
+// The traits of blocks, each over a new allocator.
+use super::{ample, has, held, layout, placed, reads};
+use arena_chunks::bumpalo_alloc::{Alloc as BumpaloAlloc, CannotReallocInPlace, Excess};
+use arena_chunks::{Alloc, ArenaErr, BlockAlloc};
+
+const REFUSED: ArenaErr = ArenaErr::AllocErr { refused: 0 };
+
+#[test]
+fn the_trait_of_collections(rt: HostRuntime) {
+    let mut a = ample(rt.alloc());
+    let block = Alloc::alloc(&mut a, layout(&rt, 10, 1));
+    let block = placed(&rt, "alloc", &a, block, 20406);
+    let grown = Alloc::grow(&mut a, block, layout(&rt, 10, 16));
+    let grown = placed(&rt, "grow", &a, grown, 20384);
+    let same = Alloc::shrink(&mut a, grown, layout(&rt, 10, 16));
+    let same = placed(&rt, "shrink", &a, same, 20384);
+    Alloc::dealloc(&mut a, same);
+    has(&rt, "dealloc", &a, 22, (1, 1));
+}
+
+#[test]
+fn the_trait_of_allocators_of_blocks(rt: HostRuntime) {
+    let mut a = ample(rt.alloc());
+    let block = a.allocate(layout(&rt, 10, 1));
+    let block = placed(&rt, "allocate", &a, block, 20406);
+    let grown = BlockAlloc::grow(&mut a, block, layout(&rt, 10, 16));
+    let grown = placed(&rt, "grow", &a, grown, 20384);
+    let zeroed = a.grow_zeroed(grown, layout(&rt, 11, 16));
+    let zeroed = placed(&rt, "grow_zeroed", &a, zeroed, 20368);
+    let shrunk = BlockAlloc::shrink(&mut a, zeroed, layout(&rt, 5, 64));
+    let shrunk = placed(&rt, "shrink", &a, shrunk, 20352);
+    a.deallocate(shrunk);
+    has(&rt, "deallocate", &a, 20416 - 20357, (1, 3));
+}
+
+#[test]
+fn the_trait_of_the_fork(rt: HostRuntime) {
+    let mut a = ample(rt.alloc());
+    let Excess(block, size) = a.alloc_excess(layout(&rt, 10, 1)).expect(&rt, "a block");
+    assert_eq!(rt; size, 10);
+    a.write(block, 0, &[7; 10]);
+    let block = placed(&rt, "alloc_excess", &a, Ok(block), 20406);
+    let Excess(block, size) = a.realloc_excess(block, 11).expect(&rt, "a block");
+    assert_eq!(rt; size, 11);
+    let block = placed(&rt, "realloc_excess", &a, Ok(block), 20405);
+    BumpaloAlloc::dealloc(&mut a, block);
+    has(&rt, "dealloc", &a, 0, (1, 1));
+    let zeros = a.alloc_zeroed(layout(&rt, 10, 1));
+    let zeros = placed(&rt, "alloc_zeroed", &a, zeros, 20406);
+    reads(&rt, "alloc_zeroed", &a, zeros, &[0; 10]);
+    assert_eq!(rt; a.usable_size(layout(&rt, 10, 4)), (10, 10));
+}
+
+#[test]
+fn nothing_changes_its_size_in_place(rt: HostRuntime) {
+    let mut a = ample(rt.alloc());
+    let block = BumpaloAlloc::alloc(&mut a, layout(&rt, 10, 1)).expect(&rt, "a block");
+    assert_eq!(rt; block.size, 10);
+    assert_eq!(rt; a.grow_in_place(block, 11), Err(CannotReallocInPlace));
+    assert_eq!(rt; a.grow_in_place(block, 10), Ok(()));
+    assert_eq!(rt; a.shrink_in_place(block, 9), Err(CannotReallocInPlace));
+    assert_eq!(rt; a.shrink_in_place(block, 10), Ok(()));
+    assert_eq!(rt;
+        CannotReallocInPlace.description(),
+        "cannot reallocate allocator's memory in place"
+    );
+}
+
+#[test]
+fn single_elements(rt: HostRuntime) {
+    let mut a = ample(rt.alloc());
+    assert_eq!(rt; a.alloc_one(layout(&rt, 0, 1)), Err(REFUSED));
+    assert_eq!(rt; a.capacity(), 0);
+    let one = a.alloc_one(layout(&rt, 1, 1)).expect(&rt, "a block");
+    assert_eq!(rt; one.addr, 20415);
+    let none = BumpaloAlloc::alloc(&mut a, layout(&rt, 0, 1)).expect(&rt, "a block");
+    for (block, used) in [(none, 1), (one, 0)] {
+        let block = held(&rt, &a, block);
+        a.dealloc_one(block);
+        assert_eq!(rt; a.used_bytes(), used);
+    }
+}
+
+// The size and the alignment of elements, and their number: arrays of no bytes, and arrays that are too large.
+const NO_ARRAYS: &[(u64, u64, u64)] = &[
+    (0, 1, 10),
+    (4, 4, 0),
+    (1, 1, 1 << 63),
+    (1 << 32, 1, 1 << 32),
+    (16, 16, 1 << 59),
+];
+
+#[test]
+fn no_arrays(rt: HostRuntime) {
+    let mut a = ample(rt.alloc());
+    for &(size, align, n) in NO_ARRAYS {
+        let array = a.alloc_array(layout(&rt, size, align), n);
+        assert_eq!(rt; array, Err(REFUSED));
+    }
+    assert_eq!(rt; a.capacity(), 0);
+}
+
+#[test]
+fn arrays(rt: HostRuntime) {
+    let byte = layout(&rt, 1, 1);
+    let mut a = ample(rt.alloc());
+    let ten = a.alloc_array(byte, 10);
+    let ten = placed(&rt, "alloc_array", &a, ten, 20406);
+    assert!(rt; ten.size == 10 && ten.align == 1);
+    assert_eq!(rt; a.realloc_array(ten, byte, 10, 0), Err(REFUSED));
+    let ten = held(&rt, &a, ten);
+    assert_eq!(rt; a.dealloc_array(ten, byte, 0), Err(REFUSED));
+    let ten = held(&rt, &a, ten);
+    let eleven = a.realloc_array(ten, byte, 10, 11);
+    let eleven = placed(&rt, "realloc_array", &a, eleven, 20405);
+    assert_eq!(rt; a.dealloc_array(eleven, byte, 11), Ok(()));
+    has(&rt, "dealloc_array", &a, 0, (1, 1));
+}

@@ -1,0 +1,33 @@
+// The rules without an arena: places as numbers, and what the placement machine answers.
+ghost use Rattle.std.specs.Prelude.{◌≡◌, ◌-◌, ◌*◌, ◌^◌, ◌<◌, ◌≤◌, IfOk, None, if◌then◌else◌};
+ghost use Rattle.std.specs.Option.{option_map};
+ghost use Rattle.placement.specs.Rounding.{is_layout};
+ghost use Rattle.placement.specs.Search.{place_below};
+ghost use Rattle.placement.specs.Machine as machine;
+ghost use Rattle.plain_machine.specs.Answers.{first_state};
+
+use arena_place::{Layout, place};
+use placement::{Call, OutOfMemory, Reply};
+use plain_machine::PlainMachine;
+use std::alloc::Global;
+
+/// The place of an array below a cursor, or none where it is no layout or there is no room for it.
+pub fn place_array(start: u64, cursor: u64, n: u64, size: u64, align: u64) -> Option<u64>
+    requires start { 0 < start }
+    requires ordered { start ≤ cursor }
+    requires near { cursor - start ≤ 2 ^ 63 - 1 }
+    ensures { result ≡ (if is_layout (n * size) align
+        then place_below start cursor (n * size) align 1
+        else None) }
+{
+    place(start, cursor, Layout::array(n, size, align)?, 1)
+}
+
+/// What the placement machine answers to a first call, where none of its requests is refused.
+pub fn first_reply(alloc: Global, call: &Call) -> Result<Option<Reply>, OutOfMemory>
+    ensures { IfOk result (λ reply.
+        reply ≡ option_map (λ next. next.0) (machine.step call.now 0 (machine.fresh (first_state 1)))) }
+{
+    let mut m = PlainMachine::new(alloc, 1);
+    m.step(alloc, call, 0)
+}

@@ -1,0 +1,116 @@
+#!/bin/bash
+# Runs the program to each of its exit statuses, over the real standard streams, and compares the status, what was
+# written, and the line on standard error with the table in README.md. Then it runs calls/check.sh.
+set -u
+here=$(dirname "$(readlink -f "$0")")
+work=$(mktemp -d)
+trap 'rm -rf "$work"' EXIT
+"$here/../arena_run" --version > /dev/null || exit 1
+program=$here/../crates/arena_run/out/arena_run
+failed=0
+
+# The line that README.md has for this status, with a number in the place of N.
+line_for() {
+    sed -n "s/^| $1 |.*| \`\([^\`]*\)\` |\$/\1/p" "$here/../README.md" | sed "s/ N / ${2:-N} /"
+}
+
+# ends NAME STATUS TEXT [LINE NUMBER]: compares the run that has just ended. Its status is in `status`, and what it wrote
+# in the files `out` and `err`; TEXT is a file.
+ends() {
+    line_for "$2" "${4:-}" > "$work/line"
+    if [ "$status" = "$2" ] && cmp -s "$work/out" "$3" && cmp -s "$work/err" "$work/line"; then
+        echo "ok   $1"
+    else
+        echo "FAIL $1: status $status, $(wc -c < "$work/out") bytes written, $(head -c 200 "$work/err")"
+        failed=1
+    fi
+}
+
+# Runs the program on these words, over this function's standard input.
+run() {
+    status=0
+    "$program" "$@" > "$work/out" 2> "$work/err" || status=$?
+}
+
+none=/dev/null
+first=$here/calls/first.txt
+replies=$here/calls/first.replies
+
+# 0: all was read, run and written.
+run calls < "$first"
+ends "0, calls" 0 "$replies"
+{ head -c 20 "$first"; sleep 0.2; tail -c +21 "$first"; } | "$program" calls > "$work/out" 2> "$work/err"
+status=$?
+ends "0, calls in two pieces" 0 "$replies"
+run calls < /dev/null
+ends "0, no calls" 0 $none
+head -c 16777216 /dev/zero | tr '\0' '\n' > "$work/longest"
+run calls < "$work/longest"
+ends "0, 16,777,216 bytes" 0 $none
+run --version
+echo "arena_run 0.1.0" > "$work/text"
+ends "0, --version" 0 "$work/text"
+run --help
+cat > "$work/text" <<'T'
+Runs calls on a bump arena, and prints their replies.
+
+usage: arena_run calls        reads a call from each line of standard input
+       arena_run --help       prints this text
+       arena_run --version    prints the version
+
+calls: alloc NAME SIZE ALIGN FILL
+       grow NAME SIZE ALIGN FILL
+       shrink NAME SIZE ALIGN
+       dealloc NAME
+       write NAME AT HEX      HEX is two digits for each byte, or - for none
+       read NAME
+       reset
+       used
+       allocated
+T
+ends "0, --help" 0 "$work/text"
+
+# 1: the words are no command.
+for words in "" "call" "calls calls" "calls --help" "--help calls" "--helps"; do
+    # shellcheck disable=SC2086
+    run $words < "$first"
+    ends "1, words '$words'" 1 $none
+done
+
+# 2: a line is no call, and nothing was run or written.
+printf 'used\n\nread 1\nRead 1\nread\n' > "$work/input"
+run calls < "$work/input"
+ends "2, line 4" 2 $none 4
+
+# 3: memory is wanting. With 16 MiB of memory in all, 16 MiB of input can't be kept.
+status=0
+(ulimit -v 16384; exec "$program" calls < "$work/longest" > "$work/out" 2> "$work/err") || status=$?
+ends "3, 16 MiB in all" 3 $none
+
+# 4: reading fails.
+run calls < "$work"
+ends "4, the input is a folder" 4 $none
+
+# 5: writing fails.
+status=0
+"$program" calls < "$first" > /dev/full 2> "$work/err" || status=$?
+: > "$work/out"
+ends "5, the output is full" 5 $none
+status=0
+"$program" --help > /dev/full 2> "$work/err" || status=$?
+ends "5, the output for --help is full" 5 $none
+
+# 5: writing fails after a first part. The file may have 1,024 bytes.
+for _ in $(seq 1000); do echo used; done > "$work/input"
+for _ in $(seq 1000); do echo "number 0"; done | head -c 1024 > "$work/text"
+status=0
+(trap '' XFSZ; ulimit -f 1; exec "$program" calls < "$work/input" > "$work/out" 2> "$work/err") || status=$?
+ends "5, a first part was written" 5 "$work/text"
+
+# 6: the input is too long.
+echo >> "$work/longest"
+run calls < "$work/longest"
+ends "6, 16,777,217 bytes" 6 $none
+
+"$here/calls/check.sh" || failed=1
+exit $failed
