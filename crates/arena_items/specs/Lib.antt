@@ -1,0 +1,12 @@
+pub mod Layout
+pub mod ByteForms
+pub mod LayoutLaws
+pub mod NumberLaws
+pub mod OptionLaws
+pub mod PairLaws
+pub mod HandleLaws
+pub mod Values
+pub mod Placing
+pub mod Footprint
+pub mod FootprintLaws
+pub mod FrameLaw

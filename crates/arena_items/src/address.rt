@@ -1,0 +1,38 @@
+// Addresses.
+ghost use Rattle.std.specs.Prelude.{◌≡◌, ℕ};
+
+use crate::boxes::Box;
+
+/// An address of an arena.
+#[derive(Clone, Copy, PartialEq, Eq, Debug)]
+pub struct Address(pub u64);
+
+impl Address {
+    /// The address of no box whose value has bytes.
+    pub const DUMMY: Address = Address(0);
+}
+
+/// What has an address.
+pub trait GetAddress {
+    ghost addr: { Self → ℕ };
+
+    /// The address.
+    fn address(&self) -> Address
+        ensures { result.0 ≡ addr self.now };
+}
+
+impl<T> GetAddress for Box<T> {
+    ghost addr = { λ b. b.block.addr };
+
+    fn address(&self) -> Address {
+        Address(self.block.addr)
+    }
+}
+
+impl GetAddress for Address {
+    ghost addr = { λ a. a.0 };
+
+    fn address(&self) -> Address {
+        *self
+    }
+}

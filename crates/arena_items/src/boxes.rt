@@ -1,0 +1,115 @@
+// Boxes: the handles of single values in an arena, and their byte form.
+ghost use Rattle.std.specs.Prelude.{◌≡◌, ℕ, ◌^◌, ◌≤◌, List, IfOk, length, refl};
+ghost use Rattle.arena_chunks.specs.BlockCalls.{PlacesBlock, WritesBlock};
+ghost use Rattle.arena_items.specs.ByteForms.{IsBlockValue, block_bytes, block_of};
+ghost use Rattle.arena_items.specs.LayoutLaws.{plain_32_8};
+ghost use Rattle.arena_items.specs.HandleLaws.{block_back};
+ghost use Rattle.arena_items.specs.Values.{IsBoxIn, box_value};
+ghost use Rattle.arena_items.specs.Placing.{Answers};
+
+use crate::elements::write_whole;
+use crate::item::{Item, encode_each};
+use crate::placing::{ItemErr, place_one};
+use arena_chunks::{Allocator, Block, ChunkSource};
+use std::marker::PhantomData;
+
+/// The handle of a value that stands in an arena. It is a name: two of them may name one value.
+#[derive(Clone, Copy)]
+pub struct Box<T> {
+    /// The block of the value's bytes.
+    pub block: Block,
+    pub of: PhantomData<T>,
+}
+
+impl<T: Item> Box<T> {
+    /// Places a value.
+    ///
+    /// # Errors
+    ///
+    /// As of the arena's `alloc_layout`. Nothing changes.
+    pub fn new_in<C: ChunkSource>(value: T, a: &mut Allocator<C>) -> Result<Box<T>, ItemErr>
+        requires { T.SIZE ≤ 2 ^ 24 }
+        ensures placed { Answers (λ b. b.block) result (PlacesBlock a.old a.new T.SIZE T.ALIGN) }
+        ensures held { IfOk result (IsBoxIn T.Item a.new.memory) }
+        ensures value { IfOk result (λ b. box_value T.Item a.new.memory b ≡ value) }
+    {
+        let block = place_one::<T, C>(a)?;
+        write_whole(a, block, value);
+        Ok(Box {
+            block,
+            of: PhantomData,
+        })
+    }
+
+    /// The value.
+    pub fn get<C: ChunkSource>(self, a: &Allocator<C>) -> T
+        requires small { T.SIZE ≤ 2 ^ 24 }
+        requires held { IsBoxIn T.Item a.now.memory self }
+        ensures { result ≡ box_value T.Item a.now.memory self }
+    {
+        T::decode(a.read(self.block))
+    }
+
+    /// The same as `get`. The value stays where it is.
+    pub fn unbox<C: ChunkSource>(self, a: &Allocator<C>) -> T
+        requires small { T.SIZE ≤ 2 ^ 24 }
+        requires held { IsBoxIn T.Item a.now.memory self }
+        ensures { result ≡ box_value T.Item a.now.memory self }
+    {
+        self.get(a)
+    }
+
+    /// Replaces the value. Only its own block is written.
+    pub fn set<C: ChunkSource>(self, a: &mut Allocator<C>, value: T)
+        requires small { T.SIZE ≤ 2 ^ 24 }
+        requires held { IsBoxIn T.Item a.old.memory self }
+        ensures writes { WritesBlock a.old.memory a.new.memory self.block 0 (T.encoded value) }
+        ensures held { IsBoxIn T.Item a.new.memory self }
+        ensures value { box_value T.Item a.new.memory self ≡ value }
+        ensures source { a.new.source ≡ a.old.source }
+    {
+        write_whole(a, self.block, value);
+    }
+}
+
+impl<T: Item> Item for Box<T> {
+    ghost is_value = { λ b. IsBlockValue b.block };
+
+    ghost encoded = { λ b. block_bytes b.block };
+
+    ghost decoded = { λ bytes. record { block = block_of bytes; of = record {} } };
+
+    ghost SIZE = { 32 };
+
+    ghost ALIGN = { 8 };
+
+    const SIZE: u64 = 32;
+
+    const ALIGN: u64 = 8;
+
+    ghost round_trip = { λ v h s. λ i. record { block = block_back v.block h i; of = v.of } };
+
+    ghost encoded_length = { λ v h s. refl };
+
+    ghost layout = { plain_32_8 };
+
+    fn known(&self) {
+        let _block = &self.block;
+        _block.known();
+    }
+
+    fn encode(self, out: &mut [u8]) {
+        self.block.encode(out);
+    }
+
+    fn encode_all(values: &[Self], out: &mut [u8]) {
+        encode_each(values, out);
+    }
+
+    fn decode(bytes: &[u8]) -> Self {
+        Box {
+            block: Block::decode(bytes),
+            of: PhantomData,
+        }
+    }
+}

@@ -1,0 +1,116 @@
+// Values in blocks: one that fills its block, and those that stand one after another.
+ghost use Rattle.std.specs.Prelude.{◌≡◌, ℕ, ◌+◌, ◌*◌, ◌^◌, ◌<◌, ◌≤◌, ◌++◌, [], ◌∷◌, IsTrue, Some, length, slice_get, slice_set};
+ghost use Rattle.std.specs.List.{All, flat_map};
+ghost use Rattle.arena_chunks.specs.Memory.{is_readable};
+ghost use Rattle.arena_chunks.specs.BlockCalls.{WritesBlock};
+ghost use Rattle.arena_items.specs.Values.{IsHeld, bytes_of, elements};
+
+use crate::item::Item;
+use arena_chunks::{Allocator, Block, ChunkSource, Edit};
+
+/// A value that writes its byte form into a place.
+#[derive(Clone, Copy)]
+pub(crate) struct Encoded<T> {
+    pub(crate) value: T,
+}
+
+impl<T: Item> Edit for Encoded<T> {
+    ghost suits = { λ e old. (length old ≡ T.SIZE) × (T.SIZE ≤ 2 ^ 24) };
+
+    ghost relates = { λ e old new. new ≡ T.encoded e.value };
+
+    fn edit(&self, place: &mut [u8]) {
+        self.value.encode(place);
+    }
+}
+
+/// Values that write their byte forms into a place, one after another.
+#[derive(Drop)]
+pub(crate) struct EncodedAll<'a, T> {
+    pub(crate) values: &'a [T],
+}
+
+impl<T: Item> Edit for EncodedAll<'_, T> {
+    ghost suits = { λ e old. (length old ≡ length e.values.now * T.SIZE) × (T.SIZE ≤ 2 ^ 24) };
+
+    ghost relates = { λ e old new. new ≡ flat_map T.encoded e.values.now };
+
+    fn edit(&self, place: &mut [u8]) {
+        T::encode_all(self.values, place);
+    }
+}
+
+// Does nothing: what stands in a slice are values.
+fn known_all<T: Item>(values: &[T])
+    ensures { All T.is_value values.now }
+{
+    for value in values {
+        value.known();
+    }
+}
+
+// Writes a value over a block of its layout.
+pub(crate) fn write_whole<T: Item, C: ChunkSource>(a: &mut Allocator<C>, block: Block, value: T)
+    requires small { T.SIZE ≤ 2 ^ 24 }
+    requires held { IsHeld T.SIZE T.ALIGN a.old.memory.state block }
+    ensures writes { WritesBlock a.old.memory a.new.memory block 0 (T.encoded value) }
+    ensures held { IsHeld T.SIZE T.ALIGN a.new.memory.state block }
+    ensures value { T.decoded (bytes_of a.new.memory block) ≡ value }
+    ensures source { a.new.source ≡ a.old.source }
+{
+    value.known();
+    a.write_with(block, 0, T::SIZE, &Encoded { value });
+}
+
+/// The value at an index of a block.
+#[tactic(auto, using(arena_chunks::proofs::Layers::layer_laws, crate::proofs::ElementLemmas::list_laws))]
+pub fn item_at<T: Item, C: ChunkSource>(a: &Allocator<C>, block: Block, i: u64) -> T
+    requires small { T.SIZE ≤ 2 ^ 24 }
+    requires readable { IsTrue (is_readable a.now.memory.state block) }
+    requires range { i * T.SIZE + T.SIZE ≤ block.size }
+    ensures { (n : ℕ) → i < n
+        → slice_get (elements T.SIZE T.decoded n (bytes_of a.now.memory block)) i ≡ Some result }
+{
+    let at = (i * T::SIZE) as usize;
+    T::decode(&a.read(block)[at..at + T::SIZE as usize])
+}
+
+/// Replaces the value at an index of a block. At the end of a list this puts one more there.
+#[tactic(auto, using(arena_chunks::proofs::Layers::layer_laws, crate::proofs::ElementLemmas::list_laws))]
+pub fn put_item<T: Item, C: ChunkSource>(a: &mut Allocator<C>, block: Block, i: u64, value: T)
+    requires small { T.SIZE ≤ 2 ^ 24 }
+    requires readable { IsTrue (is_readable a.old.memory.state block) }
+    requires range { i * T.SIZE + T.SIZE ≤ block.size }
+    ensures writes { WritesBlock a.old.memory a.new.memory block (i * T.SIZE) (T.encoded value) }
+    ensures set { (n : ℕ) → i < n → n * T.SIZE ≤ block.size
+        → elements T.SIZE T.decoded n (bytes_of a.new.memory block)
+        ≡ slice_set (elements T.SIZE T.decoded n (bytes_of a.old.memory block)) i value }
+    ensures push { elements T.SIZE T.decoded (i + 1) (bytes_of a.new.memory block)
+        ≡ elements T.SIZE T.decoded i (bytes_of a.old.memory block) ++ value ∷ [] }
+    ensures source { a.new.source ≡ a.old.source }
+{
+    value.known();
+    a.write_with(block, i * T::SIZE, T::SIZE, &Encoded { value });
+}
+
+/// Puts values behind the first `i` of a block, in one pass.
+#[tactic(auto, using(arena_chunks::proofs::Layers::layer_laws, crate::proofs::ElementLemmas::list_laws))]
+pub fn put_items<T: Item, C: ChunkSource>(
+    a: &mut Allocator<C>,
+    block: Block,
+    i: u64,
+    values: &[T],
+)
+    requires small { T.SIZE ≤ 2 ^ 24 }
+    requires readable { IsTrue (is_readable a.old.memory.state block) }
+    requires range { (i + length values.now) * T.SIZE ≤ block.size }
+    ensures writes { WritesBlock a.old.memory a.new.memory block
+        (i * T.SIZE) (flat_map T.encoded values.now) }
+    ensures push { elements T.SIZE T.decoded (i + length values.now) (bytes_of a.new.memory block)
+        ≡ elements T.SIZE T.decoded i (bytes_of a.old.memory block) ++ values.now }
+    ensures source { a.new.source ≡ a.old.source }
+{
+    known_all(values);
+    let size = values.len() as u64 * T::SIZE;
+    a.write_with(block, i * T::SIZE, size, &EncodedAll { values });
+}

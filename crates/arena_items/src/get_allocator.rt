@@ -1,0 +1,39 @@
+// What has an allocator.
+ghost use Rattle.std.specs.Prelude.{◌≡◌, refl};
+ghost use Rattle.std.specs.Borrow.{Lends, sem};
+ghost use Rattle.arena_chunks.specs.Source.{View};
+ghost use Rattle.arena_chunks.specs.contracts.allocator.Allocator.{the_row};
+
+use arena_chunks::{Allocator, ChunkSource};
+
+/// What has an allocator, and lends it.
+pub trait GetAllocator {
+    type Chunks: ChunkSource;
+
+    // The allocator that it has, and the value with another in its place.
+    ghost lent: { Self → View };
+
+    ghost with_lent: { Self → View → Self };
+
+    /// The allocator.
+    fn allocator(&mut self) -> &mut Allocator<Self::Chunks>
+        ensures* writes_back { sem 𝓛 (Lends Self.row (the_row Self.Chunks.row) self.entry result (with_lent self.entry.now)) }
+        ensures shows { result.now ≡ lent self.entry.now };
+
+    // What is put in its place is there.
+    ghost lent_back: { (s : Self) (a : View) → lent (with_lent s a) ≡ a };
+}
+
+impl<C: ChunkSource> GetAllocator for Allocator<C> {
+    type Chunks = C;
+
+    ghost lent = { λ a. a };
+
+    ghost with_lent = { λ s a. a };
+
+    ghost lent_back = { λ s a. refl };
+
+    fn allocator(&mut self) -> &mut Allocator<C> {
+        self
+    }
+}

@@ -1,0 +1,120 @@
+// Byte forms of blocks and of texts.
+ghost use Rattle.std.specs.Prelude.{◌≡◌, ℕ, ◌^◌, ◌≤◌, List, length, refl};
+ghost use Rattle.std.specs.Int.{w64, to_le_bytes, from_le_bytes};
+ghost use Rattle.arena_items.specs.ByteForms.{IsBlockValue, block_bytes, block_of};
+ghost use Rattle.arena_items.specs.LayoutLaws.{plain_32_8};
+ghost use Rattle.arena_items.specs.HandleLaws.{block_back};
+
+use crate::item::{Item, encode_each};
+use arena_chunks::{Block, Str};
+
+// Writes a number.
+pub(crate) fn put_number(out: &mut [u8], n: u64)
+    requires { length out.old ≡ 8 }
+    ensures { out.new ≡ to_le_bytes w64 n }
+{
+    out.copy_from_slice(&n.to_le_bytes());
+}
+
+// Reads a number.
+pub(crate) fn number_of(bytes: &[u8]) -> u64
+    requires { length bytes.now ≡ 8 }
+    ensures { result ≡ from_le_bytes w64 bytes.now }
+{
+    u64::from_le_bytes([
+        bytes[0], bytes[1], bytes[2], bytes[3], bytes[4], bytes[5], bytes[6], bytes[7],
+    ])
+}
+
+impl Item for Block {
+    ghost is_value = { IsBlockValue };
+
+    ghost encoded = { block_bytes };
+
+    ghost decoded = { block_of };
+
+    ghost SIZE = { 32 };
+
+    ghost ALIGN = { 8 };
+
+    const SIZE: u64 = 32;
+
+    const ALIGN: u64 = 8;
+
+    ghost round_trip = { λ v h s. block_back v h };
+
+    ghost encoded_length = { λ v h s. refl };
+
+    ghost layout = { plain_32_8 };
+
+    fn known(&self) {
+        let _generation = self.generation;
+        let _addr = self.addr;
+        let _size = self.size;
+        let _align = self.align;
+    }
+
+    fn encode(self, out: &mut [u8]) {
+        let (generation, rest) = out.split_at_mut(8);
+        let (addr, rest) = rest.split_at_mut(8);
+        let (size, align) = rest.split_at_mut(8);
+        put_number(generation, self.generation);
+        put_number(addr, self.addr);
+        put_number(size, self.size);
+        put_number(align, self.align);
+    }
+
+    fn encode_all(values: &[Self], out: &mut [u8]) {
+        encode_each(values, out);
+    }
+
+    fn decode(bytes: &[u8]) -> Self {
+        Block {
+            generation: number_of(&bytes[..8]),
+            addr: number_of(&bytes[8..16]),
+            size: number_of(&bytes[16..24]),
+            align: number_of(&bytes[24..]),
+        }
+    }
+}
+
+impl Item for Str {
+    ghost is_value = { λ s. IsBlockValue s.block };
+
+    ghost encoded = { λ s. block_bytes s.block };
+
+    ghost decoded = { λ bytes. record { block = block_of bytes } };
+
+    ghost SIZE = { 32 };
+
+    ghost ALIGN = { 8 };
+
+    const SIZE: u64 = 32;
+
+    const ALIGN: u64 = 8;
+
+    ghost round_trip = { λ v h s. λ i. record { block = block_back v.block h i } };
+
+    ghost encoded_length = { λ v h s. refl };
+
+    ghost layout = { plain_32_8 };
+
+    fn known(&self) {
+        let _block = &self.block;
+        _block.known();
+    }
+
+    fn encode(self, out: &mut [u8]) {
+        self.block.encode(out);
+    }
+
+    fn encode_all(values: &[Self], out: &mut [u8]) {
+        encode_each(values, out);
+    }
+
+    fn decode(bytes: &[u8]) -> Self {
+        Str {
+            block: Block::decode(bytes),
+        }
+    }
+}

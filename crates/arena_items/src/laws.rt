@@ -1,0 +1,40 @@
+// What calls leave of the values that they don't work on, and where new values lie. Each law is a call that does nothing:
+// made in a body, it gives its facts there.
+ghost use Rattle.std.specs.Prelude.{◌≡◌, ◌≢◌, ℕ, ◌<◌, ◌≤◌, List, [], ◌∷◌, IsTrue};
+ghost use Rattle.placement.specs.State.{State, IsValid};
+ghost use Rattle.arena_chunks.specs.Memory.{Memory, is_readable};
+ghost use Rattle.arena_chunks.specs.Source.{View};
+ghost use Rattle.arena_chunks.specs.Answers.Answer.{Placed};
+ghost use Rattle.arena_chunks.specs.Frame.{Frame, AreAllApart};
+ghost use Rattle.arena_chunks.specs.BlockCalls.{PlacesBlock};
+ghost use Rattle.arena_chunks.specs.declared.block.Block.{Block};
+ghost use Rattle.arena_items.specs.Footprint.{Agree};
+ghost use Rattle.arena_items.specs.FrameLaw.{StaysHeld};
+
+use crate::values::InArena;
+
+/// The frame law. A call on some blocks leaves every value whose footprint lies apart from them: it is held, names the same
+/// blocks, means the same, and its footprint lies apart from the blocks that the call has then.
+pub fn frame_law<V: InArena>()
+    ensures { (old new : Memory) (before after : List Block) (v : V) → Frame old new before after
+        → V.is_held old v → AreAllApart (V.footprint old v) before → StaysHeld old new after V.InArena v }
+{}
+
+/// A value means the same in two arenas that agree on its footprint.
+pub fn meaning_law<V: InArena>()
+    ensures { (a c : Memory) (v : V) → Agree a c (V.footprint a v) → V.means a v ≡ V.means c v }
+{}
+
+/// A new block of some bytes has another address than every block of some bytes that was readable before. No readable block
+/// of some bytes lies below 4096, so none at `Address::DUMMY`.
+pub fn address_law()
+    ensures new { (old new : Memory) (b c : Block) → Frame old new [] (b ∷ [])
+        → IsTrue (is_readable old.state c) → 0 < b.size → 0 < c.size → b.addr ≢ c.addr }
+    ensures placed { (old new : View) (size align : ℕ) (b c : Block)
+        → PlacesBlock old new size align (Placed b)
+        → IsTrue (is_readable old.memory.state c) → 0 < b.size → 0 < c.size → b.addr ≢ c.addr }
+    ensures low { (state : State) (b : Block) → IsValid state → IsTrue (is_readable state b) → 0 < b.size
+        → 4096 ≤ b.addr }
+    ensures dummy { (state : State) (b : Block) → IsValid state → IsTrue (is_readable state b) → 0 < b.size
+        → b.addr ≢ 0 }
+{}

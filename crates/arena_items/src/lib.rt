@@ -1,0 +1,32 @@
+//! Values in an arena: types with a byte form, the handles that name the places of values, and what becomes of a value while
+//! an arena is used.
+#![tactic(auto)]
+
+mod address;
+mod boxes;
+mod elements;
+mod get_allocator;
+mod handles;
+mod item;
+pub mod laws;
+mod numbers;
+mod options;
+mod pairs;
+mod placing;
+mod sizes;
+mod slices;
+#[cfg(test)]
+mod tests;
+mod typed;
+// mod uses;
+mod values;
+
+pub use address::{Address, GetAddress};
+pub use boxes::Box;
+pub use elements::{item_at, put_item, put_items};
+pub use get_allocator::GetAllocator;
+pub use item::{Item, encode_each};
+pub use placing::ItemErr;
+pub use slices::BoxSlice;
+pub use typed::ArenaItems;
+pub use values::InArena;

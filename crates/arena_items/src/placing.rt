@@ -1,0 +1,61 @@
+// Blocks for values.
+ghost use Rattle.std.specs.Prelude.{◌≡◌, ◌^◌, ◌≤◌};
+ghost use Rattle.arena_chunks.specs.BlockCalls.{PlacesBlock};
+ghost use Rattle.arena_items.specs.Placing.{Answers, PlacesArray};
+
+use crate::item::Item;
+use arena_chunks::{Allocator, ArenaErr, Block, ChunkSource};
+use arena_place::Layout;
+
+/// Why a value was not placed.
+#[derive(Clone, Copy, PartialEq, Eq, Debug)]
+pub enum ItemErr {
+    /// There is no place for it: all requests for a chunk, so many, were refused.
+    AllocErr { refused: u32 },
+    /// Memory for the table of chunks is wanting. The source wasn't asked.
+    OutOfMemory,
+    /// The iterator ended early, after so many values.
+    TooFew { taken: u64 },
+}
+
+// The layout of one value.
+#[tactic(auto, using(crate::proofs::PlacingLemmas::item_is_layout))]
+pub(crate) fn layout_of<T: Item>() -> Layout
+    requires { T.SIZE ≤ 2 ^ 24 }
+    ensures size { result.size ≡ T.SIZE }
+    ensures align { result.align ≡ T.ALIGN }
+{
+    match Layout::new(T::SIZE, T::ALIGN) {
+        Some(layout) => layout,
+        None => unreachable!(),
+    }
+}
+
+// A block for one value.
+pub(crate) fn place_one<T: Item, C: ChunkSource>(a: &mut Allocator<C>) -> Result<Block, ItemErr>
+    requires { T.SIZE ≤ 2 ^ 24 }
+    ensures { Answers (λ b. b) result (PlacesBlock a.old a.new T.SIZE T.ALIGN) }
+{
+    match a.alloc_layout(layout_of::<T>()) {
+        Ok(block) => Ok(block),
+        Err(ArenaErr::AllocErr { refused }) => Err(ItemErr::AllocErr { refused }),
+        Err(ArenaErr::OutOfMemory) => Err(ItemErr::OutOfMemory),
+    }
+}
+
+// A block for n values.
+pub(crate) fn place_array<T: Item, C: ChunkSource>(
+    a: &mut Allocator<C>,
+    n: u64,
+) -> Result<Block, ItemErr>
+    ensures { Answers (λ b. b) result (PlacesArray a.old a.new T.SIZE T.ALIGN n) }
+{
+    let Some(layout) = Layout::array(n, T::SIZE, T::ALIGN) else {
+        return Err(ItemErr::AllocErr { refused: 0 });
+    };
+    match a.alloc_layout(layout) {
+        Ok(block) => Ok(block),
+        Err(ArenaErr::AllocErr { refused }) => Err(ItemErr::AllocErr { refused }),
+        Err(ArenaErr::OutOfMemory) => Err(ItemErr::OutOfMemory),
+    }
+}

@@ -1,0 +1,294 @@
+// Calls that place values.
+ghost use Rattle.std.specs.Prelude.{◌≡◌, ℕ, ◌*◌, ◌^◌, ◌≤◌, IfOk, length, replicate};
+ghost use Rattle.std.specs.Iterator.{size, Yields};
+ghost use Rattle.std.specs.Array.{FillsFrom};
+ghost use Rattle.std.specs.List.{All};
+ghost use Rattle.arena_chunks.specs.Source.{View};
+ghost use Rattle.arena_chunks.specs.Answers.Answer.{Placed};
+ghost use Rattle.arena_chunks.specs.BlockCalls.{PlacesBlock};
+ghost use Rattle.arena_chunks.specs.declared.block.Block.{Block};
+ghost use Rattle.arena_items.specs.Values.{IsBoxIn, box_value, IsSliceIn, slice_list};
+ghost use Rattle.arena_items.specs.Placing.{Answers, AnswersOr, PlacesArray, EndsEarly, Abandons};
+
+use crate::boxes::Box;
+use crate::elements::{put_item, put_items, write_whole};
+use crate::item::Item;
+use crate::placing::{ItemErr, place_array, place_one};
+use crate::slices::BoxSlice;
+use arena_chunks::{Allocator, BlockAlloc, ChunkSource, OverArena};
+use std::marker::PhantomData;
+
+/// Calls that place values of types with a byte form.
+pub trait ArenaItems: OverArena {
+    /// Places a value.
+    ///
+    /// # Errors
+    ///
+    /// As of the arena's `alloc_layout`. Nothing changes.
+    fn alloc<T: Item>(&mut self, value: T) -> Result<Box<T>, ItemErr>
+        requires { T.SIZE ≤ 2 ^ 24 }
+        ensures placed { Answers (λ b. b.block) result
+            (PlacesBlock (Self.view self.old) (Self.view self.new) T.SIZE T.ALIGN) }
+        ensures held { IfOk result (IsBoxIn T.Item (Self.view self.new).memory) }
+        ensures value { IfOk result (λ b. box_value T.Item (Self.view self.new).memory b ≡ value) };
+
+    /// Places what a closure gives. It is called only where there is a place.
+    ///
+    /// # Errors
+    ///
+    /// As of `alloc`.
+    fn alloc_with<T: Item, F: FnOnce() -> T>(&mut self, f: F) -> Result<Box<T>, ItemErr>
+    where
+        F: Drop,
+        requires small { T.SIZE ≤ 2 ^ 24 }
+        requires callable { (new : View) (b : Block)
+            → PlacesBlock (Self.view self.old) new T.SIZE T.ALIGN (Placed b) → F.IsAlwaysCallable f }
+        ensures placed { Answers (λ b. b.block) result
+            (PlacesBlock (Self.view self.old) (Self.view self.new) T.SIZE T.ALIGN) }
+        ensures held { IfOk result (IsBoxIn T.Item (Self.view self.new).memory) }
+        ensures value { IfOk result (λ b. F.post f (box_value T.Item (Self.view self.new).memory b)) };
+
+    /// Places copies of values, in one pass.
+    ///
+    /// # Errors
+    ///
+    /// As of the arena's `alloc_layout`; also `AllocErr` with no request where so many values have no layout. Nothing
+    /// changes.
+    fn alloc_slice_copy<T: Item>(&mut self, src: &[T]) -> Result<BoxSlice<T>, ItemErr>
+        requires { T.SIZE ≤ 2 ^ 24 }
+        ensures placed { Answers (λ s. s.block) result
+            (PlacesArray (Self.view self.old) (Self.view self.new) T.SIZE T.ALIGN (length src.now)) }
+        ensures held { IfOk result (IsSliceIn T.Item (Self.view self.new).memory) }
+        ensures length { IfOk result (λ s. s.length ≡ length src.now) }
+        ensures list { IfOk result (λ s. slice_list T.Item (Self.view self.new).memory s ≡ src.now) };
+
+    /// Places what a closure gives at 0, at 1 and so on. It is called only where there is a place.
+    ///
+    /// # Errors
+    ///
+    /// As of `alloc_slice_copy`.
+    fn alloc_slice_fill_with<T: Item, F: FnMut(u64) -> T>(
+        &mut self,
+        len: u64,
+        f: F,
+    ) -> Result<BoxSlice<T>, ItemErr>
+    where
+        F: Drop,
+        requires small { T.SIZE ≤ 2 ^ 24 }
+        requires callable { (new : View) (b : Block)
+            → PlacesArray (Self.view self.old) new T.SIZE T.ALIGN len (Placed b) → F.IsAlwaysCallable f }
+        ensures placed { Answers (λ s. s.block) result
+            (PlacesArray (Self.view self.old) (Self.view self.new) T.SIZE T.ALIGN len) }
+        ensures held { IfOk result (IsSliceIn T.Item (Self.view self.new).memory) }
+        ensures length { IfOk result (λ s. s.length ≡ len) }
+        ensures list { IfOk result (λ s.
+            (last : F) × FillsFrom F.step f 0 (slice_list T.Item (Self.view self.new).memory s) last) };
+
+    /// Places the first values of an iterator, as many as it tells.
+    ///
+    /// # Errors
+    ///
+    /// As of `alloc_slice_copy`; also `TooFew` where the iterator ended before. The block was then given back: what was in
+    /// use stays as it was, but some padding, or a new chunk, may stay.
+    fn alloc_slice_fill_iter<T: Item, I: ExactSizeIterator<Item = T>>(
+        &mut self,
+        iter: I,
+    ) -> Result<BoxSlice<T>, ItemErr>
+    where
+        I: Drop,
+        requires small { T.SIZE ≤ 2 ^ 24 }
+        requires can { I.can_next iter }
+        ensures placed { let n = size (I.remaining iter) in
+            AnswersOr (λ taken. EndsEarly I.next_gives iter n taken
+            × Abandons (Self.view self.old) (Self.view self.new) T.SIZE T.ALIGN n) (λ s. s.block) result
+            (PlacesArray (Self.view self.old) (Self.view self.new) T.SIZE T.ALIGN n) }
+        ensures held { IfOk result (IsSliceIn T.Item (Self.view self.new).memory) }
+        ensures length { IfOk result (λ s. s.length ≡ size (I.remaining iter)) }
+        ensures list { IfOk result (λ s.
+            (last : I) × Yields I.next_gives iter (slice_list T.Item (Self.view self.new).memory s) last) };
+
+    /// The same as `alloc`.
+    ///
+    /// # Errors
+    ///
+    /// As of `alloc`.
+    fn try_alloc<T: Item>(&mut self, value: T) -> Result<Box<T>, ItemErr>
+        requires { T.SIZE ≤ 2 ^ 24 }
+        ensures placed { Answers (λ b. b.block) result
+            (PlacesBlock (Self.view self.old) (Self.view self.new) T.SIZE T.ALIGN) }
+        ensures held { IfOk result (IsBoxIn T.Item (Self.view self.new).memory) }
+        ensures value { IfOk result (λ b. box_value T.Item (Self.view self.new).memory b ≡ value) }
+    {
+        self.alloc(value)
+    }
+
+    /// The same as `alloc_with`.
+    ///
+    /// # Errors
+    ///
+    /// As of `alloc`.
+    fn try_alloc_with<T: Item, F: FnOnce() -> T>(&mut self, f: F) -> Result<Box<T>, ItemErr>
+    where
+        F: Drop,
+        requires small { T.SIZE ≤ 2 ^ 24 }
+        requires callable { (new : View) (b : Block)
+            → PlacesBlock (Self.view self.old) new T.SIZE T.ALIGN (Placed b) → F.IsAlwaysCallable f }
+        ensures placed { Answers (λ b. b.block) result
+            (PlacesBlock (Self.view self.old) (Self.view self.new) T.SIZE T.ALIGN) }
+        ensures held { IfOk result (IsBoxIn T.Item (Self.view self.new).memory) }
+        ensures value { IfOk result (λ b. F.post f (box_value T.Item (Self.view self.new).memory b)) }
+    {
+        self.alloc_with(f)
+    }
+
+    /// The same as `alloc_slice_copy`.
+    ///
+    /// # Errors
+    ///
+    /// As of `alloc_slice_copy`.
+    fn alloc_slice_clone<T: Item>(&mut self, src: &[T]) -> Result<BoxSlice<T>, ItemErr>
+        requires { T.SIZE ≤ 2 ^ 24 }
+        ensures placed { Answers (λ s. s.block) result
+            (PlacesArray (Self.view self.old) (Self.view self.new) T.SIZE T.ALIGN (length src.now)) }
+        ensures held { IfOk result (IsSliceIn T.Item (Self.view self.new).memory) }
+        ensures length { IfOk result (λ s. s.length ≡ length src.now) }
+        ensures list { IfOk result (λ s. slice_list T.Item (Self.view self.new).memory s ≡ src.now) }
+    {
+        self.alloc_slice_copy(src)
+    }
+
+    /// Places a value so many times.
+    ///
+    /// # Errors
+    ///
+    /// As of `alloc_slice_copy`.
+    fn alloc_slice_fill_copy<T: Item>(&mut self, len: u64, value: T) -> Result<BoxSlice<T>, ItemErr>
+        requires { T.SIZE ≤ 2 ^ 24 }
+        ensures placed { Answers (λ s. s.block) result
+            (PlacesArray (Self.view self.old) (Self.view self.new) T.SIZE T.ALIGN len) }
+        ensures held { IfOk result (IsSliceIn T.Item (Self.view self.new).memory) }
+        ensures length { IfOk result (λ s. s.length ≡ len) }
+        ensures list { IfOk result (λ s.
+            slice_list T.Item (Self.view self.new).memory s ≡ replicate len value) }
+    {
+        self.alloc_slice_fill_with(len, |_| value)
+    }
+
+    /// The same as `alloc_slice_fill_copy`.
+    ///
+    /// # Errors
+    ///
+    /// As of `alloc_slice_copy`.
+    fn alloc_slice_fill_clone<T: Item>(
+        &mut self,
+        len: u64,
+        value: &T,
+    ) -> Result<BoxSlice<T>, ItemErr>
+        requires { T.SIZE ≤ 2 ^ 24 }
+        ensures placed { Answers (λ s. s.block) result
+            (PlacesArray (Self.view self.old) (Self.view self.new) T.SIZE T.ALIGN len) }
+        ensures held { IfOk result (IsSliceIn T.Item (Self.view self.new).memory) }
+        ensures length { IfOk result (λ s. s.length ≡ len) }
+        ensures list { IfOk result (λ s.
+            slice_list T.Item (Self.view self.new).memory s ≡ replicate len value.now) }
+    {
+        self.alloc_slice_fill_copy(len, *value)
+    }
+
+    /// Places the type's default so many times.
+    ///
+    /// # Errors
+    ///
+    /// As of `alloc_slice_copy`.
+    fn alloc_slice_fill_default<T: Item + Default>(
+        &mut self,
+        len: u64,
+    ) -> Result<BoxSlice<T>, ItemErr>
+        requires { T.SIZE ≤ 2 ^ 24 }
+        ensures placed { Answers (λ s. s.block) result
+            (PlacesArray (Self.view self.old) (Self.view self.new) T.SIZE T.ALIGN len) }
+        ensures held { IfOk result (IsSliceIn T.Item (Self.view self.new).memory) }
+        ensures length { IfOk result (λ s. s.length ≡ len) }
+        ensures list { IfOk result (λ s. All T.is_default (slice_list T.Item (Self.view self.new).memory s)) }
+    {
+        self.alloc_slice_fill_with(len, |_| T::default())
+    }
+}
+
+#[tactic(auto, using(crate::proofs::ArrayLemmas::array_laws))]
+impl<C: ChunkSource> ArenaItems for Allocator<C> {
+    fn alloc<T: Item>(&mut self, value: T) -> Result<Box<T>, ItemErr> {
+        Box::new_in(value, self)
+    }
+
+    fn alloc_with<T: Item, F: FnOnce() -> T>(&mut self, f: F) -> Result<Box<T>, ItemErr>
+    where
+        F: Drop,
+    {
+        let block = place_one::<T, C>(self)?;
+        let value = f();
+        write_whole(self, block, value);
+        Ok(Box {
+            block,
+            of: PhantomData,
+        })
+    }
+
+    fn alloc_slice_copy<T: Item>(&mut self, src: &[T]) -> Result<BoxSlice<T>, ItemErr> {
+        let length = src.len() as u64;
+        let block = place_array::<T, C>(self, length)?;
+        put_items(self, block, 0, src);
+        Ok(BoxSlice {
+            block,
+            length,
+            of: PhantomData,
+        })
+    }
+
+    fn alloc_slice_fill_with<T: Item, F: FnMut(u64) -> T>(
+        &mut self,
+        len: u64,
+        mut f: F,
+    ) -> Result<BoxSlice<T>, ItemErr>
+    where
+        F: Drop,
+    {
+        let block = place_array::<T, C>(self, len)?;
+        for i in 0..len {
+            let value = f(i);
+            put_item(self, block, i, value);
+        }
+        Ok(BoxSlice {
+            block,
+            length: len,
+            of: PhantomData,
+        })
+    }
+
+    fn alloc_slice_fill_iter<T: Item, I: ExactSizeIterator<Item = T>>(
+        &mut self,
+        mut iter: I,
+    ) -> Result<BoxSlice<T>, ItemErr>
+    where
+        I: Drop,
+    {
+        let length = iter.len() as u64;
+        let block = place_array::<T, C>(self, length)?;
+        for i in 0..length {
+            match iter.next() {
+                Some(value) => put_item(self, block, i, value),
+                None => {
+                    // So the least alignment is known to be 1.
+                    let _ = self.min_align();
+                    self.deallocate(block);
+                    return Err(ItemErr::TooFew { taken: i });
+                }
+            }
+        }
+        Ok(BoxSlice {
+            block,
+            length,
+            of: PhantomData,
+        })
+    }
+}

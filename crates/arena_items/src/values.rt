@@ -1,0 +1,118 @@
+// What values in an arena mean, and the blocks that they name.
+ghost use Rattle.std.specs.Prelude.{◌≡◌, ℕ, List, [], ◌∷◌, IsTrue, refl};
+ghost use Rattle.std.proofs.Common.{ap};
+ghost use Rattle.arena_chunks.specs.Memory.{Memory, is_readable};
+ghost use Rattle.arena_chunks.specs.declared.block.Block.{Block};
+ghost use Rattle.arena_items.specs.Footprint.{AreReadable, Agree};
+ghost use Rattle.arena_items.specs.Values.{elements, IsBoxIn, box_value, IsSliceIn, slice_list, IsTextIn, text_bytes};
+ghost use Rattle.arena_items.specs.FootprintLaws.{held_readable, held_again};
+
+use crate::boxes::Box;
+use crate::item::Item;
+use crate::slices::BoxSlice;
+use arena_chunks::{Block, Str};
+
+/// A value that names a block of an arena.
+pub trait InArena: Copy {
+    // What values of the type mean.
+    ghost Meaning: { Type 0 };
+
+    // The value's own block.
+    ghost block: { Self → Block };
+
+    // All blocks whose bytes the value reads: its own, and those that its bytes name as texts of its keys.
+    ghost footprint: { Memory → Self → List Block };
+
+    // The handle is well formed and its footprint may be read.
+    ghost is_held: { Memory → Self → Type 0 };
+
+    ghost means: { Memory → Self → Meaning };
+
+    /// The value's own block.
+    fn own_block(&self) -> Block
+        ensures { result ≡ block self.now };
+
+    ghost readable: { (m : Memory) (v : Self) → is_held m v → AreReadable m.state (footprint m v) };
+
+    // In two arenas that agree on its footprint it has the same footprint and means the same.
+    ghost same_footprint: { (a c : Memory) (v : Self) → Agree a c (footprint a v) → footprint a v ≡ footprint c v };
+
+    ghost same_meaning: { (a c : Memory) (v : Self) → Agree a c (footprint a v) → means a v ≡ means c v };
+
+    ghost held_again: { (a c : Memory) (v : Self) → is_held a v → Agree a c (footprint a v)
+        → AreReadable c.state (footprint a v) → is_held c v };
+}
+
+impl<T: Item> InArena for Box<T> {
+    ghost Meaning = { T };
+
+    ghost block = { λ b. b.block };
+
+    ghost footprint = { λ m b. b.block ∷ [] };
+
+    ghost is_held = { IsBoxIn T.Item };
+
+    ghost means = { box_value T.Item };
+
+    ghost readable = { λ m b held. held_readable T.SIZE T.ALIGN m.state b.block held };
+
+    ghost same_footprint = { λ a c b agree. refl };
+
+    ghost same_meaning = { λ a c b agree. ap T.decoded agree.0 };
+
+    ghost held_again = { λ a c b held agree readable.
+        held_again T.SIZE T.ALIGN a.state c.state b.block held readable.0 };
+
+    fn own_block(&self) -> Block {
+        self.block
+    }
+}
+
+impl<T: Item> InArena for BoxSlice<T> {
+    ghost Meaning = { List T };
+
+    ghost block = { λ s. s.block };
+
+    ghost footprint = { λ m s. s.block ∷ [] };
+
+    ghost is_held = { IsSliceIn T.Item };
+
+    ghost means = { slice_list T.Item };
+
+    ghost readable = { λ m s held. held_readable _ T.ALIGN m.state s.block held };
+
+    ghost same_footprint = { λ a c s agree. refl };
+
+    ghost same_meaning = { λ a c s agree. ap (elements T.SIZE T.decoded s.length) agree.0 };
+
+    ghost held_again = { λ a c s held agree readable.
+        held_again _ T.ALIGN a.state c.state s.block held readable.0 };
+
+    fn own_block(&self) -> Block {
+        self.block
+    }
+}
+
+impl InArena for Str {
+    ghost Meaning = { List ℕ };
+
+    ghost block = { λ s. s.block };
+
+    ghost footprint = { λ m s. s.block ∷ [] };
+
+    ghost is_held = { IsTextIn };
+
+    ghost means = { text_bytes };
+
+    ghost readable = { λ m s held. (held, tt) };
+
+    ghost same_footprint = { λ a c s agree. refl };
+
+    ghost same_meaning = { λ a c s agree. agree.0 };
+
+    ghost held_again = { λ a c s held agree readable. readable.0 };
+
+    fn own_block(&self) -> Block {
+        self.block
+    }
+}
