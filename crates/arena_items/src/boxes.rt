@@ -8,7 +8,7 @@ ghost use Rattle.arena_items.specs.Values.{IsBoxIn, box_value};
 ghost use Rattle.arena_items.specs.Placing.{Answers};
 
 use crate::elements::write_whole;
-use crate::item::{Item, encode_each};
+use crate::item::Item;
 use crate::placing::{ItemErr, place_one};
 use arena_chunks::{Allocator, Block, ChunkSource};
 use std::marker::PhantomData;
@@ -21,6 +21,7 @@ pub struct Box<T> {
     pub of: PhantomData<T>,
 }
 
+#[tactic(auto, using(arena_chunks::proofs::Layers::layer_laws, crate::proofs::HeldLemmas::held_laws))]
 impl<T: Item> Box<T> {
     /// Places a value.
     ///
@@ -100,10 +101,6 @@ impl<T: Item> Item for Box<T> {
 
     fn encode(self, out: &mut [u8]) {
         self.block.encode(out);
-    }
-
-    fn encode_all(values: &[Self], out: &mut [u8]) {
-        encode_each(values, out);
     }
 
     fn decode(bytes: &[u8]) -> Self {

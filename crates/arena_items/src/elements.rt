@@ -50,6 +50,7 @@ fn known_all<T: Item>(values: &[T])
 }
 
 // Writes a value over a block of its layout.
+#[tactic(auto, using(arena_chunks::proofs::Layers::layer_laws, crate::proofs::HeldLemmas::held_laws))]
 pub(crate) fn write_whole<T: Item, C: ChunkSource>(a: &mut Allocator<C>, block: Block, value: T)
     requires small { T.SIZE ≤ 2 ^ 24 }
     requires held { IsHeld T.SIZE T.ALIGN a.old.memory.state block }

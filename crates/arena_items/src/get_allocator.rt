@@ -17,7 +17,7 @@ pub trait GetAllocator {
 
     /// The allocator.
     fn allocator(&mut self) -> &mut Allocator<Self::Chunks>
-        ensures* writes_back { sem 𝓛 (Lends Self.row (the_row Self.Chunks.row) self.entry result (with_lent self.entry.now)) }
+        ensures* writes_back { sem 𝓛 (Lends Self.row (the_row Self.Chunks.row Self.Chunks.ChunkSource) self.entry result (with_lent self.entry.now)) }
         ensures shows { result.now ≡ lent self.entry.now };
 
     // What is put in its place is there.

@@ -5,7 +5,7 @@ ghost use Rattle.arena_items.specs.ByteForms.{IsBlockValue, block_bytes, block_o
 ghost use Rattle.arena_items.specs.LayoutLaws.{plain_32_8};
 ghost use Rattle.arena_items.specs.HandleLaws.{block_back};
 
-use crate::item::{Item, encode_each};
+use crate::item::Item;
 use arena_chunks::{Block, Str};
 
 // Writes a number.
@@ -64,10 +64,6 @@ impl Item for Block {
         put_number(align, self.align);
     }
 
-    fn encode_all(values: &[Self], out: &mut [u8]) {
-        encode_each(values, out);
-    }
-
     fn decode(bytes: &[u8]) -> Self {
         Block {
             generation: number_of(&bytes[..8]),
@@ -106,10 +102,6 @@ impl Item for Str {
 
     fn encode(self, out: &mut [u8]) {
         self.block.encode(out);
-    }
-
-    fn encode_all(values: &[Self], out: &mut [u8]) {
-        encode_each(values, out);
     }
 
     fn decode(bytes: &[u8]) -> Self {

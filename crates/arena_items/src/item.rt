@@ -36,7 +36,14 @@ pub trait Item: Copy {
     fn encode_all(values: &[Self], out: &mut [u8])
         requires length { length out.old ≡ length values.now * SIZE }
         requires small { SIZE ≤ 2 ^ 24 }
-        ensures { out.new ≡ flat_map encoded values.now };
+        ensures { out.new ≡ flat_map encoded values.now }
+    {
+        let size = Self::SIZE as usize;
+        for i in 0..values.len() {
+            let at = i * size;
+            values[i].encode(&mut out[at..at + size]);
+        }
+    }
 
     /// The value of a byte form. Any bytes have one.
     fn decode(bytes: &[u8]) -> Self
@@ -50,17 +57,4 @@ pub trait Item: Copy {
     ghost encoded_length: { (v : Self) → is_value v → SIZE ≤ 2 ^ 24 → length (encoded v) ≡ SIZE };
 
     ghost layout: { IsItemLayout SIZE ALIGN };
-}
-
-/// Writes the byte forms of values, one after another, by one `encode` each.
-pub fn encode_each<T: Item>(values: &[T], out: &mut [u8])
-    requires length { length out.old ≡ length values.now * T.SIZE }
-    requires small { T.SIZE ≤ 2 ^ 24 }
-    ensures { out.new ≡ flat_map T.encoded values.now }
-{
-    let size = T::SIZE as usize;
-    for i in 0..values.len() {
-        let at = i * size;
-        values[i].encode(&mut out[at..at + size]);
-    }
 }

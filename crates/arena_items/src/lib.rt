@@ -25,7 +25,7 @@ pub use address::{Address, GetAddress};
 pub use boxes::Box;
 pub use elements::{item_at, put_item, put_items};
 pub use get_allocator::GetAllocator;
-pub use item::{Item, encode_each};
+pub use item::Item;
 pub use placing::ItemErr;
 pub use slices::BoxSlice;
 pub use typed::ArenaItems;

@@ -5,7 +5,7 @@ ghost use Rattle.arena_items.specs.ByteForms.{bool_bytes, bool_of};
 ghost use Rattle.arena_items.specs.LayoutLaws.{plain_0, plain_1, plain_4, plain_8};
 ghost use Rattle.arena_items.specs.NumberLaws.{bytes_back, i32_back};
 
-use crate::item::{Item, encode_each};
+use crate::item::Item;
 
 impl Item for u8 {
     ghost is_value = { λ x. x < 2 ^ 8 };
@@ -74,10 +74,6 @@ impl Item for u32 {
         out.copy_from_slice(&self.to_le_bytes());
     }
 
-    fn encode_all(values: &[Self], out: &mut [u8]) {
-        encode_each(values, out);
-    }
-
     fn decode(bytes: &[u8]) -> Self {
         u32::from_le_bytes([bytes[0], bytes[1], bytes[2], bytes[3]])
     }
@@ -110,10 +106,6 @@ impl Item for u64 {
 
     fn encode(self, out: &mut [u8]) {
         out.copy_from_slice(&self.to_le_bytes());
-    }
-
-    fn encode_all(values: &[Self], out: &mut [u8]) {
-        encode_each(values, out);
     }
 
     fn decode(bytes: &[u8]) -> Self {
@@ -152,10 +144,6 @@ impl Item for i32 {
         out.copy_from_slice(&self.to_le_bytes());
     }
 
-    fn encode_all(values: &[Self], out: &mut [u8]) {
-        encode_each(values, out);
-    }
-
     fn decode(bytes: &[u8]) -> Self {
         i32::from_le_bytes([bytes[0], bytes[1], bytes[2], bytes[3]])
     }
@@ -188,10 +176,6 @@ impl Item for bool {
         out[0] = self as u8;
     }
 
-    fn encode_all(values: &[Self], out: &mut [u8]) {
-        encode_each(values, out);
-    }
-
     fn decode(bytes: &[u8]) -> Self {
         bytes[0] != 0
     }
@@ -222,10 +206,6 @@ impl Item for () {
 
     fn encode(self, out: &mut [u8]) {
         let _ = out;
-    }
-
-    fn encode_all(values: &[Self], out: &mut [u8]) {
-        encode_each(values, out);
     }
 
     fn decode(bytes: &[u8]) -> Self {

@@ -11,7 +11,7 @@ ghost use Rattle.arena_items.specs.Values.{IsSliceIn, slice_list};
 
 use crate::elements::{item_at, put_item};
 use crate::handles::{number_of, put_number};
-use crate::item::{Item, encode_each};
+use crate::item::Item;
 use arena_chunks::{Allocator, Block, ChunkSource};
 use std::marker::PhantomData;
 
@@ -113,10 +113,6 @@ impl<T: Item> Item for BoxSlice<T> {
         let (block, length) = out.split_at_mut(32);
         self.block.encode(block);
         put_number(length, self.length);
-    }
-
-    fn encode_all(values: &[Self], out: &mut [u8]) {
-        encode_each(values, out);
     }
 
     fn decode(bytes: &[u8]) -> Self {
