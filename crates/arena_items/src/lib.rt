@@ -18,7 +18,7 @@ mod slices;
 #[cfg(test)]
 mod tests;
 mod typed;
-// mod uses;
+mod uses;
 mod values;
 
 pub use address::{Address, GetAddress};
