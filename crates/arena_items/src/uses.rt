@@ -5,7 +5,7 @@ ghost use Rattle.arena_chunks.specs.Frame.{Frame, AreBlocksApart};
 ghost use Rattle.arena_items.specs.Values.{IsBoxIn, box_value};
 
 use crate::boxes::Box;
-use crate::get_allocator::GetAllocator;
+use crate::get_allocator::{GetAllocator, allocator_of};
 use crate::item::Item;
 use crate::laws::frame_law;
 use crate::placing::ItemErr;
@@ -44,7 +44,7 @@ pub fn put<A: GetAllocator, T: Item>(a: &mut A, value: T) -> Result<Box<T>, Item
     ensures value { IfOk result (λ b. box_value T.Item (A.lent a.new).memory b ≡ value) }
     ensures frame { IfOk result (λ b. Frame (A.lent a.old).memory (A.lent a.new).memory [] (b.block ∷ [])) }
 {
-    a.allocator().alloc(value)
+    allocator_of(a).alloc(value)
 }
 
 /// Sets one box, beside another.
