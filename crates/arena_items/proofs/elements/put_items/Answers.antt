@@ -1,4 +1,4 @@
-use Rattle.std.proofs.Common.{◌≡◌, ◌+◌, ◌*◌, ◌≤◌, arith, length, sym, subst}
+use Rattle.std.proofs.Common.{◌+◌, ◌*◌, ◌≤◌, arith, length}
 use Rattle.std.proofs.Math.Nat.{add-mul}
 use Rattle.arena_chunks.proofs.Layers.{edits_to}
 use Rattle.arena_items.proofs.ElementLemmas.{put_append}
