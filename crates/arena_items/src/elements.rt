@@ -1,5 +1,5 @@
 // Values in blocks: one that fills its block, and those that stand one after another.
-ghost use Rattle.std.specs.Prelude.{◌≡◌, ℕ, ◌+◌, ◌*◌, ◌^◌, ◌<◌, ◌≤◌, ◌++◌, [], ◌∷◌, IsTrue, Some, length, slice_get, slice_set};
+ghost use Rattle.std.specs.Prelude.{◌≡◌, ℕ, ◌+◌, ◌*◌, ◌^◌, ◌<◌, ◌≤◌, ◌++◌, [], ◌∷◌, IsTrue, Some, length, replicate, slice_get, slice_set};
 ghost use Rattle.std.specs.List.{All, flat_map};
 ghost use Rattle.arena_chunks.specs.Memory.{is_readable};
 ghost use Rattle.arena_chunks.specs.BlockCalls.{WritesBlock};
@@ -37,6 +37,27 @@ impl<T: Item> Edit for EncodedAll<'_, T> {
 
     fn edit(&self, place: &mut [u8]) {
         T::encode_all(self.values, place);
+    }
+}
+
+/// A value that writes its byte form into a place so many times.
+#[derive(Clone, Copy)]
+pub(crate) struct EncodedTimes<T> {
+    pub(crate) value: T,
+    pub(crate) times: u64,
+}
+
+impl<T: Item> Edit for EncodedTimes<T> {
+    ghost suits = { λ e old. (length old ≡ e.times * T.SIZE) × (T.SIZE ≤ 2 ^ 24) };
+
+    ghost relates = { λ e old new. new ≡ flat_map T.encoded (replicate e.times e.value) };
+
+    fn edit(&self, place: &mut [u8]) {
+        let size = T::SIZE as usize;
+        for i in 0..self.times as usize {
+            let at = i * size;
+            self.value.encode(&mut place[at..at + size]);
+        }
     }
 }
 
@@ -109,4 +130,27 @@ pub fn put_items<T: Item, C: ChunkSource>(a: &mut Allocator<C>, block: Block, i:
     known_all(values);
     let size = values.len() as u64 * T::SIZE;
     a.write_with(block, i * T::SIZE, size, &EncodedAll { values });
+}
+
+/// Puts a value behind the first `i` of a block, so many times, in one pass.
+#[tactic(auto, using(arena_chunks::proofs::Layers::layer_laws, crate::proofs::ElementLemmas::list_laws))]
+pub fn put_copies<T: Item, C: ChunkSource>(
+    a: &mut Allocator<C>,
+    block: Block,
+    i: u64,
+    times: u64,
+    value: T,
+)
+    requires small { T.SIZE ≤ 2 ^ 24 }
+    requires readable { IsTrue (is_readable a.old.memory.state block) }
+    requires range { (i + times) * T.SIZE ≤ block.size }
+    ensures writes { WritesBlock a.old.memory a.new.memory block
+        (i * T.SIZE) (flat_map T.encoded (replicate times value)) }
+    ensures push { elements T.SIZE T.decoded (i + times) (bytes_of a.new.memory block)
+        ≡ elements T.SIZE T.decoded i (bytes_of a.old.memory block) ++ replicate times value }
+    ensures source { a.new.source ≡ a.old.source }
+{
+    value.known();
+    let size = times * T::SIZE;
+    a.write_with(block, i * T::SIZE, size, &EncodedTimes { value, times });
 }

@@ -11,7 +11,7 @@ ghost use Rattle.arena_items.specs.Values.{IsBoxIn, box_value, IsSliceIn, slice_
 ghost use Rattle.arena_items.specs.Placing.{Answers, AnswersOr, PlacesArray, EndsEarly, Abandons};
 
 use crate::boxes::Box;
-use crate::elements::{put_item, put_items, write_whole};
+use crate::elements::{put_copies, put_item, put_items, write_whole};
 use crate::item::Item;
 use crate::placing::{ItemErr, place_array, place_one};
 use crate::slices::BoxSlice;
@@ -61,6 +61,20 @@ pub trait ArenaItems: OverArena {
         ensures held { IfOk result (IsSliceIn T.Item (Self.view self.new).memory) }
         ensures length { IfOk result (λ s. s.length ≡ length src.now) }
         ensures list { IfOk result (λ s. slice_list T.Item (Self.view self.new).memory s ≡ src.now) };
+
+    /// Places a value so many times, in one pass.
+    ///
+    /// # Errors
+    ///
+    /// As of `alloc_slice_copy`.
+    fn alloc_slice_fill_copy<T: Item>(&mut self, len: u64, value: T) -> Result<BoxSlice<T>, ItemErr>
+        requires { T.SIZE ≤ 2 ^ 24 }
+        ensures placed { Answers (λ s. s.block) result
+            (PlacesArray (Self.view self.old) (Self.view self.new) T.SIZE T.ALIGN len) }
+        ensures held { IfOk result (IsSliceIn T.Item (Self.view self.new).memory) }
+        ensures length { IfOk result (λ s. s.length ≡ len) }
+        ensures list { IfOk result (λ s.
+            slice_list T.Item (Self.view self.new).memory s ≡ replicate len value) };
 
     /// Places what a closure gives at 0, at 1 and so on. It is called only where there is a place.
     ///
@@ -157,23 +171,6 @@ pub trait ArenaItems: OverArena {
         self.alloc_slice_copy(src)
     }
 
-    /// Places a value so many times.
-    ///
-    /// # Errors
-    ///
-    /// As of `alloc_slice_copy`.
-    fn alloc_slice_fill_copy<T: Item>(&mut self, len: u64, value: T) -> Result<BoxSlice<T>, ItemErr>
-        requires { T.SIZE ≤ 2 ^ 24 }
-        ensures placed { Answers (λ s. s.block) result
-            (PlacesArray (Self.view self.old) (Self.view self.new) T.SIZE T.ALIGN len) }
-        ensures held { IfOk result (IsSliceIn T.Item (Self.view self.new).memory) }
-        ensures length { IfOk result (λ s. s.length ≡ len) }
-        ensures list { IfOk result (λ s.
-            slice_list T.Item (Self.view self.new).memory s ≡ replicate len value) }
-    {
-        self.alloc_slice_fill_with(len, |_| value)
-    }
-
     /// The same as `alloc_slice_fill_copy`.
     ///
     /// # Errors
@@ -211,7 +208,7 @@ pub trait ArenaItems: OverArena {
         ensures length { IfOk result (λ s. s.length ≡ len) }
         ensures list { IfOk result (λ s. All T.is_default (slice_list T.Item (Self.view self.new).memory s)) }
     {
-        self.alloc_slice_fill_with(len, |_| T::default())
+        self.alloc_slice_fill_copy(len, T::default())
     }
 }
 
@@ -241,6 +238,20 @@ impl<C: ChunkSource> ArenaItems for Allocator<C> {
         Ok(BoxSlice {
             block,
             length,
+            of: PhantomData,
+        })
+    }
+
+    fn alloc_slice_fill_copy<T: Item>(
+        &mut self,
+        len: u64,
+        value: T,
+    ) -> Result<BoxSlice<T>, ItemErr> {
+        let block = place_array::<T, C>(self, len)?;
+        put_copies(self, block, 0, len, value);
+        Ok(BoxSlice {
+            block,
+            length: len,
             of: PhantomData,
         })
     }
