@@ -1,7 +1,10 @@
 pub mod Layout
 pub mod ByteForms
 pub mod LayoutLaws
+pub mod NumberForms
 pub mod NumberLaws
+pub mod NonZeroForms
+pub mod NonZeroLaws
 pub mod OptionLaws
 pub mod PairLaws
 pub mod HandleLaws

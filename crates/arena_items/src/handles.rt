@@ -1,30 +1,11 @@
 // Byte forms of blocks and of texts.
 ghost use Rattle.std.specs.Prelude.{◌≡◌, ℕ, ◌^◌, ◌≤◌, List, length, refl};
-ghost use Rattle.std.specs.Int.{w64, to_le_bytes, from_le_bytes};
 ghost use Rattle.arena_items.specs.ByteForms.{IsBlockValue, block_bytes, block_of};
 ghost use Rattle.arena_items.specs.LayoutLaws.{plain_32_8};
 ghost use Rattle.arena_items.specs.HandleLaws.{block_back};
 
 use crate::item::Item;
 use arena_chunks::{Block, Str};
-
-// Writes a number.
-pub(crate) fn put_number(out: &mut [u8], n: u64)
-    requires { length out.old ≡ 8 }
-    ensures { out.new ≡ to_le_bytes w64 n }
-{
-    out.copy_from_slice(&n.to_le_bytes());
-}
-
-// Reads a number.
-pub(crate) fn number_of(bytes: &[u8]) -> u64
-    requires { length bytes.now ≡ 8 }
-    ensures { result ≡ from_le_bytes w64 bytes.now }
-{
-    u64::from_le_bytes([
-        bytes[0], bytes[1], bytes[2], bytes[3], bytes[4], bytes[5], bytes[6], bytes[7],
-    ])
-}
 
 impl Item for Block {
     ghost is_value = { IsBlockValue };
@@ -58,18 +39,18 @@ impl Item for Block {
         let (generation, rest) = out.split_at_mut(8);
         let (addr, rest) = rest.split_at_mut(8);
         let (size, align) = rest.split_at_mut(8);
-        put_number(generation, self.generation);
-        put_number(addr, self.addr);
-        put_number(size, self.size);
-        put_number(align, self.align);
+        self.generation.encode(generation);
+        self.addr.encode(addr);
+        self.size.encode(size);
+        self.align.encode(align);
     }
 
     fn decode(bytes: &[u8]) -> Self {
         Block {
-            generation: number_of(&bytes[..8]),
-            addr: number_of(&bytes[8..16]),
-            size: number_of(&bytes[16..24]),
-            align: number_of(&bytes[24..]),
+            generation: u64::decode(&bytes[..8]),
+            addr: u64::decode(&bytes[8..16]),
+            size: u64::decode(&bytes[16..24]),
+            align: u64::decode(&bytes[24..]),
         }
     }
 }

@@ -10,7 +10,6 @@ ghost use Rattle.arena_items.specs.HandleLaws.{block_back};
 ghost use Rattle.arena_items.specs.Values.{IsSliceIn, slice_list};
 
 use crate::elements::{item_at, put_item};
-use crate::handles::{number_of, put_number};
 use crate::item::Item;
 use arena_chunks::{Allocator, Block, ChunkSource};
 use std::marker::PhantomData;
@@ -112,14 +111,14 @@ impl<T: Item> Item for BoxSlice<T> {
     fn encode(self, out: &mut [u8]) {
         let (block, length) = out.split_at_mut(32);
         self.block.encode(block);
-        put_number(length, self.length);
+        self.length.encode(length);
     }
 
     fn decode(bytes: &[u8]) -> Self {
         let (block, length) = bytes.split_at(32);
         BoxSlice {
             block: Block::decode(block),
-            length: number_of(length),
+            length: u64::decode(length),
             of: PhantomData,
         }
     }
