@@ -10,6 +10,7 @@ pub mod PairLaws
 pub mod HandleLaws
 pub mod Values
 pub mod Placing
+pub mod Typed
 pub mod Footprint
 pub mod FootprintLaws
 pub mod FrameLaw

@@ -5,7 +5,7 @@ ghost use Rattle.arena_items.specs.ByteForms.{IsBlockValue, block_bytes, block_o
 ghost use Rattle.arena_items.specs.LayoutLaws.{plain_32_8};
 ghost use Rattle.arena_items.specs.HandleLaws.{block_back};
 ghost use Rattle.arena_items.specs.Values.{IsBoxIn, box_value};
-ghost use Rattle.arena_items.specs.Placing.{Answers};
+ghost use Rattle.arena_items.specs.Typed.{PlacesBox};
 
 use crate::elements::write_whole;
 use crate::item::Item;
@@ -30,9 +30,7 @@ impl<T: Item> Box<T> {
     /// As of the arena's `alloc_layout`. Nothing changes.
     pub fn new_in<C: ChunkSource>(value: T, a: &mut Allocator<C>) -> Result<Box<T>, ItemErr>
         requires { T.SIZE ≤ 2 ^ 24 }
-        ensures placed { Answers (λ b. b.block) result (PlacesBlock a.old a.new T.SIZE T.ALIGN) }
-        ensures held { IfOk result (IsBoxIn T.Item a.new.memory) }
-        ensures value { IfOk result (λ b. box_value T.Item a.new.memory b ≡ value) }
+        ensures { PlacesBox T.Item a.old a.new (λ v. v ≡ value) result }
     {
         let block = place_one::<T, C>(a)?;
         write_whole(a, block, value);

@@ -1,5 +1,5 @@
 // Calls that place values.
-ghost use Rattle.std.specs.Prelude.{◌≡◌, ℕ, ◌*◌, ◌^◌, ◌≤◌, IfOk, length, replicate};
+ghost use Rattle.std.specs.Prelude.{◌≡◌, ◌^◌, ◌≤◌, length, replicate};
 ghost use Rattle.std.specs.Iterator.{size, Yields};
 ghost use Rattle.std.specs.Array.{FillsFrom};
 ghost use Rattle.std.specs.List.{All};
@@ -7,8 +7,8 @@ ghost use Rattle.arena_chunks.specs.Source.{View};
 ghost use Rattle.arena_chunks.specs.Answers.Answer.{Placed};
 ghost use Rattle.arena_chunks.specs.BlockCalls.{PlacesBlock};
 ghost use Rattle.arena_chunks.specs.declared.block.Block.{Block};
-ghost use Rattle.arena_items.specs.Values.{IsBoxIn, box_value, IsSliceIn, slice_list};
-ghost use Rattle.arena_items.specs.Placing.{Answers, AnswersOr, PlacesArray, EndsEarly, Abandons};
+ghost use Rattle.arena_items.specs.Placing.{PlacesArray, EndsEarly, Abandons};
+ghost use Rattle.arena_items.specs.Typed.{PlacesBox, PlacesSlice, PlacesSliceOr};
 
 use crate::boxes::Box;
 use crate::elements::{put_copies, put_item, put_items, write_whole};
@@ -27,10 +27,7 @@ pub trait ArenaItems: OverArena {
     /// As of the arena's `alloc_layout`. Nothing changes.
     fn alloc<T: Item>(&mut self, value: T) -> Result<Box<T>, ItemErr>
         requires { T.SIZE ≤ 2 ^ 24 }
-        ensures placed { Answers (λ b. b.block) result
-            (PlacesBlock (Self.view self.old) (Self.view self.new) T.SIZE T.ALIGN) }
-        ensures held { IfOk result (IsBoxIn T.Item (Self.view self.new).memory) }
-        ensures value { IfOk result (λ b. box_value T.Item (Self.view self.new).memory b ≡ value) };
+        ensures { PlacesBox T.Item (Self.view self.old) (Self.view self.new) (λ v. v ≡ value) result };
 
     /// Places what a closure gives. It is called only where there is a place.
     ///
@@ -43,10 +40,7 @@ pub trait ArenaItems: OverArena {
         requires small { T.SIZE ≤ 2 ^ 24 }
         requires callable { (new : View) (b : Block)
             → PlacesBlock (Self.view self.old) new T.SIZE T.ALIGN (Placed b) → F.IsAlwaysCallable f }
-        ensures placed { Answers (λ b. b.block) result
-            (PlacesBlock (Self.view self.old) (Self.view self.new) T.SIZE T.ALIGN) }
-        ensures held { IfOk result (IsBoxIn T.Item (Self.view self.new).memory) }
-        ensures value { IfOk result (λ b. F.post f (box_value T.Item (Self.view self.new).memory b)) };
+        ensures { PlacesBox T.Item (Self.view self.old) (Self.view self.new) (F.post f) result };
 
     /// Places copies of values, in one pass.
     ///
@@ -56,11 +50,8 @@ pub trait ArenaItems: OverArena {
     /// changes.
     fn alloc_slice_copy<T: Item>(&mut self, src: &[T]) -> Result<BoxSlice<T>, ItemErr>
         requires { T.SIZE ≤ 2 ^ 24 }
-        ensures placed { Answers (λ s. s.block) result
-            (PlacesArray (Self.view self.old) (Self.view self.new) T.SIZE T.ALIGN (length src.now)) }
-        ensures held { IfOk result (IsSliceIn T.Item (Self.view self.new).memory) }
-        ensures length { IfOk result (λ s. s.length ≡ length src.now) }
-        ensures list { IfOk result (λ s. slice_list T.Item (Self.view self.new).memory s ≡ src.now) };
+        ensures { PlacesSlice T.Item (Self.view self.old) (Self.view self.new) (length src.now)
+            (λ list. list ≡ src.now) result };
 
     /// Places a value so many times, in one pass.
     ///
@@ -69,12 +60,8 @@ pub trait ArenaItems: OverArena {
     /// As of `alloc_slice_copy`.
     fn alloc_slice_fill_copy<T: Item>(&mut self, len: u64, value: T) -> Result<BoxSlice<T>, ItemErr>
         requires { T.SIZE ≤ 2 ^ 24 }
-        ensures placed { Answers (λ s. s.block) result
-            (PlacesArray (Self.view self.old) (Self.view self.new) T.SIZE T.ALIGN len) }
-        ensures held { IfOk result (IsSliceIn T.Item (Self.view self.new).memory) }
-        ensures length { IfOk result (λ s. s.length ≡ len) }
-        ensures list { IfOk result (λ s.
-            slice_list T.Item (Self.view self.new).memory s ≡ replicate len value) };
+        ensures { PlacesSlice T.Item (Self.view self.old) (Self.view self.new) len
+            (λ list. list ≡ replicate len value) result };
 
     /// Places what a closure gives at 0, at 1 and so on. It is called only where there is a place.
     ///
@@ -91,14 +78,10 @@ pub trait ArenaItems: OverArena {
         requires small { T.SIZE ≤ 2 ^ 24 }
         requires callable { (new : View) (b : Block)
             → PlacesArray (Self.view self.old) new T.SIZE T.ALIGN len (Placed b) → F.IsAlwaysCallable f }
-        ensures placed { Answers (λ s. s.block) result
-            (PlacesArray (Self.view self.old) (Self.view self.new) T.SIZE T.ALIGN len) }
-        ensures held { IfOk result (IsSliceIn T.Item (Self.view self.new).memory) }
-        ensures length { IfOk result (λ s. s.length ≡ len) }
-        ensures list { IfOk result (λ s.
-            (last : F) × FillsFrom F.step f 0 (slice_list T.Item (Self.view self.new).memory s) last) };
+        ensures { PlacesSlice T.Item (Self.view self.old) (Self.view self.new) len
+            (λ list. (last : F) × FillsFrom F.step f 0 list last) result };
 
-    /// Places the first values of an iterator, as many as it tells.
+    /// Places the first values of an iterator, as many as it tells. None is taken where there is no place.
     ///
     /// # Errors
     ///
@@ -111,15 +94,14 @@ pub trait ArenaItems: OverArena {
     where
         I: Drop,
         requires small { T.SIZE ≤ 2 ^ 24 }
-        requires can { I.can_next iter }
-        ensures placed { let n = size (I.remaining iter) in
-            AnswersOr (λ taken. EndsEarly I.next_gives iter n taken
-            × Abandons (Self.view self.old) (Self.view self.new) T.SIZE T.ALIGN n) (λ s. s.block) result
-            (PlacesArray (Self.view self.old) (Self.view self.new) T.SIZE T.ALIGN n) }
-        ensures held { IfOk result (IsSliceIn T.Item (Self.view self.new).memory) }
-        ensures length { IfOk result (λ s. s.length ≡ size (I.remaining iter)) }
-        ensures list { IfOk result (λ s.
-            (last : I) × Yields I.next_gives iter (slice_list T.Item (Self.view self.new).memory s) last) };
+        requires can { (new : View) (b : Block)
+            → PlacesArray (Self.view self.old) new T.SIZE T.ALIGN (size (I.remaining iter)) (Placed b)
+            → I.can_next iter }
+        ensures { let n = size (I.remaining iter) in
+            PlacesSliceOr (λ taken. EndsEarly I.next_gives iter n taken
+            × Abandons (Self.view self.old) (Self.view self.new) T.SIZE T.ALIGN n)
+            T.Item (Self.view self.old) (Self.view self.new) n
+            (λ list. (last : I) × Yields I.next_gives iter list last) result };
 
     /// The same as `alloc`.
     ///
@@ -128,10 +110,7 @@ pub trait ArenaItems: OverArena {
     /// As of `alloc`.
     fn try_alloc<T: Item>(&mut self, value: T) -> Result<Box<T>, ItemErr>
         requires { T.SIZE ≤ 2 ^ 24 }
-        ensures placed { Answers (λ b. b.block) result
-            (PlacesBlock (Self.view self.old) (Self.view self.new) T.SIZE T.ALIGN) }
-        ensures held { IfOk result (IsBoxIn T.Item (Self.view self.new).memory) }
-        ensures value { IfOk result (λ b. box_value T.Item (Self.view self.new).memory b ≡ value) }
+        ensures { PlacesBox T.Item (Self.view self.old) (Self.view self.new) (λ v. v ≡ value) result }
     {
         self.alloc(value)
     }
@@ -147,10 +126,7 @@ pub trait ArenaItems: OverArena {
         requires small { T.SIZE ≤ 2 ^ 24 }
         requires callable { (new : View) (b : Block)
             → PlacesBlock (Self.view self.old) new T.SIZE T.ALIGN (Placed b) → F.IsAlwaysCallable f }
-        ensures placed { Answers (λ b. b.block) result
-            (PlacesBlock (Self.view self.old) (Self.view self.new) T.SIZE T.ALIGN) }
-        ensures held { IfOk result (IsBoxIn T.Item (Self.view self.new).memory) }
-        ensures value { IfOk result (λ b. F.post f (box_value T.Item (Self.view self.new).memory b)) }
+        ensures { PlacesBox T.Item (Self.view self.old) (Self.view self.new) (F.post f) result }
     {
         self.alloc_with(f)
     }
@@ -162,11 +138,8 @@ pub trait ArenaItems: OverArena {
     /// As of `alloc_slice_copy`.
     fn alloc_slice_clone<T: Item>(&mut self, src: &[T]) -> Result<BoxSlice<T>, ItemErr>
         requires { T.SIZE ≤ 2 ^ 24 }
-        ensures placed { Answers (λ s. s.block) result
-            (PlacesArray (Self.view self.old) (Self.view self.new) T.SIZE T.ALIGN (length src.now)) }
-        ensures held { IfOk result (IsSliceIn T.Item (Self.view self.new).memory) }
-        ensures length { IfOk result (λ s. s.length ≡ length src.now) }
-        ensures list { IfOk result (λ s. slice_list T.Item (Self.view self.new).memory s ≡ src.now) }
+        ensures { PlacesSlice T.Item (Self.view self.old) (Self.view self.new) (length src.now)
+            (λ list. list ≡ src.now) result }
     {
         self.alloc_slice_copy(src)
     }
@@ -182,12 +155,8 @@ pub trait ArenaItems: OverArena {
         value: &T,
     ) -> Result<BoxSlice<T>, ItemErr>
         requires { T.SIZE ≤ 2 ^ 24 }
-        ensures placed { Answers (λ s. s.block) result
-            (PlacesArray (Self.view self.old) (Self.view self.new) T.SIZE T.ALIGN len) }
-        ensures held { IfOk result (IsSliceIn T.Item (Self.view self.new).memory) }
-        ensures length { IfOk result (λ s. s.length ≡ len) }
-        ensures list { IfOk result (λ s.
-            slice_list T.Item (Self.view self.new).memory s ≡ replicate len value.now) }
+        ensures { PlacesSlice T.Item (Self.view self.old) (Self.view self.new) len
+            (λ list. list ≡ replicate len value.now) result }
     {
         self.alloc_slice_fill_copy(len, *value)
     }
@@ -202,11 +171,8 @@ pub trait ArenaItems: OverArena {
         len: u64,
     ) -> Result<BoxSlice<T>, ItemErr>
         requires { T.SIZE ≤ 2 ^ 24 }
-        ensures placed { Answers (λ s. s.block) result
-            (PlacesArray (Self.view self.old) (Self.view self.new) T.SIZE T.ALIGN len) }
-        ensures held { IfOk result (IsSliceIn T.Item (Self.view self.new).memory) }
-        ensures length { IfOk result (λ s. s.length ≡ len) }
-        ensures list { IfOk result (λ s. All T.is_default (slice_list T.Item (Self.view self.new).memory s)) }
+        ensures { PlacesSlice T.Item (Self.view self.old) (Self.view self.new) len
+            (All T.is_default) result }
     {
         self.alloc_slice_fill_copy(len, T::default())
     }
