@@ -1,6 +1,7 @@
 pub mod Layout
 pub mod ByteForms
 pub mod LayoutLaws
+pub mod FormLaws
 pub mod NumberLaws
 pub mod OptionLaws
 pub mod PairLaws
