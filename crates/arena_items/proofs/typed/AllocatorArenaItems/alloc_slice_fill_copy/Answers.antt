@@ -6,4 +6,5 @@ use Rattle.arena_items.proofs.typed.AllocatorArenaItems.alloc_slice_fill_copy.Go
 pub returns-clause-list : goal.returns-clause-list
 returns-clause-list g c =
     let all : 0 + c.args.len ≡ c.args.len = omega arith in
-    rw (all, elements-empty g.T.Item.SIZE g.T.Item.decoded 0 (bytes_of c.place_array.new.a.memory c.in_ok-block.block) refl) at c.put_copies.ensures.push
+    rw (all, elements-empty g.T.Item.SIZE g.T.Item.decoded 0 (bytes_of c.place_array.new.a.memory c.in_ok-block.block) refl) at
+    c.put_copies.ensures.push
