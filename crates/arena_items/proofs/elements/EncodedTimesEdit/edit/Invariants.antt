@@ -1,4 +1,4 @@
-use Rattle.std.proofs.Common.{◌≡◌, ◌*◌, length, take, replicate}
+use Rattle.std.proofs.Common.{◌≡◌, ◌*◌, take, replicate}
 use Rattle.std.specs.List.{flat_map}
 use Rattle.arena_items.proofs.elements.EncodedTimesEdit.edit.Given as goal
 

@@ -1,4 +1,4 @@
-use Rattle.std.proofs.Common.{refl, arith, length, ◌≡◌, ◌+◌}
+use Rattle.std.proofs.Common.{refl, arith, ◌≡◌, ◌+◌}
 use Rattle.arena_items.specs.Values.{bytes_of}
 use Rattle.arena_items.proofs.ElementLemmas.{elements-empty}
 use Rattle.arena_items.proofs.typed.AllocatorArenaItems.alloc_slice_fill_copy.Goals as goal
