@@ -11,5 +11,6 @@ pub held_readable : (size align : ℕ) (state : State) (b : Block) → IsHeld si
 held_readable size align state b held = (held.readable, tt)
 
 -- It has its layout wherever it may be read.
-pub held_again : (size align : ℕ) (old new : State) (b : Block) → IsHeld size align old b → IsTrue (is_readable new b) → IsHeld size align new b
+pub held_again : (size align : ℕ) (old new : State) (b : Block) → IsHeld size align old b → IsTrue (is_readable new b)
+    → IsHeld size align new b
 held_again size align old new b held readable = record { readable = readable; of_size = held.of_size; of_align = held.of_align }

@@ -2,6 +2,7 @@ pub mod Layout
 pub mod ByteForms
 pub mod LayoutLaws
 pub mod NumberForms
+pub mod FormLaws
 pub mod NumberLaws
 pub mod NonZeroForms
 pub mod NonZeroLaws

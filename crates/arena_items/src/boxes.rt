@@ -18,6 +18,7 @@ use std::marker::PhantomData;
 pub struct Box<T> {
     /// The block of the value's bytes.
     pub block: Block,
+    /// The type of the value, which takes no place in the handle.
     pub of: PhantomData<T>,
 }
 

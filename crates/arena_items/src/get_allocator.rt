@@ -17,7 +17,8 @@ pub trait GetAllocator {
 
     /// The allocator. Where the type is a parameter, callers take `allocator_of`.
     fn allocator(&mut self) -> &mut Allocator<Self::Chunks>
-        ensures* writes_back { sem 𝓛 (Lends Self.row (the_row Self.Chunks.row Self.Chunks.ChunkSource) self.entry result (with_lent self.entry.now)) }
+        ensures* writes_back { sem 𝓛 (Lends Self.row (the_row Self.Chunks.row Self.Chunks.ChunkSource)
+            self.entry result (with_lent self.entry.now)) }
         ensures shows { result.now ≡ lent self.entry.now };
 
     // What is put in its place is there.
@@ -41,7 +42,8 @@ impl<C: ChunkSource> GetAllocator for Allocator<C> {
 /// The allocator of a value whose type is only known to have one: a caller who is generic over that calls this, and knows then
 /// what becomes of the value.
 pub fn allocator_of<A: GetAllocator>(a: &mut A) -> &mut Allocator<A::Chunks>
-    ensures* writes_back { sem 𝓛 (Lends A.row (the_row A.Chunks.row A.Chunks.ChunkSource) a.entry result (A.with_lent a.entry.now)) }
+    ensures* writes_back { sem 𝓛 (Lends A.row (the_row A.Chunks.row A.Chunks.ChunkSource)
+        a.entry result (A.with_lent a.entry.now)) }
     ensures shows { result.now ≡ A.lent a.entry.now }
 {
     a.allocator()

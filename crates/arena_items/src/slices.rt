@@ -22,6 +22,7 @@ pub struct BoxSlice<T> {
     pub block: Block,
     /// How many values there are.
     pub length: u64,
+    /// The type of the values, which takes no place in the handle.
     pub of: PhantomData<T>,
 }
 

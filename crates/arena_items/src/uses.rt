@@ -1,13 +1,14 @@
 // Callers.
-ghost use Rattle.std.specs.Prelude.{◌≡◌, ◌^◌, ◌≤◌, IfOk, [], ◌∷◌, refl};
+ghost use Rattle.std.specs.Prelude.{◌≡◌, ◌≢◌, ◌^◌, ◌<◌, ◌≤◌, IfOk, [], ◌∷◌, refl};
 ghost use Rattle.arena_chunks.specs.Source.{View};
 ghost use Rattle.arena_chunks.specs.Frame.{Frame, AreBlocksApart};
 ghost use Rattle.arena_items.specs.Values.{IsBoxIn, box_value};
 
+use crate::address::{Address, GetAddress};
 use crate::boxes::Box;
 use crate::get_allocator::{GetAllocator, allocator_of};
 use crate::item::Item;
-use crate::laws::frame_law;
+use crate::laws::{address_law, frame_law};
 use crate::placing::ItemErr;
 use crate::typed::ArenaItems;
 use arena_chunks::laws::frames;
@@ -89,6 +90,26 @@ pub fn two<T: Item, U: Item, A: ArenaItems>(
     let first = a.alloc(x)?;
     let second = a.alloc(y)?;
     Ok((first, second))
+}
+
+/// Places two values of some bytes, whose boxes have other addresses then.
+///
+/// # Errors
+///
+/// As of `alloc`. The first value may be placed then.
+pub fn two_addresses<T: Item, U: Item, C: ChunkSource>(
+    a: &mut Allocator<C>,
+    x: T,
+    y: U,
+) -> Result<(Address, Address), ItemErr>
+    requires first { (0 < T.SIZE) × (T.SIZE ≤ 2 ^ 24) }
+    requires second { (0 < U.SIZE) × (U.SIZE ≤ 2 ^ 24) }
+    ensures { IfOk result (λ r. r.1.0 ≢ r.0.0) }
+{
+    address_law();
+    let first = a.alloc(x)?;
+    let second = a.alloc(y)?;
+    Ok((first.address(), second.address()))
 }
 
 /// Places what a closure gives. It is called only where there is a place for it.

@@ -35,7 +35,8 @@ pub trait InArena: Copy {
     ghost readable: { (m : Memory) (v : Self) → is_held m v → AreReadable m.state (footprint m v) };
 
     // In two arenas that agree on its footprint it has the same footprint and means the same.
-    ghost same_footprint: { (a c : Memory) (v : Self) → Agree a c (footprint a v) → footprint a v ≡ footprint c v };
+    ghost same_footprint: { (a c : Memory) (v : Self) → Agree a c (footprint a v)
+        → footprint a v ≡ footprint c v };
 
     ghost same_meaning: { (a c : Memory) (v : Self) → Agree a c (footprint a v) → means a v ≡ means c v };
 

@@ -14,5 +14,6 @@ returns-clause-push g c =
     let many : length values ≡ c.args.times = length-replicate c.args.times c.args.value in
     let room : c.args.i * g.T.Item.SIZE + length values * g.T.Item.SIZE ≤ c.args.block.size =
     rw many (omega (arith, c.requires.range, add-mul c.args.i c.args.times g.T.Item.SIZE)) in
-    rw many at (put_append _ _ c.args.block g.T.Item.SIZE c.args.i g.T.Item.encoded g.T.Item.decoded g.T.Item.is_value (λ v is. item.encoded_length v is c.requires.small) (λ v is. item.round_trip v is c.requires.small)
+    rw many at (put_append _ _ c.args.block g.T.Item.SIZE c.args.i g.T.Item.encoded g.T.Item.decoded g.T.Item.is_value
+    (λ v is. item.encoded_length v is c.requires.small) (λ v is. item.round_trip v is c.requires.small)
     values (All-replicate g.T.Item.is_value c.args.times c.args.value c.known.ensures) writes room)

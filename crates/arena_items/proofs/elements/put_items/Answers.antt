@@ -8,6 +8,8 @@ pub returns-clause-push : goal.returns-clause-push
 returns-clause-push g c =
     let item = g.met.T.Item in
     let writes = edits_to _ _ c.args.block _ _ _ (rw c.SIZE-2.ensures at c.write_with.ensures.edits) in
-    let room : c.args.i * g.T.Item.SIZE + length c.args.values.now * g.T.Item.SIZE ≤ c.args.block.size = omega (arith, c.requires.range, add-mul c.args.i (length c.args.values.now) g.T.Item.SIZE) in
-    put_append _ _ c.args.block g.T.Item.SIZE c.args.i g.T.Item.encoded g.T.Item.decoded g.T.Item.is_value (λ v is. item.encoded_length v is c.requires.small) (λ v is. item.round_trip v is c.requires.small)
+    let room : c.args.i * g.T.Item.SIZE + length c.args.values.now * g.T.Item.SIZE ≤ c.args.block.size =
+    omega (arith, c.requires.range, add-mul c.args.i (length c.args.values.now) g.T.Item.SIZE) in
+    put_append _ _ c.args.block g.T.Item.SIZE c.args.i g.T.Item.encoded g.T.Item.decoded g.T.Item.is_value
+    (λ v is. item.encoded_length v is c.requires.small) (λ v is. item.round_trip v is c.requires.small)
     c.args.values.now c.known_all.ensures writes room

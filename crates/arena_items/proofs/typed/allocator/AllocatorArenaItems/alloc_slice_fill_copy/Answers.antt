@@ -2,7 +2,7 @@ use Rattle.std.proofs.Common.{refl, arith, ◌≡◌, ◌+◌}
 use Rattle.arena_items.specs.Values.{bytes_of}
 use Rattle.arena_items.proofs.ArrayLemmas.{array_written, slice_of}
 use Rattle.arena_items.proofs.ElementLemmas.{elements-empty}
-use Rattle.arena_items.proofs.typed.AllocatorArenaItems.alloc_slice_fill_copy.Goals as goal
+use Rattle.arena_items.proofs.typed.allocator.AllocatorArenaItems.alloc_slice_fill_copy.Goals as goal
 
 pub returns : goal.returns
 returns g c =
