@@ -167,7 +167,8 @@ pub trait Alloc: OverArena {
         ensures empty { element.size ≡ 0 → Refuses (Self.view self.old) (Self.view self.new)
             (answer_of result) }
         ensures placed { 0 < element.size
-            → PlacesBlock (Self.view self.old) (Self.view self.new) element.size element.align (answer_of result) }
+            → PlacesBlock (Self.view self.old) (Self.view self.new) element.size element.align
+            (answer_of result) }
     {
         if element.size == 0 {
             return Err(ArenaErr::AllocErr { refused: 0 });

@@ -3,6 +3,7 @@
 mod allocators;
 mod beside;
 mod blocks;
+mod bytes;
 mod creation;
 mod growth;
 mod layers;

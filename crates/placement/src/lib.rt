@@ -8,8 +8,6 @@ mod bytes;
 mod calls;
 pub mod laws;
 mod place;
-#[cfg(test)]
-mod tests;
 
 pub use bytes::{Bytes, OutOfMemory};
 pub use calls::{Call, Reply};

@@ -1,5 +1,5 @@
-// Bytes with memory enough.
-use crate::Bytes;
+// Bytes with ample memory.
+use placement::Bytes;
 use std::test::Fail;
 
 #[test]
