@@ -18,7 +18,8 @@ pub record PlacesBox {T : Type 0} (item : Ghosts T) (old new : View) (is : T →
 
 -- A call that places n values does so as the arena places a block of their array's layout. The slice holds a list of which this
 -- is so. Where an iterator gave too few, this is so of their number.
-pub record PlacesSliceOr {T : Type 0} (early : ℕ → Type 0) (item : Ghosts T) (old new : View) (n : ℕ) (is : List T → Type 0) (result : Result (BoxSlice T) ItemErr) : Type 0 where
+pub record PlacesSliceOr {T : Type 0} (early : ℕ → Type 0) (item : Ghosts T) (old new : View) (n : ℕ) (is : List T → Type 0)
+    (result : Result (BoxSlice T) ItemErr) : Type 0 where
   pub placed : AnswersOr early (λ s. s.block) result (PlacesArray old new item.SIZE item.ALIGN n)
   pub held : IfOk result (IsSliceIn item new.memory)
   pub length : IfOk result (λ s. s.length ≡ n)

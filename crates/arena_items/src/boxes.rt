@@ -29,6 +29,7 @@ impl<T: Item> Box<T> {
     /// # Errors
     ///
     /// As of the arena's `alloc_layout`. Nothing changes.
+    #[inline]
     pub fn new_in<C: ChunkSource>(value: T, a: &mut Allocator<C>) -> Result<Box<T>, ItemErr>
         requires { T.SIZE ≤ 2 ^ 24 }
         ensures { PlacesBox T.Item a.old a.new (λ v. v ≡ value) result }
@@ -42,6 +43,7 @@ impl<T: Item> Box<T> {
     }
 
     /// The value.
+    #[inline]
     pub fn get<C: ChunkSource>(self, a: &Allocator<C>) -> T
         requires small { T.SIZE ≤ 2 ^ 24 }
         requires held { IsBoxIn T.Item a.now.memory self }
@@ -51,6 +53,7 @@ impl<T: Item> Box<T> {
     }
 
     /// The same as `get`. The value stays where it is.
+    #[inline]
     pub fn unbox<C: ChunkSource>(self, a: &Allocator<C>) -> T
         requires small { T.SIZE ≤ 2 ^ 24 }
         requires held { IsBoxIn T.Item a.now.memory self }
@@ -60,6 +63,7 @@ impl<T: Item> Box<T> {
     }
 
     /// Replaces the value. Only its own block is written.
+    #[inline]
     pub fn set<C: ChunkSource>(self, a: &mut Allocator<C>, value: T)
         requires small { T.SIZE ≤ 2 ^ 24 }
         requires held { IsBoxIn T.Item a.old.memory self }

@@ -19,6 +19,7 @@ impl<T: Item> Edit for Encoded<T> {
 
     ghost relates = { λ e old new. new ≡ T.encoded e.value };
 
+    #[inline]
     fn edit(&self, place: &mut [u8]) {
         self.value.encode(place);
     }
@@ -35,6 +36,7 @@ impl<T: Item> Edit for EncodedAll<'_, T> {
 
     ghost relates = { λ e old new. new ≡ flat_map T.encoded e.values.now };
 
+    #[inline]
     fn edit(&self, place: &mut [u8]) {
         T::encode_all(self.values, place);
     }
@@ -52,6 +54,7 @@ impl<T: Item> Edit for EncodedTimes<T> {
 
     ghost relates = { λ e old new. new ≡ flat_map T.encoded (replicate e.times e.value) };
 
+    #[inline]
     fn edit(&self, place: &mut [u8]) {
         let size = T::SIZE as usize;
         for i in 0..self.times as usize {
@@ -72,6 +75,7 @@ fn known_all<T: Item>(values: &[T])
 
 // Writes a value over a block of its layout.
 #[tactic(auto, using(arena_chunks::proofs::Layers::layer_laws, crate::proofs::HeldLemmas::held_laws))]
+#[inline]
 pub(crate) fn write_whole<T: Item, C: ChunkSource>(a: &mut Allocator<C>, block: Block, value: T)
     requires small { T.SIZE ≤ 2 ^ 24 }
     requires held { IsHeld T.SIZE T.ALIGN a.old.memory.state block }
@@ -86,6 +90,7 @@ pub(crate) fn write_whole<T: Item, C: ChunkSource>(a: &mut Allocator<C>, block: 
 
 /// The value at an index of a block.
 #[tactic(auto, using(arena_chunks::proofs::Layers::layer_laws, crate::proofs::ElementLemmas::list_laws))]
+#[inline]
 pub fn item_at<T: Item, C: ChunkSource>(a: &Allocator<C>, block: Block, i: u64) -> T
     requires small { T.SIZE ≤ 2 ^ 24 }
     requires readable { IsTrue (is_readable a.now.memory.state block) }
@@ -99,6 +104,7 @@ pub fn item_at<T: Item, C: ChunkSource>(a: &Allocator<C>, block: Block, i: u64) 
 
 /// Replaces the value at an index of a block. At the end of a list this puts one more there.
 #[tactic(auto, using(arena_chunks::proofs::Layers::layer_laws, crate::proofs::ElementLemmas::list_laws))]
+#[inline]
 pub fn put_item<T: Item, C: ChunkSource>(a: &mut Allocator<C>, block: Block, i: u64, value: T)
     requires small { T.SIZE ≤ 2 ^ 24 }
     requires readable { IsTrue (is_readable a.old.memory.state block) }
@@ -117,6 +123,7 @@ pub fn put_item<T: Item, C: ChunkSource>(a: &mut Allocator<C>, block: Block, i: 
 
 /// Puts values behind the first `i` of a block, in one pass.
 #[tactic(auto, using(arena_chunks::proofs::Layers::layer_laws, crate::proofs::ElementLemmas::list_laws))]
+#[inline]
 pub fn put_items<T: Item, C: ChunkSource>(a: &mut Allocator<C>, block: Block, i: u64, values: &[T])
     requires small { T.SIZE ≤ 2 ^ 24 }
     requires readable { IsTrue (is_readable a.old.memory.state block) }

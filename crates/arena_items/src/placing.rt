@@ -20,6 +20,7 @@ pub enum ItemErr {
 
 // The layout of one value.
 #[tactic(auto, using(crate::proofs::PlacingLemmas::item_is_layout))]
+#[inline]
 pub(crate) fn layout_of<T: Item>() -> Layout
     requires { T.SIZE ≤ 2 ^ 24 }
     ensures size { result.size ≡ T.SIZE }
@@ -32,6 +33,7 @@ pub(crate) fn layout_of<T: Item>() -> Layout
 }
 
 // A block for one value.
+#[inline]
 pub(crate) fn place_one<T: Item, C: ChunkSource>(a: &mut Allocator<C>) -> Result<Block, ItemErr>
     requires { T.SIZE ≤ 2 ^ 24 }
     ensures { Answers (λ b. b) result (PlacesBlock a.old a.new T.SIZE T.ALIGN) }
@@ -44,6 +46,7 @@ pub(crate) fn place_one<T: Item, C: ChunkSource>(a: &mut Allocator<C>) -> Result
 }
 
 // A block for n values.
+#[inline]
 pub(crate) fn place_array<T: Item, C: ChunkSource>(
     a: &mut Allocator<C>,
     n: u64,

@@ -43,6 +43,7 @@ impl<T: Item> BoxSlice<T> {
     }
 
     /// How many values there are.
+    #[inline]
     pub fn len(self) -> u64
         ensures { result ≡ self.length }
     {
@@ -50,6 +51,7 @@ impl<T: Item> BoxSlice<T> {
     }
 
     /// The value at an index.
+    #[inline]
     pub fn get<C: ChunkSource>(self, a: &Allocator<C>, i: u64) -> T
         requires small { T.SIZE ≤ 2 ^ 24 }
         requires held { IsSliceIn T.Item a.now.memory self }
@@ -60,6 +62,7 @@ impl<T: Item> BoxSlice<T> {
     }
 
     /// Replaces the value at an index. Only its own bytes are written.
+    #[inline]
     pub fn set<C: ChunkSource>(self, a: &mut Allocator<C>, i: u64, value: T)
         requires small { T.SIZE ≤ 2 ^ 24 }
         requires held { IsSliceIn T.Item a.old.memory self }

@@ -1,16 +1,23 @@
-//! Times small loops of calls on an arena, in nanoseconds a call.
+//! Times small loops of calls on an arena, in nanoseconds a call: the loop of the name that is given, or all. With the word
+//! `check` it prints the number of each loop alone, for few calls.
 #![tactic(auto)]
 
 ghost use Rattle.std.specs.Prelude.{◌<◌};
 
 mod loops;
 
-use loops::{Failed, Timed, alloc_and_reset, alloc_warm, grow_at_cursor, read_older, reset_chunks};
+use loops::{
+    Failed, Timed, alloc_and_reset, alloc_fixed, alloc_warm, box_new, grow_at_cursor, read_older,
+    reset_chunks, slice_copy, str_copy,
+};
 use std::process::ExitCode;
 use std::{env, io};
 
 // How often each loop is run. The best run counts.
 const RUNS: u32 = 5;
+
+// How many calls each loop makes where only its number is printed.
+const CHECKED: u64 = 2048;
 
 #[derive(Clone, Copy, PartialEq, Eq)]
 enum Loop {
@@ -19,15 +26,23 @@ enum Loop {
     AllocAndReset,
     ResetChunks,
     ReadOlder,
+    BoxNew,
+    SliceCopy,
+    StrCopy,
+    AllocFixed,
 }
 
 impl Loop {
-    const ALL: [Loop; 5] = [
+    const ALL: [Loop; 9] = [
         Loop::AllocWarm,
         Loop::GrowAtCursor,
         Loop::AllocAndReset,
         Loop::ResetChunks,
         Loop::ReadOlder,
+        Loop::BoxNew,
+        Loop::SliceCopy,
+        Loop::StrCopy,
+        Loop::AllocFixed,
     ];
 
     fn name(self) -> &'static str {
@@ -37,6 +52,10 @@ impl Loop {
             Loop::AllocAndReset => "reset_empty",
             Loop::ResetChunks => "reset_chunks",
             Loop::ReadOlder => "read_older",
+            Loop::BoxNew => "box_new",
+            Loop::SliceCopy => "slice_copy",
+            Loop::StrCopy => "str_copy",
+            Loop::AllocFixed => "alloc_fixed",
         }
     }
 
@@ -45,6 +64,7 @@ impl Loop {
     {
         match self {
             Loop::ResetChunks => 100_000,
+            Loop::SliceCopy => 50_000_000,
             _ => 10_000_000,
         }
     }
@@ -56,6 +76,10 @@ impl Loop {
             Loop::AllocAndReset => alloc_and_reset(rt, calls),
             Loop::ResetChunks => reset_chunks(rt, calls),
             Loop::ReadOlder => read_older(rt, calls),
+            Loop::BoxNew => box_new(rt, calls),
+            Loop::SliceCopy => slice_copy(rt, calls),
+            Loop::StrCopy => str_copy(rt, calls),
+            Loop::AllocFixed => alloc_fixed(rt, calls),
         }
     }
 
@@ -75,39 +99,45 @@ impl Loop {
 // Prints each loop's number alone, for few calls.
 fn check(rt: &HostRuntime) -> Result<(), Failed> {
     for each in Loop::ALL {
-        let number = each.run(rt, 1000)?.number;
+        let number = each.run(rt, CHECKED)?.number;
         let name = each.name();
         println!(rt; "{name} {number}")?;
     }
     Ok(())
 }
 
-fn measure(rt: &HostRuntime) -> Result<(), Failed> {
+fn measure(rt: &HostRuntime, each: Loop) -> Result<(), Failed> {
+    let calls = each.calls();
+    let best = each.best(rt, calls)?;
+    let name = each.name();
+    let picoseconds = best.time.as_nanos() * 1000 / calls as u128;
+    let whole = picoseconds / 1000;
+    let part = picoseconds % 1000;
+    let number = best.number;
+    println!(rt; "{name:<21} {whole:>4}.{part:03} ns/op  ops {calls}  number {number}")?;
+    Ok(())
+}
+
+// Whether this is the one word, or there is none and any will do.
+fn is_word(rt: &HostRuntime, wanted: &str, any: bool) -> io::Result<bool> {
+    let mut words = env::args(rt)?.skip(1);
+    Ok(words.next().map_or(any, |word| word.as_str() == wanted))
+}
+
+fn run(rt: &HostRuntime) -> Result<(), Failed> {
+    if is_word(rt, "check", false)? {
+        return check(rt);
+    }
     for each in Loop::ALL {
-        let calls = each.calls();
-        let best = each.best(rt, calls)?;
-        let name = each.name();
-        let picoseconds = best.time.as_nanos() * 1000 / calls as u128;
-        let whole = picoseconds / 1000;
-        let part = picoseconds % 1000;
-        let number = best.number;
-        println!(rt; "{name:<21} {whole:>4}.{part:03} ns/op  ops {calls}  number {number}")?;
+        if is_word(rt, each.name(), true)? {
+            measure(rt, each)?;
+        }
     }
     Ok(())
 }
 
-// Whether the one word is `check`.
-fn is_check(rt: &HostRuntime) -> io::Result<bool> {
-    Ok(env::args(rt)?.skip(1).any(|word| word.as_str() == "check"))
-}
-
 fn main(rt: HostRuntime) -> ExitCode {
-    let ended = match is_check(&rt) {
-        Ok(true) => check(&rt),
-        Ok(false) => measure(&rt),
-        Err(_) => Err(Failed::NoClock),
-    };
-    match ended {
+    match run(&rt) {
         Ok(()) => ExitCode::SUCCESS,
         Err(_) => ExitCode::FAILURE,
     }

@@ -136,7 +136,9 @@ fn count_below(chunks: &[StoredChunk], addr: u64) -> usize
 }
 
 // The last of these chunks that begins at or below the address; the first does so in any case. In few chunks a count is
-// faster than a search, each of whose branches may be mispredicted.
+// faster than a search, each of whose branches may be mispredicted. It is kept out of the callers, so that a read or a write in
+// the newest chunk is small enough to be inlined.
+#[inline(never)]
 pub(crate) fn find_chunk(older: &[StoredChunk], addr: u64) -> usize
     requires { IsSearchable older.now addr }
     ensures { IsLastBelow older.now addr result }

@@ -10,10 +10,12 @@ use std::marker::PhantomData;
 
 #[tactic(auto, using(crate::proofs::ArrayLemmas::array_laws))]
 impl<C: ChunkSource> ArenaItems for Allocator<C> {
+    #[inline]
     fn alloc<T: Item>(&mut self, value: T) -> Result<Box<T>, ItemErr> {
         Box::new_in(value, self)
     }
 
+    #[inline]
     fn alloc_with<T: Item, F: FnOnce() -> T>(&mut self, f: F) -> Result<Box<T>, ItemErr>
     where
         F: Drop,
@@ -27,6 +29,7 @@ impl<C: ChunkSource> ArenaItems for Allocator<C> {
         })
     }
 
+    #[inline]
     fn alloc_slice_copy<T: Item>(&mut self, src: &[T]) -> Result<BoxSlice<T>, ItemErr> {
         let length = src.len() as u64;
         let block = place_array::<T, C>(self, length)?;

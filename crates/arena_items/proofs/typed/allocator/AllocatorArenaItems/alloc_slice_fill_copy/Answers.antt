@@ -7,6 +7,8 @@ use Rattle.arena_items.proofs.typed.allocator.AllocatorArenaItems.alloc_slice_fi
 pub returns : goal.returns
 returns g c =
     let all : 0 + c.args.len ≡ c.args.len = omega arith in
-    let placed = array_written _ _ g.T.Item.SIZE g.T.Item.ALIGN _ c.in_ok-block.block c.in_ok-block.ensures c.put_copies.new.a _ _ c.put_copies.ensures.writes c.put_copies.ensures.source in
-    slice_of _ g.T.Item _ _ _ _ c.in_ok-block.block placed
-    (rw (all, elements-empty g.T.Item.SIZE g.T.Item.decoded 0 (bytes_of c.place_array.new.a.memory c.in_ok-block.block) refl) at c.put_copies.ensures.push)
+    let block = c.in_ok-block.block in
+    let placed = array_written _ _ g.T.Item.SIZE g.T.Item.ALIGN _ block c.in_ok-block.ensures c.put_copies.new.a _ _
+        c.put_copies.ensures.writes c.put_copies.ensures.source in
+    let none = elements-empty g.T.Item.SIZE g.T.Item.decoded 0 (bytes_of c.place_array.new.a.memory block) refl in
+    slice_of _ g.T.Item _ _ _ _ block placed (rw (all, none) at c.put_copies.ensures.push)

@@ -1,0 +1,215 @@
+// Loops over blocks.
+ghost use Rattle.std.specs.Prelude.{◌≡◌, ◌≤◌, IfOk, IsTrue, length};
+ghost use Rattle.std.specs.List.{All};
+ghost use Rattle.arena_chunks.specs.Memory.{is_readable};
+
+use super::{BUDGET, Failed, Timed};
+use arena_chunks::{Alloc, Allocator, Arena, Block, MemoryChunks};
+use arena_place::Layout;
+use std::time::Instant;
+
+// A chunk that holds all of a round's blocks has so many bytes.
+const CAPACITY: u64 = 1 << 20;
+
+// How many blocks are placed, and how often a block of one byte is grown by one more, between two resets.
+const PLACED: u64 = 16384;
+
+const GROWN: u64 = 63;
+
+// How many blocks are read in an order that can't be foreseen, and how many reads are made in that order before it begins
+// again.
+const SCATTERED: u64 = 1024;
+
+const ORDER: u64 = 65536;
+
+fn layout(size: u64, align: u64) -> Result<Layout, Failed>
+    ensures { IfOk result (λ l. l.size ≡ size) }
+{
+    Layout::new(size, align).ok_or(Failed::NoPlace)
+}
+
+fn with_capacity(rt: &HostRuntime) -> Result<Allocator<MemoryChunks>, Failed> {
+    let chunks = MemoryChunks::new(rt.alloc(), BUDGET);
+    match Allocator::with_capacity(rt.alloc(), chunks, CAPACITY) {
+        Ok(a) => Ok(a),
+        Err(_) => Err(Failed::NoPlace),
+    }
+}
+
+// Sizes 1 to 64 and alignments 1 to 8, in no order that can be foreseen.
+fn small_layouts() -> Result<[Layout; 64], Failed> {
+    let mut layouts = [layout(1, 1)?; 64];
+    for i in 0..64u64 {
+        layouts[i as usize] = layout(i * 29 % 64 + 1, 1 << (i * 7 % 4))?;
+    }
+    Ok(layouts)
+}
+
+// Places so many blocks, and answers how many bytes are used.
+fn place_round(
+    a: &mut Allocator<MemoryChunks>,
+    layouts: &[Layout; 64],
+    blocks: u64,
+) -> Result<u64, Failed> {
+    for i in 0..blocks {
+        a.alloc_layout(layouts[(i % 64) as usize])?;
+    }
+    let used = a.used_bytes();
+    a.reset();
+    Ok(used)
+}
+
+/// Blocks of mixed small layouts, in a chunk that is reset before it is full.
+pub fn alloc_warm(rt: &HostRuntime, calls: u64) -> Result<Timed, Failed> {
+    let mut a = with_capacity(rt)?;
+    let layouts = small_layouts()?;
+    let began = Instant::now(rt)?;
+    let mut number: u64 = 0;
+    for _ in 0..calls / PLACED {
+        number = number.wrapping_add(place_round(&mut a, &layouts, PLACED)?);
+    }
+    number = number.wrapping_add(place_round(&mut a, &layouts, calls % PLACED)?);
+    let time = began.elapsed(rt)?;
+    Ok(Timed { time, number })
+}
+
+// Places a byte, grows its block by one more at a time up to so many, and answers how many bytes are used.
+fn grow_round(a: &mut Allocator<MemoryChunks>, most: u64) -> Result<u64, Failed> {
+    let mut block = a.alloc_layout(layout(1, 1)?)?;
+    for size in 2..=most {
+        block = a.grow(block, layout(size, 1)?)?;
+    }
+    let used = a.used_bytes();
+    a.reset();
+    Ok(used)
+}
+
+/// A block of 1 to 64 bytes, grown by one byte at a time.
+pub fn grow_at_cursor(rt: &HostRuntime, calls: u64) -> Result<Timed, Failed> {
+    let mut a = with_capacity(rt)?;
+    let began = Instant::now(rt)?;
+    let mut number: u64 = 0;
+    for _ in 0..calls / GROWN {
+        number = number.wrapping_add(grow_round(&mut a, GROWN + 1)?);
+    }
+    if calls % GROWN > 0 {
+        number = number.wrapping_add(grow_round(&mut a, calls % GROWN + 1)?);
+    }
+    let time = began.elapsed(rt)?;
+    Ok(Timed { time, number })
+}
+
+/// One block of eight bytes, and a reset, which keeps the first chunk.
+pub fn alloc_and_reset(rt: &HostRuntime, calls: u64) -> Result<Timed, Failed> {
+    let mut a = Allocator::new(rt.alloc(), MemoryChunks::new(rt.alloc(), BUDGET));
+    let eight = layout(8, 8)?;
+    let began = Instant::now(rt)?;
+    let mut number: u64 = 0;
+    for _ in 0..calls {
+        a.alloc_layout(eight)?;
+        number = number.wrapping_add(a.used_bytes());
+        a.reset();
+    }
+    let time = began.elapsed(rt)?;
+    Ok(Timed { time, number })
+}
+
+/// A new arena of three chunks, of which a reset frees two.
+pub fn reset_chunks(rt: &HostRuntime, calls: u64) -> Result<Timed, Failed> {
+    let layouts = [layout(1, 1)?, layout(16320, 1)?, layout(32640, 1)?];
+    let began = Instant::now(rt)?;
+    let mut number: u64 = 0;
+    for _ in 0..calls {
+        let mut a = Allocator::new(rt.alloc(), MemoryChunks::new(rt.alloc(), BUDGET));
+        for layout in layouts {
+            a.alloc_layout(layout)?;
+        }
+        a.reset();
+        number = number.wrapping_add(a.capacity());
+    }
+    let time = began.elapsed(rt)?;
+    Ok(Timed { time, number })
+}
+
+// Places blocks of eight bytes, as many in each of so many older chunks, or all in the newest if there is to be no older
+// one.
+fn place_scattered(
+    arena: &mut Arena<1>,
+    chunks: &mut MemoryChunks,
+    older: u64,
+) -> Result<[Block; SCATTERED as usize], Failed> {
+    let eight = layout(8, 8)?;
+    let mut blocks = [Block::empty(8); SCATTERED as usize];
+    for i in 0..SCATTERED {
+        let block = arena.try_alloc_layout(chunks, eight)?;
+        arena.write(block, 0, &i.to_le_bytes());
+        blocks[i as usize] = block;
+        if older > 0 && (i + 1) % (SCATTERED / older).max(1) == 0 {
+            let rest = layout(arena.chunk_capacity(), 1)?;
+            arena.try_alloc_layout(chunks, rest)?;
+        }
+    }
+    arena.try_alloc_layout(chunks, eight)?;
+    Ok(blocks)
+}
+
+// Numbers below 65536 in no order that can be foreseen.
+fn scattered_order(rt: &HostRuntime) -> Result<Vec<u16>, Failed> {
+    let mut order = Vec::new(rt.alloc());
+    let mut x: u64 = 1;
+    for _ in 0..ORDER {
+        x = x
+            .wrapping_mul(6364136223846793005)
+            .wrapping_add(1442695040888963407);
+        if order.push((x >> 48) as u16).is_err() {
+            return Err(Failed::NoPlace);
+        }
+    }
+    Ok(order)
+}
+
+// Whether all of these blocks may be read.
+fn all_held(arena: &Arena<1>, blocks: &[Block]) -> bool
+    ensures { IsTrue result → All (λ b. IsTrue (is_readable arena.now.state b)) blocks.now }
+{
+    blocks.iter().all(|block| arena.is_held_place(*block))
+}
+
+// Reads the blocks in this order, and adds up their first bytes.
+fn read_round(arena: &Arena<1>, blocks: &[Block; SCATTERED as usize], order: &[u16]) -> u64
+    requires { All (λ b. IsTrue (is_readable arena.now.state b)) blocks.now }
+{
+    let mut number: u64 = 0;
+    for n in order {
+        let block = blocks[*n as usize % SCATTERED as usize];
+        if let Some(byte) = arena.read(block).first() {
+            number = number.wrapping_add(*byte as u64);
+        }
+    }
+    number
+}
+
+// Reads blocks that lie in so many older chunks, or in the newest.
+fn read_scattered(rt: &HostRuntime, older: u64, calls: u64) -> Result<Timed, Failed> {
+    let mut arena = Arena::<1>::new(rt.alloc());
+    let mut chunks = MemoryChunks::new(rt.alloc(), BUDGET);
+    let blocks = place_scattered(&mut arena, &mut chunks, older)?;
+    let order = scattered_order(rt)?;
+    if !all_held(&arena, &blocks) {
+        return Err(Failed::NoPlace);
+    }
+    let began = Instant::now(rt)?;
+    let mut number: u64 = 0;
+    for _ in 0..calls / ORDER {
+        number = number.wrapping_add(read_round(&arena, &blocks, &order));
+    }
+    let left = &order[..order.len().min((calls % ORDER) as usize)];
+    number = number.wrapping_add(read_round(&arena, &blocks, left));
+    let time = began.elapsed(rt)?;
+    Ok(Timed { time, number })
+}
+
+/// Blocks of eight bytes in eight older chunks, read in an order that can't be foreseen.
+pub fn read_older(rt: &HostRuntime, calls: u64) -> Result<Timed, Failed> {
+    read_scattered(rt, 8, calls)
+}
