@@ -15,3 +15,4 @@ pub mod Typed
 pub mod Footprint
 pub mod FootprintLaws
 pub mod FrameLaw
+pub mod Messages

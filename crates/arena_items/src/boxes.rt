@@ -22,6 +22,9 @@ pub struct Box<T> {
     pub of: PhantomData<T>,
 }
 
+/// The name by which users of the Rust crate know it.
+pub type ArenaBox<T> = Box<T>;
+
 #[tactic(auto, using(arena_chunks::proofs::Layers::layer_laws, crate::proofs::HeldLemmas::held_laws))]
 impl<T: Item> Box<T> {
     /// Places a value.
@@ -73,6 +76,22 @@ impl<T: Item> Box<T> {
         ensures source { a.new.source ≡ a.old.source }
     {
         write_whole(a, self.block, value);
+    }
+}
+
+impl<T> Box<T> {
+    /// The block of a box.
+    pub fn as_non_null(boxed: &Box<T>) -> Block
+        ensures { result ≡ boxed.now.block }
+    {
+        boxed.block
+    }
+
+    /// The block of a box.
+    pub fn into_non_null(boxed: Box<T>) -> Block
+        ensures { result ≡ boxed.block }
+    {
+        boxed.block
     }
 }
 

@@ -22,7 +22,7 @@ mod uses;
 mod values;
 
 pub use address::{Address, GetAddress};
-pub use boxes::Box;
+pub use boxes::{ArenaBox, Box};
 pub use elements::{item_at, put_copies, put_item, put_items};
 pub use get_allocator::{GetAllocator, allocator_of};
 pub use item::Item;

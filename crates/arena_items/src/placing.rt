@@ -6,6 +6,8 @@ ghost use Rattle.arena_items.specs.Placing.{Answers, PlacesArray};
 use crate::item::Item;
 use arena_chunks::{Allocator, ArenaErr, Block, ChunkSource};
 use arena_place::Layout;
+use std::error::Error;
+use std::fmt;
 
 /// Why a value was not placed.
 #[derive(Clone, Copy, PartialEq, Eq, Debug)]
@@ -17,6 +19,23 @@ pub enum ItemErr {
     /// The iterator ended early, after so many values.
     TooFew { taken: u64 },
 }
+
+impl fmt::Display for ItemErr {
+    ghost use Rattle.std.specs.Prelude.{Some};
+    ghost use Rattle.arena_items.specs.Messages.{error_text};
+
+    ghost output = { λ e. Some (error_text e) };
+
+    fn fmt<W: fmt::Write>(&self, f: &mut fmt::Formatter<W>) -> fmt::Result {
+        match self {
+            ItemErr::AllocErr { .. } => f.write_str("memory allocation failed"),
+            ItemErr::OutOfMemory => f.write_str("out of memory"),
+            ItemErr::TooFew { .. } => f.write_str("the iterator ended early"),
+        }
+    }
+}
+
+impl Error for ItemErr {}
 
 // The layout of one value.
 #[tactic(auto, using(crate::proofs::PlacingLemmas::item_is_layout))]

@@ -50,6 +50,20 @@ impl<T: Item> BoxSlice<T> {
         self.length
     }
 
+    /// Itself.
+    pub fn into_arena_slice(self) -> BoxSlice<T>
+        ensures { result ≡ self }
+    {
+        self
+    }
+
+    /// Itself.
+    pub fn into_arena_slice_mut(self) -> BoxSlice<T>
+        ensures { result ≡ self }
+    {
+        self
+    }
+
     /// The value at an index.
     #[inline]
     pub fn get<C: ChunkSource>(self, a: &Allocator<C>, i: u64) -> T
