@@ -15,8 +15,6 @@ mod pairs;
 mod placing;
 mod sizes;
 mod slices;
-#[cfg(test)]
-mod tests;
 mod typed;
 mod uses;
 mod values;

@@ -4,6 +4,4 @@ mod non_zero_signed;
 mod non_zero_unsigned;
 mod plain;
 mod signed;
-#[cfg(test)]
-mod tests;
 mod unsigned;
