@@ -61,6 +61,9 @@ fn values_of_boxes(rt: HostRuntime) {
     let seven = Box::new_in(7u64, &mut a).expect(&rt, "a box");
     assert_eq!(rt; (seven.address(), seven.block.size), (Address(20408), 8));
     assert_eq!(rt; value(&rt, &a, seven), 7);
+    let block = Box::as_non_null(&seven);
+    assert_eq!(rt; (block.addr, block.size), (20408, 8));
+    assert!(rt; Box::into_non_null(seven) == block);
     holds(&rt, rt.alloc(), -1i128, i128::MIN);
     holds(&rt, rt.alloc(), 'é', '\u{10FFFF}');
     holds(&rt, rt.alloc(), true, false);
@@ -137,6 +140,8 @@ fn slices(rt: HostRuntime) {
     let s = a.alloc_slice_fill_copy(1000, ()).expect(&rt, "a slice");
     assert_eq!(rt; (s.len(), s.block.size), (1000, 0));
     at(&rt, &a, s, 999);
+    let arena_slice = s.into_arena_slice().into_arena_slice_mut();
+    assert!(rt; (arena_slice.block, arena_slice.len()) == (s.block, 1000));
     let none = <BoxSlice<u64>>::new_empty_boxed_slice();
     assert_eq!(rt; (none.len(), none.block), (0, Block::empty(8)));
     of_layout(&rt, &a, none.block, 0, 8);
