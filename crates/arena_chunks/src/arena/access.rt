@@ -3,7 +3,7 @@ ghost use Rattle.std.specs.Prelude.{◌≡◌, ◌+◌, ◌-◌, ◌≤◌, ◌<
 
 use crate::arena::Arena;
 use crate::block::Block;
-use crate::chunks::chunk::{find_chunk, part_at, some_has};
+use crate::chunks::chunk::{find_chunk, last_below, part_at, some_has};
 use crate::chunks::edit::{Edit, Fill, Put, Shift, copy_across, copy_in_table, edit_at};
 
 impl<const MIN_ALIGN: usize> Arena<MIN_ALIGN> {
@@ -32,7 +32,7 @@ impl<const MIN_ALIGN: usize> Arena<MIN_ALIGN> {
         if block.addr >= self.newest.base {
             return part_at(&self.newest, block.addr, block.size);
         }
-        let chunk = &self.older[find_chunk(&self.older, block.addr)];
+        let chunk = &self.older[last_below(&self.older, block.addr)];
         part_at(chunk, block.addr, block.size)
     }
 

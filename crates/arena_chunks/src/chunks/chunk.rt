@@ -136,10 +136,9 @@ fn count_below(chunks: &[StoredChunk], addr: u64) -> usize
 }
 
 // The last of these chunks that begins at or below the address; the first does so in any case. In few chunks a count is
-// faster than a search, each of whose branches may be mispredicted. It is kept out of the callers, so that a read or a write in
-// the newest chunk is small enough to be inlined.
-#[inline(never)]
-pub(crate) fn find_chunk(older: &[StoredChunk], addr: u64) -> usize
+// faster than a search, each of whose branches may be mispredicted.
+#[inline]
+pub(crate) fn last_below(older: &[StoredChunk], addr: u64) -> usize
     requires { IsSearchable older.now addr }
     ensures { IsLastBelow older.now addr result }
 {
@@ -147,6 +146,15 @@ pub(crate) fn find_chunk(older: &[StoredChunk], addr: u64) -> usize
         return count_below(&older[1..], addr);
     }
     older.partition_point(|chunk| chunk.base <= addr) - 1
+}
+
+// The same, kept out of the callers, so that a write in the newest chunk is small enough to be inlined.
+#[inline(never)]
+pub(crate) fn find_chunk(older: &[StoredChunk], addr: u64) -> usize
+    requires { IsSearchable older.now addr }
+    ensures { IsLastBelow older.now addr result }
+{
+    last_below(older, addr)
 }
 
 // The part of a chunk's bytes at these addresses.

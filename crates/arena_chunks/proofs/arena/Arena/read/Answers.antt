@@ -17,22 +17,22 @@ returns-then-block-self g c =
     let range = block_range g.row.MIN_ALIGN c.self.inside c.args.self.now c.args.block c.args.block.addr c.args.block.size c.self.invariant c.self.view_is c.requires (omega arith) (omega arith) c.if-block-eq0.false in
     c.part_at.ensures ∙ (newest_part _ _ _ _ _ range c.if-block-self.true).bytes
 
-pub find_chunk-requires : goal.find_chunk-requires
-find_chunk-requires g c =
+pub last_below-requires : goal.last_below-requires
+last_below-requires g c =
     let range = block_range g.row.MIN_ALIGN c.self.inside c.args.self.now c.args.block c.args.block.addr c.args.block.size c.self.invariant c.self.view_is c.requires (omega arith) (omega arith) c.if-block-eq0.false in
     rw c.deref.ensures.value (searchable _ _ _ _ _ range c.if-block-self.false)
 
 pub index-chunk-requires : goal.index-chunk-requires
-index-chunk-requires g c = omega (arith, last_within c.deref.result.now c.args.block.addr c.find_chunk.result c.find_chunk.ensures, c.deref.ensures.len)
+index-chunk-requires g c = omega (arith, last_within c.deref.result.now c.args.block.addr c.last_below.result c.last_below.ensures, c.deref.ensures.len)
 
 pub part_at-requires-2 : goal.part_at-requires-2
 part_at-requires-2 g c =
     let range = block_range g.row.MIN_ALIGN c.self.inside c.args.self.now c.args.block c.args.block.addr c.args.block.size c.self.invariant c.self.view_is c.requires (omega arith) (omega arith) c.if-block-eq0.false in
-    let older = is_older _ _ _ _ _ c.find_chunk.result c.deref.result.now c.index-chunk.result.now range c.if-block-self.false c.deref.ensures.value c.find_chunk.ensures c.index-chunk.ensures in
+    let older = is_older _ _ _ _ _ c.last_below.result c.deref.result.now c.index-chunk.result.now range c.if-block-self.false c.deref.ensures.value c.last_below.ensures c.index-chunk.ensures in
     record { low = older.part.low; high = omega (arith, older.part.low, older.part.high) }
 
 pub returns : goal.returns
 returns g c =
     let range = block_range g.row.MIN_ALIGN c.self.inside c.args.self.now c.args.block c.args.block.addr c.args.block.size c.self.invariant c.self.view_is c.requires (omega arith) (omega arith) c.if-block-eq0.false in
-    let older = is_older _ _ _ _ _ c.find_chunk.result c.deref.result.now c.index-chunk.result.now range c.if-block-self.false c.deref.ensures.value c.find_chunk.ensures c.index-chunk.ensures in
+    let older = is_older _ _ _ _ _ c.last_below.result c.deref.result.now c.index-chunk.result.now range c.if-block-self.false c.deref.ensures.value c.last_below.ensures c.index-chunk.ensures in
     c.part_at-2.ensures ∙ older.part.bytes

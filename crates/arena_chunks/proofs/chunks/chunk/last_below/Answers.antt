@@ -4,7 +4,7 @@ use Rattle.std.proofs.lemmas.List.Sorted.{IsPartitionedBy-leb, IsPartitionPoint-
 use Rattle.arena_chunks.specs.Stored.{IsLastBelow}
 use Rattle.arena_chunks.specs.declared.chunks.chunk.StoredChunk.{StoredChunk}
 use Rattle.arena_chunks.proofs.TableLemmas.{last_counted, last_below}
-use Rattle.arena_chunks.proofs.chunks.chunk.find_chunk.Goals as goal
+use Rattle.arena_chunks.proofs.chunks.chunk.last_below.Goals as goal
 
 -- ---- By a count
 
