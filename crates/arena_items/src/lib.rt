@@ -16,7 +16,6 @@ mod placing;
 mod sizes;
 mod slices;
 mod typed;
-mod uses;
 mod values;
 
 pub use address::{Address, GetAddress};

@@ -1,0 +1,85 @@
+-- The lemmas that a crate above cites: sizes of types, what blocks of values need, and what becomes of boxes beside a call.
+use Rattle.std.proofs.Common.{◌≡◌, ℕ, ◌+◌, ◌*◌, ◌^◌, ◌<◌, ◌≤◌, max, ap, refl, subst, arith, List, [], ◌∷◌, length, replicate}
+use Rattle.std.proofs.lemmas.Bool.Decides.{nat_tests}
+use Rattle.std.specs.Array.{FillsFrom}
+use Rattle.placement.specs.Rounding.{up}
+use Rattle.arena_chunks.specs.Memory.{Memory}
+use Rattle.arena_chunks.specs.Source.{View}
+use Rattle.arena_chunks.specs.Answers.Answer.{Placed}
+use Rattle.arena_chunks.specs.Frame.{Frame, IsApart}
+use Rattle.arena_chunks.specs.declared.block.Block.{Block}
+use Rattle.arena_chunks.proofs.Layers.{frame_keeps}
+use Rattle.arena_items.specs.Layout.{IsItemLayout, option_size, pair_size, second_at}
+use Rattle.arena_items.specs.LayoutLaws.{IsAlign-bounds, up-is, pair_layout}
+use Rattle.arena_items.specs.Placing.{PlacesArray}
+use Rattle.arena_items.specs.Values.{IsBoxIn, box_value}
+use Rattle.arena_items.specs.declared.item.Item.{Ghosts}
+use Rattle.arena_items.specs.declared.boxes.Box.{Box}
+pub use Rattle.arena_items.proofs.HeldLemmas.{placed_held, written_held}
+pub use Rattle.arena_items.proofs.ArrayLemmas.{array_layout, array_held}
+pub use Rattle.arena_items.proofs.ElementLemmas.{length-elements}
+pub use Rattle.arena_items.proofs.AddressLemmas.{new_address, no_dummy}
+
+-- ---- Sizes
+
+-- An option takes at most 32 bytes more than its value.
+pub option_at_most : (size align : ℕ) → IsItemLayout size align → option_size size align ≤ size + 32
+unfolding option_size
+option_at_most size align h =
+    let a = IsAlign-bounds align h.is_align in
+    let one = up-is 1 align h.is_align in
+    let all = up-is (up 1 align + size) align h.is_align in
+    omega (arith, a.0, a.1, one.below, all.below)
+
+-- A pair takes at most 32 bytes more than its parts.
+pub pair_at_most : (size align size' align' : ℕ) → IsItemLayout size align → IsItemLayout size' align'
+    → pair_size size align size' align' ≤ size + size' + 32
+unfolding pair_size second_at
+pair_at_most size align size' align' h k =
+    let a = IsAlign-bounds align h.is_align in
+    let b = IsAlign-bounds align' k.is_align in
+    let at = up-is size align' k.is_align in
+    let greater = (pair_layout size align size' align' h k).is_align in
+    let c = IsAlign-bounds (max align align') greater in
+    let all = up-is (second_at size align' + size') (max align align') greater in
+    omega (arith, a.1, b.1, c.1, at.below, all.below)
+
+-- ---- Boxes beside a call
+
+module _ {T : Type 0} (item : Ghosts T) (old new : Memory) (before after : List Block) (b : Box T)
+    (frame : Frame old new before after) (held : IsBoxIn item old b) (apart : IsApart b.block.addr b.block.size before) where
+  -- One whose block lies apart is held,
+  pub box_held : IsBoxIn item new b
+  box_held = record {
+    readable = (frame_keeps old new before after b.block frame held.readable apart).readable;
+    of_size = held.of_size;
+    of_align = held.of_align;
+  }
+
+  -- has the same value,
+  pub box_same : box_value item new b ≡ box_value item old b
+  box_same = ap item.decoded (frame_keeps old new before after b.block frame held.readable apart).bytes
+
+  -- and lies apart from the blocks after.
+  pub box_apart : IsApart b.block.addr b.block.size after
+  box_apart = (frame_keeps old new before after b.block frame held.readable apart).apart
+
+-- ---- Arrays
+
+-- Where a block was placed for n values, their bytes are below 2 ^ 63.
+pub array_fits : (old new : View) (size align n : ℕ) (b : Block) → IsItemLayout size align
+    → PlacesArray old new size align n (Placed b) → n * size < 2 ^ 63
+array_fits old new size align n b h array =
+    let is = array_layout old new size align n b array in
+    let above = (up-is (n * size) align h.is_align).above in
+    grind (arith, nat_tests)
+
+-- Where a closure gives the same at each index, and changes no capture, it gives copies.
+pub fills_same : {S A : Type 0} (R : S → ℕ → A → S → Type 0) (s : S) (v : A)
+    → ((i : ℕ) (x : A) (t : S) → R s i x t → (x ≡ v) × (t ≡ s)) → (i : ℕ) (xs : List A) (t : S) → FillsFrom R s i xs t
+    → xs ≡ replicate (length xs) v
+fills_same R s v same i [] t run = refl
+fills_same R s v same i (x ∷ xs) t (u, step, run) =
+    let is = same i x u step in
+    let rest = fills_same R s v same (i + 1) xs t (subst (λ w. FillsFrom R w (i + 1) xs t) is.1 run) in
+    λ p. is.0 p ∷ rest p

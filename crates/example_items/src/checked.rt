@@ -1,0 +1,20 @@
+// The test of what a box needs.
+ghost use Rattle.std.specs.Prelude.{◌≡◌, ◌^◌, ◌≤◌, IfSome, IfNone};
+ghost use Rattle.arena_items.specs.Values.{IsBoxIn, box_value};
+
+use arena_chunks::{Allocator, ChunkSource};
+use arena_items::{Box, Item};
+
+/// The value of a box, or none where the box isn't held: its block was ended by a reset, or isn't of the type's layout.
+pub fn get_checked<T: Item, C: ChunkSource>(a: &Allocator<C>, b: Box<T>) -> Option<T>
+    requires { T.SIZE ≤ 2 ^ 24 }
+    ensures value { IfSome result (λ v. v ≡ box_value T.Item a.now.memory b) }
+    ensures some { IfSome result (λ v. IsBoxIn T.Item a.now.memory b) }
+    ensures none { IfNone result (IsBoxIn T.Item a.now.memory b → ⊥) }
+{
+    if a.is_held_place(b.block) && b.block.size == T::SIZE && b.block.align == T::ALIGN {
+        Some(b.get(a))
+    } else {
+        None
+    }
+}

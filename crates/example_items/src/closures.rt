@@ -1,0 +1,66 @@
+// Values that closures and iterators give.
+ghost use Rattle.std.specs.Prelude.{◌≡◌, ◌≢◌, ◌*◌, ◌/◌, ◌<◌, ◌≤◌, ℕ, IfOk, IfErr, IfSome, IfNone, [], ◌∷◌, replicate};
+ghost use Rattle.std.specs.Iterator.{size, Yields};
+ghost use Rattle.arena_chunks.specs.Source.{View};
+ghost use Rattle.arena_chunks.specs.Frame.{Frame};
+ghost use Rattle.arena_items.specs.Values.{IsBoxIn, box_value, IsSliceIn, slice_list};
+ghost use Rattle.arena_items.specs.Placing.{EndsEarly};
+ghost use Rattle.arena_items.specs.Typed.{PlacesBox};
+ghost use Rattle.arena_items.specs.declared.placing.ItemErr.TheVariants.{TooFew};
+
+use arena_items::{ArenaItems, Box, BoxSlice, Item, ItemErr};
+
+/// Places a quotient. The closure may be called where the divisor isn't 0.
+///
+/// # Errors
+///
+/// As of `alloc`. Nothing changes.
+pub fn place_quotient<A: ArenaItems>(a: &mut A, n: u32, d: u32) -> Result<Box<u32>, ItemErr>
+    requires { 1 ≤ d }
+    ensures { PlacesBox ⟦<u32 as Item>⟧ (A.view a.old) (A.view a.new) (λ v. v ≡ n / d) result }
+{
+    a.alloc_with(|| n / d)
+}
+
+/// Places n numbers, each the size of all of them in bytes. That product fits 64 bits where there is a place for them, and only
+/// there is the closure called.
+///
+/// # Errors
+///
+/// As of `alloc_slice_fill_with`. Nothing changes.
+pub fn fill_with_size<A: ArenaItems>(a: &mut A, n: u64) -> Result<BoxSlice<u64>, ItemErr>
+    ensures held { IfOk result (IsSliceIn ⟦<u64 as Item>⟧ (A.view a.new).memory) }
+    ensures list { IfOk result (λ s.
+        slice_list ⟦<u64 as Item>⟧ (A.view a.new).memory s ≡ replicate n (n * 8)) }
+{
+    let sizes = a.alloc_slice_fill_with(n, |_| n * 8)?;
+    Ok(sizes)
+}
+
+/// Places what an iterator gives, or nothing where it ends before it gave as many values as it told.
+///
+/// # Errors
+///
+/// As of `alloc_slice_copy`. Nothing changes.
+pub fn place_all_or_none<A: ArenaItems, I: ExactSizeIterator<Item = u32>>(
+    a: &mut A,
+    iter: I,
+) -> Result<Option<BoxSlice<u32>>, ItemErr>
+where
+    I: Drop,
+    requires { I.can_next iter }
+    ensures held { IfOk result (λ o. IfSome o (IsSliceIn ⟦<u32 as Item>⟧ (A.view a.new).memory)) }
+    ensures list { IfOk result (λ o. IfSome o (λ s. (last : I)
+        × Yields I.next_gives iter (slice_list ⟦<u32 as Item>⟧ (A.view a.new).memory s) last)) }
+    ensures early { IfOk result (λ o. IfNone o ((taken : ℕ)
+        × EndsEarly I.next_gives iter (size (I.remaining iter)) taken)) }
+    ensures kept { IfOk result (λ o. IfNone o (Frame (A.view a.old).memory (A.view a.new).memory [] [])) }
+    ensures err { IfErr result (λ e.
+        ((n : ℕ) → e ≢ TooFew n) × ((A.view a.new).memory ≡ (A.view a.old).memory)) }
+{
+    match a.alloc_slice_fill_iter(iter) {
+        Ok(s) => Ok(Some(s)),
+        Err(ItemErr::TooFew { .. }) => Ok(None),
+        Err(refused) => Err(refused),
+    }
+}
