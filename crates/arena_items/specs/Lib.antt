@@ -12,6 +12,8 @@ pub mod HandleLaws
 pub mod Values
 pub mod Placing
 pub mod Typed
+pub mod Room
+pub mod Rows
 pub mod Footprint
 pub mod FootprintLaws
 pub mod FrameLaw

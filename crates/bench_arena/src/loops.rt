@@ -1,13 +1,20 @@
 // The loops that are timed. Each gives the time of its calls and a number that depends on the calls alone.
 mod arena;
+mod batches;
 mod items;
+mod vec;
 
 pub use arena::{alloc_and_reset, alloc_warm, grow_at_cursor, read_older, reset_chunks};
 use arena_chunks::ArenaErr;
 use arena_items::ItemErr;
+use arena_vec::AllocError;
 pub use items::{alloc_fixed, box_new, slice_copy, str_copy};
 use std::io;
 use std::time::Duration;
+pub use vec::{
+    vec_extend, vec_insert_front, vec_iter, vec_push, vec_push_reserved, vec_retain, vec_small,
+    vec_sum,
+};
 
 // How many bytes a loop's chunks may have together.
 const BUDGET: u64 = 1 << 30;
@@ -27,6 +34,12 @@ impl From<ArenaErr> for Failed {
 
 impl From<ItemErr> for Failed {
     fn from(_: ItemErr) -> Failed {
+        Failed::NoPlace
+    }
+}
+
+impl From<AllocError> for Failed {
+    fn from(_: AllocError) -> Failed {
         Failed::NoPlace
     }
 }

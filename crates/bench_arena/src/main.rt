@@ -8,7 +8,8 @@ mod loops;
 
 use loops::{
     Failed, Timed, alloc_and_reset, alloc_fixed, alloc_warm, box_new, grow_at_cursor, read_older,
-    reset_chunks, slice_copy, str_copy,
+    reset_chunks, slice_copy, str_copy, vec_extend, vec_insert_front, vec_iter, vec_push,
+    vec_push_reserved, vec_retain, vec_small, vec_sum,
 };
 use std::process::ExitCode;
 use std::{env, io};
@@ -30,10 +31,18 @@ enum Loop {
     SliceCopy,
     StrCopy,
     AllocFixed,
+    VecPush,
+    VecPushReserved,
+    VecSum,
+    VecSmall,
+    VecExtend,
+    VecInsertFront,
+    VecRetain,
+    VecIter,
 }
 
 impl Loop {
-    const ALL: [Loop; 9] = [
+    const ALL: [Loop; 17] = [
         Loop::AllocWarm,
         Loop::GrowAtCursor,
         Loop::AllocAndReset,
@@ -43,6 +52,14 @@ impl Loop {
         Loop::SliceCopy,
         Loop::StrCopy,
         Loop::AllocFixed,
+        Loop::VecPush,
+        Loop::VecPushReserved,
+        Loop::VecSum,
+        Loop::VecSmall,
+        Loop::VecExtend,
+        Loop::VecInsertFront,
+        Loop::VecRetain,
+        Loop::VecIter,
     ];
 
     fn name(self) -> &'static str {
@@ -56,6 +73,14 @@ impl Loop {
             Loop::SliceCopy => "slice_copy",
             Loop::StrCopy => "str_copy",
             Loop::AllocFixed => "alloc_fixed",
+            Loop::VecPush => "vec_push",
+            Loop::VecPushReserved => "vec_push_reserved",
+            Loop::VecSum => "vec_sum",
+            Loop::VecSmall => "vec_small",
+            Loop::VecExtend => "vec_extend",
+            Loop::VecInsertFront => "vec_insert_front",
+            Loop::VecRetain => "vec_retain",
+            Loop::VecIter => "vec_iter",
         }
     }
 
@@ -64,7 +89,7 @@ impl Loop {
     {
         match self {
             Loop::ResetChunks => 100_000,
-            Loop::SliceCopy => 50_000_000,
+            Loop::SliceCopy | Loop::VecExtend => 50_000_000,
             _ => 10_000_000,
         }
     }
@@ -80,6 +105,14 @@ impl Loop {
             Loop::SliceCopy => slice_copy(rt, calls),
             Loop::StrCopy => str_copy(rt, calls),
             Loop::AllocFixed => alloc_fixed(rt, calls),
+            Loop::VecPush => vec_push(rt, calls),
+            Loop::VecPushReserved => vec_push_reserved(rt, calls),
+            Loop::VecSum => vec_sum(rt, calls),
+            Loop::VecSmall => vec_small(rt, calls),
+            Loop::VecExtend => vec_extend(rt, calls),
+            Loop::VecInsertFront => vec_insert_front(rt, calls),
+            Loop::VecRetain => vec_retain(rt, calls),
+            Loop::VecIter => vec_iter(rt, calls),
         }
     }
 

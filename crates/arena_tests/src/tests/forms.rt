@@ -102,6 +102,10 @@ fn signed(rt: HostRuntime) {
             (i32::MAX, &GREATEST[12..]),
         ],
     );
+}
+
+#[test]
+fn signed_of_64_bits_and_more(rt: HostRuntime) {
     forms::<i64>(
         &rt,
         (8, 8),
@@ -198,6 +202,13 @@ fn non_zero_signed(rt: HostRuntime) {
             (NonZeroI32::MAX, &GREATEST[12..]),
         ],
     );
+    reads(&rt, &[(&[0], NonZeroI8::MIN)]);
+    reads(&rt, &[(&[0; 2], NonZeroI16::MIN)]);
+    reads(&rt, &[(&[0; 4], NonZeroI32::MIN)]);
+}
+
+#[test]
+fn non_zero_signed_of_64_bits_and_more(rt: HostRuntime) {
     forms(
         &rt,
         (8, 8),
@@ -219,9 +230,6 @@ fn non_zero_signed(rt: HostRuntime) {
         (16, 16),
         &[(NonZeroI128::MIN, LEAST), (NonZeroI128::MAX, GREATEST)],
     );
-    reads(&rt, &[(&[0], NonZeroI8::MIN)]);
-    reads(&rt, &[(&[0; 2], NonZeroI16::MIN)]);
-    reads(&rt, &[(&[0; 4], NonZeroI32::MIN)]);
     reads(&rt, &[(&[0; 8], NonZeroI64::MIN)]);
     reads(&rt, &[(&[0; 8], NonZeroIsize::MIN)]);
     reads(&rt, &[(&[0; 16], NonZeroI128::MIN)]);

@@ -40,7 +40,10 @@ fn options(rt: HostRuntime) {
     some[0] = 1;
     some[16] = 7;
     forms(&rt, (32, 16), &[(Some(7u128), &some), (None, &[0; 32])]);
-    // An option of an option.
+}
+
+#[test]
+fn options_of_options_and_pairs(rt: HostRuntime) {
     forms(
         &rt,
         (6, 2),
@@ -57,7 +60,6 @@ fn options(rt: HostRuntime) {
             (&[7, 7, 0, 7, 1, 2], Some(None)),
         ],
     );
-    // Options of pairs.
     forms(
         &rt,
         (12, 4),
@@ -94,7 +96,10 @@ fn pairs(rt: HostRuntime) {
     forms(&rt, (2, 2), &[(((), 0x0201u16), &[1, 2])]);
     forms(&rt, (2, 2), &[((0x0201u16, ()), &[1, 2])]);
     forms(&rt, (0, 1), &[(((), ()), &[])]);
-    // Pairs of pairs.
+}
+
+#[test]
+fn pairs_of_pairs_and_options(rt: HostRuntime) {
     forms(
         &rt,
         (12, 4),
@@ -113,7 +118,6 @@ fn pairs(rt: HostRuntime) {
         (48, 16),
         &[((0x0807_0605_0403_0201u64, (5u8, second)), &wide)],
     );
-    // Pairs with an option.
     forms(
         &rt,
         (4, 2),

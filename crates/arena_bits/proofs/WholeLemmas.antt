@@ -1,0 +1,115 @@
+-- Sets as wholes: new ones, and those without a number.
+use Rattle.std.proofs.Common.{◌≡◌, ℕ, ◌+◌, ◌-◌, ◌*◌, ◌/◌, ◌%◌, ◌^◌, ◌<◌, ◌≤◌, List, length, take, drop, replicate, get_or, min, ap, ◌∙◌, sym, subst, arith, refl, true, false, eqb, inl, inr, IsTrue, Ok, Err, w64}
+use Rattle.std.specs.Prelude.{nat_le}
+use Rattle.std.specs.Int.{from_le_bytes, trailing_zeros}
+use Rattle.std.proofs.lemmas.Bool.{cases_lt}
+use Rattle.std.proofs.lemmas.Bool.Decides.{nat_tests}
+use Rattle.std.proofs.lemmas.List.{get_or_past, take-replicate, drop-replicate, length-replicate}
+use Rattle.std.proofs.lemmas.Nat.Bits.{bit_at-zero, bit_at-trailing_zeros}
+use Rattle.placement.specs.Rounding.{up, is_power, is_power_among, is_layout}
+use Rattle.arena_chunks.specs.Memory.{Memory, image, bytes_from}
+use Rattle.arena_chunks.specs.Source.{View, Source, view}
+use Rattle.arena_chunks.specs.Answers.{Answer}
+use Rattle.arena_chunks.specs.Answers.Answer.{Placed}
+use Rattle.arena_chunks.specs.BlockCalls.{PlacesBlock, EditsBlock}
+use Rattle.arena_chunks.specs.declared.block.Block.{Block}
+use Rattle.arena_chunks.proofs.Layers.{length-bytes, wrote_whole, places_written}
+use Rattle.arena_items.specs.Values.{bytes_of}
+use Rattle.arena_items.proofs.Layers.{length-elements, placed_held, written_held}
+use Rattle.arena_items.specs.Room.{RoomAnswer}
+use Rattle.arena_bits.specs.Bits.{Set, bits_of, nothing, words_for}
+use Rattle.arena_bits.specs.Sets.{IsSetIn, words_of, PlacesSet}
+use Rattle.arena_bits.specs.Walks.{words_in}
+use Rattle.arena_bits.specs.declared.set.BitSet.{BitSet}
+use Rattle.arena_items.specs.declared.room.AllocError.{AllocError}
+use Rattle.arena_items.specs.declared.room.AllocError.TheVariants.{AllocErr, CapacityOverflow, OutOfMemory}
+use Rattle.arena_bits.proofs.WordLemmas.{words, word-is}
+use Rattle.arena_bits.proofs.SetLemmas.{becomes_set}
+
+-- ---- No number
+
+-- how many words bytes have
+pub words_length : (bytes : List ℕ) → length (words_in bytes) ≡ length bytes / 8
+words_length bytes = length-elements 8 (from_le_bytes w64) (length bytes / 8) bytes
+
+-- Words that are 0 have no bit.
+pub bits_none : (ws : List ℕ) → ((i : ℕ) → i < length ws → get_or ws i 0 ≡ 0) → bits_of ws ≡ nothing
+unfolding bits_of
+bits_none ws zeros = λ p n. ap (λ b. eqb b 1) (ap (λ w. w / 2 ^ (n % 64) % 2) (each (n / 64)) ∙ bit_at-zero (n % 64)) p
+  where
+    each : (i : ℕ) → get_or ws i 0 ≡ 0
+    each i = elim (cases_lt i (length ws)) [ inl below ↦ zeros i below | inr past ↦ get_or_past ws i 0 past ]
+
+-- No number past the last word is in a set.
+pub bits_past : (ws : List ℕ) (n : ℕ) → 64 * length ws ≤ n → bits_of ws n ≡ false
+unfolding bits_of
+bits_past ws n past =
+    ap (λ w. eqb (w / 2 ^ (n % 64) % 2) 1) (get_or_past ws (n / 64) 0 (omega arith)) ∙ ap (λ b. eqb b 1) (bit_at-zero (n % 64))
+
+-- Of no words the first is 0.
+pub no_words : (bytes : List ℕ) → length bytes < 8 → 0 ≡ get_or (words_in bytes) 0 0
+no_words bytes few = sym (get_or_past (words_in bytes) 0 0 (omega (arith, words_length bytes)))
+
+-- A word that isn't 0 has one: its lowest.
+pub some_bit : (ws : List ℕ) (i x : ℕ) → x ≡ get_or ws i 0 → 0 < x → x < 2 ^ 64 → (n : ℕ) × IsTrue (bits_of ws n)
+unfolding bits_of
+some_bit ws i x is some fits =
+    let low = bit_at-trailing_zeros w64 x some fits in
+    let word : (64 * i + trailing_zeros w64 x) / 64 ≡ i = omega (arith, low.0) in
+    let bit : (64 * i + trailing_zeros w64 x) % 64 ≡ trailing_zeros w64 x = omega (arith, low.0) in
+    (64 * i + trailing_zeros w64 x, rw (word, bit, ← is, low.1) refl)
+
+-- Bytes that are 0 are words that are.
+zero_words : (n i : ℕ) → i < length (words n (replicate (n * 8) 0)) → get_or (words n (replicate (n * 8) 0)) i 0 ≡ 0
+zero_words n i within =
+    let below : i < n = let long : length (words n (replicate (n * 8) 0)) ≡ n = length-elements 8 (from_le_bytes w64) n _ in omega arith in
+    word-is n (replicate (n * 8) 0) i below
+    ∙ ap (λ bytes. from_le_bytes w64 (take 8 bytes)) (drop-replicate (i * 8) (n * 8) 0)
+    ∙ ap (from_le_bytes w64) (take-replicate 8 (n * 8 - i * 8) 0 (omega arith))
+
+module _ (m : Memory) (s : BitSet) (held : IsSetIn m s) where
+  -- A handle's words are those of its block's bytes.
+  pub words_count : length (bytes_of m s.words.block) ≡ 8 * s.words.length
+  words_count = omega (arith, length-bytes (image m) s.words.block.addr s.words.block.size, held.place.of_size)
+
+  pub words_read : words_in (bytes_of m s.words.block) ≡ words_of m s
+  words_read =
+      let all : length (bytes_of m s.words.block) / 8 ≡ s.words.length = omega (arith, words_count) in
+      ap (λ n. words n (bytes_of m s.words.block)) all
+
+  -- They have a bit for each number below the capacity.
+  pub enough_words : s.capacity ≤ 64 * (length (bytes_of m s.words.block) / 8)
+  enough_words = omega (arith, words_count, held.count)
+
+module _ (old new : Memory) (b : Block) (n : ℕ) (sized : b.size ≡ n * 8) where
+  -- A block that is cleared has no bit.
+  pub cleared : (size : ℕ) → size ≡ b.size → EditsBlock old new b 0 size (λ before after. after ≡ replicate (length before) 0)
+      → bits_of (words n (bytes_of new b)) ≡ nothing
+  cleared size all edits = rw zeros (bits_none (words n (replicate (n * 8) 0)) (zero_words n))
+    where
+      zeros : bytes_of new b ≡ replicate (n * 8) 0
+      zeros =
+          let is : edits.list ≡ replicate (n * 8) 0 = edits.related ∙ ap (λ k. replicate k 0) (length-bytes (image old) (b.addr + 0) size ∙ all ∙ sized) in
+          wrote_whole old new b edits.list edits.writes (ap length is ∙ length-replicate (n * 8) 0 ∙ sym sized) ∙ is
+
+-- ---- New sets
+
+-- words have a layout
+pub words_layout : (n : ℕ) → n ≤ 2 ^ 58 → IsTrue (is_layout (n * 8) 8)
+unfolding is_power_among up
+words_layout n few = grind (arith, nat_tests)
+
+module _ (old mid new : View) (bits n : ℕ) (b : Block) (enough : n ≡ words_for bits) (places : PlacesBlock old mid (n * 8) 8 (Placed b))
+    (edits : EditsBlock mid.memory new.memory b 0 (n * 8) (λ before after. after ≡ replicate (length before) 0))
+    (source : new.source ≡ mid.source) where
+  -- A block that was placed and cleared is a new set.
+  pub new_set : PlacesSet old new bits nothing (Ok (record { words = record { block = b; length = n; of = record {} }; capacity = bits }))
+  new_set =
+      let held = placed_held old mid (n * 8) 8 b places in
+      let written = places_written old.memory mid.memory new.memory old.source mid.source (n * 8) 8 b 0 edits.list places edits.writes in
+      record {
+        placed = rw (← enough) (subst (λ (s : Source). PlacesBlock old (view new.memory s) (n * 8) 8 (Placed b)) (sym source) written);
+        held = record { place = written_held mid.memory new.memory _ 8 0 b b edits.list edits.writes held; count = enough };
+        capacity = refl;
+        set_is = cleared mid.memory new.memory b n held.of_size (n * 8) (sym held.of_size) edits;
+      }

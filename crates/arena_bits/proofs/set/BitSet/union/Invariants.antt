@@ -1,0 +1,5 @@
+use Rattle.arena_bits.proofs.JoinLemmas.{IsJoining}
+use Rattle.arena_bits.proofs.set.BitSet.union.Given as goal
+
+abbrev pub invariant-words : goal.invariant-words
+invariant-words g l = IsJoining l.fn.a l.a l.self l.other l.i

@@ -1,0 +1,38 @@
+-- Bit sets in an arena, and what calls on them do.
+use Rattle.std.specs.Prelude.{◌≡◌, ℕ, ◌*◌, ◌/◌, List, [], ◌∷◌, length, Result, IfOk}
+use Rattle.std.specs.Int.{from_le_bytes, w64}
+use Rattle.arena_chunks.specs.Memory.{Memory}
+use Rattle.arena_chunks.specs.Source.{View}
+use Rattle.arena_chunks.specs.Frame.{Frame}
+use Rattle.arena_chunks.specs.BlockCalls.{PlacesBlock}
+use Rattle.arena_items.specs.Values.{bytes_of, elements, IsHeld}
+use Rattle.arena_items.specs.Room.{RoomAnswer, SamePlaces}
+use Rattle.arena_bits.specs.Bits.{Set, bits_of, words_for}
+use Rattle.arena_bits.specs.declared.set.BitSet.{BitSet}
+use Rattle.arena_items.specs.declared.room.AllocError.{AllocError}
+
+-- The handle is well formed and may be read: it has the words that its capacity needs.
+pub record IsSetIn (m : Memory) (s : BitSet) : Type 0 where
+  pub place : IsHeld (s.words.length * 8) 8 m.state s.words.block
+  pub count : s.words.length ≡ words_for s.capacity
+
+-- its words, and the set that they are
+abbrev pub words_of : Memory → BitSet → List ℕ
+words_of m s = elements 8 (from_le_bytes w64) s.words.length (bytes_of m s.words.block)
+
+abbrev pub set_of : Memory → BitSet → Set
+set_of m s = bits_of (words_of m s)
+
+-- A call that takes no memory makes the bits this set. No byte changes but the set's own.
+pub record BecomesSet (old new : View) (s : BitSet) (set : Set) : Type 0 where
+  pub held : IsSetIn new.memory s
+  pub set_is : set_of new.memory s ≡ set
+  pub places : SamePlaces old new
+  pub frame : Frame old.memory new.memory (s.words.block ∷ []) (s.words.block ∷ [])
+
+-- A call that places a set for so many bits does so as the arena places a block of its words' layout. There is no overflow.
+pub record PlacesSet (old new : View) (bits : ℕ) (set : Set) (result : Result BitSet AllocError) : Type 0 where
+  pub placed : RoomAnswer (λ s. s.words.block) result (PlacesBlock old new (words_for bits * 8) 8)
+  pub held : IfOk result (IsSetIn new.memory)
+  pub capacity : IfOk result (λ s. s.capacity ≡ bits)
+  pub set_is : IfOk result (λ s. set_of new.memory s ≡ set)

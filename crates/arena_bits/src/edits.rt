@@ -1,0 +1,60 @@
+// Changes of a set's bytes in their place, with one look-up of its block.
+ghost use Rattle.std.specs.Prelude.{◌≡◌, length, replicate, bit_and, bit_or};
+ghost use Rattle.std.specs.Int.{w64, bit_not};
+ghost use Rattle.arena_bits.specs.Edits.{ChangesWord};
+
+use arena_chunks::Edit;
+use arena_items::Item;
+
+/// Sets the bits of a mask in a word.
+#[derive(Clone, Copy)]
+pub(crate) struct Raise {
+    pub(crate) mask: u64,
+}
+
+#[tactic(auto, using(crate::proofs::WordLemmas::raised_words))]
+impl Edit for Raise {
+    ghost suits = { λ e old. length old ≡ 8 };
+
+    ghost relates = { λ e old new. ChangesWord (λ word. bit_or word e.mask) old new };
+
+    #[inline]
+    fn edit(&self, place: &mut [u8]) {
+        let word = u64::decode(place);
+        (word | self.mask).encode(place);
+    }
+}
+
+/// Clears the bits of a mask in a word.
+#[derive(Clone, Copy)]
+pub(crate) struct Lower {
+    pub(crate) mask: u64,
+}
+
+#[tactic(auto, using(std::proofs::lemmas::Nat::and_le_l, crate::proofs::WordLemmas::changes_word))]
+impl Edit for Lower {
+    ghost suits = { λ e old. length old ≡ 8 };
+
+    ghost relates = { λ e old new. ChangesWord (λ word. bit_and word (bit_not w64 e.mask)) old new };
+
+    #[inline]
+    fn edit(&self, place: &mut [u8]) {
+        let word = u64::decode(place);
+        (word & !self.mask).encode(place);
+    }
+}
+
+/// Clears all bytes of the place.
+#[derive(Clone, Copy)]
+pub(crate) struct Zeros;
+
+impl Edit for Zeros {
+    ghost suits = { λ e old. Unit {0} };
+
+    ghost relates = { λ e old new. new ≡ replicate (length old) 0 };
+
+    #[inline]
+    fn edit(&self, place: &mut [u8]) {
+        place.fill(0);
+    }
+}

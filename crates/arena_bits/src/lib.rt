@@ -1,0 +1,17 @@
+//! Sets of numbers in an arena, kept as bits of words.
+#![tactic(auto)]
+
+mod edits;
+mod handle;
+pub mod laws;
+mod ones;
+mod printed;
+mod set;
+#[cfg(test)]
+mod tests;
+mod uses;
+mod whole;
+mod words;
+
+pub use ones::Ones;
+pub use set::BitSet;

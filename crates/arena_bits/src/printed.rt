@@ -1,0 +1,129 @@
+// The printed forms of a bit set.
+ghost use Rattle.std.specs.Prelude.{◌≡◌, ◌/◌, ◌%◌, ◌<◌, ◌≤◌, ◌++◌, length, OnOk, IfOk};
+ghost use Rattle.arena_bits.specs.Bits.{bits_of};
+ghost use Rattle.arena_bits.specs.Sets.{IsSetIn, set_of};
+ghost use Rattle.arena_bits.specs.Printed.{bits_in, digits, lower, highest, printed, debugged};
+ghost use Rattle.arena_bits.specs.Walks.{words_in};
+
+use crate::set::BitSet;
+use arena_chunks::{Allocator, Bytes, ChunkSource, OutOfMemory};
+use std::alloc::Global;
+
+// Puts the binary digits of a byte at the end, the highest first.
+fn push_digits(text: &mut Bytes, byte: u8) -> Result<(), OutOfMemory>
+    ensures { OnOk result (text.new ≡ text.old ++ digits (bits_in byte) 0 8) }
+{
+    for place in (0..8u32).rev() {
+        text.push(b'0' + (byte >> place & 1))?;
+    }
+    Ok(())
+}
+
+// Puts each byte behind `_` at the end, the last first.
+fn push_lower(text: &mut Bytes, bytes: &[u8], top: usize) -> Result<(), OutOfMemory>
+    requires words { length bytes.now % 8 ≡ 0 }
+    requires within { top ≤ length bytes.now }
+    ensures { OnOk result (text.new ≡ text.old ++ lower (bits_of (words_in bytes.now)) top) }
+{
+    for i in (0..top).rev() {
+        text.push(b'_')?;
+        push_digits(text, bytes[i])?;
+    }
+    Ok(())
+}
+
+// The highest byte that isn't zero; the first where all are.
+fn highest(bytes: &[u8]) -> usize
+    requires { length bytes.now % 8 ≡ 0 }
+    ensures value { result ≡ highest (bits_of (words_in bytes.now)) (length bytes.now) }
+    ensures within { 0 < length bytes.now → result < length bytes.now }
+{
+    for i in (0..bytes.len()).rev() {
+        if bytes[i] != 0 {
+            return i;
+        }
+    }
+    0
+}
+
+// Puts the text of the words of some bytes at the end.
+fn push_words(text: &mut Bytes, bytes: &[u8]) -> Result<(), OutOfMemory>
+    requires { length bytes.now % 8 ≡ 0 }
+    ensures { OnOk result (text.new
+        ≡ text.old ++ printed (length bytes.now / 8) (bits_of (words_in bytes.now))) }
+{
+    if bytes.is_empty() {
+        return Ok(());
+    }
+    let top = highest(bytes);
+    push_digits(text, bytes[top])?;
+    push_lower(text, bytes, top)?;
+    Ok(())
+}
+
+// Puts bytes at the end.
+fn push_all(text: &mut Bytes, bytes: &[u8]) -> Result<(), OutOfMemory>
+    ensures { OnOk result (text.new ≡ text.old ++ bytes.now) }
+{
+    for byte in bytes {
+        text.push(*byte)?;
+    }
+    Ok(())
+}
+
+impl BitSet {
+    /// The bits as text: eight binary digits a byte, from the highest byte that isn't zero down to the lowest, with `_`
+    /// between. For no bit it is `00000000`, and empty for no words.
+    ///
+    /// # Errors
+    ///
+    /// Memory for the text is wanting.
+    pub fn display<C: ChunkSource>(
+        &self,
+        alloc: Global,
+        a: &Allocator<C>,
+    ) -> Result<Bytes, OutOfMemory>
+        requires held { IsSetIn a.now.memory self.now }
+        ensures { IfOk result (λ text. text
+            ≡ printed self.now.words.length (set_of a.now.memory self.now)) }
+    {
+        let mut text = Bytes::new(alloc);
+        self.push_text(&mut text, a)?;
+        Ok(text)
+    }
+
+    /// The same in quotes, inside `BitSet(` and `)`.
+    ///
+    /// # Errors
+    ///
+    /// Memory for the text is wanting.
+    pub fn debug<C: ChunkSource>(
+        &self,
+        alloc: Global,
+        a: &Allocator<C>,
+    ) -> Result<Bytes, OutOfMemory>
+        requires held { IsSetIn a.now.memory self.now }
+        ensures { IfOk result (λ text. text
+            ≡ debugged self.now.words.length (set_of a.now.memory self.now)) }
+    {
+        let mut text = Bytes::new(alloc);
+        push_all(&mut text, b"BitSet(\"")?;
+        self.push_text(&mut text, a)?;
+        push_all(&mut text, b"\")")?;
+        Ok(text)
+    }
+
+    // Puts the bits as text at the end.
+    fn push_text<C: ChunkSource>(
+        &self,
+        text: &mut Bytes,
+        a: &Allocator<C>,
+    ) -> Result<(), OutOfMemory>
+        requires held { IsSetIn a.now.memory self.now }
+        ensures { OnOk result (text.new
+            ≡ text.old ++ printed self.now.words.length (set_of a.now.memory self.now)) }
+    {
+        push_words(text, a.read(self.words.block))?;
+        Ok(())
+    }
+}

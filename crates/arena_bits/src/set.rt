@@ -1,0 +1,72 @@
+// Bit sets: their handles, and calls on one number.
+ghost use Rattle.std.specs.Prelude.{◌≡◌, ◌*◌, ◌<◌, ◌&&◌, nat_lt};
+ghost use Rattle.arena_bits.specs.Bits.{with_bit, without_bit};
+ghost use Rattle.arena_bits.specs.Sets.{IsSetIn, set_of, BecomesSet};
+
+use crate::edits::{Lower, Raise};
+use arena_chunks::{Allocator, ChunkSource};
+use arena_items::BoxSlice;
+
+/// A set of numbers in an arena, kept as bits of words, with a capacity in bits. It is a name: two of them may name one
+/// set.
+#[derive(Clone, Copy)]
+pub struct BitSet {
+    /// The words: as many as the capacity needs. A word has the bits of 64 numbers, the lowest number in its lowest bit.
+    pub words: BoxSlice<u64>,
+    /// How many bits were asked for. The last word may have bits past it, which can be set too.
+    pub capacity: u64,
+}
+
+#[tactic(auto, using(arena_chunks::proofs::Layers::layer_laws))]
+impl BitSet {
+    /// How many bits the set was made for.
+    #[inline]
+    pub fn capacity(&self) -> u64
+        ensures { result ≡ self.now.capacity }
+    {
+        self.capacity
+    }
+
+    /// Whether a number is below the capacity and in the set. Any number may be asked for.
+    #[inline]
+    pub fn contains<C: ChunkSource>(&self, a: &Allocator<C>, bit: u64) -> bool
+        requires held { IsSetIn a.now.memory self.now }
+        ensures { result ≡ (nat_lt bit self.now.capacity && set_of a.now.memory self.now bit) }
+    {
+        bit < self.capacity && self.has_bit(a, bit)
+    }
+
+    /// Whether a number is in the set. One of the words has its bit.
+    #[inline]
+    pub fn has_bit<C: ChunkSource>(&self, a: &Allocator<C>, bit: u64) -> bool
+        requires held { IsSetIn a.now.memory self.now }
+        requires within { bit < 64 * self.now.words.length }
+        ensures { result ≡ set_of a.now.memory self.now bit }
+    {
+        self.words.get(a, bit / 64) >> (bit % 64) & 1 == 1
+    }
+
+    /// Puts a number into the set. One of the words has its bit.
+    #[inline]
+    pub fn set_bit<C: ChunkSource>(&mut self, a: &mut Allocator<C>, bit: u64)
+        requires held { IsSetIn a.old.memory self.old }
+        requires within { bit < 64 * self.old.words.length }
+        ensures becomes { BecomesSet a.old a.new self.old (with_bit (set_of a.old.memory self.old) bit) }
+        ensures handle { self.new ≡ self.old }
+    {
+        let mask = 1 << (bit % 64);
+        a.write_with(self.words.block, bit / 64 * 8, 8, &Raise { mask });
+    }
+
+    /// Takes a number out of the set. One of the words has its bit.
+    #[inline]
+    pub fn unset_bit<C: ChunkSource>(&mut self, a: &mut Allocator<C>, bit: u64)
+        requires held { IsSetIn a.old.memory self.old }
+        requires within { bit < 64 * self.old.words.length }
+        ensures becomes { BecomesSet a.old a.new self.old (without_bit (set_of a.old.memory self.old) bit) }
+        ensures handle { self.new ≡ self.old }
+    {
+        let mask = 1 << (bit % 64);
+        a.write_with(self.words.block, bit / 64 * 8, 8, &Lower { mask });
+    }
+}

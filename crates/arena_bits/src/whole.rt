@@ -1,0 +1,90 @@
+// Calls on whole bit sets.
+ghost use Rattle.std.specs.Prelude.{◌≡◌, ◌*◌, ◌^◌, ◌≤◌, min};
+ghost use Rattle.arena_chunks.specs.BlockCalls.{PlacesBlock};
+ghost use Rattle.arena_chunks.specs.Frame.{AreBlocksApart};
+ghost use Rattle.arena_items.specs.Room.{RoomAnswer};
+ghost use Rattle.arena_bits.specs.Bits.{nothing, joined, below, TellsEmpty};
+ghost use Rattle.arena_bits.specs.Sets.{IsSetIn, set_of, BecomesSet, PlacesSet};
+
+use crate::edits::Zeros;
+use crate::set::BitSet;
+use crate::words::are_zero;
+use arena_chunks::{Allocator, ArenaErr, Block, ChunkSource};
+use arena_items::{AllocError, BoxSlice, Grown};
+use arena_place::Layout;
+use std::marker::PhantomData;
+
+// A block for so many words.
+#[tactic(auto, using(crate::proofs::WholeLemmas::words_layout))]
+fn place_words<C: ChunkSource>(a: &mut Allocator<C>, count: u64) -> Grown<Block>
+    requires { count ≤ 2 ^ 58 }
+    ensures { RoomAnswer (λ b. b) result (PlacesBlock a.old a.new (count * 8) 8) }
+{
+    let Some(layout) = Layout::array(count, 8, 8) else {
+        unreachable!();
+    };
+    match a.alloc_layout(layout) {
+        Ok(block) => Ok(block),
+        Err(ArenaErr::AllocErr { refused }) => Err(AllocError::AllocErr { refused }),
+        Err(ArenaErr::OutOfMemory) => Err(AllocError::OutOfMemory),
+    }
+}
+
+impl BitSet {
+    /// An empty set for so many bits, in one block of whole words.
+    ///
+    /// # Errors
+    ///
+    /// `AllocErr` and `OutOfMemory` as of the arena's `alloc_layout`, and never `CapacityOverflow`. Nothing changes.
+    pub fn new_in<C: ChunkSource>(max_bit_count: u64, a: &mut Allocator<C>) -> Grown<BitSet>
+        ensures { PlacesSet a.old a.new max_bit_count nothing result }
+    {
+        let length = max_bit_count.div_ceil(64);
+        let block = place_words(a, length)?;
+        a.write_with(block, 0, length * 8, &Zeros);
+        let words = BoxSlice {
+            block,
+            length,
+            of: PhantomData,
+        };
+        Ok(BitSet {
+            words,
+            capacity: max_bit_count,
+        })
+    }
+
+    /// Whether no bit is set, those past the capacity among them.
+    pub fn is_empty<C: ChunkSource>(&self, a: &Allocator<C>) -> bool
+        requires held { IsSetIn a.now.memory self.now }
+        ensures { TellsEmpty result (set_of a.now.memory self.now) }
+    {
+        are_zero(a.read(self.words.block))
+    }
+
+    /// Takes all numbers out, in one pass.
+    pub fn clear<C: ChunkSource>(&mut self, a: &mut Allocator<C>)
+        requires held { IsSetIn a.old.memory self.old }
+        ensures becomes { BecomesSet a.old a.new self.old nothing }
+        ensures handle { self.new ≡ self.old }
+    {
+        let block = self.words.block;
+        a.write_with(block, 0, block.size, &Zeros);
+    }
+
+    /// Puts in the numbers of another set, as far as both have words.
+    pub fn union<C: ChunkSource>(&mut self, a: &mut Allocator<C>, other: &BitSet)
+        requires held { IsSetIn a.old.memory self.old }
+        requires other { IsSetIn a.old.memory other.now }
+        requires apart { AreBlocksApart other.now.words.block self.old.words.block }
+        ensures becomes { let limit = 64 * min self.old.words.length other.now.words.length in
+            BecomesSet a.old a.new self.old
+            (joined (set_of a.old.memory self.old) (below limit (set_of a.old.memory other.now))) }
+        ensures handle { self.new ≡ self.old }
+    {
+        let count = self.words.length.min(other.words.length);
+        'words: for i in 0..count {
+            let word = self.words.get(a, i) | other.words.get(a, i);
+            self.words.set(a, i, word);
+        }
+    }
+}

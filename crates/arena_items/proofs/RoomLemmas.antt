@@ -1,0 +1,157 @@
+-- Blocks of collections that grow: the one call of the arena, what it leaves, and calls that write afterwards.
+use Rattle.std.proofs.Common.{◌≡◌, ℕ, zero, suc, ◌-◌, ◌*◌, ◌^◌, ◌<◌, ◌≤◌, ◌⊎◌, inl, inr, ap, sym, ◌∙◌, List, [], ◌∷◌, Ok, Err, refl, take, arith, true, IsTrue}
+use Rattle.std.specs.Prelude.{nat_le, min}
+use Rattle.std.proofs.Math.Nat.{mul-le-mul_left}
+use Rattle.std.proofs.lemmas.Bool.{eq-eqb, or_left}
+use Rattle.std.proofs.lemmas.Bool.Decides.{nat_tests}
+use Rattle.placement.specs.State.{State}
+use Rattle.placement.specs.Rounding.{up, is_layout}
+use Rattle.arena_chunks.specs.Memory.{Memory, image, bytes_from, is_readable}
+use Rattle.arena_chunks.specs.Source.{View}
+use Rattle.arena_chunks.specs.Answers.Answer.{Placed, Refused, Wanting}
+use Rattle.arena_chunks.specs.BlockCalls.{WritesBlock}
+use Rattle.arena_chunks.specs.Frame.{Frame}
+use Rattle.arena_chunks.specs.declared.block.Block.{Block}
+use Rattle.arena_chunks.proofs.Layers.{empty_before, take_bytes, in_use}
+use Rattle.arena_items.specs.Layout.{IsItemLayout}
+use Rattle.arena_items.specs.LayoutLaws.{IsAlign-bounds, up-is}
+use Rattle.arena_items.specs.Values.{bytes_of, elements, IsHeld}
+use Rattle.arena_items.specs.Room.{TakesRoom, MakesRoom, SamePlaces}
+use Rattle.arena_items.specs.declared.room.Growth.{Growth}
+use Rattle.arena_items.specs.declared.room.Growth.TheVariants.{Stays, GrowsTo, Overflows}
+use Rattle.arena_items.specs.declared.room.AllocError.{AllocError}
+use Rattle.arena_items.specs.declared.room.AllocError.TheVariants.{AllocErr, CapacityOverflow, OutOfMemory}
+use Rattle.arena_items.proofs.PlacingLemmas.{align_is_power}
+use Rattle.arena_items.proofs.HeldLemmas.{placed_held}
+use Rattle.arena_items.proofs.ElementLemmas.{elements-same}
+
+-- a number is 0 or more
+pub zero_or_more : (n : ℕ) → (n ≡ 0) ⊎ (0 < n)
+zero_or_more zero = inl refl
+zero_or_more (suc n) = inr (omega arith)
+
+-- ---- Layouts and blocks
+
+-- So many values in a row have a layout.
+pub row_is_layout : (n size align : ℕ) → IsItemLayout size align → n < 2 ^ 32 → size ≤ 2 ^ 24 → IsTrue (is_layout (n * size) align)
+row_is_layout n size align h few small =
+    let at_most : n * size ≤ n * 2 ^ 24 = mul-le-mul_left n small in
+    let near = up-is (n * size) align h.is_align in
+    let bounds = IsAlign-bounds align h.is_align in
+    let fits : nat_le (up (n * size) align) (2 ^ 63 - 1) ≡ true = grind (arith, nat_tests, near.below, bounds.1, at_most) in
+    rw (align_is_power align h.is_align, fits) refl
+
+-- A front of a readable block may be read.
+pub front_readable : (state : State) (b : Block) (n : ℕ) → IsTrue (is_readable state b) → n ≤ b.size
+    → IsTrue (is_readable state (record b { size = n }))
+front_readable state b n readable within = elim (zero_or_more n) [
+  | inl none ↦ or_left _ _ (eq-eqb n 0 none)
+  | inr some ↦ (
+      let used = (in_use state b (omega (arith, some, within))).0 readable in
+      (in_use state (record b { size = n }) some).1 (record {
+        generation = used.generation;
+        chunk = used.chunk;
+        among = used.among;
+        low = used.low;
+        high = omega (arith, used.high, within);
+      }))
+]
+
+-- ---- Fronts
+
+-- Blocks that begin with the same bytes have the same fronts,
+pub fronts_kept : (old new : Memory) (b c : Block) (n k : ℕ) → n ≤ k → k ≤ b.size → k ≤ c.size
+    → bytes_from (image new) c.addr k ≡ bytes_from (image old) b.addr k
+    → take n (bytes_of new c) ≡ take n (bytes_of old b)
+fronts_kept old new b c n k seen less fits same = first new c fits ∙ ap (take n) same ∙ sym (first old b less)
+  where
+    first : (m : Memory) (d : Block) → k ≤ d.size → take n (bytes_of m d) ≡ take n (bytes_from (image m) d.addr k)
+    first m d within = take_bytes (image m) d.addr d.size n (omega arith) ∙ sym (take_bytes (image m) d.addr k n seen)
+
+-- and the same values there.
+pub values_kept : {T : Type 0} (dec : List ℕ → T) (old new : Memory) (b c : Block) (size n k : ℕ) → n * size ≤ k → k ≤ b.size → k ≤ c.size
+    → bytes_from (image new) c.addr k ≡ bytes_from (image old) b.addr k
+    → elements size dec n (bytes_of new c) ≡ elements size dec n (bytes_of old b)
+values_kept dec old new b c size n k seen less fits same =
+    elements-same size dec n (bytes_of new c) (bytes_of old b) (fronts_kept old new b c (n * size) k seen less fits same)
+
+-- ---- A block taken for more
+
+module _ (old new : View) (b c : Block) (cap size align : ℕ) (takes : TakesRoom old new b cap size align (Placed c)) where
+  -- It has its layout.
+  pub taken_held : IsHeld size align new.memory.state c
+  taken_held = elim (zero_or_more cap) [
+    | inl none ↦ placed_held old new size align c (takes.placed none)
+    | inr some ↦ (
+        let layout = (takes.grown some).1.outcome.of_layout in
+        record { readable = layout.readable; of_size = layout.of_size; of_align = layout.of_align })
+  ]
+
+  -- All but the collection's block is as it was.
+  pub taken_frame : (cap ≡ 0 → b.size ≡ 0) → Frame old.memory new.memory (b ∷ []) (c ∷ [])
+  taken_frame no_bytes = elim (zero_or_more cap) [
+    | inl none ↦ (empty_before old.memory new.memory [] [] (c ∷ []) b (no_bytes none)).1 (takes.placed none).1.outcome.frame
+    | inr some ↦ (takes.grown some).1.outcome.frame
+  ]
+
+  -- What stood in the old block stands in front.
+  pub taken_front : (cap ≡ 0 → b.size ≡ 0) → (n : ℕ) → n ≤ b.size → b.size ≤ size → take n (bytes_of new.memory c) ≡ take n (bytes_of old.memory b)
+  taken_front no_bytes n within more = elim (zero_or_more cap) [
+    | inl none ↦ (let zero : n ≡ 0 = omega (arith, no_bytes none) in rw zero refl)
+    | inr some ↦ (
+        let grown = (takes.grown some).1.outcome in
+        let least : min b.size size ≡ b.size = omega arith in
+        fronts_kept old.memory new.memory b c n b.size within (omega arith) (omega (arith, grown.of_layout.of_size)) (rw least at grown.bytes))
+  ]
+
+-- A refusal leaves the arena as it was.
+pub refused_same : (old new : View) (b : Block) (cap size align k : ℕ) → TakesRoom old new b cap size align (Refused k)
+    → new.memory ≡ old.memory
+refused_same old new b cap size align k takes = elim (zero_or_more cap) [
+  | inl none ↦ (takes.placed none).1.outcome.1.memory
+  | inr some ↦ (takes.grown some).1.outcome.1.memory
+]
+
+-- So does want of memory.
+pub wanting_same : (old new : View) (b : Block) (cap size align : ℕ) → TakesRoom old new b cap size align Wanting
+    → new.memory ≡ old.memory
+wanting_same old new b cap size align takes = elim (zero_or_more cap) [
+  | inl none ↦ ap (λ v. v.memory) (takes.placed none).1.outcome.same
+  | inr some ↦ ap (λ v. v.memory) (takes.grown some).1.outcome.1.same
+]
+
+pub ruleset refusals = (refused_same, wanting_same)
+
+-- ---- Places
+
+pub same_then : (old mid new : View) → SamePlaces old mid → SamePlaces mid new → SamePlaces old new
+same_then old mid new one two = record {
+  state = two.state ∙ one.state;
+  statistics = two.statistics ∙ one.statistics;
+  source = two.source ∙ one.source;
+}
+
+-- A write moves no cursor.
+pub wrote_same : (old new : View) (b : Block) (at : ℕ) (list : List ℕ) → WritesBlock old.memory new.memory b at list
+    → new.source ≡ old.source → SamePlaces old new
+wrote_same old new b at list writes source = record { state = writes.state; statistics = writes.statistics; source = source }
+
+-- Making room and then writing is making room.
+pub room_then : {X Y : Type 0} (size align : ℕ) (old mid new : View) (block : Block) (cap : ℕ) (growth : Growth) (f : X → Block)
+    (g : Y → Block) (x : X) (y : Y) → g y ≡ f x → MakesRoom size align old mid block cap growth f (Ok x) → SamePlaces mid new
+    → MakesRoom size align old new block cap growth g (Ok y)
+room_then size align old mid new block cap Stays f g x y is made same = (is ∙ made.0, same_then old mid new made.1 same)
+room_then size align old mid new block cap (GrowsTo more) f g x y is made same =
+    record { between = made.between; took = rw is made.took; places = same_then made.between mid new made.places same }
+room_then size align old mid new block cap Overflows f g x y is made same = absurd (let no = made.0 in cc)
+
+-- A refusal is one of each call with this growth.
+pub room_refused : {X Y : Type 0} (size align : ℕ) (old new : View) (block : Block) (cap : ℕ) (growth : Growth) (f : X → Block)
+    (g : Y → Block) (e : AllocError)
+    → MakesRoom size align old new block cap growth f (Err e) → MakesRoom size align old new block cap growth g (Err e)
+room_refused size align old new block cap Stays f g e made = absurd made.0
+room_refused size align old new block cap (GrowsTo more) f g (AllocErr refused) made = made
+room_refused size align old new block cap (GrowsTo more) f g OutOfMemory made = made
+room_refused size align old new block cap (GrowsTo more) f g CapacityOverflow made = absurd made.took
+room_refused size align old new block cap Overflows f g e made =
+    (let is : e ≡ CapacityOverflow = (let no = made.0 in cc) in ap Err is, made.1)

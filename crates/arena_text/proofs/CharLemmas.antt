@@ -1,0 +1,60 @@
+-- Characters as UTF-8, byte by byte.
+use Rattle.std.proofs.Common.{◌≡◌, ◌≢◌, ℕ, zero, suc, ◌+◌, ◌/◌, ◌%◌, ◌<◌, List, [], ◌∷◌, length, set, replicate, ap, refl, arith}
+use Rattle.std.proofs.lemmas.Bool.Decides.{nat_tests}
+use Rattle.std.proofs.lemmas.Str.{IsUtf8-nil, IsUtf8-encode, IsUtf8-append, IsUtf8-from_ascii}
+use Rattle.std.specs.Str.{IsUtf8, IsAscii}
+use Rattle.std.specs.Char.{encode_utf8, len_utf8}
+
+-- ---- The bytes of a character, by their number
+
+pub one : (c : ℕ) → len_utf8 c ≡ 1 → encode_utf8 c ≡ c ∷ []
+unfolding encode_utf8
+one c long = grind (arith, nat_tests)
+
+pub two : (c : ℕ) → len_utf8 c ≡ 2 → encode_utf8 c ≡ (192 + c / 64) ∷ (128 + c % 64) ∷ []
+unfolding encode_utf8
+two c long = grind (arith, nat_tests)
+
+pub three : (c : ℕ) → len_utf8 c ≡ 3 → encode_utf8 c ≡ (224 + c / 4096) ∷ (128 + c / 64 % 64) ∷ (128 + c % 64) ∷ []
+unfolding encode_utf8
+three c long = grind (arith, nat_tests)
+
+pub four : (c : ℕ) → len_utf8 c ≢ 1 → len_utf8 c ≢ 2 → len_utf8 c ≢ 3
+    → encode_utf8 c ≡ (240 + c / 262144) ∷ (128 + c / 4096 % 64) ∷ (128 + c / 64 % 64) ∷ (128 + c % 64) ∷ []
+unfolding encode_utf8
+four c not_1 not_2 not_3 = grind (arith, nat_tests)
+
+-- ---- Places of so many bytes, each of which is set
+
+pub set_one : (old : List ℕ) (a : ℕ) → length old ≡ 1 → set old 0 a ≡ a ∷ []
+set_one [] a e = absurd (omega arith)
+set_one (x ∷ []) a e = refl
+set_one (x ∷ y ∷ old) a e = absurd (omega arith)
+
+pub set_two : (old : List ℕ) (a b : ℕ) → length old ≡ 2 → set (set old 0 a) 1 b ≡ a ∷ b ∷ []
+set_two [] a b e = absurd (omega arith)
+set_two (x ∷ old) a b e = ap (λ (l : List ℕ). a ∷ l) (set_one old b (omega arith))
+
+pub set_three : (old : List ℕ) (a b c : ℕ) → length old ≡ 3 → set (set (set old 0 a) 1 b) 2 c ≡ a ∷ b ∷ c ∷ []
+set_three [] a b c e = absurd (omega arith)
+set_three (x ∷ old) a b c e = ap (λ (l : List ℕ). a ∷ l) (set_two old b c (omega arith))
+
+pub set_four : (old : List ℕ) (a b c d : ℕ) → length old ≡ 4
+    → set (set (set (set old 0 a) 1 b) 2 c) 3 d ≡ a ∷ b ∷ c ∷ d ∷ []
+set_four [] a b c d e = absurd (omega arith)
+set_four (x ∷ old) a b c d e = ap (λ (l : List ℕ). a ∷ l) (set_three old b c d (omega arith))
+
+pub ruleset chars = (one, two, three, four, set_one, set_two, set_three, set_four)
+
+-- ---- What is UTF-8
+
+-- ASCII bytes are.
+times_ascii : (byte n : ℕ) → byte < 128 → IsAscii (replicate n byte)
+times_ascii byte zero small i = omega arith
+times_ascii byte (suc n) small zero = small
+times_ascii byte (suc n) small (suc i) = times_ascii byte n small i
+
+pub ascii_utf8 : (byte n : ℕ) → byte < 128 → IsUtf8 (replicate n byte)
+ascii_utf8 byte n small = IsUtf8-from_ascii (replicate n byte) (times_ascii byte n small)
+
+pub ruleset utf8 = (IsUtf8-nil, IsUtf8-encode, IsUtf8-append, ascii_utf8)

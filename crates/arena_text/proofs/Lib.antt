@@ -1,0 +1,3 @@
+pub mod CharLemmas
+pub mod RoomLemmas
+pub mod TextLemmas

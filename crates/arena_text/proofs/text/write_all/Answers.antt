@@ -1,0 +1,28 @@
+use Rattle.std.proofs.Common.{rules, arith, refl, ◌∙◌}
+use Rattle.std.proofs.lemmas.List.Folds.{length-flat_map-take}
+use Rattle.arena_chunks.proofs.Layers.{writes_nothing}
+use Rattle.arena_text.proofs.TextLemmas.{one_more}
+use Rattle.arena_text.proofs.text.write_all.Goals as goal
+
+pub loop-s-init : goal.loop-s-init
+loop-s-init g c = record {
+  end = refl;
+  writes = writes_nothing c.args.a.now.memory c.args.block 0 c.min_align.ensures.valid (omega arith);
+  source = refl;
+}
+
+pub write-requires-clause-range : goal.write-requires-clause-range
+write-requires-clause-range g c =
+    let more = length-flat_map-take g.T.AsStr.text c.args.strings.now c.loop-s.s-index c.s-item.result in search rules
+
+pub overflow_add-at : goal.overflow_add-at
+overflow_add-at g c =
+    let more = length-flat_map-take g.T.AsStr.text c.args.strings.now c.loop-s.s-index c.s-item.result in search rules
+
+pub loop-s-preserved : goal.loop-s-preserved
+loop-s-preserved g c =
+    let inv = c.loop-s.invariant in
+    let writes = rw (c.as_bytes.ensures.value, c.as_str-text.ensures) at c.write.ensures.writes in
+    let one = one_more g.T.AsStr.text c.args.strings.now c.loop-s.s-index c.s-item.result _ _ _ c.args.block c.loop-s.at (omega arith)
+    c.s-item.is inv.end inv.writes writes in
+    record { end = rw c.as_str-text.ensures one.1; writes = one.0; source = c.write.ensures.source ∙ inv.source }

@@ -1,0 +1,15 @@
+//! Texts that are put together in an arena.
+#![tactic(auto)]
+
+mod growth;
+pub mod laws;
+mod pieces;
+mod push;
+mod room;
+#[cfg(test)]
+mod tests;
+mod text;
+mod uses;
+mod values;
+
+pub use text::StringBuilder;

@@ -1,0 +1,119 @@
+// Callers of texts.
+ghost use Rattle.std.specs.Prelude.{◌≡◌, ◌+◌, ◌<◌, ◌≤◌, ◌++◌, [], ◌∷◌, length, replicate, chars, encode_utf8, IsOk, IfOk, IsUtf8, OnOk};
+ghost use Rattle.placement.specs.State.{used_bytes};
+ghost use Rattle.arena_chunks.specs.Frame.{AreBlocksApart};
+ghost use Rattle.arena_items.specs.Values.{IsTextIn, text_bytes};
+ghost use Rattle.arena_items.specs.Room.{SamePlaces};
+ghost use Rattle.arena_text.specs.Growth.{amortised_growth};
+ghost use Rattle.arena_text.specs.Builders.{IsBuilderIn, builder_bytes};
+ghost use Rattle.arena_text.specs.Changes.{Grows, Makes};
+
+use crate::laws::{utf8_rule, within_room};
+use crate::text::StringBuilder;
+use arena_chunks::{Allocator, ChunkSource, Str};
+use arena_items::Grown;
+use arena_items::laws::frame_law;
+
+/// Makes a text of one ASCII byte, so many times. Room is made once, which alone can be refused.
+///
+/// # Errors
+///
+/// As of `with_capacity_in`.
+pub fn rule_of<C: ChunkSource>(byte: u8, n: u64, a: &mut Allocator<C>) -> Grown<StringBuilder>
+    requires { byte < 128 }
+    ensures { Makes a.old a.new n (replicate n byte) result }
+{
+    within_room();
+    let mut text = StringBuilder::with_capacity_in(n, a)?;
+    text.push_ascii_byte_repeat(a, byte, n)?;
+    Ok(text)
+}
+
+/// Puts a line at the end: a text and a line feed. Room is made once, so that a refusal leaves all as it was.
+///
+/// # Errors
+///
+/// As of `reserve`.
+pub fn push_line<C: ChunkSource>(
+    text: &mut StringBuilder,
+    a: &mut Allocator<C>,
+    s: &str,
+) -> Grown<()>
+    requires { IsBuilderIn a.old.memory text.old }
+    ensures { let growth = amortised_growth text.old.cap text.old.len (length s.now + 1) in
+        let list = builder_bytes a.old.memory text.old ++ s.now ++ 10 ∷ [] in
+        Grows a.old a.new text.old growth list text.new result }
+{
+    within_room();
+    text.reserve(a, s.len() as u64 + 1)?;
+    text.push_str(a, s)?;
+    text.push_ascii_byte(a, b'\n')
+}
+
+/// Puts a text at the end of one, beside another that was placed.
+///
+/// # Errors
+///
+/// As of `push_str`.
+pub fn push_beside<C: ChunkSource>(
+    text: &mut StringBuilder,
+    a: &mut Allocator<C>,
+    other: Str,
+    s: &str,
+) -> Grown<()>
+    requires text { IsBuilderIn a.old.memory text.old }
+    requires other { IsTextIn a.old.memory other }
+    requires apart { AreBlocksApart other.block text.old.block }
+    ensures bytes { OnOk result (builder_bytes a.new.memory text.new
+        ≡ builder_bytes a.old.memory text.old ++ s.now) }
+    ensures held { IsTextIn a.new.memory other }
+    ensures other { text_bytes a.new.memory other ≡ text_bytes a.old.memory other }
+    ensures apart { AreBlocksApart other.block text.new.block }
+{
+    frame_law::<Str>();
+    text.push_str(a, s)
+}
+
+/// Below the capacity a character is put with no memory taken.
+///
+/// # Errors
+///
+/// None comes.
+pub fn push_below<C: ChunkSource>(
+    text: &mut StringBuilder,
+    a: &mut Allocator<C>,
+    c: char,
+) -> Grown<()>
+    requires held { IsBuilderIn a.old.memory text.old }
+    requires room { text.old.len + 4 ≤ text.old.cap }
+    ensures grows { let growth = amortised_growth text.old.cap text.old.len (length (encode_utf8 c)) in
+        let list = builder_bytes a.old.memory text.old ++ encode_utf8 c in
+        Grows a.old a.new text.old growth list text.new result }
+    ensures ok { IsOk result }
+    ensures places { SamePlaces a.old a.new }
+    ensures used { used_bytes a.new.memory.state ≡ used_bytes a.old.memory.state }
+{
+    within_room();
+    text.push(a, c)
+}
+
+/// Puts a character at the end of a text, and counts the characters that there are then.
+///
+/// # Errors
+///
+/// As of `push`.
+pub fn push_and_count<C: ChunkSource>(
+    text: &mut StringBuilder,
+    a: &mut Allocator<C>,
+    c: char,
+) -> Grown<usize>
+    requires held { IsBuilderIn a.old.memory text.old }
+    requires utf8 { IsUtf8 (builder_bytes a.old.memory text.old) }
+    ensures held { IsBuilderIn a.new.memory text.new }
+    ensures utf8 { IsUtf8 (builder_bytes a.new.memory text.new) }
+    ensures count { IfOk result (λ n. n ≡ length (chars (builder_bytes a.new.memory text.new))) }
+{
+    utf8_rule();
+    text.push(a, c)?;
+    Ok(text.as_str(a).chars().count())
+}

@@ -1,0 +1,28 @@
+-- Lists of which a part moves.
+use Rattle.std.proofs.Common.{◌≡◌, ℕ, suc, zero, ◌+◌, ◌-◌, ◌<◌, ◌≤◌, List, [], ◌∷◌, ◌++◌, length, take, drop, refl, sym, ap, ◌∙◌, arith, set, append-nil, add-one}
+use Rattle.std.proofs.lemmas.Grind.{common_steps}
+use Rattle.std.proofs.lemmas.List.{drop_all, drop-take}
+use Rattle.std.specs.List.{insert, remove_range}
+use Rattle.arena_items.specs.Rows.{over}
+
+-- what stands behind a part moves down to it
+pub moved_down : {T : Type 0} (xs : List T) (from to : ℕ) → from ≤ to → to ≤ length xs
+    → take (length xs - (to - from)) (over xs from (take (length xs - to) (drop to xs))) ≡ remove_range xs from to
+moved_down xs from to h l = grind (arith, common_steps)
+
+set_after : {T : Type 0} (xs ys : List T) (i : ℕ) (v : T) → i < length xs → set (take (suc i) xs ++ ys) i v ≡ take i xs ++ v ∷ ys
+set_after [] ys i v h = absurd (omega arith)
+set_after (x ∷ xs) ys zero v h = refl
+set_after (x ∷ xs) ys (suc i) v h = ap (λ l. x ∷ l) (set_after xs ys i v (omega arith))
+
+-- the values from a place on move up by one, and another is put there
+pub moved_up : {T : Type 0} (xs : List T) (n i : ℕ) (v : T) → length xs ≡ n + 1 → i ≤ n
+    → set (over xs (i + 1) (take (n - i) (drop i xs))) i v ≡ insert (take n xs) i v
+moved_up {T} xs n i v e h =
+    let ys : List T = take (n - i) (drop i xs) in
+    let long : length ys ≡ n - i = grind (arith, common_steps) in
+    let none : drop (i + 1 + length ys) xs ≡ [] = drop_all (i + 1 + length ys) xs (omega arith) in
+    let whole : i + (n - i) ≡ n = omega arith in
+    let same : drop i (take n xs) ≡ ys = ap (λ k. drop i (take k xs)) (sym whole) ∙ drop-take i (n - i) xs in
+    let front : take i (take n xs) ≡ take i xs = grind (arith, common_steps) in
+    rw (none, append-nil (take (i + 1) xs ++ ys), add-one, front, same) (set_after xs ys i v (omega arith))

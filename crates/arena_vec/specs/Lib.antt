@@ -1,0 +1,11 @@
+pub mod Growth
+pub mod Held
+pub mod Storage
+pub mod Rows
+pub mod Vecs
+pub mod Changes
+pub mod Extending
+pub mod Draining
+pub mod Filtering
+pub mod Comparing
+pub mod Splicing

@@ -1,0 +1,124 @@
+// A range of a vector on its way out.
+ghost use Rattle.std.specs.Prelude.{◌≡◌, ℕ, ◌+◌, ◌-◌, ◌*◌, ◌^◌, ◌≤◌};
+ghost use Rattle.std.specs.List.{remove_range};
+ghost use Rattle.std.specs.Iterator.{YieldsFirst, YieldsLast, item_count};
+ghost use Rattle.arena_vec.specs.Vecs.{IsVecIn, vec_list};
+ghost use Rattle.arena_vec.specs.Rows.{window};
+ghost use Rattle.arena_vec.specs.Changes.{Becomes};
+ghost use Rattle.arena_vec.specs.Draining.{IsDrain, left, SameDrain};
+
+use crate::vec::Vec;
+use arena_chunks::{Allocator, ChunkSource};
+use arena_items::Item;
+
+/// A range of a vector on its way out. Its values are taken from both ends, and `finish` takes the range out.
+#[derive(Drop)]
+pub struct Drain<'s, T: Item, C: ChunkSource> {
+    vec: &'s mut Vec<T>,
+    arena: &'s mut Allocator<C>,
+    start: u32,
+    end: u32,
+    front: u32,
+    back: u32,
+}
+
+#[tactic(auto, using(crate::proofs::Windows::drain_laws))]
+impl<T: Item> Vec<T> {
+    /// Takes a range out, once `finish` is called. An iterator that is dropped before leaves the vector as it is.
+    pub fn drain<'s, C: ChunkSource>(
+        &'s mut self,
+        a: &'s mut Allocator<C>,
+        start: u32,
+        end: u32,
+    ) -> Drain<'s, T, C>
+        requires small { T.SIZE ≤ 2 ^ 24 }
+        requires held { IsVecIn T.Item a.old.memory self.old }
+        requires order { start ≤ end }
+        requires within { end ≤ self.old.raw.len }
+        ensures same_vec { result.vec.ghost_name ≡ self.entry.ghost_name }
+        ensures same_arena { result.arena.ghost_name ≡ a.entry.ghost_name }
+        ensures vec { result.vec.now ≡ self.old }
+        ensures arena { result.arena.now ≡ a.old }
+        ensures drains { IsDrain T.Item result }
+        ensures range { (result.start ≡ start) × (result.end ≡ end) }
+        ensures left { left T.Item result ≡ window (vec_list T.Item a.old.memory self.old) start end }
+    {
+        Drain {
+            vec: self,
+            arena: a,
+            start,
+            end,
+            front: start,
+            back: end,
+        }
+    }
+}
+
+impl<'s, T: Item, C: ChunkSource> Drain<'s, T, C> {
+    /// Leaves the vector without the range, however much of it was taken. What stands behind it moves down in one move of memory.
+    pub fn finish(self)
+        requires { IsDrain T.Item self }
+        ensures { let old = self.entry.arena.now in
+            let list = remove_range (vec_list T.Item old.memory self.entry.vec.now) self.entry.start
+            self.entry.end in
+            Becomes T.Item old self.exit.1.0.now self.entry.vec.now list self.exit.0.now }
+    {
+        let Drain {
+            vec,
+            arena,
+            start,
+            end,
+            front: _,
+            back: _,
+        } = self;
+        *vec = (*vec).without(arena, start, end);
+    }
+}
+
+#[tactic(auto, using(crate::proofs::Windows::drain_laws))]
+impl<'s, T: Item, C: ChunkSource> Iterator for Drain<'s, T, C> {
+    type Item = T;
+
+    ghost can_next = { IsDrain T.Item };
+
+    ghost next_gives = { λ s r t. YieldsFirst (left T.Item) s r t × SameDrain T.Item s t };
+
+    ghost remaining = { item_count (left T.Item) };
+
+    fn next(&mut self) -> Option<T> {
+        if self.front == self.back {
+            return None;
+        }
+        let item = self.vec.get(self.arena, self.front);
+        self.front += 1;
+        Some(item)
+    }
+
+    fn size_hint(&self) -> (usize, Option<usize>) {
+        let left = self.back.saturating_sub(self.front) as usize;
+        (left, Some(left))
+    }
+}
+
+#[tactic(auto, using(crate::proofs::Windows::drain_laws))]
+impl<'s, T: Item, C: ChunkSource> DoubleEndedIterator for Drain<'s, T, C> {
+    ghost can_next_back = { IsDrain T.Item };
+
+    ghost next_back_gives = { λ s r t. YieldsLast (left T.Item) s r t × SameDrain T.Item s t };
+
+    fn next_back(&mut self) -> Option<T> {
+        if self.front == self.back {
+            return None;
+        }
+        let item = self.vec.get(self.arena, self.back - 1);
+        self.back -= 1;
+        Some(item)
+    }
+}
+
+#[tactic(auto, using(crate::proofs::Windows::drain_laws))]
+impl<'s, T: Item, C: ChunkSource> ExactSizeIterator for Drain<'s, T, C> {
+    fn len(&self) -> usize {
+        self.back.saturating_sub(self.front) as usize
+    }
+}

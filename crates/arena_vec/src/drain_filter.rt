@@ -1,0 +1,144 @@
+// A vector of which a test picks the values that go.
+ghost use Rattle.std.specs.Prelude.{◌≡◌, ℕ, List, ◌-◌, ◌*◌, ◌^◌, ◌≤◌, [], ◌∷◌, ◌++◌, drop, IsTrue};
+ghost use Rattle.std.specs.Fn.{CalledAtMut};
+ghost use Rattle.std.specs.Iterator.{at_most};
+ghost use Rattle.arena_chunks.specs.Memory.{is_readable};
+ghost use Rattle.arena_chunks.specs.Frame.{Frame};
+ghost use Rattle.arena_items.specs.Values.{bytes_of, elements};
+ghost use Rattle.arena_items.specs.Room.{SamePlaces};
+ghost use Rattle.arena_vec.specs.Vecs.{IsVecIn, vec_list};
+ghost use Rattle.arena_vec.specs.Filtering.{IsFilter, untested, stayed, Filters, Stays};
+ghost use Rattle.std.specs.List.Retain.{RetainsInTurn};
+ghost use Rattle.arena_vec.specs.Changes.{Becomes};
+
+use crate::vec::Vec;
+use arena_chunks::{Allocator, Block, ChunkSource};
+use arena_items::{Item, item_at, put_item};
+
+/// A vector of which a test picks the values that go. They are taken in order, and `finish` takes out the rest of them.
+#[derive(Drop)]
+pub struct DrainFilter<'s, T: Item, C: ChunkSource, F: Drop> {
+    vec: &'s mut Vec<T>,
+    arena: &'s mut Allocator<C>,
+    pred: F,
+    front: u32,
+    kept: u32,
+}
+
+impl<T: Item> Vec<T> {
+    /// Takes out the values that a test picks, once `finish` is called.
+    #[tactic(auto, using(crate::proofs::Windows::drain_laws))]
+    pub fn drain_filter<'s, C: ChunkSource, F: FnMut(&mut T) -> bool + Drop>(
+        &'s mut self,
+        a: &'s mut Allocator<C>,
+        pred: F,
+    ) -> DrainFilter<'s, T, C, F>
+        requires small { T.SIZE ≤ 2 ^ 24 }
+        requires held { IsVecIn T.Item a.old.memory self.old }
+        requires callable { F.IsAlwaysCallable pred }
+        ensures same_vec { result.vec.ghost_name ≡ self.entry.ghost_name }
+        ensures same_arena { result.arena.ghost_name ≡ a.entry.ghost_name }
+        ensures vec { result.vec.now ≡ self.old }
+        ensures arena { result.arena.now ≡ a.old }
+        ensures pred { result.pred ≡ pred }
+        ensures filters { IsFilter T.Item F.IsAlwaysCallable result }
+        ensures untested { untested T.Item result ≡ vec_list T.Item a.old.memory self.old }
+        ensures stayed { stayed T.Item result ≡ [] }
+    {
+        DrainFilter {
+            vec: self,
+            arena: a,
+            pred,
+            front: 0,
+            kept: 0,
+        }
+    }
+}
+
+// Tests the values from `front` on. Those that the test doesn't pick move down behind the first `kept`.
+fn drop_rest<T: Item, C: ChunkSource, F: FnMut(&mut T) -> bool + Drop>(
+    a: &mut Allocator<C>,
+    block: Block,
+    len: u32,
+    front: u32,
+    kept: u32,
+    pred: F,
+) -> u32
+    requires small { T.SIZE ≤ 2 ^ 24 }
+    requires readable { IsTrue (is_readable a.old.memory.state block) }
+    requires room { len * T.SIZE ≤ block.size }
+    requires order { kept ≤ front }
+    requires within { front ≤ len }
+    requires callable { F.IsAlwaysCallable pred }
+    ensures fewer { result ≤ len }
+    ensures list { (rest : List T) × RetainsInTurn (Stays (CalledAtMut F.FnMut)) pred
+        (elements T.SIZE T.decoded (len - front) (drop (front * T.SIZE) (bytes_of a.old.memory block))) rest
+        × (elements T.SIZE T.decoded result (bytes_of a.new.memory block)
+        ≡ elements T.SIZE T.decoded kept (bytes_of a.old.memory block) ++ rest) }
+    ensures places { SamePlaces a.old a.new }
+    ensures frame { Frame a.old.memory a.new.memory (block ∷ []) (block ∷ []) }
+{
+    let mut pred = pred;
+    let mut stay = kept;
+    for k in front..len {
+        let mut item: T = item_at(a, block, k as u64);
+        if !pred(&mut item) {
+            put_item(a, block, stay as u64, item);
+            stay += 1;
+        }
+    }
+    stay
+}
+
+impl<'s, T: Item, C: ChunkSource, F: FnMut(&mut T) -> bool + Drop> DrainFilter<'s, T, C, F> {
+    /// Takes out the rest of the values that the test picks. The others stay, as the test left them.
+    pub fn finish(self)
+        requires { IsFilter T.Item F.IsAlwaysCallable self }
+        ensures { (rest : List T) × RetainsInTurn (Stays (CalledAtMut F.FnMut)) self.entry.pred
+            (untested T.Item self.entry) rest
+            × Becomes T.Item self.entry.arena.now self.exit.1.0.now self.entry.vec.now
+            (stayed T.Item self.entry ++ rest) self.exit.0.now }
+    {
+        let DrainFilter {
+            vec,
+            arena,
+            pred,
+            front,
+            kept,
+        } = self;
+        vec.raw.len = drop_rest(arena, vec.raw.block, vec.raw.len, front, kept, pred);
+    }
+}
+
+impl<'s, T: Item, C: ChunkSource, F: FnMut(&mut T) -> bool + Drop> Iterator
+    for DrainFilter<'s, T, C, F> {
+    type Item = T;
+
+    ghost can_next = { IsFilter T.Item F.IsAlwaysCallable };
+
+    ghost next_gives = { Filters T.Item F.IsAlwaysCallable (CalledAtMut F.FnMut) };
+
+    ghost remaining = { λ s. at_most (s.vec.now.raw.len - s.front) };
+
+    fn next(&mut self) -> Option<T> {
+        let block = self.vec.raw.block;
+        let len = self.vec.raw.len;
+        while self.front < len {
+            let mut item: T = item_at(self.arena, block, self.front as u64);
+            self.front += 1;
+            if (self.pred)(&mut item) {
+                return Some(item);
+            }
+            put_item(self.arena, block, self.kept as u64, item);
+            self.kept += 1;
+        }
+        None
+    }
+
+    fn size_hint(&self) -> (usize, Option<usize>) {
+        (
+            0,
+            Some(self.vec.raw.len.saturating_sub(self.front) as usize),
+        )
+    }
+}

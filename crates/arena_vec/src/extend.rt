@@ -1,0 +1,133 @@
+// Items of iterators.
+ghost use Rattle.std.specs.Prelude.{◌≡◌, ◌+◌, ◌^◌, ◌≤◌, ◌++◌, [], ◌∷◌, IfOk, OnOk, IfErr, OnErr};
+ghost use Rattle.std.specs.Iterator.{IsFinite};
+ghost use Rattle.std.specs.Iterator.SizeHint.{IsWithinCount};
+ghost use Rattle.arena_chunks.specs.Frame.{Frame};
+ghost use Rattle.arena_vec.specs.Growth.{amortised_growth};
+ghost use Rattle.arena_vec.specs.Vecs.{IsVecIn, vec_list};
+ghost use Rattle.arena_vec.specs.Changes.{Grows};
+ghost use Rattle.arena_vec.specs.Extending.{hinted_growth, first_room, TakesAll, TakesSome, BuildsFrom};
+
+use crate::growth::has_room;
+use crate::vec::Vec;
+use arena_chunks::{Allocator, ChunkSource};
+use arena_items::{Grown, Item};
+
+// For how many values more a vector makes room, where so many are said to follow one that is put at the end.
+#[tactic(auto, unfolding(crate::specs::Growth::fits, crate::specs::Growth::growth_to, crate::specs::Extending::hinted_growth))]
+fn wanted(size: u64, cap: u32, len: u32, hint: u64) -> u64
+    requires small { size ≤ 2 ^ 24 }
+    ensures some { 1 ≤ result }
+    ensures same { amortised_growth size cap (len + result) ≡ hinted_growth size cap len hint }
+{
+    if len < cap || hint >= u32::MAX as u64 {
+        return 1;
+    }
+    if has_room(size, len as u64 + (hint + 1)) {
+        return hint + 1;
+    }
+    1
+}
+
+// For how many values a new vector has room, by an iterator's hints.
+#[tactic(auto, unfolding(crate::specs::Extending::first_room))]
+fn room_at_first(size: u64, least: u64, most: Option<usize>) -> u64
+    requires small { size ≤ 2 ^ 24 }
+    ensures { result ≡ first_room size least most }
+{
+    if let Some(n) = most {
+        if has_room(size, n as u64) {
+            return n as u64;
+        }
+    }
+    if has_room(size, least) { least } else { 0 }
+}
+
+// How many items an iterator says are to come at the least, if that is wanted.
+#[inline]
+fn hint_of<I: Iterator>(iter: &I, is_wanted: bool) -> u64
+    ensures { IsWithinCount result (I.remaining iter.now) }
+{
+    if is_wanted {
+        iter.size_hint().0 as u64
+    } else {
+        0
+    }
+}
+
+impl<T: Item> Vec<T> {
+    // Puts a value at the end. A full vector makes room for so many more too, if they fit.
+    fn push_hinted<C: ChunkSource>(
+        &mut self,
+        a: &mut Allocator<C>,
+        value: T,
+        hint: u64,
+    ) -> Grown<()>
+        requires small { T.SIZE ≤ 2 ^ 24 }
+        requires held { IsVecIn T.Item a.old.memory self.old }
+        ensures { let growth = hinted_growth T.SIZE self.old.raw.cap self.old.raw.len hint in
+            let list = vec_list T.Item a.old.memory self.old ++ value ∷ [] in
+            Grows T.Item a.old a.new self.old growth list self.new result }
+    {
+        let more = wanted(T::SIZE, self.raw.cap, self.raw.len, hint);
+        self.push_with_room(a, value, more)
+    }
+
+    /// Puts an iterator's items at the end, one after another. A vector that is full makes room for the items that the
+    /// iterator says are to come, if they fit, and else for one.
+    ///
+    /// # Errors
+    ///
+    /// As of `try_reserve`. The items taken before are there, but for the last.
+    pub fn extend<C: ChunkSource, I: Iterator<Item = T>>(
+        &mut self,
+        a: &mut Allocator<C>,
+        iter: I,
+    ) -> Grown<()>
+    where
+        I: Drop,
+        requires small { T.SIZE ≤ 2 ^ 24 }
+        requires held { IsVecIn T.Item a.old.memory self.old }
+        requires can { I.can_next iter }
+        requires ends { IsFinite (I.remaining iter) }
+        ensures held { IsVecIn T.Item a.new.memory self.new }
+        ensures frame { Frame a.old.memory a.new.memory (self.old.raw.block ∷ []) (self.new.raw.block ∷ []) }
+        ensures ok { OnOk result (TakesAll T.Item I.next_gives I.remaining iter a.old a.new self.old self.new) }
+        ensures err { IfErr result (TakesSome T.Item I.next_gives I.remaining iter a.old a.new self.old
+            self.new) }
+    {
+        let mut iter = iter;
+        while let Some(value) = iter.next() {
+            let hint = hint_of(&iter, self.raw.len == self.raw.cap);
+            self.push_hinted(a, value, hint)?;
+        }
+        Ok(())
+    }
+
+    /// A vector of an iterator's items. Room is made at once for the greatest number that the iterator says are to come,
+    /// or else for the least, if they fit.
+    ///
+    /// # Errors
+    ///
+    /// As of `extend`. What was placed stays.
+    pub fn from_iter_in<C: ChunkSource, I: Iterator<Item = T>>(
+        iter: I,
+        a: &mut Allocator<C>,
+    ) -> Grown<Vec<T>>
+    where
+        I: Drop,
+        requires small { T.SIZE ≤ 2 ^ 24 }
+        requires can { I.can_next iter }
+        requires ends { IsFinite (I.remaining iter) }
+        ensures held { IfOk result (IsVecIn T.Item a.new.memory) }
+        ensures frame { IfOk result (λ v. Frame a.old.memory a.new.memory [] (v.raw.block ∷ [])) }
+        ensures beside { OnErr result (Frame a.old.memory a.new.memory [] []) }
+        ensures builds { BuildsFrom T.Item I.next_gives I.remaining iter a.old a.new result }
+    {
+        let (least, most) = iter.size_hint();
+        let first = room_at_first(T::SIZE, least as u64, most);
+        let mut vec = Vec::with_capacity_in(first, a)?;
+        vec.extend(a, iter)?;
+        Ok(vec)
+    }
+}

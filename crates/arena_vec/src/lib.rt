@@ -1,0 +1,29 @@
+//! Vectors in an arena: lists of values with a byte form, that grow.
+#![tactic(auto)]
+
+mod bulk;
+mod compare;
+mod debug;
+mod dedup;
+mod drain;
+mod drain_filter;
+mod extend;
+mod growth;
+mod handle;
+mod hashing;
+mod into_iter;
+pub mod laws;
+mod raw;
+mod retain;
+mod rows;
+mod splice;
+mod uses;
+mod vec;
+
+pub use arena_items::{AllocError, Grown};
+pub use drain::Drain;
+pub use drain_filter::DrainFilter;
+pub use into_iter::IntoIter;
+pub use raw::RawVec;
+pub use splice::Splice;
+pub use vec::Vec;

@@ -1,0 +1,113 @@
+// Values that a test picks.
+ghost use Rattle.std.specs.Prelude.{List, ◌*◌, ◌^◌, ◌≤◌, [], ◌∷◌, IsTrue};
+ghost use Rattle.std.specs.Fn.{CalledAt, CalledAtMut};
+ghost use Rattle.std.specs.List.Retain.{IsFiltered, RetainsInTurn};
+ghost use Rattle.arena_chunks.specs.Memory.{is_readable};
+ghost use Rattle.arena_chunks.specs.Frame.{Frame};
+ghost use Rattle.arena_items.specs.Values.{bytes_of, elements};
+ghost use Rattle.arena_vec.specs.Vecs.{IsVecIn, vec_list};
+ghost use Rattle.arena_items.specs.Room.{SamePlaces};
+ghost use Rattle.arena_vec.specs.Changes.{Becomes};
+
+use crate::vec::Vec;
+use arena_chunks::{Allocator, Block, ChunkSource};
+use arena_items::{Item, item_at, put_item};
+
+// Moves the values that a test picks to the front, and tells how many they are.
+fn keep<T: Item, C: ChunkSource, F: FnMut(&T) -> bool>(
+    a: &mut Allocator<C>,
+    block: Block,
+    len: u32,
+    f: F,
+) -> u32
+where
+    F: Drop,
+    requires small { T.SIZE ≤ 2 ^ 24 }
+    requires readable { IsTrue (is_readable a.old.memory.state block) }
+    requires room { len * T.SIZE ≤ block.size }
+    requires callable { F.IsAlwaysCallable f }
+    ensures fewer { result ≤ len }
+    ensures list { IsFiltered (CalledAt F.FnMut) f
+        (elements T.SIZE T.decoded len (bytes_of a.old.memory block))
+        (elements T.SIZE T.decoded result (bytes_of a.new.memory block)) }
+    ensures places { SamePlaces a.old a.new }
+    ensures frame { Frame a.old.memory a.new.memory (block ∷ []) (block ∷ []) }
+{
+    let mut f = f;
+    let mut kept = 0u32;
+    for k in 0..len {
+        let item: T = item_at(a, block, k as u64);
+        if f(&item) {
+            put_item(a, block, kept as u64, item);
+            kept += 1;
+        }
+    }
+    kept
+}
+
+// The same with a test that changes the values that it sees.
+fn keep_mut<T: Item, C: ChunkSource, F: FnMut(&mut T) -> bool>(
+    a: &mut Allocator<C>,
+    block: Block,
+    len: u32,
+    f: F,
+) -> u32
+where
+    F: Drop,
+    requires small { T.SIZE ≤ 2 ^ 24 }
+    requires readable { IsTrue (is_readable a.old.memory.state block) }
+    requires room { len * T.SIZE ≤ block.size }
+    requires callable { F.IsAlwaysCallable f }
+    ensures fewer { result ≤ len }
+    ensures list { RetainsInTurn (CalledAtMut F.FnMut) f
+        (elements T.SIZE T.decoded len (bytes_of a.old.memory block))
+        (elements T.SIZE T.decoded result (bytes_of a.new.memory block)) }
+    ensures places { SamePlaces a.old a.new }
+    ensures frame { Frame a.old.memory a.new.memory (block ∷ []) (block ∷ []) }
+{
+    let mut f = f;
+    let mut kept = 0u32;
+    for k in 0..len {
+        let mut item: T = item_at(a, block, k as u64);
+        if f(&mut item) {
+            put_item(a, block, kept as u64, item);
+            kept += 1;
+        }
+    }
+    kept
+}
+
+#[tactic(auto, using(crate::proofs::VecLemmas::vec_laws, crate::proofs::VecLemmas::becomes))]
+impl<T: Item> Vec<T> {
+    /// Keeps the values that a test picks, as it left them.
+    pub fn retain_mut<C: ChunkSource, F: FnMut(&mut T) -> bool>(
+        &mut self,
+        a: &mut Allocator<C>,
+        f: F,
+    )
+    where
+        F: Drop,
+        requires small { T.SIZE ≤ 2 ^ 24 }
+        requires held { IsVecIn T.Item a.old.memory self.old }
+        requires callable { F.IsAlwaysCallable f }
+        ensures { (list : List T) × RetainsInTurn (CalledAtMut F.FnMut) f
+            (vec_list T.Item a.old.memory self.old) list
+            × Becomes T.Item a.old a.new self.old list self.new }
+    {
+        self.raw.len = keep_mut(a, self.raw.block, self.raw.len, f);
+    }
+
+    /// Keeps the values that a test picks, which sees each once, in order.
+    pub fn retain<C: ChunkSource, F: FnMut(&T) -> bool>(&mut self, a: &mut Allocator<C>, f: F)
+    where
+        F: Drop,
+        requires small { T.SIZE ≤ 2 ^ 24 }
+        requires held { IsVecIn T.Item a.old.memory self.old }
+        requires callable { F.IsAlwaysCallable f }
+        ensures { (list : List T) × IsFiltered (CalledAt F.FnMut) f
+            (vec_list T.Item a.old.memory self.old) list
+            × Becomes T.Item a.old a.new self.old list self.new }
+    {
+        self.raw.len = keep(a, self.raw.block, self.raw.len, f);
+    }
+}

@@ -1,0 +1,498 @@
+// Vectors.
+ghost use Rattle.std.specs.Prelude.{◌≡◌, ◌+◌, ◌-◌, ◌*◌, ◌^◌, ◌<◌, ◌≤◌, [], ◌∷◌, ◌++◌, take, length, Some, IfOk, OnErr, OnOk, slice_get, slice_set, if◌then◌else◌, ◌==◌};
+ghost use Rattle.std.specs.List.{insert, remove, swap_remove, remove_range};
+ghost use Rattle.arena_chunks.specs.Memory.{Memory, image, bytes_from};
+ghost use Rattle.arena_chunks.specs.Source.{View};
+ghost use Rattle.arena_items.specs.Values.{elements, bytes_of, IsHeld};
+ghost use Rattle.arena_vec.specs.Growth.{amortised_growth, exact_growth, empty_capacity};
+ghost use Rattle.arena_vec.specs.Held.{empty_block, IsRawIn};
+ghost use Rattle.arena_items.specs.Room.{MakesRoom};
+ghost use Rattle.arena_vec.specs.Storage.{IsGrown, Makes, ShrinksTo};
+ghost use Rattle.arena_vec.specs.Vecs.{IsVecIn, vec_list};
+ghost use Rattle.arena_vec.specs.Changes.{Becomes, Grows};
+
+use crate::raw::{RawVec, reserved};
+use arena_chunks::{Allocator, Block, ChunkSource};
+use arena_items::{Grown, Item, item_at, move_items, put_item, put_items};
+
+/// The handle of a list in an arena. It is a name: two of them may name the same list.
+#[derive(Clone, Copy)]
+pub struct Vec<T> {
+    /// Where the values stand.
+    pub raw: RawVec<T>,
+}
+
+// The storage with room for so many more values.
+#[tactic(auto, unfolding(crate::specs::Growth::growth_to), using(crate::proofs::RoomLemmas::room_laws))]
+#[inline]
+pub(crate) fn roomy<T: Item, C: ChunkSource>(
+    a: &mut Allocator<C>,
+    raw: RawVec<T>,
+    additional: u64,
+) -> Grown<RawVec<T>>
+    requires small { T.SIZE ≤ 2 ^ 24 }
+    requires held { IsRawIn T.Item a.old.memory raw }
+    ensures made { let growth = amortised_growth T.SIZE raw.cap (raw.len + additional) in
+        MakesRoom T.SIZE T.ALIGN a.old a.new raw.block raw.cap growth (λ r. r.block) result }
+    ensures grown { let growth = amortised_growth T.SIZE raw.cap (raw.len + additional) in
+        IfOk result (IsGrown T.Item a.old.memory a.new.memory raw growth) }
+    ensures enough { IfOk result (λ r. raw.len + additional ≤ r.cap) }
+    ensures err { OnErr result (a.new.memory ≡ a.old.memory) }
+{
+    if additional <= (raw.cap - raw.len) as u64 {
+        return Ok(raw);
+    }
+    reserved(a, raw, raw.len, additional, false)
+}
+
+#[tactic(auto, using(crate::proofs::VecLemmas::vec_laws))]
+impl<T: Item> Vec<T> {
+    /// No values and no storage.
+    pub fn new_in() -> Vec<T>
+        ensures held { (memory : Memory) → IsVecIn T.Item memory result }
+        ensures list { (memory : Memory) → vec_list T.Item memory result ≡ [] }
+        ensures len { result.raw.len ≡ 0 }
+        ensures cap { result.raw.cap ≡ empty_capacity T.SIZE }
+        ensures block { result.raw.block ≡ empty_block T.ALIGN }
+    {
+        Vec {
+            raw: RawVec::new_in(),
+        }
+    }
+
+    /// No values, with room for exactly so many.
+    ///
+    /// # Errors
+    ///
+    /// `CapacityOverflow` where so many don't fit, and else as of the arena's `alloc_layout`.
+    pub fn with_capacity_in<C: ChunkSource>(capacity: u64, a: &mut Allocator<C>) -> Grown<Vec<T>>
+        requires { T.SIZE ≤ 2 ^ 24 }
+        ensures { Makes T.Item (λ v. v.raw) a.old a.new capacity [] result }
+    {
+        let raw = RawVec::with_capacity_in(capacity, a)?;
+        Ok(Vec { raw })
+    }
+
+    /// One value, with room for it alone.
+    ///
+    /// # Errors
+    ///
+    /// As of `with_capacity_in`.
+    pub fn from_value_in<C: ChunkSource>(value: T, a: &mut Allocator<C>) -> Grown<Vec<T>>
+        requires { T.SIZE ≤ 2 ^ 24 }
+        ensures { Makes T.Item (λ v. v.raw) a.old a.new 1 (value ∷ []) result }
+    {
+        let mut raw = RawVec::with_capacity_in(1, a)?;
+        put_item(a, raw.block, 0, value);
+        raw.len = 1;
+        Ok(Vec { raw })
+    }
+
+    /// The values of an array, with room for them alone.
+    ///
+    /// # Errors
+    ///
+    /// As of `with_capacity_in`.
+    pub fn from_array_in<const N: usize, C: ChunkSource>(
+        array: [T; N],
+        a: &mut Allocator<C>,
+    ) -> Grown<Vec<T>>
+        requires { T.SIZE ≤ 2 ^ 24 }
+        ensures { Makes T.Item (λ v. v.raw) a.old a.new (length array) array result }
+    {
+        let values: &[T] = &array;
+        let n = values.len() as u64;
+        let mut raw = RawVec::with_capacity_in(n, a)?;
+        put_items(a, raw.block, 0, values);
+        raw.len = n as u32;
+        Ok(Vec { raw })
+    }
+
+    /// The values that stand in a block. For values of no bytes there is room for 4,294,967,295, whatever `capacity` says.
+    pub fn from_raw_parts_in(block: Block, length: u32, capacity: u32) -> Vec<T>
+        requires size { block.size ≡ capacity * T.SIZE }
+        requires align { block.align ≡ T.ALIGN }
+        requires within { length ≤ capacity }
+        ensures held { (memory : Memory) → IsHeld (capacity * T.SIZE) T.ALIGN memory.state block
+            → IsVecIn T.Item memory result }
+        ensures list { (memory : Memory) → vec_list T.Item memory result
+            ≡ elements T.SIZE T.decoded length (bytes_of memory block) }
+        ensures block { result.raw.block ≡ block }
+        ensures len { result.raw.len ≡ length }
+        ensures cap { result.raw.cap ≡ (if T.SIZE == 0 then 2 ^ 32 - 1 else capacity) }
+    {
+        Vec {
+            raw: RawVec::from_raw_parts_in(block, length, capacity),
+        }
+    }
+
+    /// How many values there are.
+    #[inline]
+    pub fn len(&self) -> u32
+        ensures { result ≡ self.now.raw.len }
+    {
+        self.raw.len
+    }
+
+    /// Whether there are none.
+    #[inline]
+    pub fn is_empty(&self) -> bool
+        ensures { result ≡ (self.now.raw.len == 0) }
+    {
+        self.raw.len == 0
+    }
+
+    /// For how many values there is room.
+    #[inline]
+    pub fn capacity(&self) -> u32
+        ensures { result ≡ self.now.raw.cap }
+    {
+        self.raw.cap
+    }
+
+    /// The block of the values.
+    pub fn as_ptr(&self) -> Block
+        ensures { result ≡ self.now.raw.block }
+    {
+        self.raw.block
+    }
+
+    /// The block of the values.
+    pub fn as_mut_ptr(&mut self) -> Block
+        ensures block { result ≡ self.old.raw.block }
+        ensures handle { self.new ≡ self.old }
+    {
+        self.raw.block
+    }
+
+    /// The value at an index.
+    #[inline]
+    pub fn get<C: ChunkSource>(&self, a: &Allocator<C>, i: u32) -> T
+        requires small { T.SIZE ≤ 2 ^ 24 }
+        requires held { IsVecIn T.Item a.now.memory self.now }
+        requires index { i < self.now.raw.len }
+        ensures { slice_get (vec_list T.Item a.now.memory self.now) i ≡ Some result }
+    {
+        item_at(a, self.raw.block, i as u64)
+    }
+
+    /// Replaces the value at an index.
+    #[inline]
+    pub fn set<C: ChunkSource>(&mut self, a: &mut Allocator<C>, i: u32, value: T)
+        requires small { T.SIZE ≤ 2 ^ 24 }
+        requires held { IsVecIn T.Item a.old.memory self.old }
+        requires index { i < self.old.raw.len }
+        ensures { let list = slice_set (vec_list T.Item a.old.memory self.old) i value in
+            Becomes T.Item a.old a.new self.old list self.new }
+    {
+        put_item(a, self.raw.block, i as u64, value);
+    }
+
+    /// The bytes of the values, one after another.
+    pub fn as_slice<'x, C: ChunkSource>(&self, a: &'x Allocator<C>) -> &'x [u8]
+        requires small { T.SIZE ≤ 2 ^ 24 }
+        requires held { IsVecIn T.Item a.now.memory self.now }
+        ensures bytes { result.now
+            ≡ bytes_from (image a.now.memory) self.now.raw.block.addr (self.now.raw.len * T.SIZE) }
+        ensures list { elements T.SIZE T.decoded self.now.raw.len result.now
+            ≡ vec_list T.Item a.now.memory self.now }
+    {
+        let n = (self.raw.len as u64 * T::SIZE) as usize;
+        &a.read(self.raw.block)[..n]
+    }
+
+    /// Makes room for so many more values: for twice as many as there is room for, or for as many as are required.
+    ///
+    /// # Errors
+    ///
+    /// `CapacityOverflow` where so many don't fit, and else as of the arena's `alloc_layout` or `grow`. Nothing changes.
+    pub fn try_reserve<C: ChunkSource>(
+        &mut self,
+        a: &mut Allocator<C>,
+        additional: u64,
+    ) -> Grown<()>
+        requires small { T.SIZE ≤ 2 ^ 24 }
+        requires held { IsVecIn T.Item a.old.memory self.old }
+        ensures grows { let growth = amortised_growth T.SIZE self.old.raw.cap
+            (self.old.raw.len + additional) in
+            Grows T.Item a.old a.new self.old growth (vec_list T.Item a.old.memory self.old) self.new result }
+        ensures enough { OnOk result (self.old.raw.len + additional ≤ self.new.raw.cap) }
+    {
+        self.raw = roomy(a, self.raw, additional)?;
+        Ok(())
+    }
+
+    /// The same as `try_reserve`.
+    ///
+    /// # Errors
+    ///
+    /// As of `try_reserve`.
+    pub fn reserve<C: ChunkSource>(&mut self, a: &mut Allocator<C>, additional: u64) -> Grown<()>
+        requires small { T.SIZE ≤ 2 ^ 24 }
+        requires held { IsVecIn T.Item a.old.memory self.old }
+        ensures grows { let growth = amortised_growth T.SIZE self.old.raw.cap
+            (self.old.raw.len + additional) in
+            Grows T.Item a.old a.new self.old growth (vec_list T.Item a.old.memory self.old) self.new result }
+        ensures enough { OnOk result (self.old.raw.len + additional ≤ self.new.raw.cap) }
+    {
+        self.try_reserve(a, additional)
+    }
+
+    /// Makes room for exactly so many more values, where there is less.
+    ///
+    /// # Errors
+    ///
+    /// As of `try_reserve`.
+    pub fn try_reserve_exact<C: ChunkSource>(
+        &mut self,
+        a: &mut Allocator<C>,
+        additional: u64,
+    ) -> Grown<()>
+        requires small { T.SIZE ≤ 2 ^ 24 }
+        requires held { IsVecIn T.Item a.old.memory self.old }
+        ensures grows { let growth = exact_growth T.SIZE self.old.raw.cap (self.old.raw.len + additional) in
+            Grows T.Item a.old a.new self.old growth (vec_list T.Item a.old.memory self.old) self.new result }
+        ensures enough { OnOk result (self.old.raw.len + additional ≤ self.new.raw.cap) }
+    {
+        self.raw = reserved(a, self.raw, self.raw.len, additional, true)?;
+        Ok(())
+    }
+
+    /// The same as `try_reserve_exact`.
+    ///
+    /// # Errors
+    ///
+    /// As of `try_reserve`.
+    pub fn reserve_exact<C: ChunkSource>(
+        &mut self,
+        a: &mut Allocator<C>,
+        additional: u64,
+    ) -> Grown<()>
+        requires small { T.SIZE ≤ 2 ^ 24 }
+        requires held { IsVecIn T.Item a.old.memory self.old }
+        ensures grows { let growth = exact_growth T.SIZE self.old.raw.cap (self.old.raw.len + additional) in
+            Grows T.Item a.old a.new self.old growth (vec_list T.Item a.old.memory self.old) self.new result }
+        ensures enough { OnOk result (self.old.raw.len + additional ≤ self.new.raw.cap) }
+    {
+        self.try_reserve_exact(a, additional)
+    }
+
+    /// Leaves room for no more values than there are. Where there are none the block is given back.
+    pub fn shrink_to_fit<C: ChunkSource>(&mut self, a: &mut Allocator<C>)
+        requires small { T.SIZE ≤ 2 ^ 24 }
+        requires held { IsVecIn T.Item a.old.memory self.old }
+        ensures shrinks { ShrinksTo T.Item a.old a.new self.old.raw self.old.raw.len self.new.raw }
+        ensures held { IsVecIn T.Item a.new.memory self.new }
+        ensures list { vec_list T.Item a.new.memory self.new ≡ vec_list T.Item a.old.memory self.old }
+    {
+        let len = self.raw.len;
+        self.raw.shrink_to_fit(a, len);
+    }
+
+    /// Keeps the first `len` values, or all where they are fewer.
+    #[inline]
+    pub fn truncate(&mut self, len: u32)
+        ensures held { (m : Memory) → IsVecIn T.Item m self.old → IsVecIn T.Item m self.new }
+        ensures becomes { (a : View) → IsVecIn T.Item a.memory self.old
+            → Becomes T.Item a a self.old (take len (vec_list T.Item a.memory self.old)) self.new }
+    {
+        if len < self.raw.len {
+            self.raw.len = len;
+        }
+    }
+
+    /// Keeps no value. The storage stays.
+    #[inline]
+    pub fn clear(&mut self)
+        ensures held { (m : Memory) → IsVecIn T.Item m self.old → IsVecIn T.Item m self.new }
+        ensures becomes { (a : View) → IsVecIn T.Item a.memory self.old → Becomes T.Item a a self.old [] self.new }
+    {
+        self.raw.len = 0;
+    }
+
+    // Puts a value at the end, with room for this many more values then, and at least for one.
+    #[inline]
+    pub(crate) fn push_with_room<C: ChunkSource>(
+        &mut self,
+        a: &mut Allocator<C>,
+        value: T,
+        additional: u64,
+    ) -> Grown<()>
+        requires small { T.SIZE ≤ 2 ^ 24 }
+        requires held { IsVecIn T.Item a.old.memory self.old }
+        requires some { 1 ≤ additional }
+        ensures { let growth = amortised_growth T.SIZE self.old.raw.cap (self.old.raw.len + additional) in
+            let list = vec_list T.Item a.old.memory self.old ++ value ∷ [] in
+            Grows T.Item a.old a.new self.old growth list self.new result }
+    {
+        let mut raw = roomy(a, self.raw, additional)?;
+        put_item(a, raw.block, raw.len as u64, value);
+        raw.len += 1;
+        self.raw = raw;
+        Ok(())
+    }
+
+    /// Puts a value at the end. Below the capacity no memory is taken.
+    ///
+    /// # Errors
+    ///
+    /// As of `try_reserve`.
+    #[inline]
+    pub fn push<C: ChunkSource>(&mut self, a: &mut Allocator<C>, value: T) -> Grown<()>
+        requires small { T.SIZE ≤ 2 ^ 24 }
+        requires held { IsVecIn T.Item a.old.memory self.old }
+        ensures { let growth = amortised_growth T.SIZE self.old.raw.cap (self.old.raw.len + 1) in
+            let list = vec_list T.Item a.old.memory self.old ++ value ∷ [] in
+            Grows T.Item a.old a.new self.old growth list self.new result }
+    {
+        self.push_with_room(a, value, 1)
+    }
+
+    /// The same as `push`.
+    ///
+    /// # Errors
+    ///
+    /// As of `try_reserve`.
+    #[inline]
+    pub fn push_fast<C: ChunkSource>(&mut self, a: &mut Allocator<C>, value: T) -> Grown<()>
+        requires small { T.SIZE ≤ 2 ^ 24 }
+        requires held { IsVecIn T.Item a.old.memory self.old }
+        ensures { let growth = amortised_growth T.SIZE self.old.raw.cap (self.old.raw.len + 1) in
+            let list = vec_list T.Item a.old.memory self.old ++ value ∷ [] in
+            Grows T.Item a.old a.new self.old growth list self.new result }
+    {
+        self.push(a, value)
+    }
+
+    /// Puts a value at the end, as `push` does, and answers its index.
+    ///
+    /// # Errors
+    ///
+    /// As of `try_reserve`.
+    #[inline]
+    pub fn push_mut<C: ChunkSource>(&mut self, a: &mut Allocator<C>, value: T) -> Grown<u32>
+        requires small { T.SIZE ≤ 2 ^ 24 }
+        requires held { IsVecIn T.Item a.old.memory self.old }
+        ensures grows { let growth = amortised_growth T.SIZE self.old.raw.cap (self.old.raw.len + 1) in
+            let list = vec_list T.Item a.old.memory self.old ++ value ∷ [] in
+            Grows T.Item a.old a.new self.old growth list self.new result }
+        ensures index { IfOk result (λ i. i ≡ self.old.raw.len) }
+    {
+        let index = self.raw.len;
+        self.push(a, value)?;
+        Ok(index)
+    }
+
+    /// The same as `push_mut`.
+    ///
+    /// # Errors
+    ///
+    /// As of `try_reserve`.
+    #[inline]
+    pub fn push_fast_mut<C: ChunkSource>(&mut self, a: &mut Allocator<C>, value: T) -> Grown<u32>
+        requires small { T.SIZE ≤ 2 ^ 24 }
+        requires held { IsVecIn T.Item a.old.memory self.old }
+        ensures grows { let growth = amortised_growth T.SIZE self.old.raw.cap (self.old.raw.len + 1) in
+            let list = vec_list T.Item a.old.memory self.old ++ value ∷ [] in
+            Grows T.Item a.old a.new self.old growth list self.new result }
+        ensures index { IfOk result (λ i. i ≡ self.old.raw.len) }
+    {
+        self.push_mut(a, value)
+    }
+
+    /// Takes the last value.
+    #[inline]
+    pub fn pop<C: ChunkSource>(&mut self, a: &Allocator<C>) -> Option<T>
+        requires small { T.SIZE ≤ 2 ^ 24 }
+        requires held { IsVecIn T.Item a.now.memory self.old }
+        ensures becomes { let list = take (self.old.raw.len - 1) (vec_list T.Item a.now.memory self.old) in
+            Becomes T.Item a.now a.now self.old list self.new }
+        ensures value { slice_get (vec_list T.Item a.now.memory self.old) (self.old.raw.len - 1) ≡ result }
+    {
+        if self.raw.len == 0 {
+            return None;
+        }
+        let last = self.get(a, self.raw.len - 1);
+        self.raw.len -= 1;
+        Some(last)
+    }
+
+    /// Puts a value at an index. Those from there on move up by one, in one move of memory.
+    ///
+    /// # Errors
+    ///
+    /// As of `try_reserve`.
+    pub fn insert<C: ChunkSource>(&mut self, a: &mut Allocator<C>, i: u32, value: T) -> Grown<()>
+        requires small { T.SIZE ≤ 2 ^ 24 }
+        requires held { IsVecIn T.Item a.old.memory self.old }
+        requires index { i ≤ self.old.raw.len }
+        ensures { let growth = amortised_growth T.SIZE self.old.raw.cap (self.old.raw.len + 1) in
+            let list = insert (vec_list T.Item a.old.memory self.old) i value in
+            Grows T.Item a.old a.new self.old growth list self.new result }
+    {
+        let mut raw = roomy(a, self.raw, 1)?;
+        let at = i as u64;
+        move_items::<T, C>(a, raw.block, at, at + 1, raw.len as u64 - at);
+        put_item(a, raw.block, at, value);
+        raw.len += 1;
+        self.raw = raw;
+        Ok(())
+    }
+
+    // The vector without a range. What stands behind it moves down, in one move of memory.
+    pub(crate) fn without<C: ChunkSource>(
+        self,
+        a: &mut Allocator<C>,
+        start: u32,
+        end: u32,
+    ) -> Vec<T>
+        requires held { IsVecIn T.Item a.old.memory self }
+        requires order { start ≤ end }
+        requires within { end ≤ self.raw.len }
+        ensures { let list = remove_range (vec_list T.Item a.old.memory self) start end in
+            Becomes T.Item a.old a.new self list result }
+    {
+        let mut raw = self.raw;
+        move_items::<T, C>(
+            a,
+            raw.block,
+            end as u64,
+            start as u64,
+            (raw.len - end) as u64,
+        );
+        raw.len -= end - start;
+        Vec { raw }
+    }
+
+    /// Takes the value at an index. Those behind it move down by one, in one move of memory.
+    pub fn remove<C: ChunkSource>(&mut self, a: &mut Allocator<C>, i: u32) -> T
+        requires small { T.SIZE ≤ 2 ^ 24 }
+        requires held { IsVecIn T.Item a.old.memory self.old }
+        requires index { i < self.old.raw.len }
+        ensures becomes { let list = remove (vec_list T.Item a.old.memory self.old) i in
+            Becomes T.Item a.old a.new self.old list self.new }
+        ensures value { slice_get (vec_list T.Item a.old.memory self.old) i ≡ Some result }
+    {
+        let _len = self.raw.len;
+        let value = self.get(a, i);
+        *self = self.without(a, i, i + 1);
+        value
+    }
+
+    /// Takes the value at an index. The last one takes its place.
+    pub fn swap_remove<C: ChunkSource>(&mut self, a: &mut Allocator<C>, i: u32) -> T
+        requires small { T.SIZE ≤ 2 ^ 24 }
+        requires held { IsVecIn T.Item a.old.memory self.old }
+        requires index { i < self.old.raw.len }
+        ensures becomes { let list = swap_remove (vec_list T.Item a.old.memory self.old) i result in
+            Becomes T.Item a.old a.new self.old list self.new }
+        ensures value { slice_get (vec_list T.Item a.old.memory self.old) i ≡ Some result }
+    {
+        let value = self.get(a, i);
+        let end = self.raw.len - 1;
+        let last = self.get(a, end);
+        put_item(a, self.raw.block, i as u64, last);
+        self.raw.len = end;
+        value
+    }
+}

@@ -1,0 +1,6 @@
+use Rattle.arena_items.specs.contracts.numbers.unsigned.U32Item.TheImpl.{ghosts}
+use Rattle.arena_vec.specs.Vecs.{IsVecIn}
+use Rattle.bench_arena.proofs.loops.vec.pushed.Given as goal
+
+abbrev pub invariant-loop-i : goal.invariant-loop-i
+invariant-loop-i l = IsVecIn ghosts l.a.memory l.vec

@@ -1,0 +1,184 @@
+// Loops over vectors.
+ghost use Rattle.arena_vec.specs.Vecs.{IsVecIn};
+
+use super::batches::batches;
+use super::{BUDGET, Failed, Timed};
+use arena_chunks::{Allocator, MemoryChunks};
+use arena_items::Item;
+use arena_vec::Vec;
+use std::time::Instant;
+
+// How many numbers are put into a small vector, how many in front of one another, and how many at once.
+const FEW: u64 = 4;
+
+const INSERTED: u64 = 64;
+
+const SLICE: u64 = 256;
+
+fn new_allocator(rt: &HostRuntime) -> Allocator<MemoryChunks> {
+    Allocator::new(rt.alloc(), MemoryChunks::new(rt.alloc(), BUDGET))
+}
+
+fn count(calls: u64) -> Result<u32, Failed> {
+    u32::try_from(calls).map_err(|_| Failed::NoPlace)
+}
+
+fn sizes(vec: Vec<u32>) -> u64 {
+    vec.len() as u64 + vec.capacity() as u64
+}
+
+// The vector with the numbers below n behind its own.
+fn pushed(a: &mut Allocator<MemoryChunks>, vec: Vec<u32>, n: u32) -> Result<Vec<u32>, Failed>
+    requires { IsVecIn ⟦<u32 as Item>⟧ a.old.memory vec }
+{
+    let mut vec = vec;
+    for i in 0..n {
+        vec.push(a, i)?;
+    }
+    Ok(vec)
+}
+
+// The number at an index, or 0 past the end.
+fn number_at(a: &Allocator<MemoryChunks>, vec: Vec<u32>, i: u32) -> u64
+    requires { IsVecIn ⟦<u32 as Item>⟧ a.now.memory vec }
+{
+    if i < vec.len() {
+        vec.get(a, i) as u64
+    } else {
+        0
+    }
+}
+
+/// Numbers put at the end.
+pub fn vec_push(rt: &HostRuntime, calls: u64) -> Result<Timed, Failed> {
+    let n = count(calls)?;
+    let mut a = new_allocator(rt);
+    let began = Instant::now(rt)?;
+    let vec = pushed(&mut a, Vec::new_in(), n)?;
+    let time = began.elapsed(rt)?;
+    Ok(Timed {
+        time,
+        number: sizes(vec),
+    })
+}
+
+/// Numbers put at the end, where there is room.
+pub fn vec_push_reserved(rt: &HostRuntime, calls: u64) -> Result<Timed, Failed> {
+    let n = count(calls)?;
+    let mut a = new_allocator(rt);
+    let began = Instant::now(rt)?;
+    let vec = Vec::with_capacity_in(calls, &mut a)?;
+    let vec = pushed(&mut a, vec, n)?;
+    let time = began.elapsed(rt)?;
+    Ok(Timed {
+        time,
+        number: sizes(vec),
+    })
+}
+
+/// Numbers read by their index.
+pub fn vec_sum(rt: &HostRuntime, calls: u64) -> Result<Timed, Failed> {
+    let n = count(calls)?;
+    let mut a = new_allocator(rt);
+    let vec = Vec::from_iter_in(0..n, &mut a)?;
+    let began = Instant::now(rt)?;
+    let mut number: u64 = 0;
+    for i in 0..vec.len() {
+        number = number.wrapping_add(vec.get(&a, i) as u64);
+    }
+    let time = began.elapsed(rt)?;
+    Ok(Timed { time, number })
+}
+
+// Puts numbers into new vectors of four, and adds up the last ones.
+fn small(a: &mut Allocator<MemoryChunks>, values: u64) -> Result<u64, Failed> {
+    let mut number: u64 = 0;
+    for i in 0..count(values / FEW)? {
+        let mut vec = Vec::new_in();
+        for k in 0..FEW as u32 {
+            vec.push(a, i.wrapping_add(k))?;
+        }
+        number = number.wrapping_add(number_at(a, vec, 3));
+    }
+    Ok(number)
+}
+
+/// Numbers put into new vectors of four.
+pub fn vec_small(rt: &HostRuntime, calls: u64) -> Result<Timed, Failed> {
+    batches(rt, calls, small)
+}
+
+// Puts numbers at the end of a vector, so many times.
+fn extended(
+    a: &mut Allocator<MemoryChunks>,
+    source: &[u32; SLICE as usize],
+    times: u64,
+) -> Result<Vec<u32>, Failed> {
+    let mut vec = Vec::new_in();
+    for _ in 0..times {
+        vec.extend_from_slice(a, source)?;
+    }
+    Ok(vec)
+}
+
+/// Numbers put at the end 256 at a time. A call is one number.
+pub fn vec_extend(rt: &HostRuntime, calls: u64) -> Result<Timed, Failed> {
+    let mut source = [0; SLICE as usize];
+    for i in 0..SLICE {
+        source[i as usize] = i as u32;
+    }
+    let mut a = new_allocator(rt);
+    let began = Instant::now(rt)?;
+    let vec = extended(&mut a, &source, calls / SLICE)?;
+    let time = began.elapsed(rt)?;
+    Ok(Timed {
+        time,
+        number: sizes(vec),
+    })
+}
+
+// Puts numbers in front of one another, 64 in a vector, and adds up the first ones.
+fn in_front(a: &mut Allocator<MemoryChunks>, values: u64) -> Result<u64, Failed> {
+    let mut number: u64 = 0;
+    for i in 0..count(values / INSERTED)? {
+        let mut vec = Vec::with_capacity_in(INSERTED, a)?;
+        for k in 0..INSERTED as u32 {
+            vec.insert(a, 0, i.wrapping_add(k))?;
+        }
+        number = number.wrapping_add(number_at(a, vec, 0));
+    }
+    Ok(number)
+}
+
+/// Numbers put in front of up to 63 others.
+pub fn vec_insert_front(rt: &HostRuntime, calls: u64) -> Result<Timed, Failed> {
+    batches(rt, calls, in_front)
+}
+
+/// Numbers that a test keeps or not. It keeps two in three.
+pub fn vec_retain(rt: &HostRuntime, calls: u64) -> Result<Timed, Failed> {
+    let n = count(calls)?;
+    let mut a = new_allocator(rt);
+    let mut vec = Vec::from_iter_in(0..n, &mut a)?;
+    let began = Instant::now(rt)?;
+    vec.retain(&mut a, |x| *x % 3 != 0);
+    let time = began.elapsed(rt)?;
+    Ok(Timed {
+        time,
+        number: vec.len() as u64,
+    })
+}
+
+/// Numbers in order.
+pub fn vec_iter(rt: &HostRuntime, calls: u64) -> Result<Timed, Failed> {
+    let n = count(calls)?;
+    let mut a = new_allocator(rt);
+    let vec = Vec::from_iter_in(0..n, &mut a)?;
+    let began = Instant::now(rt)?;
+    let mut number: u64 = 0;
+    for x in vec.into_iter(&a) {
+        number = number.wrapping_add(x as u64);
+    }
+    let time = began.elapsed(rt)?;
+    Ok(Timed { time, number })
+}

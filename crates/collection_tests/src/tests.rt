@@ -1,0 +1,2 @@
+mod splices;
+mod vectors;

@@ -1,0 +1,2 @@
+mod SortingLemmas
+mod TakingLemmas
