@@ -1,13 +1,13 @@
 -- Sets that are joined, word by word.
-use Rattle.std.proofs.Common.{◌≡◌, ℕ, ◌+◌, ◌*◌, ◌/◌, ◌%◌, ◌<◌, ◌≤◌, List, [], ◌∷◌, length, Bool, true, false, eqb, get_or, set, max, min, ap, ◌∙◌, sym, arith, refl, inl, inr, Some}
-use Rattle.std.specs.Prelude.{bit_or, nat_lt, slice_get, ◌≢◌, ◌&&◌, ◌||◌, ◌==◌}
+use Rattle.std.proofs.Common.{◌≡◌, ℕ, ◌+◌, ◌*◌, ◌/◌, ◌%◌, ◌<◌, List, [], ◌∷◌, length, Bool, true, false, eqb, get_or, set, max, ap, ◌∙◌, sym, arith, refl, inl, inr, Some}
+use Rattle.std.specs.Prelude.{bit_or, nat_lt, slice_get, ◌≢◌, ◌&&◌, ◌||◌}
 use Rattle.std.specs.Int.{bit_at}
-use Rattle.std.proofs.lemmas.Bool.{cases_eq, cases_lt}
+use Rattle.std.proofs.lemmas.Bool.{cases_eq}
 use Rattle.std.proofs.lemmas.Bool.Decides.{nat_tests}
 use Rattle.std.proofs.lemmas.List.{get_or-set_same, get_or-set_other}
 use Rattle.std.proofs.lemmas.Nat.Bits.{bit_at_or, bit_at-lt}
 use Rattle.arena_chunks.specs.Source.{View}
-use Rattle.arena_chunks.specs.Frame.{Frame, AreBlocksApart, Stays}
+use Rattle.arena_chunks.specs.Frame.{AreBlocksApart, Stays}
 use Rattle.arena_chunks.specs.BlockCalls.{WritesBlock}
 use Rattle.arena_chunks.proofs.Layers.{frame_then, frame_reflexive, frame_keeps_beside}
 use Rattle.arena_items.proofs.Layers.{length-elements, same_then}

@@ -1,9 +1,9 @@
 -- Printed forms: the bytes of a set, and their digits.
-use Rattle.std.proofs.Common.{◌≡◌, ℕ, zero, suc, ◌+◌, ◌-◌, ◌*◌, ◌/◌, ◌%◌, ◌^◌, ◌<◌, ◌≤◌, List, [], ◌∷◌, ◌++◌, length, Bool, true, false, not, eqb, cond, get_or, take, drop, ap, ◌∙◌, sym, arith, refl, inl, inr, append_assoc, append-nil, add_comm, add-one, zero-add, w8, w64}
+use Rattle.std.proofs.Common.{◌≡◌, ℕ, zero, suc, ◌+◌, ◌-◌, ◌*◌, ◌/◌, ◌%◌, ◌^◌, ◌<◌, ◌≤◌, List, [], ◌∷◌, ◌++◌, length, true, false, not, eqb, cond, get_or, take, drop, ap, ◌∙◌, sym, arith, refl, inl, inr, append_assoc, append-nil, add_comm, add-one, zero-add, w8}
 use Rattle.std.specs.Prelude.{bit_and, ◌||◌}
-use Rattle.std.specs.Int.{bit_at, from_le_bytes, byte_worth, sum_through, trailing_zeros}
+use Rattle.std.specs.Int.{bit_at, byte_worth, sum_through, trailing_zeros}
 use Rattle.std.specs.List.{list_any, range_with_len}
-use Rattle.std.proofs.lemmas.Bool.{cases_eq, cases_lt}
+use Rattle.std.proofs.lemmas.Bool.{cases_lt}
 use Rattle.std.proofs.lemmas.Bool.Decides.{nat_tests}
 use Rattle.std.proofs.lemmas.List.{get_or-take, get_or-drop, get_or_past, length-take}
 use Rattle.std.proofs.lemmas.List.Folds.{list_any_at}

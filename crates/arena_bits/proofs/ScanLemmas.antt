@@ -1,5 +1,5 @@
 -- A walk over words.
-use Rattle.std.proofs.Common.{◌≡◌, ℕ, ◌+◌, ◌-◌, ◌/◌, ◌%◌, ◌^◌, ◌<◌, ◌≤◌, ◌*◌, List, [], ◌∷◌, Bool, true, false, eqb, get_or, ap, ◌∙◌, sym, arith, refl, inl, inr, w64, Option, Some, None}
+use Rattle.std.proofs.Common.{◌≡◌, ℕ, ◌+◌, ◌-◌, ◌/◌, ◌%◌, ◌^◌, ◌<◌, ◌≤◌, ◌*◌, List, [], ◌∷◌, false, eqb, get_or, ap, ◌∙◌, sym, arith, refl, inl, inr, w64, Option, Some, None}
 use Rattle.std.proofs.lemmas.Bool.{cases_eq, cases_lt}
 use Rattle.std.proofs.lemmas.Nat.{trailing_le}
 use Rattle.std.proofs.lemmas.Nat.Bits.{bit_at-zero, bit_at-trailing_zeros, bit_at_clear_same, bit_at_clear_other}
@@ -9,7 +9,7 @@ use Rattle.std.specs.Int.Count.{count_trailing_zeros}
 use Rattle.std.specs.Iterator.{YieldsFirst}
 use Rattle.std.specs.Option.{MatchOption}
 use Rattle.arena_bits.specs.Bits.{Set, bits_of, members}
-use Rattle.arena_bits.specs.Walks.{Walk, IsScan}
+use Rattle.arena_bits.specs.Walks.{IsScan}
 use Rattle.arena_bits.specs.declared.ones.Scan.{Scan}
 use Rattle.arena_bits.proofs.MemberLemmas.{members_skip, members_first, members_end}
 

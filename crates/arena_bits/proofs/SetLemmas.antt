@@ -5,7 +5,6 @@ use Rattle.std.specs.Int.{bit_not}
 use Rattle.arena_chunks.specs.Source.{View}
 use Rattle.arena_chunks.specs.BlockCalls.{WritesBlock, EditsBlock}
 use Rattle.arena_chunks.specs.Memory.{Memory}
-use Rattle.arena_chunks.proofs.Layers.{length-bytes}
 use Rattle.arena_items.proofs.Layers.{length-elements, written_held}
 use Rattle.arena_bits.specs.Bits.{Set, bits_of, with_bit, without_bit}
 use Rattle.arena_bits.specs.Edits.{ChangesWord}

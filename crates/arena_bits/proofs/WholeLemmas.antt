@@ -1,30 +1,24 @@
 -- Sets as wholes: new ones, and those without a number.
-use Rattle.std.proofs.Common.{◌≡◌, ℕ, ◌+◌, ◌-◌, ◌*◌, ◌/◌, ◌%◌, ◌^◌, ◌<◌, ◌≤◌, List, length, take, drop, replicate, get_or, min, ap, ◌∙◌, sym, subst, arith, refl, true, false, eqb, inl, inr, IsTrue, Ok, Err, w64}
-use Rattle.std.specs.Prelude.{nat_le}
+use Rattle.std.proofs.Common.{◌≡◌, ℕ, ◌+◌, ◌-◌, ◌*◌, ◌/◌, ◌%◌, ◌^◌, ◌<◌, ◌≤◌, List, length, take, replicate, get_or, ap, ◌∙◌, sym, subst, arith, refl, false, eqb, inl, inr, IsTrue, Ok, w64}
 use Rattle.std.specs.Int.{from_le_bytes, trailing_zeros}
 use Rattle.std.proofs.lemmas.Bool.{cases_lt}
 use Rattle.std.proofs.lemmas.Bool.Decides.{nat_tests}
 use Rattle.std.proofs.lemmas.List.{get_or_past, take-replicate, drop-replicate, length-replicate}
 use Rattle.std.proofs.lemmas.Nat.Bits.{bit_at-zero, bit_at-trailing_zeros}
-use Rattle.placement.specs.Rounding.{up, is_power, is_power_among, is_layout}
-use Rattle.arena_chunks.specs.Memory.{Memory, image, bytes_from}
+use Rattle.placement.specs.Rounding.{up, is_power_among, is_layout}
+use Rattle.arena_chunks.specs.Memory.{Memory, image}
 use Rattle.arena_chunks.specs.Source.{View, Source, view}
-use Rattle.arena_chunks.specs.Answers.{Answer}
 use Rattle.arena_chunks.specs.Answers.Answer.{Placed}
 use Rattle.arena_chunks.specs.BlockCalls.{PlacesBlock, EditsBlock}
 use Rattle.arena_chunks.specs.declared.block.Block.{Block}
 use Rattle.arena_chunks.proofs.Layers.{length-bytes, wrote_whole, places_written}
 use Rattle.arena_items.specs.Values.{bytes_of}
 use Rattle.arena_items.proofs.Layers.{length-elements, placed_held, written_held}
-use Rattle.arena_items.specs.Room.{RoomAnswer}
-use Rattle.arena_bits.specs.Bits.{Set, bits_of, nothing, words_for}
+use Rattle.arena_bits.specs.Bits.{bits_of, nothing, words_for}
 use Rattle.arena_bits.specs.Sets.{IsSetIn, words_of, PlacesSet}
 use Rattle.arena_bits.specs.Walks.{words_in}
 use Rattle.arena_bits.specs.declared.set.BitSet.{BitSet}
-use Rattle.arena_items.specs.declared.room.AllocError.{AllocError}
-use Rattle.arena_items.specs.declared.room.AllocError.TheVariants.{AllocErr, CapacityOverflow, OutOfMemory}
 use Rattle.arena_bits.proofs.WordLemmas.{words, word-is}
-use Rattle.arena_bits.proofs.SetLemmas.{becomes_set}
 
 -- ---- No number
 

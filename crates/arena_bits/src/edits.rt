@@ -3,6 +3,7 @@ ghost use Rattle.std.specs.Prelude.{◌≡◌, length, replicate, bit_and, bit_o
 ghost use Rattle.std.specs.Int.{w64, bit_not};
 ghost use Rattle.arena_bits.specs.Edits.{ChangesWord};
 
+use crate::words::word_of;
 use arena_chunks::Edit;
 use arena_items::Item;
 
@@ -20,7 +21,7 @@ impl Edit for Raise {
 
     #[inline]
     fn edit(&self, place: &mut [u8]) {
-        let word = u64::decode(place);
+        let word = word_of(place);
         (word | self.mask).encode(place);
     }
 }
@@ -39,7 +40,7 @@ impl Edit for Lower {
 
     #[inline]
     fn edit(&self, place: &mut [u8]) {
-        let word = u64::decode(place);
+        let word = word_of(place);
         (word & !self.mask).encode(place);
     }
 }

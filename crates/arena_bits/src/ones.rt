@@ -1,8 +1,7 @@
 // The numbers of a bit set in order.
-ghost use Rattle.std.specs.Prelude.{◌≡◌, ◌+◌, ◌-◌, ◌*◌, ◌/◌, ◌^◌, ◌<◌, ◌≤◌, [], ◌∷◌, Some, IfSome, ⊤, length};
+ghost use Rattle.std.specs.Prelude.{◌≡◌, ◌+◌, ◌-◌, ◌*◌, ◌/◌, ◌^◌, ◌<◌, ◌≤◌, [], ◌∷◌, Some, length};
 ghost use Rattle.std.specs.Option.{MatchOption};
-ghost use Rattle.std.specs.Iterator.{YieldsFirst, item_count, MakesProgress, UpTo};
-ghost use Rattle.std.specs.Iterator.SizeHint.{IsWithinCount};
+ghost use Rattle.std.specs.Iterator.{YieldsFirst, item_count};
 ghost use Rattle.arena_bits.specs.Bits.{bits_of, members};
 ghost use Rattle.arena_bits.specs.Sets.{IsSetIn, set_of};
 ghost use Rattle.arena_bits.specs.Walks.{IsScan, Moves, words_in};
@@ -126,16 +125,11 @@ impl BitSet {
     }
 }
 
-impl<'a, C: ChunkSource> Iterator for Ones<'a, C> {
-    type Item = u64;
-
-    ghost next_gives = { YieldsFirst (λ s. s.left) };
-
-    ghost remaining = { item_count (λ s. s.left) };
-
-    fn next(&mut self) -> Option<u64>
-        ensures steps { YieldsFirst (λ s. s.left) self.old result self.new }
-        ensures goes { MakesProgress (λ s. ⊤) (item_count (λ s. s.left)) self.old result self.new }
+impl<'a, C: ChunkSource> Ones<'a, C> {
+    /// The next number. After the last there is none, however often it is asked for.
+    #[inline]
+    pub fn next(&mut self) -> Option<u64>
+        ensures gives { YieldsFirst (λ w. w.left) self.old result self.new }
         ensures moves { Moves self.old result self.new }
     {
         let (bit, scan) = step(self.bytes, self.capacity, self.scan);
@@ -143,11 +137,30 @@ impl<'a, C: ChunkSource> Iterator for Ones<'a, C> {
         bit
     }
 
-    fn size_hint(&self) -> (usize, Option<usize>)
-        ensures lower { IsWithinCount result.0 (item_count (λ s. s.left) self.now) }
-        ensures upper { IfSome result.1 (UpTo (item_count (λ s. s.left) self.now)) }
+    /// None at least, and at most as many as there are numbers from the place after the last one given to the capacity.
+    #[inline]
+    pub fn size_hint(&self) -> (usize, Option<usize>)
         ensures hint { result ≡ (0, Some (self.now.capacity - self.now.front)) }
+        ensures bound { length self.now.left ≤ self.now.capacity - self.now.front }
     {
         (0, Some((self.capacity - self.scan.front) as usize))
+    }
+}
+
+impl<'a, C: ChunkSource> Iterator for Ones<'a, C> {
+    type Item = u64;
+
+    ghost next_gives = { YieldsFirst (λ w. w.left) };
+
+    ghost remaining = { item_count (λ w. w.left) };
+
+    #[inline]
+    fn next(&mut self) -> Option<u64> {
+        Ones::next(self)
+    }
+
+    #[inline]
+    fn size_hint(&self) -> (usize, Option<usize>) {
+        Ones::size_hint(self)
     }
 }

@@ -4,6 +4,7 @@ ghost use Rattle.arena_bits.specs.Bits.{with_bit, without_bit};
 ghost use Rattle.arena_bits.specs.Sets.{IsSetIn, set_of, BecomesSet};
 
 use crate::edits::{Lower, Raise};
+use crate::words::word_at;
 use arena_chunks::{Allocator, ChunkSource};
 use arena_items::BoxSlice;
 
@@ -43,7 +44,8 @@ impl BitSet {
         requires within { bit < 64 * self.now.words.length }
         ensures { result ≡ set_of a.now.memory self.now bit }
     {
-        self.words.get(a, bit / 64) >> (bit % 64) & 1 == 1
+        let word = word_at(a.read(self.words.block), bit / 64);
+        word >> (bit % 64) & 1 == 1
     }
 
     /// Puts a number into the set. One of the words has its bit.

@@ -1,9 +1,19 @@
 // How the words of a bit set are read.
 ghost use Rattle.std.specs.Prelude.{◌≡◌, ◌/◌, ◌<◌, length, slice_index};
+ghost use Rattle.std.specs.Int.{w64, from_le_bytes};
 ghost use Rattle.arena_bits.specs.Bits.{bits_of, TellsEmpty};
 ghost use Rattle.arena_bits.specs.Walks.{words_in};
 
-use arena_items::Item;
+// The word of eight bytes. So written it is one load.
+#[inline]
+pub(crate) fn word_of(bytes: &[u8]) -> u64
+    requires { length bytes.now ≡ 8 }
+    ensures { result ≡ from_le_bytes w64 bytes.now }
+{
+    u64::from_le_bytes([
+        bytes[0], bytes[1], bytes[2], bytes[3], bytes[4], bytes[5], bytes[6], bytes[7],
+    ])
+}
 
 // The word at an index of words' bytes.
 #[tactic(auto, using(crate::proofs::WordLemmas::word_read))]
@@ -13,7 +23,7 @@ pub(crate) fn word_at(bytes: &[u8], i: u64) -> u64
     ensures { result ≡ slice_index (words_in bytes.now) i }
 {
     let at = (i * 8) as usize;
-    u64::decode(&bytes[at..at + 8])
+    word_of(&bytes[at..at + 8])
 }
 
 // The first word, or 0 where there is none.

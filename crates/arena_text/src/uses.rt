@@ -2,7 +2,6 @@
 ghost use Rattle.std.specs.Prelude.{◌≡◌, ◌+◌, ◌<◌, ◌≤◌, ◌++◌, [], ◌∷◌, length, replicate, chars, encode_utf8, IsOk, IfOk, IsUtf8, OnOk};
 ghost use Rattle.placement.specs.State.{used_bytes};
 ghost use Rattle.arena_chunks.specs.Frame.{AreBlocksApart};
-ghost use Rattle.arena_items.specs.Values.{IsTextIn, text_bytes};
 ghost use Rattle.arena_items.specs.Room.{SamePlaces};
 ghost use Rattle.arena_text.specs.Growth.{amortised_growth};
 ghost use Rattle.arena_text.specs.Builders.{IsBuilderIn, builder_bytes};
@@ -10,7 +9,7 @@ ghost use Rattle.arena_text.specs.Changes.{Grows, Makes};
 
 use crate::laws::{utf8_rule, within_room};
 use crate::text::StringBuilder;
-use arena_chunks::{Allocator, ChunkSource, Str};
+use arena_chunks::{Allocator, ChunkSource};
 use arena_items::Grown;
 use arena_items::laws::frame_law;
 
@@ -50,7 +49,7 @@ pub fn push_line<C: ChunkSource>(
     text.push_ascii_byte(a, b'\n')
 }
 
-/// Puts a text at the end of one, beside another that was placed.
+/// Puts a text at the end of one builder, beside another.
 ///
 /// # Errors
 ///
@@ -58,19 +57,19 @@ pub fn push_line<C: ChunkSource>(
 pub fn push_beside<C: ChunkSource>(
     text: &mut StringBuilder,
     a: &mut Allocator<C>,
-    other: Str,
+    other: StringBuilder,
     s: &str,
 ) -> Grown<()>
     requires text { IsBuilderIn a.old.memory text.old }
-    requires other { IsTextIn a.old.memory other }
+    requires other { IsBuilderIn a.old.memory other }
     requires apart { AreBlocksApart other.block text.old.block }
     ensures bytes { OnOk result (builder_bytes a.new.memory text.new
         ≡ builder_bytes a.old.memory text.old ++ s.now) }
-    ensures held { IsTextIn a.new.memory other }
-    ensures other { text_bytes a.new.memory other ≡ text_bytes a.old.memory other }
+    ensures held { IsBuilderIn a.new.memory other }
+    ensures other { builder_bytes a.new.memory other ≡ builder_bytes a.old.memory other }
     ensures apart { AreBlocksApart other.block text.new.block }
 {
-    frame_law::<Str>();
+    frame_law::<StringBuilder>();
     text.push_str(a, s)
 }
 

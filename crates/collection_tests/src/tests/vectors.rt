@@ -1,197 +1,208 @@
-// Vectors: worked examples, one call of each.
-use arena_chunks::{Allocator, MemoryChunks};
-use arena_vec::{AllocError, Grown, RawVec, Vec};
-use std::cmp::Ordering;
-use std::hash::{DefaultHasher, Hash, Hasher};
-use std::test::Fail;
+// Calls on a vector, and what they must answer and leave.
+ghost use Rattle.std.specs.Prelude.{◌^◌, ◌≤◌, IfOk};
+ghost use Rattle.arena_vec.specs.Vecs.{IsVecIn};
 
-#[test]
-fn growth_of_storage(rt: HostRuntime) -> Result<(), Fail> {
-    let mut a = Allocator::new(rt.alloc(), MemoryChunks::new(rt.alloc(), 100_000));
-    let mut raw: RawVec<u32> = RawVec::new_in();
-    raw.reserve(&mut a, 0, 7).expect(&rt, "room");
-    assert_eq!(rt; raw.cap, 7);
-    raw.reserve(&mut a, 7, 90).expect(&rt, "room");
-    assert_eq!(rt; raw.cap, 97);
-    raw.grow_one(&mut a).expect(&rt, "room");
-    assert_eq!(rt; raw.cap, 194);
-    raw.reserve_exact(&mut a, 194, 1).expect(&rt, "room");
-    assert_eq!(rt; raw.cap, 195);
-    assert!(rt;
-        matches!(
-            RawVec::<u32>::with_capacity_in(1 << 30, &mut a),
-            Err(AllocError::CapacityOverflow)
-        )
-    );
-    let mut none: RawVec<u32> = RawVec::new_in();
-    assert!(rt;
-        matches!(
-            none.try_reserve(&mut a, 0, 1 << 30),
-            Err(AllocError::CapacityOverflow)
-        )
-    );
-    Ok(())
+use super::ample;
+use arena_chunks::{Allocator, ChunkSource};
+use arena_items::Item;
+use arena_vec::{AllocError, Grown, Vec};
+use std::alloc::Global;
+use std::process::Abort;
+
+// A call on a vector. Indices and values are those that the call takes.
+#[derive(Clone, Copy)]
+pub(super) enum Call<'s, T> {
+    Push(T),
+    PushFast(T),
+    PushMut(T),
+    PushFastMut(T),
+    Pop,
+    Insert(u32, T),
+    Set(u32, T),
+    Remove(u32),
+    SwapRemove(u32),
+    Truncate(u32),
+    Clear,
+    Resize(u32, T),
+    Extend(&'s [T]),
+    ExtendCopy(&'s [T]),
+    ExtendSlices(&'s [&'s [T]]),
+    Reserve(u64),
+    TryReserve(u64),
+    ReserveExact(u64),
+    TryReserveExact(u64),
+    ShrinkToFit,
 }
 
-#[test]
-fn lists(rt: HostRuntime) -> Result<(), Fail> {
-    let mut a = Allocator::new(rt.alloc(), MemoryChunks::new(rt.alloc(), 100_000));
-    let mut one = Vec::<u32>::from_value_in(123, &mut a).expect(&rt, "room");
-    assert_eq!(rt; one.capacity(), 1);
-    one.push(&mut a, 456).expect(&rt, "room");
-    assert_eq!(rt; one.capacity(), 2);
-    assert_eq!(rt; one.get(&a, 0), 123);
-    assert_eq!(rt; one.get(&a, 1), 456);
-    let mut vec = Vec::<u32>::from_array_in([1, 2, 3], &mut a).expect(&rt, "room");
-    assert_eq!(rt; vec.capacity(), 3);
-    vec.insert(&mut a, 1, 9).expect(&rt, "room");
-    assert_eq!(rt; vec.push_mut(&mut a, 5), Ok(4));
-    assert_eq!(rt; vec.len(), 5);
-    assert_eq!(rt;
-        vec.as_slice(&a),
-        [1, 0, 0, 0, 9, 0, 0, 0, 2, 0, 0, 0, 3, 0, 0, 0, 5, 0, 0, 0].as_slice()
-    );
-    assert_eq!(rt; vec.remove(&mut a, 1), 9);
-    assert_eq!(rt; vec.swap_remove(&mut a, 0), 1);
-    assert_eq!(rt; vec.pop(&a), Some(3));
-    vec.set(&mut a, 0, 7);
-    assert_eq!(rt; vec.get(&a, 0), 7);
-    vec.truncate(1);
-    vec.shrink_to_fit(&mut a);
-    assert_eq!(rt; vec.capacity(), 1);
-    vec.clear();
-    assert!(rt; vec.is_empty());
-    assert_eq!(rt; vec.pop(&a), None);
-    Ok(())
+// What a call answers.
+#[derive(Clone, Copy, PartialEq)]
+pub(super) enum Answer<T> {
+    Done,
+    Index(u32),
+    Value(T),
+    None,
+    // What is required doesn't fit.
+    Overflows,
+    // There is no place. So many requests were refused.
+    Refused(u32),
+    Wanting,
 }
 
-#[test]
-fn units(rt: HostRuntime) -> Result<(), Fail> {
-    let mut a = Allocator::new(rt.alloc(), MemoryChunks::new(rt.alloc(), 100_000));
-    let mut vec = Vec::<()>::new_in();
-    vec.push(&mut a, ()).expect(&rt, "room");
-    vec.resize(&mut a, 5, ()).expect(&rt, "room");
-    assert_eq!(rt; vec.len(), 5);
-    assert_eq!(rt; vec.capacity(), 4_294_967_295);
-    assert_eq!(rt; a.used_bytes(), 0);
-    Ok(())
+// A call, what it answers, and the list and the capacity then.
+pub(super) type Row<'s, T> = (Call<'s, T>, Answer<T>, &'s [T], u32);
+
+pub(super) fn failed<T>(e: AllocError) -> Answer<T> {
+    match e {
+        AllocError::AllocErr { refused } => Answer::Refused(refused),
+        AllocError::CapacityOverflow => Answer::Overflows,
+        AllocError::OutOfMemory => Answer::Wanting,
+    }
 }
 
-#[test]
-fn many(rt: HostRuntime) -> Result<(), Fail> {
-    let mut a = Allocator::new(rt.alloc(), MemoryChunks::new(rt.alloc(), 100_000));
-    let mut vec = Vec::<u8>::from_array_in([1, 9, 2, 3], &mut a).expect(&rt, "room");
-    let mut tail = vec.split_off(&mut a, 2).expect(&rt, "room");
-    assert_eq!(rt; vec.as_slice(&a), [1, 9].as_slice());
-    assert_eq!(rt; tail.as_slice(&a), [2, 3].as_slice());
-    assert_eq!(rt; tail.capacity(), 2);
-    vec.append(&mut a, &mut tail).expect(&rt, "room");
-    assert!(rt; tail.is_empty());
-    vec.resize(&mut a, 5, 0).expect(&rt, "room");
-    assert_eq!(rt; vec.as_slice(&a), [1, 9, 2, 3, 0].as_slice());
-    vec.resize(&mut a, 1, 0).expect(&rt, "room");
-    vec.extend_from_slice(&mut a, &[4, 5]).expect(&rt, "room");
-    assert_eq!(rt; vec.as_slice(&a), [1, 4, 5].as_slice());
-    let slice = vec.into_boxed_slice();
-    assert_eq!(rt; slice.len(), 3);
-    assert_eq!(rt; slice.get(&a, 2), 5);
-    Ok(())
+pub(super) fn done<T>(grown: Grown<()>) -> Answer<T> {
+    match grown {
+        Ok(()) => Answer::Done,
+        Err(e) => failed(e),
+    }
 }
 
-#[test]
-fn picked(rt: HostRuntime) -> Result<(), Fail> {
-    let mut a = Allocator::new(rt.alloc(), MemoryChunks::new(rt.alloc(), 100_000));
-    let items = Vec::<u8>::from_iter_in([1u8, 2].into_iter(), &mut a).expect(&rt, "room");
-    assert_eq!(rt; items.capacity(), 2);
-    assert_eq!(rt; items.as_slice(&a), [1, 2].as_slice());
-    let mut vec = Vec::<u8>::from_array_in([1, 2, 3, 4, 5], &mut a).expect(&rt, "room");
-    let mut gone = vec.drain(&mut a, 1, 3);
-    assert_eq!(rt; gone.next(), Some(2));
-    gone.finish();
-    assert_eq!(rt; vec.as_slice(&a), [1, 4, 5].as_slice());
-    let mut odd = Vec::<u8>::from_array_in([1, 2, 3, 4, 5], &mut a).expect(&rt, "room");
-    let mut gone = odd.drain_filter(&mut a, |x| *x % 2 == 0);
-    assert_eq!(rt; gone.next(), Some(2));
-    assert_eq!(rt; gone.next(), Some(4));
-    assert_eq!(rt; gone.next(), None);
-    gone.finish();
-    assert_eq!(rt; odd.as_slice(&a), [1, 3, 5].as_slice());
-    odd.retain(&mut a, |x| *x != 3);
-    odd.extend(&mut a, [7u8, 8].into_iter()).expect(&rt, "room");
-    assert_eq!(rt; odd.as_slice(&a), [1, 5, 7, 8].as_slice());
-    let mut items = odd.into_iter(&a);
-    assert_eq!(rt; items.next_back(), Some(8));
-    assert_eq!(rt; items.next(), Some(1));
-    assert_eq!(rt; items.len(), 2);
-    Ok(())
+fn index<T>(grown: Grown<u32>) -> Answer<T> {
+    match grown {
+        Ok(i) => Answer::Index(i),
+        Err(e) => failed(e),
+    }
 }
 
-#[test]
-fn alike(rt: HostRuntime) -> Result<(), Fail> {
-    let mut a = Allocator::new(rt.alloc(), MemoryChunks::new(rt.alloc(), 100_000));
-    let mut same = Vec::<u8>::from_array_in([1, 1, 2, 1], &mut a).expect(&rt, "room");
-    same.dedup(&mut a);
-    assert_eq!(rt; same.as_slice(&a), [1, 2, 1].as_slice());
-    let mut tens = Vec::<u8>::from_array_in([10, 20, 21, 30, 20], &mut a).expect(&rt, "room");
-    tens.dedup_by_key(&mut a, |x| *x / 10);
-    assert_eq!(rt; tens.as_slice(&a), [10, 20, 30, 20].as_slice());
-    // Each value that goes is added to the last one kept.
-    let mut runs = Vec::<u8>::from_array_in([3, 1, 1, 7, 2, 9], &mut a).expect(&rt, "room");
-    runs.dedup_by(&mut a, |x, last| {
-        let goes = *x < *last;
-        if goes {
-            *last = last.wrapping_add(*x);
+// Makes a call that takes no memory.
+fn change<T: Item, C: ChunkSource>(
+    rt: &impl Abort,
+    a: &mut Allocator<C>,
+    vec: &mut Vec<T>,
+    call: &Call<'_, T>,
+) -> Answer<T>
+    requires small { T.SIZE ≤ 2 ^ 24 }
+    requires held { IsVecIn T.Item a.old.memory vec.old }
+    ensures { IsVecIn T.Item a.new.memory vec.new }
+{
+    match call {
+        Call::Pop => {
+            return match vec.pop(a) {
+                Some(value) => Answer::Value(value),
+                None => Answer::None,
+            };
         }
-        goes
-    });
-    assert_eq!(rt; runs.as_slice(&a), [5, 9, 9].as_slice());
-    Ok(())
+        Call::Set(i, value) => {
+            assert!(rt; *i < vec.len());
+            vec.set(a, *i, *value);
+        }
+        Call::Remove(i) => {
+            assert!(rt; *i < vec.len());
+            return Answer::Value(vec.remove(a, *i));
+        }
+        Call::SwapRemove(i) => {
+            assert!(rt; *i < vec.len());
+            return Answer::Value(vec.swap_remove(a, *i));
+        }
+        Call::Truncate(len) => vec.truncate(*len),
+        Call::Clear => vec.clear(),
+        Call::ShrinkToFit => vec.shrink_to_fit(a),
+        _ => panic!(rt; "a call that takes memory"),
+    }
+    Answer::Done
 }
 
-// How the values before an index compare with those from there on, where all calls say the same.
-fn compared(a: &mut Allocator<MemoryChunks>, values: &[u8], at: usize) -> Grown<Option<Ordering>> {
-    let mut vec = Vec::<u8>::new_in();
-    vec.extend_from_slice(a, values)?;
-    if values.len() < at || vec.len() < at as u32 {
-        return Ok(None);
+// Makes a call.
+pub(super) fn make<T: Item, C: ChunkSource>(
+    rt: &impl Abort,
+    a: &mut Allocator<C>,
+    vec: &mut Vec<T>,
+    call: &Call<'_, T>,
+) -> Answer<T>
+    requires small { T.SIZE ≤ 2 ^ 24 }
+    requires held { IsVecIn T.Item a.old.memory vec.old }
+    ensures { IsVecIn T.Item a.new.memory vec.new }
+{
+    match call {
+        Call::Push(value) => done(vec.push(a, *value)),
+        Call::PushFast(value) => done(vec.push_fast(a, *value)),
+        Call::PushMut(value) => index(vec.push_mut(a, *value)),
+        Call::PushFastMut(value) => index(vec.push_fast_mut(a, *value)),
+        Call::Insert(i, value) => {
+            assert!(rt; *i <= vec.len());
+            done(vec.insert(a, *i, *value))
+        }
+        Call::Resize(len, value) => done(vec.resize(a, *len, *value)),
+        Call::Extend(values) => done(vec.extend_from_slice(a, values)),
+        Call::ExtendCopy(values) => done(vec.extend_from_slice_copy(a, values)),
+        Call::ExtendSlices(slices) => done(vec.extend_from_slices_copy(a, slices)),
+        Call::Reserve(more) => done(vec.reserve(a, *more)),
+        Call::TryReserve(more) => done(vec.try_reserve(a, *more)),
+        Call::ReserveExact(more) => done(vec.reserve_exact(a, *more)),
+        Call::TryReserveExact(more) => done(vec.try_reserve_exact(a, *more)),
+        _ => change(rt, a, vec, call),
     }
-    let tail = vec.split_off(a, at as u32)?;
-    let order = vec.cmp(a, &tail);
-    let are_equal = vec.eq(a, &tail) && vec.eq_slice(a, &values[at..]);
-    if are_equal != order.is_eq() || vec.partial_cmp(a, &tail) != Some(order) {
-        return Ok(None);
-    }
-    Ok(Some(order))
 }
 
-#[test]
-fn orders(rt: HostRuntime) -> Result<(), Fail> {
-    let mut a = Allocator::new(rt.alloc(), MemoryChunks::new(rt.alloc(), 100_000));
-    let rows: [(&[u8], usize, Ordering); 6] = [
-        (&[1, 2, 1, 2], 2, Ordering::Equal),
-        (&[1, 2, 1, 3], 2, Ordering::Less),
-        (&[2, 1, 1], 1, Ordering::Greater),
-        (&[1, 1, 0], 1, Ordering::Less),
-        (&[1, 0, 1], 2, Ordering::Greater),
-        (&[], 0, Ordering::Equal),
-    ];
-    for (values, at, order) in rows {
-        assert_eq!(rt; compared(&mut a, values, at), Ok(Some(order)));
+// Whether the vector is this list.
+pub(super) fn is_list<T: Item + PartialEq, C: ChunkSource>(
+    a: &Allocator<C>,
+    vec: Vec<T>,
+    list: &[T],
+) -> bool
+    requires small { T.SIZE ≤ 2 ^ 24 }
+    requires held { IsVecIn T.Item a.now.memory vec }
+{
+    for (value, wanted) in vec.into_iter(a).zip(list) {
+        if value != *wanted {
+            return false;
+        }
     }
-    Ok(())
+    vec.len() as usize == list.len()
 }
 
-#[test]
-fn texts_and_hashes(rt: HostRuntime) -> Result<(), Fail> {
-    let mut a = Allocator::new(rt.alloc(), MemoryChunks::new(rt.alloc(), 100_000));
-    let vec = Vec::<u32>::from_array_in([1, 2], &mut a).expect(&rt, "room");
-    let (mut one, mut other) = (DefaultHasher::new(), DefaultHasher::new());
-    vec.hash(&a, &mut one);
-    [1u32, 2].as_slice().hash(&mut other);
-    assert_eq!(rt; one.finish(), other.finish());
-    let text = vec.debug(rt.alloc(), &a).expect(&rt, "memory");
-    assert_eq!(rt; text.as_str(), "Vec([1, 2])");
-    let none = Vec::<u32>::new_in().debug(rt.alloc(), &a);
-    assert_eq!(rt; none.expect(&rt, "memory").as_str(), "Vec([])");
-    Ok(())
+// Makes the calls of these rows one after another.
+pub(super) fn runs<T: Item + PartialEq, C: ChunkSource>(
+    rt: &impl Abort,
+    a: &mut Allocator<C>,
+    vec: &mut Vec<T>,
+    rows: &[Row<'_, T>],
+)
+    requires small { T.SIZE ≤ 2 ^ 24 }
+    requires held { IsVecIn T.Item a.old.memory vec.old }
+    ensures { IsVecIn T.Item a.new.memory vec.new }
+{
+    for (n, row) in rows.iter().enumerate() {
+        let (call, wanted, list, cap) = row;
+        let answer = make(rt, a, vec, call);
+        assert!(rt; answer == *wanted, "row {n}");
+        assert!(rt; is_list(a, *vec, list), "row {n}");
+        assert_eq!(rt; vec.capacity(), *cap, "row {n}");
+    }
+}
+
+// A vector of these values, with room for them alone.
+pub(super) fn vec_of<T: Item, C: ChunkSource>(
+    rt: &impl Abort,
+    a: &mut Allocator<C>,
+    list: &[T],
+) -> Vec<T>
+    requires { T.SIZE ≤ 2 ^ 24 }
+    ensures { IsVecIn T.Item a.new.memory result }
+{
+    let mut vec = Vec::with_capacity_in(list.len() as u64, a).expect(rt, "room");
+    vec.extend_from_slice(a, list).expect(rt, "room");
+    vec
+}
+
+// Makes the calls of these rows one after another on a vector of these values.
+pub(super) fn from<T: Item + PartialEq>(
+    rt: &impl Abort,
+    alloc: Global,
+    list: &[T],
+    rows: &[Row<'_, T>],
+) {
+    assert!(rt; T::SIZE <= 48);
+    let mut a = ample(alloc);
+    let mut vec = vec_of(rt, &mut a, list);
+    runs(rt, &mut a, &mut vec, rows);
 }

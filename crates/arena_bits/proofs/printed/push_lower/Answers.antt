@@ -1,7 +1,6 @@
-use Rattle.std.proofs.Common.{ℕ, List, ◌-◌, ◌∙◌, ◌++◌, ap, sym, arith}
+use Rattle.std.proofs.Common.{◌-◌, ◌∙◌, sym, arith}
 use Rattle.arena_bits.specs.Bits.{bits_of}
 use Rattle.arena_bits.specs.Walks.{words_in}
-use Rattle.arena_bits.specs.Printed.{lower}
 use Rattle.arena_bits.proofs.PrintLemmas.{byte_digits, lower_more, lower_done}
 use Rattle.arena_bits.proofs.printed.push_lower.Goals as goal
 

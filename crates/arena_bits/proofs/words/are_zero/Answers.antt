@@ -1,4 +1,4 @@
-use Rattle.std.proofs.Common.{◌<◌, ◌/◌, length, arith, rules}
+use Rattle.std.proofs.Common.{arith, rules}
 use Rattle.arena_bits.proofs.WholeLemmas.{bits_none, some_bit, words_length}
 use Rattle.arena_bits.proofs.words.are_zero.Goals as goal
 
