@@ -1,0 +1,77 @@
+-- What new arenas are, and what a reset makes of an arena.
+use Rattle.std.proofs.Common.{◌≡◌, ℕ, ◌-◌, ◌<◌, ◌≤◌, Bool, false, not, List, [], ◌∷◌, length, take, replicate, map, sum, refl, ap, sym, ◌∙◌, subst, arith}
+use Rattle.std.proofs.lemmas.Bool.Decides.{nat_tests}
+use Rattle.std.proofs.lemmas.List.{length-replicate, take-replicate}
+use Rattle.std.proofs.lemmas.List.Sums.{sum_by-cons}
+use Rattle.placement.specs.State.{State, Chunk, IsValid, FitsKind, newest_size, allocated_bytes, used_length, is_range_used}
+use Rattle.placement.specs.Moves.{reset}
+use Rattle.placement.specs.Creation.{fixed_state}
+use Rattle.placement.proofs.CreationLemmas.{growing_valid}
+use Rattle.placement.proofs.ResetLemmas.{reset_valid, reset_used, reset_allocated}
+use Rattle.arena_chunks.specs.Memory.{Memory}
+use Rattle.arena_chunks.specs.Source.{View, Source, view}
+use Rattle.arena_chunks.specs.Creating.{uncounted_memory}
+use Rattle.arena_chunks.specs.Resizes.{NoneReadable}
+use Rattle.arena_pool.specs.declared.kind.PoolKind.{PoolKind}
+use Rattle.arena_pool.specs.declared.kind.PoolKind.TheVariants.{Standard, FixedSize}
+use Rattle.arena_pool.specs.Kinds.{is_fixed, HasRegions, IsOfKind, IsUnused, IsNew, new_memory, reset_view}
+
+-- An arena that doesn't grow has one chunk.
+one_chunk : (chunks : List Chunk) → FitsKind false chunks → newest_size chunks ≡ allocated_bytes (record { min_align = 1; is_growing = false; generation = 0; chunks = chunks })
+one_chunk [] fits = absurd fits
+one_chunk (newest ∷ []) fits = omega arith
+one_chunk (newest ∷ (next ∷ older)) fits = absurd fits
+
+-- a kind with regions is that of arenas that don't grow
+pub still : (kind : PoolKind) (bytes : ℕ) (state : State) → IsOfKind kind state → kind ≡ FixedSize bytes → state.is_growing ≡ false
+still kind bytes state of_kind is = of_kind.growing ∙ ap (λ (k : PoolKind). not (is_fixed k)) is
+
+pub reset_of_kind : (kind : PoolKind) (state : State) → IsValid state → IsOfKind kind state → IsOfKind kind (reset state)
+reset_of_kind kind state valid of_kind = record {
+  growing = of_kind.growing;
+  region = λ bytes is.
+      reset_allocated state
+      ∙ (one_chunk state.chunks (subst (λ (b : Bool). FitsKind b state.chunks) (still kind bytes state of_kind is) valid.kind) ∙ of_kind.region bytes is);
+}
+
+-- After a reset nothing is used, and the kind is as before.
+pub reset_is_unused : (kind : PoolKind) (arena : View) → IsValid arena.memory.state → IsOfKind kind arena.memory.state → IsUnused kind (reset_view arena)
+reset_is_unused kind arena valid of_kind = record {
+  valid = reset_valid arena.memory.state valid;
+  used = reset_used arena.memory.state;
+  statistics = refl;
+  of_kind = reset_of_kind kind arena.memory.state valid of_kind;
+}
+
+-- a new arena that grows
+pub new_standard : (arena : View) → IsNew Standard arena → IsUnused Standard arena
+new_standard arena new =
+    let P : Memory → Type 0 = λ memory. IsUnused Standard (view memory arena.source) in
+    subst P (sym new.memory) (record { valid = growing_valid 1 refl; used = refl; statistics = refl; of_kind = record { growing = refl; region = λ bytes is. cc } })
+
+-- the memory over a region, but for its last 48 bytes
+abbrev region_memory : List ℕ → Memory
+region_memory items = uncounted_memory (fixed_state 1 (length items - 48)) (take (length items - 48) items ∷ [])
+
+zeroed_region : (bytes : ℕ) → 48 ≤ bytes → region_memory (replicate bytes 0) ≡ new_memory (FixedSize bytes)
+zeroed_region bytes room = rw (length-replicate {A = ℕ} bytes 0, take-replicate {X = ℕ} (bytes - 48) bytes 0 (omega arith)) refl
+
+-- A region of zeros makes a new arena.
+pub region_is_new : (bytes : ℕ) (items : List ℕ) (arena : View) (source : Source) → HasRegions (FixedSize bytes) → items ≡ replicate bytes 0
+    → arena ≡ view (region_memory items) source → source.refusals ≡ 0 → IsNew (FixedSize bytes) arena
+region_is_new bytes items arena source regions zeros is fresh = record {
+  memory = ap (λ (a : View). a.memory) is ∙ (ap region_memory zeros ∙ zeroed_region bytes regions.1);
+  refusals = ap (λ (a : View). a.source.refusals) is ∙ fresh;
+}
+
+-- Where no byte is used, none of a chunk is.
+unused_chunks : (chunks : List Chunk) (addr n : ℕ) → sum (map used_length chunks) ≡ 0 → 0 < n → is_range_used chunks addr n ≡ false
+unused_chunks [] addr n used some = refl
+unused_chunks (newest ∷ older) addr n used some = let all = sum_by-cons (λ (x : ℕ). x) (used_length newest) (map used_length older) in
+    let rest = unused_chunks older addr n (omega (arith, all, used)) some in
+    let none : used_length newest ≡ 0 = omega (arith, all, used) in
+    grind (arith, nat_tests)
+
+-- No block of some bytes can be read then.
+pub none_readable : (kind : PoolKind) (arena : View) → IsUnused kind arena → NoneReadable arena.memory.state
+none_readable kind arena unused b some = let none = unused_chunks arena.memory.state.chunks b.addr b.size unused.used some in grind (arith, nat_tests)

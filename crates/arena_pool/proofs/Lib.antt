@@ -1,0 +1,5 @@
+mod KindLemmas
+mod StackLemmas
+mod PoolLemmas
+mod KeptLemmas
+pub mod Layers

@@ -1,0 +1,112 @@
+-- What the events of a pool come to.
+use Rattle.std.proofs.Common.{◌≡◌, ℕ, ◌+◌, ◌-◌, ◌^◌, ◌<◌, ◌⊎◌, inl, inr, false, arith, IsTrue, IsOk, Option, Some, Result, Ok, Err, List, [], ◌∷◌, ◌++◌, length, refl, ap, sym, ◌∙◌, subst}
+use Rattle.std.proofs.lemmas.Bool.Decides.{nat_tests}
+use Rattle.std.proofs.lemmas.List.{length-append, same_from_push}
+use Rattle.std.proofs.lemmas.List.Elements.{All-push, All-pop}
+use Rattle.placement.specs.State.{IsValid}
+use Rattle.arena_chunks.specs.Source.{View}
+use Rattle.arena_pool.specs.declared.kind.PoolKind.{PoolKind}
+use Rattle.arena_pool.specs.declared.kind.PoolKind.TheVariants.{Standard}
+use Rattle.arena_pool.specs.declared.book.PoolErr.{PoolErr}
+use Rattle.arena_pool.specs.declared.book.PoolErr.TheVariants.{PoolEmpty, OutOfMemory, Limit}
+use Rattle.arena_pool.specs.Kinds.{is_fixed, IsOfKind, HasId, reset_view}
+use Rattle.arena_pool.specs.Pool.{Pool, Pooled, IsPool, IsPooled, LendsNone, Gets, can_take, most_lent, put, give_up}
+use Rattle.arena_pool.proofs.KindLemmas.{new_standard, reset_is_unused}
+
+-- A list with something behind it isn't empty.
+some_stored : (p : Pool) (stack : List Pooled) (a : Pooled) → p.stack ≡ [] → p.stack ≡ stack ++ a ∷ [] → ⊥
+some_stored p stack a none is = omega (arith, length-append stack (a ∷ []), ap length is, ap length none)
+
+standard_is_not_fixed : (kind : PoolKind) → kind ≡ Standard → IsTrue (is_fixed kind) → ⊥
+standard_is_not_fixed kind standard fixed = cc
+
+-- ---- What every book keeps
+
+pub got_is_lent : (p q : Pool) (lent : Pooled) → Gets p (Ok lent) q → (q.lent ≡ p.lent + 1) × (q.kind ≡ p.kind)
+got_is_lent p q lent (inl stored) = (ap (λ (r : Pool). r.lent) stored.pool, ap (λ (r : Pool). r.kind) stored.pool)
+got_is_lent p q lent (inr new) = (ap (λ (r : Pool). r.lent) new.pool, ap (λ (r : Pool). r.kind) new.pool)
+
+pub got_is_pool : (p q : Pool) (answer : Result Pooled PoolErr) → IsPool p → Gets p answer q → IsPool q
+got_is_pool p q (Ok lent) pool (inl stored) = subst IsPool (sym stored.pool) (record {
+  made = omega (arith, pool.made, pool.stored, ap length stored.stack, length-append q.stack (lent ∷ []));
+  stored = omega (arith, pool.stored, ap length stored.stack, length-append q.stack (lent ∷ []));
+  stack = (All-pop (IsPooled p.kind) p.stack q.stack (Some lent) stored.stack pool.stack).0;
+})
+got_is_pool p q (Ok lent) pool (inr new) = subst IsPool (sym new.pool) (record { made = omega (arith, pool.made); stored = pool.stored; stack = pool.stack })
+got_is_pool p q (Err e) pool refused = subst IsPool (sym refused.1) pool
+
+pub lent_is_pooled : (p q : Pool) (lent : Pooled) → IsPool p → Gets p (Ok lent) q → IsPooled p.kind lent
+lent_is_pooled p q lent pool (inl stored) = (All-pop (IsPooled p.kind) p.stack q.stack (Some lent) stored.stack pool.stack).1
+lent_is_pooled p q lent pool (inr new) =
+    record { unused = rw new.standard (new_standard lent.0 new.arena); id = rw (new.standard, new.id) refl }
+
+pub put_is_pool : (p : Pool) (arena : View) (id : Option ℕ) → IsPool p → 0 < p.lent → IsValid arena.memory.state → IsOfKind p.kind arena.memory.state → HasId p.kind id
+    → IsPool (put p arena id)
+put_is_pool p arena id pool lent valid of_kind has_id = record {
+  made = omega (arith, pool.made);
+  stored = omega (arith, pool.stored, length-append p.stack ((reset_view arena, id) ∷ []));
+  stack = All-push (IsPooled p.kind) p.stack (reset_view arena, id) pool.stack (record { unused = reset_is_unused p.kind arena valid of_kind; id = has_id });
+}
+
+pub given_up_is_pool : (p : Pool) → IsPool p → 0 < p.lent → IsPool (give_up p)
+given_up_is_pool p pool lent = record { made = omega (arith, pool.made); stored = pool.stored; stack = pool.stack }
+
+-- ---- Which answer a get gives
+
+pub answers_stored : (p q : Pool) (answer : Result Pooled PoolErr) → Gets p answer q → 0 < length p.stack → IsOk answer
+answers_stored p q (Ok lent) gets some = refl
+answers_stored p q (Err PoolEmpty) gets some = absurd (omega (arith, ap length gets.0.0))
+answers_stored p q (Err Limit) gets some = absurd (omega (arith, ap length gets.0.0))
+answers_stored p q (Err OutOfMemory) gets some = absurd (omega (arith, ap length gets.0.0))
+
+pub answers_empty : (p q : Pool) (answer : Result Pooled PoolErr) → Gets p answer q → p.stack ≡ [] → IsTrue (is_fixed p.kind) → answer ≡ Err PoolEmpty
+answers_empty p q (Ok lent) (inl stored) none fixed = absurd (some_stored p q.stack lent none stored.stack)
+answers_empty p q (Ok lent) (inr new) none fixed = absurd (standard_is_not_fixed p.kind new.standard fixed)
+answers_empty p q (Err PoolEmpty) gets none fixed = refl
+answers_empty p q (Err Limit) gets none fixed = absurd (standard_is_not_fixed p.kind gets.0.1 fixed)
+answers_empty p q (Err OutOfMemory) gets none fixed = absurd (standard_is_not_fixed p.kind gets.0.1 fixed)
+
+pub answers_limit : (p q : Pool) (answer : Result Pooled PoolErr) → Gets p answer q → p.stack ≡ [] → p.kind ≡ Standard → p.made ≡ 2 ^ 64 - 1 → answer ≡ Err Limit
+answers_limit p q (Ok lent) (inl stored) none standard most = absurd (some_stored p q.stack lent none stored.stack)
+answers_limit p q (Ok lent) (inr new) none standard most = absurd (omega (arith, new.room))
+answers_limit p q (Err PoolEmpty) gets none standard most = absurd (standard_is_not_fixed p.kind standard gets.0.1)
+answers_limit p q (Err Limit) gets none standard most = refl
+answers_limit p q (Err OutOfMemory) gets none standard most = absurd (omega (arith, gets.0.2))
+
+-- Who needn't wait is refused for want of memory alone.
+goes : (p : Pool) (e : PoolErr) → IsTrue (can_take p) → LendsNone p e → e ≡ OutOfMemory
+goes p PoolEmpty can refused = let h = rw (refused.0, refused.1) at can in grind (arith, nat_tests)
+goes p Limit can refused = let h = rw (refused.0, refused.1, refused.2) at can in grind (arith, nat_tests)
+goes p OutOfMemory can refused = refl
+
+pub answers_at_once : (p q : Pool) (e : PoolErr) → Gets p (Err e) q → IsTrue (can_take p) → e ≡ OutOfMemory
+answers_at_once p q e gets can = goes p e can gets.0
+
+-- One that is stored, and one that can be made, is lent at once.
+takes_stored : (p : Pool) → p.lent < most_lent → 0 < length p.stack → IsTrue (can_take p)
+takes_stored p few some = grind (arith, nat_tests)
+
+takes_new : (p : Pool) → p.lent < most_lent → p.kind ≡ Standard → p.made < 2 ^ 64 - 1 → IsTrue (can_take p)
+takes_new p few standard room = rw standard (grind (arith, nat_tests))
+
+-- Who waits would be refused.
+pub answers_waiting : (p q : Pool) (answer : Result Pooled PoolErr) → Gets p answer q → can_take p ≡ false → p.lent < most_lent
+    → (answer ≡ Err PoolEmpty) ⊎ (answer ≡ Err Limit)
+answers_waiting p q (Ok lent) (inl stored) waits few =
+    let can = takes_stored p few (omega (arith, ap length stored.stack, length-append q.stack (lent ∷ []))) in cc
+answers_waiting p q (Ok lent) (inr new) waits few = let can = takes_new p few new.standard new.room in cc
+answers_waiting p q (Err PoolEmpty) gets waits few = inl refl
+answers_waiting p q (Err Limit) gets waits few = inr refl
+answers_waiting p q (Err OutOfMemory) gets waits few = let can = takes_new p few gets.0.1 gets.0.2 in cc
+
+-- ---- The newest
+
+restored : (p : Pool) (stack : List Pooled) (stored lent : ℕ) → stack ≡ p.stack → stored ≡ p.stored → lent ≡ p.lent → record p { stack = stack; stored = stored; lent = lent } ≡ p
+restored p stack stored lent same_stack same_stored same_lent = rw (same_stack, same_stored, same_lent) refl
+
+-- What was put last is lent next.
+pub put_is_newest : (p q : Pool) (arena : View) (id : Option ℕ) (lent : Pooled) → 0 < p.lent → Gets (put p arena id) (Ok lent) q → (lent ≡ (reset_view arena, id)) × (q ≡ p)
+put_is_newest p q arena id lent some (inl stored) =
+    let same = same_from_push p.stack q.stack (reset_view arena, id) lent stored.stack in
+    (sym same.1, stored.pool ∙ restored p q.stack (p.stored + 1 - 1) (p.lent - 1 + 1) (sym same.0) (omega arith) (omega arith))
+put_is_newest p q arena id lent some (inr new) = absurd (some_stored (put p arena id) p.stack (reset_view arena, id) new.none_stored refl)

@@ -1,0 +1,61 @@
+-- The two kinds of arenas that pools have, and arenas as they are stored and lent.
+use Rattle.std.specs.Prelude.{◌≡◌, ℕ, ◌-◌, ◌≤◌, ◌%◌, Bool, true, false, not, Option, None, Some, is_some, take}
+use Rattle.placement.specs.State.{State, IsValid, used_bytes, allocated_bytes}
+use Rattle.placement.specs.Moves.{reset}
+use Rattle.placement.specs.Creation.{empty_state, fixed_state}
+use Rattle.placement.specs.Statistics.{uncounted}
+use Rattle.arena_chunks.specs.Memory.{Memory}
+use Rattle.arena_chunks.specs.Source.{View}
+use Rattle.arena_chunks.specs.Creating.{zeroed_memory}
+use Rattle.arena_pool.specs.declared.kind.PoolKind.{PoolKind}
+use Rattle.arena_pool.specs.declared.kind.PoolKind.TheVariants.{Standard, FixedSize}
+
+abbrev pub is_fixed : PoolKind → Bool
+is_fixed Standard = false
+is_fixed (FixedSize bytes) = true
+
+-- An arena of the kind grows, or it doesn't and has a region of so many bytes, of which the last 48 are no block's.
+pub record IsOfKind (kind : PoolKind) (state : State) : Type 0 where
+  pub growing : state.is_growing ≡ not (is_fixed kind)
+  pub region : (bytes : ℕ) → kind ≡ FixedSize bytes → allocated_bytes state ≡ bytes - 48
+
+-- regions that an arena can be made over
+abbrev pub HasRegions : PoolKind → Type 0
+HasRegions Standard = Unit {0}
+HasRegions (FixedSize bytes) = (bytes % 16 ≡ 0) × (48 ≤ bytes)
+
+-- the arenas of a fixed pool have ids, and no others
+abbrev pub HasId : PoolKind → Option ℕ → Type 0
+HasId kind id = is_some id ≡ is_fixed kind
+
+-- those of a new pool's arenas are the numbers from 0
+abbrev pub first_id : PoolKind → ℕ → Option ℕ
+first_id Standard i = None
+first_id (FixedSize bytes) i = Some i
+
+-- an arena of the kind of which nothing is used or counted
+pub record IsUnused (kind : PoolKind) (arena : View) : Type 0 where
+  pub valid : IsValid arena.memory.state
+  pub used : used_bytes arena.memory.state ≡ 0
+  pub statistics : arena.memory.statistics ≡ uncounted
+  pub of_kind : IsOfKind kind arena.memory.state
+
+-- a new arena: without a chunk, or over a region of zeros
+abbrev pub new_memory : PoolKind → Memory
+new_memory Standard = zeroed_memory (empty_state 1)
+new_memory (FixedSize bytes) = zeroed_memory (fixed_state 1 (bytes - 48))
+
+-- the same with a source that has refused nothing
+pub record IsNew (kind : PoolKind) (arena : View) : Type 0 where
+  pub memory : arena.memory ≡ new_memory kind
+  pub refusals : arena.source.refusals ≡ 0
+
+-- an arena after a reset
+abbrev pub reset_view : View → View
+reset_view arena = record arena {
+  memory = record {
+    state = reset arena.memory.state;
+    statistics = uncounted;
+    bytes = take 1 arena.memory.bytes;
+  };
+}

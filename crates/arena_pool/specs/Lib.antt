@@ -1,0 +1,4 @@
+pub mod Kinds
+pub mod Pool
+pub mod Names
+pub mod Lending

@@ -1,0 +1,88 @@
+-- A pool of arenas, and its events.
+use Rattle.std.specs.Prelude.{◌≡◌, ℕ, ◌+◌, ◌-◌, ◌^◌, ◌<◌, ◌⊎◌, IsTrue, Option, None, Result, Ok, Err, List, [], ◌∷◌, ◌++◌, map, length, All, Bool, ◌&&◌, ◌||◌, nat_lt, not}
+use Rattle.std.specs.List.{range_with_len}
+use Rattle.arena_chunks.specs.Source.{View}
+use Rattle.arena_pool.specs.Kinds.{is_fixed, first_id, HasId, IsUnused, IsNew, reset_view}
+use Rattle.arena_pool.specs.declared.kind.PoolKind.{PoolKind}
+use Rattle.arena_pool.specs.declared.kind.PoolKind.TheVariants.{Standard}
+use Rattle.arena_pool.specs.declared.book.PoolErr.{PoolErr}
+use Rattle.arena_pool.specs.declared.book.PoolErr.TheVariants.{PoolEmpty, OutOfMemory, Limit}
+
+-- an arena with its id
+abbrev pub Pooled : Type 0
+Pooled = View × Option ℕ
+
+-- The arenas that are stored, newest last, and how many were made, are stored, are lent and were given up.
+pub record Pool : Type 0 where
+  pub kind : PoolKind
+  pub stack : List Pooled
+  pub made : ℕ
+  pub stored : ℕ
+  pub lent : ℕ
+  pub given_up : ℕ
+
+-- as it is stored, and as it is lent
+pub record IsPooled (kind : PoolKind) (p : Pooled) : Type 0 where
+  pub unused : IsUnused kind p.0
+  pub id : HasId kind p.1
+
+-- Every arena that was made is stored, lent or given up.
+pub record IsPool (p : Pool) : Type 0 where
+  pub made : p.made ≡ p.stored + p.lent + p.given_up
+  pub stored : p.stored ≡ length p.stack
+  pub stack : All (IsPooled p.kind) p.stack
+
+-- ---- How a pool begins
+
+-- so many new arenas are stored
+pub record Begins (kind : PoolKind) (count : ℕ) (p : Pool) : Type 0 where
+  pub arenas : All (λ (a : Pooled). IsNew kind a.0) p.stack
+  pub ids : map (λ (a : Pooled). a.1) p.stack ≡ map (first_id kind) (range_with_len 0 count)
+  pub pool : p ≡ record { kind = kind; stack = p.stack; made = count; stored = count; lent = 0; given_up = 0 }
+
+-- ---- Get
+
+-- the newest of the stack is lent
+pub record LendsStored (p : Pool) (lent : Pooled) (q : Pool) : Type 0 where
+  pub stack : p.stack ≡ q.stack ++ lent ∷ []
+  pub pool : q ≡ record p { stack = q.stack; stored = p.stored - 1; lent = p.lent + 1 }
+
+-- where none is stored, a standard pool lends a new one
+pub record LendsNew (p : Pool) (lent : Pooled) (q : Pool) : Type 0 where
+  pub none_stored : p.stack ≡ []
+  pub standard : p.kind ≡ Standard
+  pub room : p.made < 2 ^ 64 - 1
+  pub arena : IsNew Standard lent.0
+  pub id : lent.1 ≡ None
+  pub pool : q ≡ record p { made = p.made + 1; lent = p.lent + 1 }
+
+-- Why none is lent, where none is stored: the pool is fixed; it has made as many as can be counted; or memory is wanting.
+abbrev pub LendsNone : Pool → PoolErr → Type 0
+LendsNone p PoolEmpty = (p.stack ≡ []) × IsTrue (is_fixed p.kind)
+LendsNone p Limit = (p.stack ≡ []) × (p.kind ≡ Standard) × (p.made ≡ 2 ^ 64 - 1)
+LendsNone p OutOfMemory = (p.stack ≡ []) × (p.kind ≡ Standard) × (p.made < 2 ^ 64 - 1)
+
+abbrev pub Gets : Pool → Result Pooled PoolErr → Pool → Type 0
+Gets p (Ok lent) q = LendsStored p lent q ⊎ LendsNew p lent q
+Gets p (Err e) q = LendsNone p e × (q ≡ p)
+
+-- how many arenas can be lent at once
+abbrev pub most_lent : ℕ
+most_lent = 4294967295
+
+-- A get needn't wait: not as many are lent as can be, and one is stored or can be made.
+abbrev pub can_take : Pool → Bool
+can_take p = nat_lt p.lent most_lent && (nat_lt 0 (length p.stack) || not (is_fixed p.kind) && nat_lt p.made (2 ^ 64 - 1))
+
+-- ---- Put, and give up
+
+-- an arena that was lent becomes the newest of the stack
+abbrev pub store : Pool → Pooled → Pool
+store p a = record p { stack = p.stack ++ a ∷ []; stored = p.stored + 1; lent = p.lent - 1 }
+
+-- the same for an arena as its borrower left it
+abbrev pub put : Pool → View → Option ℕ → Pool
+put p arena id = store p (reset_view arena, id)
+
+abbrev pub give_up : Pool → Pool
+give_up p = record p { lent = p.lent - 1; given_up = p.given_up + 1 }

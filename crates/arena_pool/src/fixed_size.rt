@@ -1,0 +1,70 @@
+// A fixed pool that lends bare arenas.
+ghost use Rattle.std.specs.Prelude.{◌≡◌, ◌%◌, ◌≤◌, true, IfOk, IsOk};
+ghost use Rattle.arena_pool.specs.Kinds.{is_fixed, IsOfKind, IsUnused};
+ghost use Rattle.arena_pool.specs.Names.{IsBlankOf};
+ghost use Rattle.arena_pool.specs.declared.kind.PoolKind.TheVariants.{FixedSize};
+
+use crate::held::Loan;
+use crate::maker::ChunkMaker;
+use crate::name::PoolName;
+use crate::pool::AllocatorPool;
+use arena_chunks::{Allocator, OutOfMemory};
+use std::alloc::Global;
+use std::sync::Wait;
+use std::sync::ledger::Blank;
+
+/// Arenas over regions of one size, which threads borrow and give back, each with its loan.
+#[derive(Drop)]
+pub struct FixedSizeAllocatorPool<K: ChunkMaker, L: PoolName> {
+    pool: AllocatorPool<K, L>,
+    ghost fixed: { is_fixed L.kind ≡ true },
+}
+
+impl<K: ChunkMaker, L: PoolName> FixedSizeAllocatorPool<K, L> {
+    /// A pool of so many arenas, each over a region of `bytes`. It makes no more.
+    ///
+    /// # Errors
+    ///
+    /// Memory is wanting.
+    pub fn new(
+        alloc: Global,
+        thread_count: u32,
+        bytes: u64,
+        maker: K,
+        blank: Blank,
+    ) -> Result<FixedSizeAllocatorPool<K, L>, OutOfMemory>
+    where
+        K: Drop,
+        requires blank { IsBlankOf L.name L.parts blank }
+        requires kind { L.kind ≡ FixedSize bytes }
+        requires units { bytes % 16 ≡ 0 }
+        requires room { 48 ≤ bytes }
+    {
+        let pool = AllocatorPool::new_fixed_size(alloc, thread_count, bytes, maker, blank)?;
+        Ok(FixedSizeAllocatorPool { pool })
+    }
+
+    /// Borrows an arena of which nothing is used. Waits while none is stored. Never refuses.
+    ///
+    /// # Errors
+    ///
+    /// None.
+    pub fn get<R: Wait>(&self, rt: &R) -> Result<(Allocator<K::Chunks>, Loan<L>), OutOfMemory>
+        ensures ok { IsOk result }
+        ensures unused { IfOk result (λ lent. IsUnused L.kind lent.0) }
+    {
+        self.pool.lend(rt)
+    }
+
+    /// Gives an arena back. It is reset, and one that waits is woken. Takes no memory.
+    pub fn add<R: Wait>(&self, rt: &R, a: Allocator<K::Chunks>, loan: Loan<L>)
+        requires { IsOfKind L.kind a.memory.state }
+    {
+        self.pool.add(rt, a, loan);
+    }
+
+    /// The arena of the loan doesn't come back.
+    pub fn forget<R: Wait>(&self, rt: &R, loan: Loan<L>) {
+        self.pool.forget(rt, loan);
+    }
+}

@@ -1,0 +1,21 @@
+// What names a pool.
+ghost use Rattle.arena_pool.specs.declared.kind.PoolKind.{PoolKind};
+ghost use Rattle.arena_pool.specs.declared.kind.PoolKind.TheVariants.{Standard};
+
+use std::marker::Brand;
+use std::sync::ledger::Ledger;
+
+/// How many arenas of a pool can be lent at once. A pool's ledger has so many parts, one for each of them.
+pub const MOST_LENT: u64 = 4_294_967_295;
+
+/// Names one pool: its ledger of lent arenas, and the kind of its arenas. Guards, loans and the pool have it as a type
+/// parameter, so that what was lent by one pool can't be given back to another. Who makes a pool does so in a function over
+/// `L: PoolName`, which is called at `Brand`.
+pub trait PoolName: Ledger {
+    // The kind of the pool's arenas.
+    ghost kind: { PoolKind };
+}
+
+impl PoolName for Brand {
+    ghost kind = { Standard };
+}

@@ -1,0 +1,66 @@
+// A standard pool that lends bare arenas.
+ghost use Rattle.std.specs.Prelude.{◌≡◌, IfOk};
+ghost use Rattle.arena_pool.specs.Kinds.{IsOfKind, IsUnused};
+ghost use Rattle.arena_pool.specs.Names.{IsBlankOf};
+ghost use Rattle.arena_pool.specs.declared.kind.PoolKind.TheVariants.{Standard};
+
+use crate::held::Loan;
+use crate::maker::ChunkMaker;
+use crate::name::PoolName;
+use crate::pool::AllocatorPool;
+use arena_chunks::{Allocator, OutOfMemory};
+use std::alloc::Global;
+use std::sync::Wait;
+use std::sync::ledger::Blank;
+
+/// Arenas that grow, which threads borrow and give back, each with its loan.
+#[derive(Drop)]
+pub struct StandardAllocatorPool<K: ChunkMaker, L: PoolName> {
+    pool: AllocatorPool<K, L>,
+    ghost kind: { L.kind ≡ Standard },
+}
+
+impl<K: ChunkMaker, L: PoolName> StandardAllocatorPool<K, L> {
+    /// A pool with so many arenas at first. It makes more where none is stored.
+    ///
+    /// # Errors
+    ///
+    /// Memory is wanting.
+    pub fn new(
+        alloc: Global,
+        thread_count: u32,
+        maker: K,
+        blank: Blank,
+    ) -> Result<StandardAllocatorPool<K, L>, OutOfMemory>
+    where
+        K: Drop,
+        requires blank { IsBlankOf L.name L.parts blank }
+        requires kind { L.kind ≡ Standard }
+    {
+        let pool = AllocatorPool::new(alloc, thread_count, maker, blank)?;
+        Ok(StandardAllocatorPool { pool })
+    }
+
+    /// Borrows an arena of which nothing is used. Waits as `AllocatorPool::get` does.
+    ///
+    /// # Errors
+    ///
+    /// Memory for the place of a new arena is wanting.
+    pub fn get<R: Wait>(&self, rt: &R) -> Result<(Allocator<K::Chunks>, Loan<L>), OutOfMemory>
+        ensures { IfOk result (λ lent. IsUnused Standard lent.0) }
+    {
+        self.pool.lend(rt)
+    }
+
+    /// Gives an arena back. It is reset, and one that waits is woken. Takes no memory.
+    pub fn add<R: Wait>(&self, rt: &R, a: Allocator<K::Chunks>, loan: Loan<L>)
+        requires { IsOfKind Standard a.memory.state }
+    {
+        self.pool.add(rt, a, loan);
+    }
+
+    /// The arena of the loan doesn't come back.
+    pub fn forget<R: Wait>(&self, rt: &R, loan: Loan<L>) {
+        self.pool.forget(rt, loan);
+    }
+}

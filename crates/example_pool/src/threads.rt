@@ -1,0 +1,113 @@
+// Many threads over one pool.
+ghost use Rattle.std.specs.Prelude.{◌≡◌, ℕ, ◌%◌, ◌<◌, ◌≤◌, None, IfOk, IfSome, length, vec_len, slice_index, slice_index_or};
+ghost use Rattle.arena_pool.specs.Names.{IsBlankOf};
+ghost use Rattle.arena_pool.specs.declared.kind.PoolKind.TheVariants.{Standard, FixedSize};
+ghost use Rattle.example_pool.specs.Through.{ComeBack};
+
+use crate::borrow::through;
+use arena_pool::{AllocatorPool, ChunkMaker, MOST_LENT, MemoryMaker, OutOfMemory, PoolName};
+use std::alloc::Global;
+use std::marker::Brand;
+use std::sync::Wait;
+use std::sync::ledger::Blank;
+use std::thread;
+use std::thread::Threads;
+
+/// Sends values through borrowed arenas, each in a thread of its own. Each comes back as it was, or not at all.
+///
+/// # Errors
+///
+/// Memory for the results is wanting.
+pub fn all_through<K: ChunkMaker + Send, L: PoolName + Send + Sync, R: Threads + Wait + Sync>(
+    rt: &R,
+    alloc: Global,
+    pool: &AllocatorPool<K, L>,
+    values: &[u64],
+) -> Result<Vec<Option<u64>>, OutOfMemory>
+    ensures { IfOk result (λ back. ComeBack values.now back.items) }
+{
+    let back = thread::map_indices(
+        rt,
+        alloc,
+        values.len(),
+        &|i| -> Option<u64>
+            requires { i < length values.now }
+            ensures { IfSome result (λ v. v ≡ slice_index values.entry.now i) }
+        { through(rt, pool, values[i]) },
+    );
+    back.map_err(|_| OutOfMemory)
+}
+
+/// The same over a new standard pool of so many arenas, each with a budget of bytes.
+///
+/// # Errors
+///
+/// Memory is wanting.
+pub fn over_standard<R: Threads + Wait + Sync>(
+    rt: &R,
+    alloc: Global,
+    arenas: u32,
+    budget: u64,
+    values: &[u64],
+) -> Result<Vec<Option<u64>>, OutOfMemory>
+    ensures { IfOk result (λ back. ComeBack values.now back.items) }
+{
+    in_standard::<Brand, R>(rt, alloc, arenas, budget, Blank::new(MOST_LENT), values)
+}
+
+// The pool is named by L, which stands in no type of the signature.
+fn in_standard<L: PoolName + Send + Sync, R: Threads + Wait + Sync>(
+    rt: &R,
+    alloc: Global,
+    arenas: u32,
+    budget: u64,
+    blank: Blank,
+    values: &[u64],
+) -> Result<Vec<Option<u64>>, OutOfMemory>
+    requires blank { IsBlankOf L.name L.parts blank }
+    requires kind { L.kind ≡ Standard }
+    ensures { IfOk result (λ back. ComeBack values.now back.items) }
+{
+    let maker = MemoryMaker::new(alloc, budget);
+    let pool = AllocatorPool::<MemoryMaker, L>::new(alloc, arenas, maker, blank)?;
+    all_through(rt, alloc, &pool, values)
+}
+
+/// The same over a new pool of so many arenas, each over a region of `bytes`. It waits without end where there are values and no
+/// arena.
+///
+/// # Errors
+///
+/// Memory is wanting.
+pub fn over_fixed<R: Threads + Wait + Sync>(
+    rt: &R,
+    alloc: Global,
+    arenas: u32,
+    bytes: u64,
+    values: &[u64],
+) -> Result<Vec<Option<u64>>, OutOfMemory>
+    requires units { bytes % 16 ≡ 0 }
+    requires room { 48 ≤ bytes }
+    ensures { IfOk result (λ back. ComeBack values.now back.items) }
+{
+    in_fixed::<Brand, R>(rt, alloc, arenas, bytes, Blank::new(MOST_LENT), values)
+}
+
+fn in_fixed<L: PoolName + Send + Sync, R: Threads + Wait + Sync>(
+    rt: &R,
+    alloc: Global,
+    arenas: u32,
+    bytes: u64,
+    blank: Blank,
+    values: &[u64],
+) -> Result<Vec<Option<u64>>, OutOfMemory>
+    requires blank { IsBlankOf L.name L.parts blank }
+    requires kind { L.kind ≡ FixedSize bytes }
+    requires units { bytes % 16 ≡ 0 }
+    requires room { 48 ≤ bytes }
+    ensures { IfOk result (λ back. ComeBack values.now back.items) }
+{
+    let maker = MemoryMaker::new(alloc, 0);
+    let pool = AllocatorPool::<MemoryMaker, L>::new_fixed_size(alloc, arenas, bytes, maker, blank)?;
+    all_through(rt, alloc, &pool, values)
+}
