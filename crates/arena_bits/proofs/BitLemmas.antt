@@ -23,13 +23,15 @@ module _ (words : List ℕ) (n x : ℕ) (within : n / 64 < length words) (change
     where
       each : (i : ℕ) → bits_of (set words (n / 64) x) i ≡ changed i
       each i = elim (cases_eq (i / 64) (n / 64)) [
-        | inl one ↦ ap (λ w. eqb (bit_at w (i % 64)) 1) (ap (λ k. get_or (set words (n / 64) x) k 0) one ∙ get_or-set_same words (n / 64) x 0 within)
+        | inl one ↦ ap (λ w. eqb (bit_at w (i % 64)) 1) (ap (λ k. get_or (set words (n / 64) x) k 0) one
+            ∙ get_or-set_same words (n / 64) x 0 within)
             ∙ elim (cases_eq (i % 64) (n % 64)) [
               | inl bit ↦ let all : i ≡ n = omega arith in ap (λ j. eqb (bit_at x j) 1) bit ∙ here ∙ ap changed (sym all)
               | inr bit ↦ ap (λ b. eqb b 1) (others (i % 64) (omega arith) bit ∙ ap (λ k. bit_at (get_or words k 0) (i % 64)) (sym one))
                   ∙ same i (λ e. bit (ap (λ m. m % 64) e))
             ]
-        | inr other ↦ ap (λ w. eqb (bit_at w (i % 64)) 1) (get_or-set_other words (n / 64) (i / 64) x 0 other) ∙ same i (λ e. other (ap (λ m. m / 64) e))
+        | inr other ↦ ap (λ w. eqb (bit_at w (i % 64)) 1) (get_or-set_other words (n / 64) (i / 64) x 0 other)
+            ∙ same i (λ e. other (ap (λ m. m / 64) e))
       ]
 
 -- what a set says of the number that was put in or taken out, and of others
@@ -53,7 +55,8 @@ module _ (words : List ℕ) (n : ℕ) (within : n / 64 < length words) where
       (λ j small other. bit_at_set_other w64 (get_or words (n / 64) 0) (n % 64) (omega arith) j other)
       (λ i other. sym (raised_other (bits_of words i) i n other))
 
-  pub bits_lowered : bits_of (set words (n / 64) (bit_and (get_or words (n / 64) 0) (bit_not w64 (1 * 2 ^ (n % 64) % 2 ^ 64)))) ≡ without_bit (bits_of words) n
+  pub bits_lowered : bits_of (set words (n / 64) (bit_and (get_or words (n / 64) 0) (bit_not w64 (1 * 2 ^ (n % 64) % 2 ^ 64))))
+      ≡ without_bit (bits_of words) n
   bits_lowered = bits_replaced words n _ within (without_bit (bits_of words) n)
       (ap (λ b. eqb b 1) (bit_at_clear_same w64 (get_or words (n / 64) 0) (n % 64) (omega arith)) ∙ sym (lowered (bits_of words n) n))
       (λ j small other. bit_at_clear_other w64 (get_or words (n / 64) 0) (n % 64) (omega arith) j small other)

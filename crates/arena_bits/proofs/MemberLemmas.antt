@@ -30,7 +30,8 @@ pub members_first : (set : Set) (from to : ℕ) → from < to → set from ≡ t
 unfolding members
 members_first set from to h is_in = members_more set from to h ∙ rw is_in refl
 
-skip_by : (set : Set) (k from to : ℕ) → ((n : ℕ) → from ≤ n → n < from + k → set n ≡ false) → members set from to ≡ members set (from + k) to
+skip_by : (set : Set) (k from to : ℕ) → ((n : ℕ) → from ≤ n → n < from + k → set n ≡ false)
+    → members set from to ≡ members set (from + k) to
 skip_by set zero from to none = let e : from + 0 ≡ from = omega arith in rw e refl
 skip_by set (suc k) from to none =
     let e : from + 1 + k ≡ from + suc k = omega arith in

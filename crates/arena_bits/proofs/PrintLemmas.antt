@@ -58,7 +58,8 @@ any_bit (suc b) small =
     let some : not (eqb (suc b) 0) ≡ true = grind (arith, nat_tests) in
     let low = bit_at-trailing_zeros w8 (suc b) (omega arith) small in
     let at = get_or-range_with_len 0 8 (trailing_zeros w8 (suc b)) 0 low.0 ∙ zero-add (trailing_zeros w8 (suc b)) in
-    list_any_at (bits_in (suc b)) (range_with_len 0 8) (trailing_zeros w8 (suc b)) 0 low.0 (ap (bits_in (suc b)) at ∙ ap (λ bit. eqb bit 1) low.1)
+    list_any_at (bits_in (suc b)) (range_with_len 0 8) (trailing_zeros w8 (suc b)) 0 low.0
+    (ap (bits_in (suc b)) at ∙ ap (λ bit. eqb bit 1) low.1)
     ∙ sym some
 
 -- sets that have the same numbers have the same bytes and digits
@@ -114,7 +115,8 @@ module _ (bytes : List ℕ) (small : (i : ℕ) → get_or bytes i 0 < 256) (whol
   pub highest_here : (k m : ℕ) → k + 1 ≡ m → m ≤ length bytes → 0 < get_or bytes k 0 → highest set m ≡ k
   unfolding highest
   highest_here k m next within some =
-      ap (highest set) (sym next ∙ add-one k) ∙ ap (λ b. cond b k (highest set k)) (byte_tested k (omega arith) ∙ filled (get_or bytes k 0) some)
+      ap (highest set) (sym next ∙ add-one k)
+      ∙ ap (λ b. cond b k (highest set k)) (byte_tested k (omega arith) ∙ filled (get_or bytes k 0) some)
     where
       filled : (b : ℕ) → 0 < b → not (eqb b 0) ≡ true
       filled b some = grind (arith, nat_tests)
@@ -145,7 +147,8 @@ digit_more text byte n m next =
     bit_digit b small = grind (arith, nat_tests)
 
     digit : 48 + bit_and (byte / 2 ^ n) 1 ≡ cond (bits_in byte (0 + n)) 49 48
-    digit = ap (λ b. 48 + b) (shr_and_one byte n) ∙ bit_digit (bit_at byte n) (bit_at-lt byte n) ∙ ap (λ k. cond (bits_in byte k) 49 48) (sym (zero-add n))
+    digit = ap (λ b. 48 + b) (shr_and_one byte n) ∙ bit_digit (bit_at byte n) (bit_at-lt byte n)
+        ∙ ap (λ k. cond (bits_in byte k) 49 48) (sym (zero-add n))
 
 -- no digit is left
 pub digits_done : (text : List ℕ) (set : Set) (from n : ℕ) → n ≤ 0 → text ++ digits set from n ≡ text

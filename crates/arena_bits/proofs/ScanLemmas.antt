@@ -79,7 +79,8 @@ module _ (words : List ℕ) (capacity : ℕ) where
         unfolding count_trailing_zeros
         lowest = elim (cases_lt 0 s.rest) [
           | inl some ↦ (let low = bit_at-trailing_zeros w64 s.rest some fits in (low.0, low.1))
-          | inr none ↦ (let zero : s.rest ≡ 0 = omega arith in let all : place ≡ 64 = ap (trailing_zeros w64) zero in absurd (omega (arith, last zero)))
+          | inr none ↦ (let zero : s.rest ≡ 0 = omega arith in
+              let all : place ≡ 64 = ap (trailing_zeros w64) zero in absurd (omega (arith, last zero)))
         ]
 
         pub place_fits : trailing_zeros w64 s.rest < 64

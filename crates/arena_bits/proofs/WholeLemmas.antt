@@ -83,7 +83,8 @@ module _ (old new : Memory) (b : Block) (n : ℕ) (sized : b.size ≡ n * 8) whe
     where
       zeros : bytes_of new b ≡ replicate (n * 8) 0
       zeros =
-          let is : edits.list ≡ replicate (n * 8) 0 = edits.related ∙ ap (λ k. replicate k 0) (length-bytes (image old) (b.addr + 0) size ∙ all ∙ sized) in
+          let is : edits.list ≡ replicate (n * 8) 0 =
+          edits.related ∙ ap (λ k. replicate k 0) (length-bytes (image old) (b.addr + 0) size ∙ all ∙ sized) in
           wrote_whole old new b edits.list edits.writes (ap length is ∙ length-replicate (n * 8) 0 ∙ sym sized) ∙ is
 
 -- ---- New sets

@@ -1,5 +1,5 @@
 pub mod Bits
 pub mod Sets
-pub mod Edits
 pub mod Walks
+pub mod Edits
 pub mod Printed

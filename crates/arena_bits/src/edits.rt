@@ -1,7 +1,7 @@
 // Changes of a set's bytes in their place, with one look-up of its block.
 ghost use Rattle.std.specs.Prelude.{◌≡◌, length, replicate, bit_and, bit_or};
 ghost use Rattle.std.specs.Int.{w64, bit_not};
-ghost use Rattle.arena_bits.specs.Edits.{ChangesWord};
+ghost use Rattle.arena_bits.specs.Edits.{ChangesWord, JoinsRow};
 
 use crate::words::word_of;
 use arena_chunks::Edit;
@@ -42,6 +42,26 @@ impl Edit for Lower {
     fn edit(&self, place: &mut [u8]) {
         let word = word_of(place);
         (word & !self.mask).encode(place);
+    }
+}
+
+/// Sets the bits of eight words in eight others.
+#[derive(Clone, Copy)]
+pub(crate) struct JoinRow {
+    pub(crate) row: [u64; 8],
+}
+
+impl Edit for JoinRow {
+    ghost suits = { λ e old. length old ≡ 64 };
+
+    ghost relates = { λ e old new. JoinsRow e.row old new };
+
+    #[inline]
+    fn edit(&self, place: &mut [u8]) {
+        'words: for i in 0..8 {
+            let word = Raise { mask: self.row[i] };
+            word.edit(&mut place[i * 8..i * 8 + 8]);
+        }
     }
 }
 

@@ -1,10 +1,12 @@
-// What sets and walks over them are. Each law is a call that does nothing: made in a body, it gives its facts there.
+// What sets and walks over them are. Each law is a call that does nothing: made in a body, it gives its facts
+// there.
 ghost use Rattle.std.specs.Prelude.{◌≡◌, ℕ, ◌*◌, ◌<◌, ◌≤◌, List, length, false, IsTrue};
 ghost use Rattle.std.specs.List.{All, Contains};
 ghost use Rattle.std.specs.List.Sorted.{IsStrictlyIncreasing};
 ghost use Rattle.arena_bits.specs.Bits.{Set, bits_of, members};
 
-/// A walk gives numbers of the set within its bounds alone, every one of them, and they rise, so each comes once.
+/// A walk gives numbers of the set within its bounds alone, every one of them, and they rise, so each comes
+/// once.
 #[tactic(auto, using(crate::proofs::MemberLemmas::member_laws))]
 pub fn walk_law()
     ensures given { (set : Set) (from to : ℕ)

@@ -7,8 +7,6 @@ pub mod laws;
 mod ones;
 mod printed;
 mod set;
-#[cfg(test)]
-mod tests;
 mod uses;
 mod whole;
 mod words;

@@ -11,8 +11,8 @@ use crate::words::{first_word, word_at};
 use arena_chunks::{Allocator, ChunkSource};
 use std::marker::{Model, PhantomData};
 
-// A place in a walk over words: the first number of a word, what is left of the word, and the place after the last number
-// that was given.
+// A place in a walk over words: the first number of a word, what is left of the word, and the place after the
+// last number that was given.
 #[derive(Clone, Copy)]
 pub(crate) struct Scan {
     pub(crate) base: u64,
@@ -137,7 +137,8 @@ impl<'a, C: ChunkSource> Ones<'a, C> {
         bit
     }
 
-    /// None at least, and at most as many as there are numbers from the place after the last one given to the capacity.
+    /// None at least, and at most as many as there are numbers from the place after the last one given to the
+    /// capacity.
     #[inline]
     pub fn size_hint(&self) -> (usize, Option<usize>)
         ensures hint { result ≡ (0, Some (self.now.capacity - self.now.front)) }

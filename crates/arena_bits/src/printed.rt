@@ -72,8 +72,8 @@ fn push_all(text: &mut Bytes, bytes: &[u8]) -> Result<(), OutOfMemory>
 }
 
 impl BitSet {
-    /// The bits as text: eight binary digits a byte, from the highest byte that isn't zero down to the lowest, with `_`
-    /// between. For no bit it is `00000000`, and empty for no words.
+    /// The bits as text: eight binary digits a byte, from the highest byte that isn't zero down to the lowest,
+    /// with `_` between. For no bit it is `00000000`, and empty for no words.
     ///
     /// # Errors
     ///

@@ -8,11 +8,12 @@ use crate::words::word_at;
 use arena_chunks::{Allocator, ChunkSource};
 use arena_items::BoxSlice;
 
-/// A set of numbers in an arena, kept as bits of words, with a capacity in bits. It is a name: two of them may name one
-/// set.
+/// A set of numbers in an arena, kept as bits of words, with a capacity in bits.
+/// It is a name: two of them may name one set.
 #[derive(Clone, Copy)]
 pub struct BitSet {
-    /// The words: as many as the capacity needs. A word has the bits of 64 numbers, the lowest number in its lowest bit.
+    /// The words: as many as the capacity needs. A word has the bits of 64 numbers, the lowest number in its
+    /// lowest bit.
     pub words: BoxSlice<u64>,
     /// How many bits were asked for. The last word may have bits past it, which can be set too.
     pub capacity: u64,

@@ -6,9 +6,9 @@ ghost use Rattle.arena_items.specs.Room.{RoomAnswer};
 ghost use Rattle.arena_bits.specs.Bits.{nothing, joined, below, TellsEmpty};
 ghost use Rattle.arena_bits.specs.Sets.{IsSetIn, set_of, BecomesSet, PlacesSet};
 
-use crate::edits::Zeros;
+use crate::edits::{JoinRow, Raise, Zeros};
 use crate::set::BitSet;
-use crate::words::are_zero;
+use crate::words::{are_zero, row_at, word_at};
 use arena_chunks::{Allocator, ArenaErr, Block, ChunkSource};
 use arena_items::{AllocError, BoxSlice, Grown};
 use arena_place::Layout;
@@ -35,7 +35,8 @@ impl BitSet {
     ///
     /// # Errors
     ///
-    /// `AllocErr` and `OutOfMemory` as of the arena's `alloc_layout`, and never `CapacityOverflow`. Nothing changes.
+    /// `AllocErr` and `OutOfMemory` as of the arena's `alloc_layout`, and never `CapacityOverflow`. Nothing
+    /// changes.
     pub fn new_in<C: ChunkSource>(max_bit_count: u64, a: &mut Allocator<C>) -> Grown<BitSet>
         ensures { PlacesSet a.old a.new max_bit_count nothing result }
     {
@@ -82,9 +83,15 @@ impl BitSet {
         ensures handle { self.new ≡ self.old }
     {
         let count = self.words.length.min(other.words.length);
-        'words: for i in 0..count {
-            let word = self.words.get(a, i) | other.words.get(a, i);
-            self.words.set(a, i, word);
+        let (block, source) = (self.words.block, other.words.block);
+        // Each block is looked up once for eight words, and the rest are taken one by one.
+        'rows: for i in 0..count / 8 {
+            let row = row_at(a.read(source), i * 8);
+            a.write_with(block, i * 8 * 8, 64, &JoinRow { row });
+        }
+        'words: for i in count / 8 * 8..count {
+            let mask = word_at(a.read(source), i);
+            a.write_with(block, i * 8, 8, &Raise { mask });
         }
     }
 }

@@ -1,7 +1,8 @@
 // How the words of a bit set are read.
-ghost use Rattle.std.specs.Prelude.{◌≡◌, ◌/◌, ◌<◌, length, slice_index};
+ghost use Rattle.std.specs.Prelude.{◌≡◌, ◌/◌, ◌+◌, ◌<◌, ◌≤◌, length, slice_index};
 ghost use Rattle.std.specs.Int.{w64, from_le_bytes};
 ghost use Rattle.arena_bits.specs.Bits.{bits_of, TellsEmpty};
+ghost use Rattle.arena_bits.specs.Edits.{IsRow};
 ghost use Rattle.arena_bits.specs.Walks.{words_in};
 
 // The word of eight bytes. So written it is one load.
@@ -24,6 +25,19 @@ pub(crate) fn word_at(bytes: &[u8], i: u64) -> u64
 {
     let at = (i * 8) as usize;
     word_of(&bytes[at..at + 8])
+}
+
+// Eight words from an index on.
+#[inline]
+pub(crate) fn row_at(bytes: &[u8], i: u64) -> [u64; 8]
+    requires { i + 8 ≤ length bytes.now / 8 }
+    ensures { IsRow result (words_in bytes.now) i }
+{
+    let mut row = [0; 8];
+    'words: for k in 0..8 {
+        row[k] = word_at(bytes, i + k as u64);
+    }
+    row
 }
 
 // The first word, or 0 where there is none.

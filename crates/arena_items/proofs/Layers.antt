@@ -21,6 +21,7 @@ pub use Rattle.arena_items.proofs.ElementLemmas.{rows_before, length-elements, e
 pub use Rattle.arena_items.proofs.RowLemmas.{elements-cut, elements-drop, elements-front, elements-over, moved_values, copied_values}
 pub use Rattle.arena_items.proofs.RoomLemmas.{zero_or_more, row_is_layout, front_readable, fronts_kept, values_kept, taken_held, taken_frame, taken_front, refused_same, wanting_same, same_then, wrote_same, room_then, room_refused}
 pub use Rattle.arena_items.proofs.AddressLemmas.{new_address, no_dummy}
+pub use Rattle.arena_items.proofs.FootprintLemmas.{stays_readable, stays_agree, stays_apart}
 
 -- ---- Sizes
 

@@ -52,6 +52,7 @@ pub enum Growth {
 }
 
 // A block of this layout: placed where there was no room, and else the old block grown.
+#[inline(always)]
 fn place_or_grow<C: ChunkSource>(
     a: &mut Allocator<C>,
     block: Block,
@@ -75,6 +76,7 @@ fn place_or_grow<C: ChunkSource>(
 ///
 /// As of the arena's `alloc_layout` or `grow`. Nothing changes.
 #[tactic(auto, using(crate::proofs::RoomLemmas::refusals))]
+#[inline(always)]
 pub fn take_room<C: ChunkSource>(
     a: &mut Allocator<C>,
     block: Block,

@@ -2,4 +2,6 @@ mod KindLemmas
 mod StackLemmas
 mod PoolLemmas
 mod KeptLemmas
+mod ClaimLemmas
+mod OwnerLemmas
 pub mod Layers

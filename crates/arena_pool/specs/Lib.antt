@@ -2,3 +2,6 @@ pub mod Kinds
 pub mod Pool
 pub mod Names
 pub mod Lending
+pub mod Claiming
+pub mod Sharing
+pub mod GivingUp

@@ -1,6 +1,9 @@
 // What the events of a pool come to, and which arenas are of a kind. Each law is a call that does nothing: made in a body,
 // it gives its facts there.
-ghost use Rattle.std.specs.Prelude.{◌≡◌, ℕ, ◌+◌, ◌-◌, ◌^◌, ◌<◌, ◌⊎◌, [], ◌∷◌, length, false, IsTrue, List, Option, Result, Ok, Err, IsOk};
+ghost use Rattle.std.specs.Prelude.{◌≡◌, ℕ, ◌+◌, ◌-◌, ◌^◌, ◌<◌, ◌⊎◌, [], ◌∷◌, length, map, take, slice_index, false, IsTrue, if◌then◌else◌, List, Option, Result, Ok, Err, IsOk};
+ghost use mathlib.Core.Option.{some};
+ghost use lib.ListN.{get_elem?};
+ghost use Rattle.atomic_table.specs.Table.{State as TableState};
 ghost use Rattle.placement.specs.State.{State, IsValid};
 ghost use Rattle.placement.specs.Moves.{reset, Resizing};
 ghost use Rattle.arena_chunks.specs.Memory.{Memory};
@@ -16,6 +19,10 @@ ghost use Rattle.arena_items.specs.declared.slices.BoxSlice.{BoxSlice};
 ghost use Rattle.arena_items.specs.declared.placing.ItemErr.{ItemErr};
 ghost use Rattle.arena_pool.specs.Kinds.{is_fixed, IsOfKind, HasId, IsUnused, reset_view};
 ghost use Rattle.arena_pool.specs.Pool.{Pool, Pooled, IsPool, IsPooled, Gets, can_take, most_lent, put, give_up};
+ghost use Rattle.arena_pool.specs.Claiming.{has, claimers, IsKept, IsOnce, ClaimedOnce, Happen};
+ghost use Rattle.arena_pool.specs.Sharing.{Shares, FreedOnce};
+ghost use Rattle.arena_pool.specs.declared.claims.rule.ClaimView.{ClaimView};
+ghost use Rattle.arena_pool.specs.declared.owners.rule.OwnerView.{OwnerView};
 ghost use Rattle.arena_pool.specs.declared.kind.PoolKind.{PoolKind};
 ghost use Rattle.arena_pool.specs.declared.kind.PoolKind.TheVariants.{Standard};
 ghost use Rattle.arena_pool.specs.declared.book.PoolErr.{PoolErr};
@@ -86,4 +93,28 @@ pub fn kinds_by_values<T>()
 /// Where nothing of an arena is used, no block of some bytes can be read, whoever placed it before.
 pub fn unused()
     ensures { (kind : PoolKind) (arena : View) → IsUnused kind arena → NoneReadable arena.memory.state }
+{}
+
+/// Each word is claimed once. In each state that the rule of claims allows a word is the number of seats that claim
+/// it, no two seats claim one word, and none claims a word twice. Of swaps one after another, whoever makes them, each
+/// finds 1 where an earlier one was of its word, and else what the word was at first: so of all swaps of a word that
+/// was 0 the first alone finds 0.
+pub fn claimed_once()
+    ensures counted { (n : ℕ) (words : List ℕ) (views : List ClaimView) → IsKept n words views
+        → (w : ℕ) → slice_index words w ≡ claimers w views }
+    ensures one { (n : ℕ) (words : List ℕ) (views : List ClaimView) → IsKept n words views
+        → ClaimedOnce views }
+    ensures once { (n : ℕ) (words : List ℕ) (views : List ClaimView) → IsKept n words views
+        → (i : ℕ) (v : ClaimView) → get_elem? views i ≡ some v → IsOnce v }
+    ensures first { (words : List ℕ) (swaps : List (ℕ × ℕ)) → Happen words swaps
+        → (i w found : ℕ) → w < length words → get_elem? swaps i ≡ some (w, found)
+        → found ≡ (if has w (map (λ s. s.0) (take i swaps)) then 1 else slice_index words w) }
+{}
+
+/// A shared arena is freed at most once, and of two owners that give up exactly the later frees it. In each state that
+/// the rule of two owners allows at most one of them claims word 0, at most one word 1, and none both. One that hasn't
+/// given up finds word 0 taken exactly where the other has; then word 1 is free, and the arena is there to be taken.
+pub fn freed_once<X>()
+    ensures { (a : X) (s : TableState (Option X) (OwnerView X)) → Shares a s → length s.views ≡ 2
+        → FreedOnce a s }
 {}

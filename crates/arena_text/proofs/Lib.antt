@@ -1,3 +1,4 @@
 pub mod CharLemmas
 pub mod RoomLemmas
 pub mod TextLemmas
+mod Rows

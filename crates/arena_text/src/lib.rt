@@ -6,8 +6,6 @@ pub mod laws;
 mod pieces;
 mod push;
 mod room;
-#[cfg(test)]
-mod tests;
 mod text;
 mod uses;
 mod values;

@@ -91,5 +91,11 @@ pub(crate) fn roomy<C: ChunkSource>(
     if additional <= old.cap - old.len {
         return Ok(old);
     }
-    reserved(a, old, additional)
+    // Written out, or the compiler stores the handle at each call, for the growth that seldom comes.
+    let full = StringBuilder {
+        block: old.block,
+        len: old.len,
+        cap: old.cap,
+    };
+    reserved(a, full, additional)
 }

@@ -1,5 +1,6 @@
 // Callers of texts.
-ghost use Rattle.std.specs.Prelude.{◌≡◌, ◌+◌, ◌<◌, ◌≤◌, ◌++◌, [], ◌∷◌, length, replicate, chars, encode_utf8, IsOk, IfOk, IsUtf8, OnOk};
+ghost use Rattle.std.specs.Prelude.{◌≡◌, ◌+◌, ◌<◌, ◌≤◌, ◌++◌, [], ◌∷◌, length, replicate, chars, encode_utf8, IsOk, IfOk, IsUtf8, OnOk, OnErr};
+ghost use Rattle.std.specs.Fmt.{decimal};
 ghost use Rattle.placement.specs.State.{used_bytes};
 ghost use Rattle.arena_chunks.specs.Frame.{AreBlocksApart};
 ghost use Rattle.arena_items.specs.Room.{SamePlaces};
@@ -10,8 +11,9 @@ ghost use Rattle.arena_text.specs.Changes.{Grows, Makes};
 use crate::laws::{utf8_rule, within_room};
 use crate::text::StringBuilder;
 use arena_chunks::{Allocator, ChunkSource};
-use arena_items::Grown;
 use arena_items::laws::frame_law;
+use arena_items::{AllocError, Grown};
+use std::alloc::Global;
 
 /// Makes a text of one ASCII byte, so many times. Room is made once, which alone can be refused.
 ///
@@ -115,4 +117,30 @@ pub fn push_and_count<C: ChunkSource>(
     utf8_rule();
     text.push(a, c)?;
     Ok(text.as_str(a).chars().count())
+}
+
+/// Puts a number in decimal digits at the end. The digits are made outside the arena first, so that a refusal leaves all
+/// as it was.
+///
+/// # Errors
+///
+/// `OutOfMemory` where memory for the digits is wanting, and else as of `push_str`.
+pub fn push_number<C: ChunkSource>(
+    text: &mut StringBuilder,
+    a: &mut Allocator<C>,
+    alloc: Global,
+    n: u64,
+) -> Grown<()>
+    requires { IsBuilderIn a.old.memory text.old }
+    ensures ok { let growth = amortised_growth text.old.cap text.old.len (length (decimal n)) in
+        let list = builder_bytes a.old.memory text.old ++ decimal n in
+        OnOk result (Grows a.old a.new text.old growth list text.new result) }
+    ensures held { IsBuilderIn a.new.memory text.new }
+    ensures err { OnErr result ((text.new ≡ text.old) × (a.new.memory ≡ a.old.memory)) }
+{
+    let Ok(digits) = format!(in alloc; "{n}") else {
+        return Err(AllocError::OutOfMemory);
+    };
+    text.push_str(a, digits.as_str())?;
+    Ok(())
 }

@@ -10,8 +10,9 @@ ghost use Rattle.arena_vec.specs.Vecs.{IsVecIn, vec_list};
 ghost use Rattle.arena_vec.specs.Changes.{Grows, IsNow};
 
 use crate::raw::RawVec;
+use crate::room::roomy;
 use crate::rows::{count_all, put_all};
-use crate::vec::{Vec, roomy};
+use crate::vec::Vec;
 use arena_chunks::{Allocator, Block, ChunkSource};
 use arena_items::{BoxSlice, Grown, Item, copy_items, put_copies, put_items};
 use std::marker::PhantomData;

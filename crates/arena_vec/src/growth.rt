@@ -9,6 +9,7 @@ use arena_items::Growth;
 const LIMIT: u64 = u32::MAX as u64;
 
 // Whether so many values of this size may be in a vector.
+#[inline(always)]
 pub(crate) fn has_room(size: u64, n: u64) -> bool
     requires small { size ≤ 2 ^ 24 }
     ensures { result ≡ fits size n }
@@ -17,6 +18,7 @@ pub(crate) fn has_room(size: u64, n: u64) -> bool
 }
 
 // Growth for so many values more: to twice the capacity or what is required, if both are wanted, and else to what is required.
+#[inline(always)]
 pub(crate) fn plan(size: u64, cap: u32, len: u32, additional: u64, exact: bool) -> Growth
     requires small { size ≤ 2 ^ 24 }
     ensures value { result ≡ growth_by exact size cap (len + additional) }

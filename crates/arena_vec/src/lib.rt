@@ -15,6 +15,7 @@ mod into_iter;
 pub mod laws;
 mod raw;
 mod retain;
+mod room;
 mod rows;
 mod splice;
 mod uses;

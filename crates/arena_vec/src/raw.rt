@@ -30,6 +30,7 @@ pub struct RawVec<T> {
 
 // The layout of so many values.
 #[tactic(auto, using(arena_items::proofs::Layers::row_is_layout))]
+#[inline(always)]
 fn layout_of<T: Item>(n: u64) -> Layout
     requires small { T.SIZE ≤ 2 ^ 24 }
     requires few { n < 2 ^ 32 }
@@ -42,8 +43,26 @@ fn layout_of<T: Item>(n: u64) -> Layout
     }
 }
 
+// The same block, whose layout the compiler knows then.
+#[inline(always)]
+fn known_block<T: Item>(block: Block, cap: u64) -> Block
+    requires small { T.SIZE ≤ 2 ^ 24 }
+    requires few { cap < 2 ^ 32 }
+    requires size { block.size ≡ cap * T.SIZE }
+    requires align { block.align ≡ T.ALIGN }
+    ensures { result ≡ block }
+{
+    Block {
+        generation: block.generation,
+        addr: block.addr,
+        size: cap * T::SIZE,
+        align: T::ALIGN,
+    }
+}
+
 // The storage after a growth.
 #[tactic(auto, using(crate::proofs::RoomLemmas::taken))]
+#[inline(always)]
 fn grown<T: Item, C: ChunkSource>(
     a: &mut Allocator<C>,
     old: RawVec<T>,
@@ -60,9 +79,11 @@ fn grown<T: Item, C: ChunkSource>(
         Growth::Stays => Ok(old),
         Growth::Overflows => Err(AllocError::CapacityOverflow),
         Growth::GrowsTo { cap } => {
-            let block = take_room(a, old.block, old.cap as u64, layout_of::<T>(cap))?;
+            let had = old.cap as u64;
+            let block = known_block::<T>(old.block, had);
+            let block = take_room(a, block, had, layout_of::<T>(cap))?;
             Ok(RawVec {
-                block,
+                block: known_block::<T>(block, cap),
                 len: old.len,
                 cap: cap as u32,
                 of: PhantomData,
@@ -71,10 +92,10 @@ fn grown<T: Item, C: ChunkSource>(
     }
 }
 
-// The storage with room for so many values behind the first `len`. Out of line, so that a call with room is small.
+// The storage with room for so many values behind the first `len`. Inlined with the arena's call, so that the storage stays in
+// registers.
 #[tactic(auto, using(crate::proofs::RoomLemmas::growths))]
-#[cold]
-#[inline(never)]
+#[inline(always)]
 pub(crate) fn reserved<T: Item, C: ChunkSource>(
     a: &mut Allocator<C>,
     old: RawVec<T>,

@@ -14,6 +14,7 @@ use arena_chunks::{Allocator, Block, ChunkSource};
 use arena_items::{Item, item_at, put_item};
 
 // Moves the values that a test picks to the front, and tells how many they are.
+#[inline]
 fn keep<T: Item, C: ChunkSource, F: FnMut(&T) -> bool>(
     a: &mut Allocator<C>,
     block: Block,
@@ -46,6 +47,7 @@ where
 }
 
 // The same with a test that changes the values that it sees.
+#[inline]
 fn keep_mut<T: Item, C: ChunkSource, F: FnMut(&mut T) -> bool>(
     a: &mut Allocator<C>,
     block: Block,
@@ -80,6 +82,7 @@ where
 #[tactic(auto, using(crate::proofs::VecLemmas::vec_laws, crate::proofs::VecLemmas::becomes))]
 impl<T: Item> Vec<T> {
     /// Keeps the values that a test picks, as it left them.
+    #[inline]
     pub fn retain_mut<C: ChunkSource, F: FnMut(&mut T) -> bool>(
         &mut self,
         a: &mut Allocator<C>,
@@ -98,6 +101,7 @@ impl<T: Item> Vec<T> {
     }
 
     /// Keeps the values that a test picks, which sees each once, in order.
+    #[inline]
     pub fn retain<C: ChunkSource, F: FnMut(&T) -> bool>(&mut self, a: &mut Allocator<C>, f: F)
     where
         F: Drop,

@@ -10,7 +10,8 @@ ghost use Rattle.arena_vec.specs.Changes.{Grows};
 ghost use Rattle.arena_vec.specs.Splicing.{IsSplice, SameSplice, left_of, Replaces, Fills, Widens, FillsThen, PutsRest, is_useful, PutsMore, Splices};
 
 use crate::growth::has_room;
-use crate::vec::{Vec, roomy};
+use crate::room::roomy;
+use crate::vec::Vec;
 use arena_chunks::{Allocator, ChunkSource};
 use arena_items::{Grown, Item, copy_items, move_items, put_item};
 

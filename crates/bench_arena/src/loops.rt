@@ -1,16 +1,22 @@
 // The loops that are timed. Each gives the time of its calls and a number that depends on the calls alone.
 mod arena;
 mod batches;
+mod bits;
 mod items;
+mod pool;
+mod texts;
 mod vec;
 
 pub use arena::{alloc_and_reset, alloc_warm, grow_at_cursor, read_older, reset_chunks};
 use arena_chunks::ArenaErr;
 use arena_items::ItemErr;
 use arena_vec::AllocError;
+pub use bits::{bitset_contains, bitset_ones, bitset_set, bitset_set_ascending, bitset_union};
 pub use items::{alloc_fixed, box_new, slice_copy, str_copy};
+pub use pool::{claim, claim_threads, pool_get, pool_get_threads};
 use std::io;
 use std::time::Duration;
+pub use texts::{string_push_byte, string_push_start, string_push_str};
 pub use vec::{
     vec_extend, vec_insert_front, vec_iter, vec_push, vec_push_reserved, vec_retain, vec_small,
     vec_sum,

@@ -7,11 +7,15 @@ ghost use Rattle.std.specs.Prelude.{◌<◌};
 mod loops;
 
 use loops::{
-    Failed, Timed, alloc_and_reset, alloc_fixed, alloc_warm, box_new, grow_at_cursor, read_older,
-    reset_chunks, slice_copy, str_copy, vec_extend, vec_insert_front, vec_iter, vec_push,
+    Failed, Timed, alloc_and_reset, alloc_fixed, alloc_warm, bitset_contains, bitset_ones,
+    bitset_set, bitset_set_ascending, bitset_union, box_new, claim, claim_threads, grow_at_cursor,
+    pool_get, pool_get_threads, read_older, reset_chunks, slice_copy, str_copy, string_push_byte,
+    string_push_start, string_push_str, vec_extend, vec_insert_front, vec_iter, vec_push,
     vec_push_reserved, vec_retain, vec_small, vec_sum,
 };
 use std::process::ExitCode;
+use std::sync::Wait;
+use std::thread::Threads;
 use std::{env, io};
 
 // How often each loop is run. The best run counts.
@@ -39,10 +43,22 @@ enum Loop {
     VecInsertFront,
     VecRetain,
     VecIter,
+    PoolGet,
+    PoolGetThreads,
+    Claim,
+    ClaimThreads,
+    StringPushStr,
+    StringPushByte,
+    StringPushStart,
+    BitsetSet,
+    BitsetSetAscending,
+    BitsetContains,
+    BitsetOnes,
+    BitsetUnion,
 }
 
 impl Loop {
-    const ALL: [Loop; 17] = [
+    const ALL: [Loop; 29] = [
         Loop::AllocWarm,
         Loop::GrowAtCursor,
         Loop::AllocAndReset,
@@ -60,6 +76,18 @@ impl Loop {
         Loop::VecInsertFront,
         Loop::VecRetain,
         Loop::VecIter,
+        Loop::PoolGet,
+        Loop::PoolGetThreads,
+        Loop::Claim,
+        Loop::ClaimThreads,
+        Loop::StringPushStr,
+        Loop::StringPushByte,
+        Loop::StringPushStart,
+        Loop::BitsetSet,
+        Loop::BitsetSetAscending,
+        Loop::BitsetContains,
+        Loop::BitsetOnes,
+        Loop::BitsetUnion,
     ];
 
     fn name(self) -> &'static str {
@@ -81,6 +109,18 @@ impl Loop {
             Loop::VecInsertFront => "vec_insert_front",
             Loop::VecRetain => "vec_retain",
             Loop::VecIter => "vec_iter",
+            Loop::PoolGet => "pool_get",
+            Loop::PoolGetThreads => "pool_get_threads",
+            Loop::Claim => "claim",
+            Loop::ClaimThreads => "claim_threads",
+            Loop::StringPushStr => "string_push_str",
+            Loop::StringPushByte => "string_push_byte",
+            Loop::StringPushStart => "string_push_start",
+            Loop::BitsetSet => "bitset_set",
+            Loop::BitsetSetAscending => "bitset_set_ascending",
+            Loop::BitsetContains => "bitset_contains",
+            Loop::BitsetOnes => "bitset_ones",
+            Loop::BitsetUnion => "bitset_union",
         }
     }
 
@@ -90,11 +130,17 @@ impl Loop {
         match self {
             Loop::ResetChunks => 100_000,
             Loop::SliceCopy | Loop::VecExtend => 50_000_000,
+            Loop::BitsetUnion => 400_000_000,
             _ => 10_000_000,
         }
     }
 
-    fn run(self, rt: &HostRuntime, calls: u64) -> Result<Timed, Failed> {
+    fn run<R: Threads + Wait + Sync>(
+        self,
+        rt: &HostRuntime,
+        threads: &R,
+        calls: u64,
+    ) -> Result<Timed, Failed> {
         match self {
             Loop::AllocWarm => alloc_warm(rt, calls),
             Loop::GrowAtCursor => grow_at_cursor(rt, calls),
@@ -113,14 +159,31 @@ impl Loop {
             Loop::VecInsertFront => vec_insert_front(rt, calls),
             Loop::VecRetain => vec_retain(rt, calls),
             Loop::VecIter => vec_iter(rt, calls),
+            Loop::PoolGet => pool_get(rt, threads, calls),
+            Loop::PoolGetThreads => pool_get_threads(rt, threads, calls),
+            Loop::Claim => claim(rt, calls),
+            Loop::ClaimThreads => claim_threads(rt, threads, calls),
+            Loop::StringPushStr => string_push_str(rt, calls),
+            Loop::StringPushByte => string_push_byte(rt, calls),
+            Loop::StringPushStart => string_push_start(rt, calls),
+            Loop::BitsetSet => bitset_set(rt, calls),
+            Loop::BitsetSetAscending => bitset_set_ascending(rt, calls),
+            Loop::BitsetContains => bitset_contains(rt, calls),
+            Loop::BitsetOnes => bitset_ones(rt, calls),
+            Loop::BitsetUnion => bitset_union(rt, calls),
         }
     }
 
     // The best time of several runs.
-    fn best(self, rt: &HostRuntime, calls: u64) -> Result<Timed, Failed> {
-        let mut best = self.run(rt, calls)?;
+    fn best<R: Threads + Wait + Sync>(
+        self,
+        rt: &HostRuntime,
+        threads: &R,
+        calls: u64,
+    ) -> Result<Timed, Failed> {
+        let mut best = self.run(rt, threads, calls)?;
         for _ in 1..RUNS {
-            let next = self.run(rt, calls)?;
+            let next = self.run(rt, threads, calls)?;
             if next.time < best.time {
                 best = next;
             }
@@ -130,18 +193,22 @@ impl Loop {
 }
 
 // Prints each loop's number alone, for few calls.
-fn check(rt: &HostRuntime) -> Result<(), Failed> {
+fn check<R: Threads + Wait + Sync>(rt: &HostRuntime, threads: &R) -> Result<(), Failed> {
     for each in Loop::ALL {
-        let number = each.run(rt, CHECKED)?.number;
+        let number = each.run(rt, threads, CHECKED)?.number;
         let name = each.name();
         println!(rt; "{name} {number}")?;
     }
     Ok(())
 }
 
-fn measure(rt: &HostRuntime, each: Loop) -> Result<(), Failed> {
+fn measure<R: Threads + Wait + Sync>(
+    rt: &HostRuntime,
+    threads: &R,
+    each: Loop,
+) -> Result<(), Failed> {
     let calls = each.calls();
-    let best = each.best(rt, calls)?;
+    let best = each.best(rt, threads, calls)?;
     let name = each.name();
     let picoseconds = best.time.as_nanos() * 1000 / calls as u128;
     let whole = picoseconds / 1000;
@@ -157,20 +224,20 @@ fn is_word(rt: &HostRuntime, wanted: &str, any: bool) -> io::Result<bool> {
     Ok(words.next().map_or(any, |word| word.as_str() == wanted))
 }
 
-fn run(rt: &HostRuntime) -> Result<(), Failed> {
+fn run<R: Threads + Wait + Sync>(rt: &HostRuntime, threads: &R) -> Result<(), Failed> {
     if is_word(rt, "check", false)? {
-        return check(rt);
+        return check(rt, threads);
     }
     for each in Loop::ALL {
         if is_word(rt, each.name(), true)? {
-            measure(rt, each)?;
+            measure(rt, threads, each)?;
         }
     }
     Ok(())
 }
 
 fn main(rt: HostRuntime) -> ExitCode {
-    match run(&rt) {
+    match run(&rt, &rt) {
         Ok(()) => ExitCode::SUCCESS,
         Err(_) => ExitCode::FAILURE,
     }

@@ -8,10 +8,10 @@ use Rattle.placement.specs.declared.calls.Call.{Call}
 use Rattle.placement.specs.declared.calls.Call.TheVariants.{Alloc, Grow, Shrink, Dealloc, Write, Read, Reset, Used, Allocated}
 use Rattle.placement.proofs.ReadingLemmas.{read_call, read_call_back}
 
-abbrev Decided : Type 0 → Type 0
+abbrev pub Decided : Type 0 → Type 0
 Decided P = P ⊎ (P → ⊥)
 
-both : {P Q : Type 0} → Decided P → Decided Q → Decided (P × Q)
+pub both : {P Q : Type 0} → Decided P → Decided Q → Decided (P × Q)
 both (inl p) (inl q) = inl (p, q)
 both (inl p) (inr none) = inr (λ h. none h.1)
 both (inr none) q = inr (λ h. none h.0)
@@ -21,10 +21,10 @@ turned : {P Q : Type 0} → (P → Q) → (Q → P) → Decided P → Decided Q
 turned to back (inl p) = inl (to p)
 turned to back (inr none) = inr (λ q. none (back q))
 
-below : (n m : ℕ) → Decided (n < m)
+pub below : (n m : ℕ) → Decided (n < m)
 below n m = elim (cases_lt n m) [ inl low ↦ inl low | inr high ↦ inr (λ low. omega arith) ]
 
-are_bytes : (bytes : List ℕ) → Decided (AllByRecursion IsByte bytes)
+pub are_bytes : (bytes : List ℕ) → Decided (AllByRecursion IsByte bytes)
 are_bytes [] = inl tt
 are_bytes (b ∷ bytes) = both (below b (2 ^ 8)) (are_bytes bytes)
 
@@ -45,7 +45,7 @@ fits Reset = inl tt
 fits Used = inl tt
 fits Allocated = inl tt
 
-same : (xs ys : List ℕ) → Decided (xs ≡ ys)
+pub same : (xs ys : List ℕ) → Decided (xs ≡ ys)
 same [] [] = inl refl
 same [] (y ∷ ys) = inr (λ e. cc)
 same (x ∷ xs) [] = inr (λ e. cc)

@@ -12,3 +12,5 @@ pub mod Used
 pub mod Doubling
 pub mod Grammar
 pub mod Replies
+pub mod Bits
+pub mod PrintedBits

@@ -1,4 +1,4 @@
-//! Tests of pools by their public calls alone: worked examples of the events, and many threads over one pool.
+//! Tests of pools, claims and shared arenas by their public calls alone: worked examples, and many threads over one of them.
 #![tactic(auto)]
 
 #[cfg(test)]

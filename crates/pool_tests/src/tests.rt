@@ -3,6 +3,8 @@ ghost use Rattle.arena_pool.specs.Kinds.{IsOfKind};
 ghost use Rattle.arena_pool.specs.declared.kind.PoolKind.{PoolKind};
 
 mod books;
+mod claims;
+mod owners;
 mod pools;
 mod threads;
 

@@ -74,6 +74,7 @@ impl<C: ChunkSource> BlockAlloc for Allocator<C> {
         self.arena.dealloc(block);
     }
 
+    #[inline(always)]
     fn grow(&mut self, block: Block, layout: Layout) -> Result<Block, ArenaErr> {
         self.arena.grow(&mut self.chunks, block, layout)
     }

@@ -62,7 +62,7 @@ impl<const MIN_ALIGN: usize> Arena<MIN_ALIGN> {
     ///
     /// As of `try_alloc_layout`, where it doesn't grow in place; also `AllocErr` with no request where what is wanted
     /// more is no layout. The block stays as it was.
-    #[inline]
+    #[inline(always)]
     pub fn grow<C: ChunkSource>(
         &mut self,
         chunks: &mut C,
@@ -124,7 +124,7 @@ impl<const MIN_ALIGN: usize> Arena<MIN_ALIGN> {
     }
 
     // Grows a block, and counts the requests that were refused.
-    #[inline]
+    #[inline(always)]
     pub(crate) fn grow_counted<C: ChunkSource>(
         &mut self,
         chunks: &mut C,
@@ -138,7 +138,7 @@ impl<const MIN_ALIGN: usize> Arena<MIN_ALIGN> {
             block layout.size layout.align) }
     {
         if block.align < layout.align || block.addr != self.newest.cursor {
-            return self.copy_to_new(chunks, block, layout, block.size);
+            return self.move_to_new(chunks, block, layout, block.size);
         }
         let more = round_up_to_unchecked(layout.size, MIN_ALIGN as u64) - block.size;
         let Some(below) = Layout::new(more, block.align) else {
@@ -151,7 +151,7 @@ impl<const MIN_ALIGN: usize> Arena<MIN_ALIGN> {
             MIN_ALIGN as u64,
         ) {
             Some(addr) => Ok((self.grow_to(block, addr, layout), 0)),
-            None => self.copy_to_new(chunks, block, layout, block.size),
+            None => self.move_to_new(chunks, block, layout, block.size),
         }
     }
 
@@ -178,6 +178,7 @@ impl<const MIN_ALIGN: usize> Arena<MIN_ALIGN> {
     }
 
     // Grows a block at the cursor down to its new place.
+    #[inline(always)]
     fn grow_to(&mut self, block: Block, addr: u64, layout: Layout) -> Block
         requires readable { IsTrue (is_readable self.old.state block) }
         requires size { block.size ≤ layout.size }
@@ -190,11 +191,33 @@ impl<const MIN_ALIGN: usize> Arena<MIN_ALIGN> {
     {
         let grown = self.resized(addr, layout);
         self.move_cursor(addr);
-        self.move_bytes(block.addr, addr, block.size);
+        self.move_in_newest(block.addr, addr, block.size);
         grown
     }
 
+    // The same as `copy_to_new`, with an answer of its own, which may stay in registers.
+    #[inline(always)]
+    fn move_to_new<C: ChunkSource>(
+        &mut self,
+        chunks: &mut C,
+        block: Block,
+        layout: Layout,
+        n: u64,
+    ) -> Result<(Block, u32), ArenaErr>
+        requires readable { IsTrue (is_readable self.old.state block) }
+        requires n { n ≡ min block.size layout.size }
+        ensures { OnCounted result (ResizesAfter Anew
+            (view self.old (C.source chunks.old)) (view self.new (C.source chunks.new))
+            block layout.size layout.align) }
+    {
+        match self.copy_to_new(chunks, block, layout, n) {
+            Ok((b, refused)) => Ok((b, refused)),
+            Err(e) => Err(e),
+        }
+    }
+
     // Places a block anew, with the first n bytes of the old one.
+    #[cold]
     #[inline(never)]
     fn copy_to_new<C: ChunkSource>(
         &mut self,
@@ -266,6 +289,7 @@ impl<const MIN_ALIGN: usize> Arena<MIN_ALIGN> {
     }
 
     // Moves n bytes to a place in the newest chunk, in one move of memory. The two may overlap.
+    #[inline(always)]
     pub(crate) fn move_bytes(&mut self, from: u64, to: u64, n: u64)
         requires source { 0 < n → IsTrue (is_range_used self.old.state.chunks from n) }
         requires target { 0 < n → IsTrue (is_range_used self.old.state.chunks to n) }
@@ -278,10 +302,26 @@ impl<const MIN_ALIGN: usize> Arena<MIN_ALIGN> {
             return;
         }
         if from >= self.newest.base {
-            move_within(&mut self.newest, from, to, n);
+            self.move_in_newest(from, to, n);
         } else {
             let i = find_chunk(&self.older, from);
             copy_across(&self.older[i], &mut self.newest, from, to, n);
         }
+    }
+
+    // The same of bytes that lie in the newest chunk.
+    #[inline(always)]
+    fn move_in_newest(&mut self, from: u64, to: u64, n: u64)
+        requires source { 0 < n → IsTrue (is_range_used self.old.state.chunks from n) }
+        requires target { 0 < n → IsTrue (is_range_used self.old.state.chunks to n) }
+        requires newest { (start_of self.old.state.chunks ≤ from) × (start_of self.old.state.chunks ≤ to) }
+        ensures state { self.new.state ≡ self.old.state }
+        ensures statistics { self.new.statistics ≡ self.old.statistics }
+        ensures bytes { Writes self.old self.new to (bytes_from (image self.old) from n) }
+    {
+        if n == 0 {
+            return;
+        }
+        move_within(&mut self.newest, from, to, n);
     }
 }

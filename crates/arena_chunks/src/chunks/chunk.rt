@@ -149,6 +149,7 @@ pub(crate) fn last_below(older: &[StoredChunk], addr: u64) -> usize
 }
 
 // The same, kept out of the callers, so that a write in the newest chunk is small enough to be inlined.
+#[cold]
 #[inline(never)]
 pub(crate) fn find_chunk(older: &[StoredChunk], addr: u64) -> usize
     requires { IsSearchable older.now addr }

@@ -51,6 +51,7 @@ pub(crate) fn copy_across(
 }
 
 // Moves bytes of a chunk to another place in it. The two may overlap.
+#[inline(always)]
 pub(crate) fn move_within(chunk: &mut StoredChunk, from: u64, to: u64, size: u64)
     requires low { (chunk.old.base ≤ from) × (chunk.old.base ≤ to) }
     requires source { from - chunk.old.base + size ≤ length chunk.old.bytes.items }

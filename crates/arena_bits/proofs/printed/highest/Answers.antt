@@ -6,12 +6,14 @@ use Rattle.arena_bits.proofs.printed.highest.Goals as goal
 
 pub returns-then-bytes-i-ne0-clause-value : goal.returns-then-bytes-i-ne0-clause-value
 returns-then-bytes-i-ne0-clause-value c =
-    sym (highest_here c.args.bytes.now (λ i. (c.type_inv.bytes i).fits) c.requires (c.loop-i.i - 1) c.loop-i.i (omega arith) (omega arith) (search rules))
+    sym (highest_here c.args.bytes.now (λ i. (c.type_inv.bytes i).fits) c.requires (c.loop-i.i - 1) c.loop-i.i (omega arith) (omega arith)
+    (search rules))
     ∙ c.loop-i.invariant
 
 pub loop-i-preserved : goal.loop-i-preserved
 loop-i-preserved c =
-    sym (highest_below c.args.bytes.now (λ i. (c.type_inv.bytes i).fits) c.requires (c.loop-i.i - 1) c.loop-i.i (omega arith) (omega arith) (search rules))
+    sym (highest_below c.args.bytes.now (λ i. (c.type_inv.bytes i).fits) c.requires (c.loop-i.i - 1) c.loop-i.i (omega arith) (omega arith)
+    (search rules))
     ∙ c.loop-i.invariant
 
 pub returns-clause-value : goal.returns-clause-value

@@ -15,7 +15,8 @@ returns c =
     let set = bits_of (words_in c.args.bytes.now) in
     let some : 0 < length c.args.bytes.now = search rules in
     let all : length c.args.bytes.now ≡ 8 * (length c.args.bytes.now / 8) = omega (arith, c.requires) in
-    let byte = byte_digits c.args.bytes.now (λ i. (c.type_inv.bytes i).fits) c.requires c.highest-top.result (c.highest-top.ensures.within some) in
+    let byte =
+    byte_digits c.args.bytes.now (λ i. (c.type_inv.bytes i).fits) c.requires c.highest-top.result (c.highest-top.ensures.within some) in
     rw (c.in_ok-push_lower.ensures, c.in_ok-push_digits.ensures, byte)
     (printed_some c.args.text.now set (length c.args.bytes.now / 8) c.highest-top.result (omega (arith, all))
     (c.highest-top.ensures.value ∙ ap (highest set) all))

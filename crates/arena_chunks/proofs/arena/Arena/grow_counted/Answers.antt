@@ -18,7 +18,7 @@ returns-then-block-layout g c =
       | then-block-layout-via-else-block-layout+then-block-self w ↦ inr (λ same. w.if-block-self.true (same ∙ sym (cursor_stored g.row.MIN_ALIGN c.self.inside c.args.self.now c.self.invariant c.self.view_is)))
     ] in
     let way = grows_anew c.args.self.now.state c.args.block.addr c.args.block.size c.args.block.align c.args.layout.size c.args.layout.align away in
-    rw way c.copy_to_new.ensures
+    rw way c.move_to_new.ensures
 
 pub round_up_to_unchecked-requires-clause-power : goal.round_up_to_unchecked-requires-clause-power
 round_up_to_unchecked-requires-clause-power g c = min_align_power g.row.MIN_ALIGN c.self.invariant.valid.min_align
@@ -58,4 +58,4 @@ returns-in-None g c =
     let more : c.round_up_to_unchecked.result ≡ up c.args.layout.size c.args.self.now.state.min_align = c.round_up_to_unchecked.ensures ∙ ap (λ (w : Memory). up c.args.layout.size w.state.min_align) c.self.view_is in
     let none = place_stored g.row.MIN_ALIGN c.self-2.inside c.args.self.now c.in-Some.below.size c.in-Some.below.align None c.self-2.invariant c.self-2.view_is c.in-None.ensures in
     let way = grows_full c.args.self.now.state c.args.block.addr c.args.block.size c.args.block.align c.args.layout.size c.args.layout.align here (rw (← more) (sym c.in-Some.ensures.valid)) (rw (← more, ← c.in-Some.ensures.value.0, ← c.in-Some.ensures.value.1) none) in
-    rw way c.copy_to_new-in-None.ensures
+    rw way c.move_to_new-in-None.ensures

@@ -9,35 +9,6 @@ pub returns-then-n-eq0-clause-bytes : goal.returns-then-n-eq0-clause-bytes
 returns-then-n-eq0-clause-bytes g c =
     λ p. sym (written_none (image c.args.self.now) c.args.to p _ (ap length (no_bytes (image c.args.self.now) c.args.from c.args.n c.if-n-eq0.true)))
 
--- ---- From the newest chunk
-
-pub move_within-requires-clause-source : goal.move_within-requires-clause-source
-move_within-requires-clause-source g c =
-    let move = is_move g.row.MIN_ALIGN c.self.inside c.args.self.now c.args.from c.args.to c.args.n c.self.invariant c.self.view_is c.requires.source c.requires.target c.requires.newest c.if-n-eq0.false in
-    omega (arith, (newest_part _ _ _ _ _ move.source c.if-from-self.true).high, c.if-from-self.true)
-
-pub move_within-requires-clause-target : goal.move_within-requires-clause-target
-move_within-requires-clause-target g c =
-    let move = is_move g.row.MIN_ALIGN c.self.inside c.args.self.now c.args.from c.args.to c.args.n c.self.invariant c.self.view_is c.requires.source c.requires.target c.requires.newest c.if-n-eq0.false in
-    omega (arith, (newest_part _ _ _ _ _ move.target move.above).high, move.above)
-
-in_newest : (g : Over) (c : goal.After-move_within g) → IsWritten g.row.MIN_ALIGN c.self.inside c.args.self.now c.args.to c.args.n
-    (bytes_from (image c.args.self.now) c.args.from c.args.n) c.move_within.new.chunk c.self.inside.older.items
-in_newest g c =
-    let move = is_move g.row.MIN_ALIGN c.self.inside c.args.self.now c.args.from c.args.to c.args.n c.self.invariant c.self.view_is c.requires.source c.requires.target c.requires.newest c.if-n-eq0.false in
-    newest_moved _ _ _ _ _ _ _ c.move_within.new.chunk move (newest_part _ _ _ _ _ move.source c.if-from-self.true).bytes c.move_within.ensures
-
-pub invariant_of-self : goal.invariant_of-self
-invariant_of-self g c = (in_newest g c).stored
-
-pub returns-then-from-self-clause-state : goal.returns-then-from-self-clause-state
-returns-then-from-self-clause-state g c = (in_newest g c).state
-
-pub returns-then-from-self-clause-bytes : goal.returns-then-from-self-clause-bytes
-returns-then-from-self-clause-bytes g c = (in_newest g c).image
-
--- ---- From an older chunk
-
 pub find_chunk-i-requires : goal.find_chunk-i-requires
 find_chunk-i-requires g c =
     let move = is_move g.row.MIN_ALIGN c.self.inside c.args.self.now c.args.from c.args.to c.args.n c.self.invariant c.self.view_is c.requires.source c.requires.target c.requires.newest c.if-n-eq0.false in
@@ -61,8 +32,8 @@ from_older g c =
     let older = is_older _ _ _ _ _ c.find_chunk-i.result c.deref.result.now c.index.result.now move.source c.if-from-self.false c.deref.ensures.value c.find_chunk-i.ensures c.index.ensures in
     newest_moved _ _ _ _ _ _ _ c.copy_across.new.target move older.part.bytes c.copy_across.ensures
 
-pub invariant_of-self-else-from-self : goal.invariant_of-self-else-from-self
-invariant_of-self-else-from-self g c = (from_older g c).stored
+pub invariant_of-self : goal.invariant_of-self
+invariant_of-self g c = (from_older g c).stored
 
 pub returns-else-from-self-clause-state : goal.returns-else-from-self-clause-state
 returns-else-from-self-clause-state g c = (from_older g c).state

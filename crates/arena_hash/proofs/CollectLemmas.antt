@@ -1,0 +1,91 @@
+-- Pairs that are put into a map, one after another.
+use Rattle.std.proofs.Common.{List, [], ◌∷◌, ◌++◌, refl, subst, Ok, Err, Option, Some, None}
+use Rattle.std.specs.Iterator.{Yields}
+use Rattle.arena_chunks.specs.Source.{View}
+use Rattle.arena_chunks.specs.Frame.{Frame}
+use Rattle.arena_chunks.proofs.Layers.{empty_after, frame_reflexive, frame_then}
+use Rattle.arena_items.proofs.Layers.{Yields-push}
+use Rattle.arena_items.specs.declared.room.AllocError.{AllocError}
+use Rattle.arena_hash.specs.Changes.{IsNew, Puts, is_value}
+use Rattle.arena_hash.specs.Collecting.{PutsAll, CollectsAll, CollectsSome}
+use Rattle.arena_hash.specs.Contents.{Kind}
+use Rattle.arena_hash.specs.Maps.{IsMapIn}
+use Rattle.arena_hash.specs.declared.map.HashMap.{HashMap}
+
+-- one pair more
+PutsAll-push : {K V S : Type 0} (k : Kind K V S) (old mid new : View) (m u w : HashMap K V S) (ps : List (K × V)) (p : K × V) (before : Option V)
+    → PutsAll k old m ps mid u → Puts k mid new u p.0 p.1 is_value w (Ok before) → PutsAll k old m (ps ++ p ∷ []) new w
+PutsAll-push k old mid new m u w [] p before run put = (
+  new,
+  w,
+  before,
+  subst (λ a. Puts k a new m p.0 p.1 is_value w (Ok before)) run.0 (subst (λ b. Puts k mid new b p.0 p.1 is_value w (Ok before)) run.1 put),
+  (refl, refl),
+)
+PutsAll-push k old mid new m u w (q ∷ ps) p before run put =
+    (run.0, run.1, run.2, run.3, PutsAll-push k run.0 mid new run.1 u w ps p before run.4 put)
+
+module _ {K V S I : Type 0} (k : Kind K V S) (steps : I → Option (K × V) → I → Type 0) where
+  -- these pairs were taken and put into a new map
+  pub record IsCollecting (iter now : I) (old new : View) (m : HashMap K V S) : Type 0 where
+    pub held : IsMapIn k new.memory m
+    pub frame : Frame old.memory new.memory [] (m.table.block ∷ [])
+    pub pairs : List (K × V)
+    pub yields : Yields steps iter pairs now
+    pub first : HashMap K V S
+    pub is_new : IsNew k first.hasher first
+    pub puts : PutsAll k old first pairs new m
+
+  -- none yet
+  pub collecting-none : (iter : I) (a : View) (m : HashMap K V S) → IsNew k m.hasher m → IsCollecting iter iter a a m
+  collecting-none iter a m new = record {
+    held = new.held a.memory;
+    frame = (empty_after a.memory a.memory [] [] [] m.table.block new.block).1 (frame_reflexive a.memory []);
+    pairs = [];
+    yields = refl;
+    first = m;
+    is_new = new;
+    puts = (refl, refl);
+  }
+
+  module _ (iter now next : I) (old mid new : View) (u w : HashMap K V S) (p : K × V) (c : IsCollecting iter now old mid u)
+      (step : steps now (Some p) next) where
+    -- one more
+    pub collecting-more : (before : Option V) → Puts k mid new u p.0 p.1 is_value w (Ok before) → IsCollecting iter next old new w
+    collecting-more before put = record {
+      held = put.held;
+      frame = frame_then old.memory mid.memory new.memory [] (u.table.block ∷ []) (w.table.block ∷ []) c.frame put.frame;
+      pairs = c.pairs ++ p ∷ [];
+      yields = Yields-push steps iter c.pairs now p next c.yields step;
+      first = c.first;
+      is_new = c.is_new;
+      puts = PutsAll-push k old mid new c.first u w c.pairs p before c.puts put;
+    }
+
+    -- no room for one more
+    pub collecting-refused : (e : AllocError) → Puts {X = Option V} k mid new u p.0 p.1 is_value w (Err e) → CollectsSome k steps iter old new e
+    collecting-refused e put = record {
+      pairs = c.pairs;
+      now = now;
+      yields = c.yields;
+      first = c.first;
+      is_new = c.is_new;
+      between = mid;
+      map = u;
+      puts = c.puts;
+      last = p;
+      rest = next;
+      step = step;
+      refused = subst (λ b. Puts {X = Option V} k mid new u p.0 p.1 is_value b (Err e)) put.err.0 put;
+    }
+
+  -- all
+  pub collecting-all : (iter now rest : I) (old new : View) (m : HashMap K V S) → IsCollecting iter now old new m → steps now None rest
+      → CollectsAll k steps iter old new m
+  collecting-all iter now rest old new m c end = record {
+    pairs = c.pairs;
+    drains = (rest, (now, c.yields, end));
+    first = c.first;
+    is_new = c.is_new;
+    puts = c.puts;
+  }

@@ -1,0 +1,112 @@
+-- Calls on sets, as calls on their maps.
+use Rattle.std.proofs.Common.{◌≡◌, ◌↔◌, List, [], ◌∷◌, map, refl, sym, Ok, Err, Option, Some, None, Bool, IsTrue}
+use Rattle.std.proofs.lemmas.Bool.{false≢true}
+use Rattle.std.specs.Iterator.{Yields}
+use Rattle.std.specs.Prelude.{is_some}
+use Rattle.arena_chunks.specs.Source.{View}
+use Rattle.arena_items.specs.Room.{SamePlaces}
+use Rattle.arena_items.specs.declared.room.AllocError.{AllocError}
+use Rattle.arena_items.proofs.Layers.{room_then, room_refused}
+use Rattle.arena_hash.specs.Changes.{Puts, TakesOut}
+use Rattle.arena_hash.specs.Contents.{Kind}
+use Rattle.arena_hash.specs.Finite.{Finite, value_of}
+use Rattle.arena_hash.specs.Sets.{HaveSame, StepsInPairs}
+use Rattle.arena_hash.specs.Walks.{AreBoth, AreEqual}
+use Rattle.arena_hash.specs.Policy.{slot_size, table_align}
+use Rattle.arena_hash.specs.declared.map.HashMap.{HashMap}
+use Rattle.arena_hash.proofs.AccountLemmas.{answer-refused}
+
+module _ {K V S X Y : Type 0} (k : Kind K V S) (old new : View) (m : HashMap K V S) (key : K) (value : V) (tells : Option V → X → Type 0)
+    (says : Option V → Y → Type 0) (w : HashMap K V S) where
+  -- What a put tells may be told otherwise,
+  pub puts-as : (x : X) (y : Y) → ((before : Option V) → tells before x → says before y) → Puts k old new m key value tells w (Ok x)
+      → Puts k old new m key value says w (Ok y)
+  puts-as x y told p =
+      let same : SamePlaces new new = record { state = refl; statistics = refl; source = refl } in
+      record {
+        made = room_then (slot_size k.keys.SIZE k.values.SIZE) (table_align k.keys.ALIGN k.values.ALIGN) old new new m.table.block 0 _ (λ _. w.table.block)
+            (λ _. w.table.block) x y refl p.made same;
+        held = p.held;
+        map_is = p.map_is;
+        says = told _ p.says;
+        len = p.len;
+        err = tt;
+        costs = record {
+          there = λ is. (refl, (p.costs.there is).1);
+          room = λ is some. (refl, (p.costs.room is some).1);
+          grows = p.costs.grows;
+          asks = λ is none few. let a = p.costs.asks is none few in record { size = a.size; bounded = a.bounded; within = a.within; took = a.took };
+          refused = tt;
+        };
+        hasher = p.hasher;
+        frame = p.frame;
+      }
+
+  -- and so may a refusal.
+  pub puts-refused-as : (e : AllocError) → Puts {X = X} k old new m key value tells w (Err e) → Puts {X = Y} k old new m key value says w (Err e)
+  puts-refused-as e p = record {
+    made = room_refused (slot_size k.keys.SIZE k.values.SIZE) (table_align k.keys.ALIGN k.values.ALIGN) old new m.table.block 0 _ (λ _. w.table.block)
+        (λ _. w.table.block) e p.made;
+    held = p.held;
+    map_is = tt;
+    says = tt;
+    len = tt;
+    err = p.err;
+    costs = record {
+      there = λ is. absurd (let no = (p.costs.there is).0 in cc);
+      room = λ is some. absurd (let no = (p.costs.room is some).0 in cc);
+      grows = λ is none. tt;
+      asks = λ is none few. let a = p.costs.asks is none few in record {
+        size = a.size;
+        bounded = a.bounded;
+        within = a.within;
+        took = record {
+          between = a.took.between;
+          took = answer-refused {X = X} {Y = Y} (λ _. w.table.block) (λ _. w.table.block) e _ a.took.took;
+          places = a.took.places;
+        };
+      };
+      refused = p.costs.refused;
+    };
+    hasher = p.hasher;
+    frame = p.frame;
+  }
+
+-- So may what a removal tells.
+pub takes-as : {K V S X Y : Type 0} (k : Kind K V S) (old new : View) (m : HashMap K V S) (key : K) (tells : Option V → X → Type 0)
+    (says : Option V → Y → Type 0) (w : HashMap K V S) (x : X) (y : Y) → ((before : Option V) → tells before x → says before y)
+    → TakesOut k old new m key tells w x → TakesOut k old new m key says w y
+takes-as k old new m key tells says w x y told t = record { becomes = t.becomes; says = told _ t.says; len = t.len }
+
+-- ---- Equality: that of two maps with no values
+
+-- where a content stands in both or in neither, so do its values
+both-has : {K : Type 0} (eq : Unit {0} → Unit {0} → Bool) (one other : Option (K × Unit {0})) → AreBoth eq (value_of one) (value_of other)
+    → is_some one ≡ is_some other
+both-has eq None None b = refl
+both-has eq None (Some y) b = absurd b
+both-has eq (Some x) None b = absurd b
+both-has eq (Some x) (Some y) b = refl
+
+has-both : {K : Type 0} (eq : Unit {0} → Unit {0} → Bool) → ((x y : Unit {0}) → IsTrue (eq x y)) → (one other : Option (K × Unit {0}))
+    → is_some one ≡ is_some other → AreBoth eq (value_of one) (value_of other)
+has-both eq all None None e = tt
+has-both eq all None (Some y) e = absurd (false≢true e)
+has-both eq all (Some x) None e = absurd (false≢true (sym e))
+has-both eq all (Some x) (Some y) e = all x.1 y.1
+
+-- Where any two values are equal, equal maps have the same contents.
+pub same-sets : {K : Type 0} (eq : Unit {0} → Unit {0} → Bool) → ((x y : Unit {0}) → IsTrue (eq x y)) → (one other : Finite K (Unit {0}))
+    → (answer : Bool) → (IsTrue answer ↔ AreEqual eq one other) → (IsTrue answer ↔ HaveSame one other)
+same-sets eq all one other answer equal = (
+  (λ t q. both-has eq (one q) (other q) (equal.0 t q)),
+  (λ same. equal.1 (λ q. has-both eq all (one q) (other q) (same q))),
+)
+
+-- ---- Iterators
+
+-- an iterator gave the items of the pairs that it gave
+pub items-yielded : {T I : Type 0} (steps : I → Option T → I → Type 0) (iter : I) (pairs : List (T × Unit {0})) (now : I)
+    → Yields (StepsInPairs steps) iter pairs now → Yields steps iter (map (λ p. p.0) pairs) now
+items-yielded steps iter [] now run = run
+items-yielded steps iter (p ∷ ps) now (j, step, rest) = (j, step, items-yielded steps j ps now rest)

@@ -1,0 +1,154 @@
+-- Walks over the pairs of a table.
+use Rattle.std.proofs.Common.{◌≡◌, ℕ, zero, suc, ◌+◌, ◌-◌, ◌%◌, ◌^◌, ◌<◌, ◌≤◌, ◌⊎◌, inl, inr, List, [], ◌∷◌, take, length, get_or, sym, ap, subst, ◌∙◌, arith, Some, None, pow-add}
+use Rattle.std.proofs.Math.Nat.{mul-mod_left}
+use Rattle.std.proofs.Math.Path.{ap₂}
+use Rattle.std.proofs.lemmas.Bool.{cases_lt}
+use Rattle.std.proofs.lemmas.List.{get_or-take}
+use Rattle.std.specs.Prelude.{slice_get, slice_index}
+use Rattle.arena_chunks.specs.Memory.{Memory}
+use Rattle.arena_items.specs.declared.item.Item.{Ghosts}
+use Rattle.arena_items.specs.Values.{bytes_of}
+use Rattle.arena_hash.specs.Contents.{Kind, content_in}
+use Rattle.arena_hash.specs.Finite.{AreOnce, first_of}
+use Rattle.arena_hash.specs.Maps.{IsMapIn, map_in, pairs_in}
+use Rattle.arena_hash.specs.Slots.{items}
+use Rattle.arena_hash.specs.Tables.{slots_of, IsRing, IsShape, IsTableHandle}
+use Rattle.arena_hash.specs.Walks.{front_of, left_in, AreFree, GoesOn, IsScan, IsWalk, Lists}
+use Rattle.arena_hash.specs.declared.map.HashMap.{HashMap}
+use Rattle.arena_hash.specs.declared.table.Table.{Table}
+use Rattle.arena_hash.specs.declared.walk.Scan.{Scan}
+use Rattle.arena_hash.proofs.HandleLemmas.{handle-shape}
+use Rattle.arena_hash.proofs.Scanning.{left-clear, left-end, left-goes}
+use Rattle.arena_hash.proofs.SlotLemmas.{slots-long, slot-free, slot-taken}
+
+-- a ring's slots come by eights
+pub ring-eights : (n : ℕ) → IsRing n → n % 8 ≡ 0
+ring-eights n r = elim (cases_lt r.0.0 3) [
+  | inl l ↦ absurd (few r.0.0 l (subst (λ m. 8 ≤ m) r.0.1 r.1))
+  | inr l ↦
+      let split : r.0.0 ≡ r.0.0 - 3 + 3 = omega arith in
+      ap (λ m. m % 8) (r.0.1 ∙ (ap (λ k. 2 ^ k) split ∙ pow-add 2 (r.0.0 - 3) 3)) ∙ mul-mod_left (2 ^ (r.0.0 - 3)) 8
+]
+  where
+    few : (k : ℕ) → k < 3 → 8 ≤ 2 ^ k → ⊥
+    few zero l h = absurd (omega arith)
+    few (suc zero) l h = absurd (omega arith)
+    few (suc (suc zero)) l h = absurd (omega arith)
+    few (suc (suc (suc k))) l h = absurd (omega arith)
+
+module _ {K V : Type 0} (keys : Ghosts K) (values : Ghosts V) (n : ℕ) (bytes : List ℕ) where
+  -- what a walk needs of a table's shape
+  pub walk-eights : (n ≡ 0) ⊎ IsShape keys values n bytes → n % 8 ≡ 0
+  walk-eights shape = elim shape [ inl e ↦ omega arith | inr s ↦ ring-eights n s.ring ]
+
+  pub walk-long : (n ≡ 0) ⊎ IsShape keys values n bytes → n ≤ length bytes
+  walk-long shape = elim shape [ inl e ↦ omega arith | inr s ↦ omega (arith, s.long) ]
+
+  module _ (shape : (n ≡ 0) ⊎ IsShape keys values n bytes) where
+    slots_long : length (slots_of keys values n bytes) ≡ n
+    unfolding slots_of
+    slots_long = elim shape [
+      | inl e ↦ ap (λ m. length (slots_of keys values m bytes)) e ∙ sym e
+      | inr s ↦ slots-long keys values n bytes s
+    ]
+
+    free : (i : ℕ) → i < n → slice_index (take n bytes) i ≡ 0 → slice_get (slots_of keys values n bytes) i ≡ Some None
+    free i h e = elim shape [
+      | inl z ↦ absurd (omega arith)
+      | inr s ↦ slot-free keys values n bytes s i h (sym (get_or-take n bytes i 0 h) ∙ e)
+    ]
+
+    -- at the start all pairs are left
+    pub walk-start : (s : Scan) → AreFree (take n bytes) 0 (front_of s)
+        → left_in keys values n bytes s ≡ items (slots_of keys values n bytes)
+    walk-start s none = sym (left-clear n (take n bytes) (slots_of keys values n bytes) slots_long free 0 (front_of s) (omega arith) none)
+
+    -- at the end none is
+    pub walk-end : (s : Scan) → AreFree (take n bytes) (front_of s) n → left_in keys values n bytes s ≡ []
+    walk-end s none = left-end n (take n bytes) (slots_of keys values n bytes) slots_long free (front_of s) none
+
+    -- where it goes on, the pair of the slot comes first
+    pub walk-goes : (s t : Scan) (at : ℕ) → GoesOn n (take n bytes) s at t
+        → (x : K × V) × (slice_get (slots_of keys values n bytes) at ≡ Some (Some x)) × (left_in keys values n bytes s
+        ≡ x ∷ left_in keys values n bytes t)
+    walk-goes s t at g = elim shape [
+      | inl z ↦ absurd (omega (arith, g.less))
+      | inr sh ↦
+          let some : 0 < get_or bytes at 0 = omega (arith, g.taken, get_or-take n bytes at 0 g.less) in
+          let x = slot-taken keys values n bytes sh at g.less some in
+          (x.0, x.1, left-goes n (take n bytes) (slots_of keys values n bytes) slots_long free s t at x.0 g x.1)
+    ]
+
+-- ---- A step of a walk
+
+module _ {K V : Type 0} (keys : Ghosts K) (values : Ghosts V) (n : ℕ) (bytes : List ℕ) (s : Scan) (left : ℕ)
+    (walk : IsWalk keys values n bytes s left)
+    (t : Scan) (scan : IsScan n (take n bytes) t) where
+  -- nothing is left
+  pub walk-ended : AreFree (take n bytes) (front_of s) n → n ≤ front_of t
+      → IsWalk keys values n bytes t left × (left_in keys values n bytes s ≡ []) × (left_in keys values n bytes t ≡ [])
+  walk-ended none end =
+      let old : left_in keys values n bytes s ≡ [] = walk-end keys values n bytes walk.shape s none in
+      let new : left_in keys values n bytes t ≡ [] = walk-end keys values n bytes walk.shape t (λ i a b. absurd (omega arith)) in
+      (record { shape = walk.shape; scan = scan; count = walk.count ∙ ap length (old ∙ sym new) }, old, new)
+
+  module _ (at : ℕ) (goes : GoesOn n (take n bytes) s at t) where
+    -- a pair is
+    pub walk-pair : (x : K × V) × (slice_get (slots_of keys values n bytes) at ≡ Some (Some x))
+        × (left_in keys values n bytes s ≡ x ∷ left_in keys values n bytes t)
+    walk-pair = walk-goes keys values n bytes walk.shape s t at goes
+
+    pub walk-some : 1 ≤ left
+    walk-some = omega (arith, walk.count, ap length walk-pair.2)
+
+    -- and the walk goes on with one less
+    pub walk-less : IsWalk keys values n bytes t (left - 1)
+    walk-less = record { shape = walk.shape; scan = scan; count = omega (arith, walk.count, ap length walk-pair.2) }
+
+    -- this is the pair whose parts are read there
+    pub walk-read : (key : K) (value : V) → ((x : K × V) → slice_get (slots_of keys values n bytes) at ≡ Some (Some x) → key ≡ x.0)
+        → ((x : K × V) → slice_get (slots_of keys values n bytes) at ≡ Some (Some x) → value ≡ x.1)
+        → left_in keys values n bytes s ≡ (key, value) ∷ left_in keys values n bytes t
+    walk-read key value one two =
+        walk-pair.2 ∙ ap₂ (λ k v. (k, v) ∷ left_in keys values n bytes t) (sym (one walk-pair.0 walk-pair.1))
+        (sym (two walk-pair.0 walk-pair.1))
+
+-- ---- A walk over a map
+
+-- a table's shape, as a walk reads it
+pub walk-shape : {K V : Type 0} (keys : Ghosts K) (values : Ghosts V) (memory : Memory) (t : Table K V) (bytes : List ℕ)
+    → keys.SIZE ≤ 2 ^ 24
+    → values.SIZE ≤ 2 ^ 24 → IsTableHandle keys values memory t → bytes ≡ bytes_of memory t.block
+    → (t.slots ≡ 0) ⊎ IsShape keys values t.slots bytes
+walk-shape keys values memory t bytes small few handle is = elim (cases_lt 0 t.slots) [
+  | inl some ↦ inr (subst (λ b. IsShape keys values t.slots b) (sym is) (handle-shape keys values memory t small few handle some))
+  | inr none ↦ inl (omega arith)
+]
+
+module _ {K V S : Type 0} (k : Kind K V S) (memory : Memory) (m : HashMap K V S) (bytes : List ℕ) (small : k.keys.SIZE ≤ 2 ^ 24)
+    (few : k.values.SIZE ≤ 2 ^ 24) (held : IsMapIn k memory m) (is : bytes ≡ bytes_of memory m.table.block) where
+  shape : (m.table.slots ≡ 0) ⊎ IsShape k.keys k.values m.table.slots bytes
+  shape = walk-shape k.keys k.values memory m.table bytes small few held.handle is
+
+  pub map-eights : m.table.slots % 8 ≡ 0
+  map-eights = walk-eights k.keys k.values m.table.slots bytes shape
+
+  pub map-long : m.table.slots ≤ length bytes
+  map-long = walk-long k.keys k.values m.table.slots bytes shape
+
+  module _ (s : Scan) (none : AreFree (take m.table.slots bytes) 0 (front_of s)) where
+    all : left_in k.keys k.values m.table.slots bytes s ≡ pairs_in k memory m
+    all =
+        walk-start k.keys k.values m.table.slots bytes shape s none
+        ∙ ap (λ b. items (slots_of k.keys k.values m.table.slots b)) is
+
+    -- it is one
+    pub map-walk : IsScan m.table.slots (take m.table.slots bytes) s → IsWalk k.keys k.values m.table.slots bytes s m.len
+    map-walk scan = record { shape = shape; scan = scan; count = held.count ∙ ap length (sym all) }
+
+    -- and lists the map
+    pub map-lists : Lists (content_in k.key memory) (map_in k memory m) (left_in k.keys k.values m.table.slots bytes s)
+    map-lists = record {
+      once = subst (λ ps. AreOnce (content_in k.key memory) ps) (sym all) held.once;
+      map_is = ap (first_of (content_in k.key memory)) all;
+    }

@@ -1,0 +1,15 @@
+pub mod Fx
+pub mod Contents
+pub mod Finite
+pub mod Policy
+pub mod Slots
+pub mod Tables
+pub mod Searches
+pub mod Edits
+pub mod Maps
+pub mod Accounts
+pub mod Changes
+pub mod Walks
+pub mod Collecting
+pub mod Sets
+pub mod AgreeLaws

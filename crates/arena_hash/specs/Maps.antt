@@ -1,0 +1,39 @@
+-- Maps in an arena, and what they mean.
+use Rattle.std.specs.Prelude.{◌≡◌, ◌≤◌, List, [], ◌∷◌, map, length}
+use Rattle.arena_chunks.specs.Memory.{Memory}
+use Rattle.arena_chunks.specs.Frame.{AreAllApart}
+use Rattle.arena_chunks.specs.declared.block.Block.{Block}
+use Rattle.arena_items.specs.Footprint.{AreReadable}
+use Rattle.arena_items.specs.Values.{bytes_of}
+use Rattle.arena_hash.specs.Contents.{Kind, content_in}
+use Rattle.arena_hash.specs.Finite.{Finite, first_of, AreOnce}
+use Rattle.arena_hash.specs.Policy.{limit}
+use Rattle.arena_hash.specs.Slots.{items}
+use Rattle.arena_hash.specs.Tables.{slots_in, pair_hash, IsTable, IsTableHandle}
+use Rattle.arena_hash.specs.declared.map.HashMap.{HashMap}
+
+-- the pairs of a map, in the order of its slots
+abbrev pub pairs_in : {K V S : Type 0} → Kind K V S → Memory → HashMap K V S → List (K × V)
+pairs_in k memory m = items (slots_in k.keys k.values memory m.table)
+
+-- The map that a handle is in an arena: what stands under each content.
+abbrev pub map_in : {K V S : Type 0} → Kind K V S → Memory → HashMap K V S → Finite K V
+map_in k memory m = first_of (content_in k.key memory) (pairs_in k memory m)
+
+-- the blocks of the keys' texts, and all that the map reads
+abbrev pub texts_in : {K V S : Type 0} → Kind K V S → Memory → HashMap K V S → List Block
+texts_in k memory m = map (λ p. k.key.text p.0) (pairs_in k memory m)
+
+abbrev pub footprint : {K V S : Type 0} → Kind K V S → Memory → HashMap K V S → List Block
+footprint k memory m = m.table.block ∷ texts_in k memory m
+
+-- The handle is well formed and stands for a map: its block is a table of its own with `len` pairs, at most the limit, whose texts may be
+-- read and lie apart from it, and no content stands there twice.
+pub record IsMapIn {K V S : Type 0} (k : Kind K V S) (memory : Memory) (m : HashMap K V S) : Type 0 where
+  pub handle : IsTableHandle k.keys k.values memory m.table
+  pub table : IsTable k.keys k.values (pair_hash k memory m.hasher) m.table.slots (bytes_of memory m.table.block)
+  pub texts : AreReadable memory.state (texts_in k memory m)
+  pub apart : AreAllApart (texts_in k memory m) (m.table.block ∷ [])
+  pub once : AreOnce (content_in k.key memory) (pairs_in k memory m)
+  pub count : m.len ≡ length (pairs_in k memory m)
+  pub within : m.len ≤ limit m.table.slots

@@ -1,0 +1,63 @@
+-- Walks over a map, its equality, and maps of an iterator's pairs.
+use Rattle.std.specs.Prelude.{◌≡◌, ◌≢◌, ℕ, ◌+◌, ◌*◌, ◌/◌, ◌%◌, ◌<◌, ◌≤◌, ◌==◌, ◌⊎◌, Bool, List, length, take, drop, slice_index, Option, Some, None, IsTrue, ◌↔◌, if◌then◌else◌}
+use Rattle.std.specs.Int.{w64, bit_at, trailing_zeros}
+use Rattle.arena_items.specs.declared.item.Item.{Ghosts}
+use Rattle.arena_hash.specs.Slots.{items}
+use Rattle.arena_hash.specs.Tables.{IsShape, slots_of}
+use Rattle.arena_hash.specs.declared.walk.Scan.{Scan}
+use Rattle.arena_hash.specs.Finite.{Finite, first_of, AreOnce, value_of}
+
+-- The list has each pair of the map once: no content twice, and under each content stands the pair of the list that has it.
+pub record Lists {K V : Type 0} (content : K → List ℕ) (is : Finite K V) (pairs : List (K × V)) : Type 0 where
+  pub once : AreOnce content pairs
+  pub map_is : first_of content pairs ≡ is
+
+-- Where a walk stands: at the first taken slot of eight that it didn't give, or behind them.
+abbrev pub front_of : Scan → ℕ
+front_of s = if s.rest == 0 then s.base + 8 else s.base + trailing_zeros w64 s.rest / 8
+
+-- The place of a walk over n marks: a high bit for each taken slot of eight from the front on.
+pub record IsScan (n : ℕ) (marks : List ℕ) (s : Scan) : Type 0 where
+  pub aligned : s.base % 8 ≡ 0
+  pub within : s.base ≤ n
+  pub lanes : (j : ℕ) → s.base + j < n → j < 8 → front_of s ≤ s.base + j
+      → (bit_at s.rest (8 * j + 7) ≡ 1) ↔ (slice_index marks (s.base + j) ≢ 0)
+  pub others : (j : ℕ) → j < 64 → bit_at s.rest j ≡ 1 → (j % 8 ≡ 7) × (s.base + j / 8 < n)
+
+-- a word of eight marks from a place on: the high bit of each that isn't 0
+pub record AreLanes (marks : List ℕ) (base rest : ℕ) : Type 0 where
+  pub lanes : (j : ℕ) → j < 8 → (bit_at rest (8 * j + 7) ≡ 1) ↔ (slice_index marks (base + j) ≢ 0)
+  pub others : (i : ℕ) → i < 64 → bit_at rest i ≡ 1 → i % 8 ≡ 7
+
+-- no mark from one place up to another is set
+abbrev pub AreFree : List ℕ → ℕ → ℕ → Type 0
+AreFree marks from to = (i : ℕ) → from ≤ i → i < to → slice_index marks i ≡ 0
+
+-- A walk over n marks goes on from the first that is set to where the next one may be.
+pub record GoesOn (n : ℕ) (marks : List ℕ) (old : Scan) (at : ℕ) (new : Scan) : Type 0 where
+  pub less : at < n
+  pub taken : slice_index marks at ≢ 0
+  pub before : front_of old ≤ at
+  pub over : AreFree marks (front_of old) at
+  pub on : at < front_of new
+  pub behind : AreFree marks (at + 1) (front_of new)
+
+-- the pairs that a walk over a table's bytes has left
+abbrev pub left_in : {K V : Type 0} → Ghosts K → Ghosts V → ℕ → List ℕ → Scan → List (K × V)
+left_in keys values n bytes s = items (drop (front_of s) (slots_of keys values n bytes))
+
+-- A walk over a table's bytes: where it stands, and how many pairs are left.
+pub record IsWalk {K V : Type 0} (keys : Ghosts K) (values : Ghosts V) (n : ℕ) (bytes : List ℕ) (s : Scan) (left : ℕ) : Type 0 where
+  pub shape : (n ≡ 0) ⊎ IsShape keys values n bytes
+  pub scan : IsScan n (take n bytes) s
+  pub count : left ≡ length (left_in keys values n bytes s)
+
+-- two values that stand under a content, or none
+abbrev pub AreBoth : {V : Type 0} → (V → V → Bool) → Option V → Option V → Type 0
+AreBoth eq None None = Unit {0}
+AreBoth eq (Some x) (Some y) = IsTrue (eq x y)
+AreBoth eq x y = ⊥
+
+-- The same contents are keys of two maps, and have equal values.
+abbrev pub AreEqual : {K V : Type 0} → (V → V → Bool) → Finite K V → Finite K V → Type 0
+AreEqual eq one other = (q : List ℕ) → AreBoth eq (value_of (one q)) (value_of (other q))

@@ -1,0 +1,91 @@
+// Hashes of contents.
+ghost use Rattle.std.specs.Prelude.{◌≡◌, ℕ, ◌/◌, List, length, bit_xor};
+ghost use Rattle.std.specs.Int.{w32, w64, from_le_bytes};
+ghost use Rattle.arena_hash.specs.Fx.{factor, mixed, number_of, folded, fx_of};
+
+/// Hashes contents. Nothing is promised of a hash but that it is a function of the hasher and of the
+/// content.
+pub trait KeyHasher: Default {
+    // The hash of a content.
+    ghost hash_of: { Self → List ℕ → ℕ };
+
+    /// The hash.
+    fn hash(&self, content: &[u8]) -> u64
+        ensures { result ≡ hash_of self.now content.now };
+}
+
+/// A fixed hasher, by words of eight bytes.
+#[derive(Clone, Copy, Default, PartialEq, Eq, Debug)]
+pub struct FxHasher {}
+
+const FACTOR: u64 = 0xf135_7aea_2e62_a9c5;
+
+const SPAN: u128 = 0x1_0000_0000_0000_0000;
+
+// The two halves of a product, joined.
+#[inline]
+fn mixed(word: u64) -> u64
+    ensures { result ≡ mixed word }
+{
+    let product = word as u128 * FACTOR as u128;
+    (product % SPAN) as u64 ^ (product / SPAN) as u64
+}
+
+// The number of four bytes.
+#[inline]
+pub(crate) fn half_of(bytes: &[u8]) -> u32
+    requires { length bytes.now ≡ 4 }
+    ensures { result ≡ from_le_bytes w32 bytes.now }
+{
+    u32::from_le_bytes([bytes[0], bytes[1], bytes[2], bytes[3]])
+}
+
+// The number of eight bytes. So written it is one load.
+#[inline]
+pub(crate) fn word_of(bytes: &[u8]) -> u64
+    requires { length bytes.now ≡ 8 }
+    ensures { result ≡ from_le_bytes w64 bytes.now }
+{
+    u64::from_le_bytes([
+        bytes[0], bytes[1], bytes[2], bytes[3], bytes[4], bytes[5], bytes[6], bytes[7],
+    ])
+}
+
+// The number of a few bytes.
+#[inline]
+fn number_of(bytes: &[u8]) -> u64
+    ensures { result ≡ number_of bytes.now }
+{
+    bytes.iter().fold(0u64, |number, byte| {
+        number.wrapping_mul(256).wrapping_add(*byte as u64)
+    })
+}
+
+// The hash of any content, word after word.
+fn folded(content: &[u8]) -> u64
+    ensures { result ≡ folded
+        (mixed (bit_xor (length content.now) factor)) (length content.now / 8) content.now }
+{
+    let mut hash = mixed(content.len() as u64 ^ FACTOR);
+    let words = content.len() / 8;
+    for i in 0..words {
+        hash = mixed(hash ^ word_of(&content[8 * i..8 * i + 8]));
+    }
+    mixed(hash ^ number_of(&content[8 * words..]))
+}
+
+impl KeyHasher for FxHasher {
+    ghost hash_of = { λ h content. fx_of content };
+
+    #[inline]
+    fn hash(&self, content: &[u8]) -> u64 {
+        match content.len() {
+            4 => {
+                let number = half_of(content) as u64;
+                number.wrapping_mul(FACTOR).rotate_left(26)
+            }
+            8 => mixed(word_of(content)),
+            _ => folded(content),
+        }
+    }
+}

@@ -1,0 +1,28 @@
+//! Maps and sets in an arena: finite maps by the content of their keys.
+#![tactic(auto)]
+
+mod collect;
+mod compare;
+mod gap;
+mod handle;
+mod hasher;
+mod key;
+mod laws;
+mod map;
+mod marks;
+mod pairs;
+mod policy;
+mod put;
+mod rehash;
+mod set;
+mod table;
+mod walk;
+mod whole;
+
+pub use hasher::{FxHasher, KeyHasher};
+pub use key::ArenaKey;
+pub use laws::bytes_law;
+pub use map::HashMap;
+pub use set::{HashSet, SetIter};
+pub use table::Table;
+pub use walk::{IntoKeys, IntoValues, Iter};

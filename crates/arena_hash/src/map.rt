@@ -1,0 +1,300 @@
+// Maps: their handles, and calls on one key.
+ghost use Rattle.std.specs.Prelude.{◌≡◌, ℕ, List, ◌*◌, ◌+◌, ◌^◌, ◌<◌, ◌≤◌, ◌==◌, ◌↔◌, [], ◌∷◌, Some, IsTrue};
+ghost use Rattle.std.specs.Prelude.{slice_get, slice_set};
+ghost use Rattle.arena_chunks.specs.Memory.{is_readable};
+ghost use Rattle.arena_chunks.specs.Frame.{AreBlocksApart, Frame};
+ghost use Rattle.arena_items.specs.Room.{SamePlaces};
+ghost use Rattle.arena_items.specs.Values.{bytes_of};
+ghost use Rattle.arena_hash.specs.Searches.{Ends};
+ghost use Rattle.arena_hash.specs.Slots.{Has};
+ghost use Rattle.arena_hash.specs.Tables.{home_of, pair_hash, slots_in, HasFree, IsTable, IsTableHandle};
+ghost use Rattle.arena_hash.specs.Tables.{IsTableIn};
+ghost use Rattle.arena_hash.specs.Contents.{kind, content_in};
+ghost use Rattle.arena_hash.specs.Finite.{has, value_of};
+ghost use Rattle.arena_hash.specs.Maps.{IsMapIn, map_in};
+ghost use Rattle.arena_hash.specs.Changes.{Puts, TakesOut, is_value};
+
+use crate::hasher::{FxHasher, KeyHasher, half_of, word_of};
+use crate::key::ArenaKey;
+use crate::marks::{farther, home_mark, least, ring};
+use crate::pairs::{key_at, value_at};
+use crate::policy::limit_of;
+use crate::put::PutValue;
+use crate::table::{Spot, Table};
+use arena_chunks::{Allocator, ChunkSource};
+use arena_items::{Grown, Item};
+use std::marker::PhantomData;
+
+/// A finite map by the content of its keys. It is a name: two of them may name one table.
+#[derive(Clone, Copy)]
+pub struct HashMap<K, V, S = FxHasher> {
+    /// Where the pairs stand.
+    pub table: Table<K, V>,
+    /// How many pairs there are.
+    pub len: u32,
+    /// What hashes the keys' contents.
+    pub hasher: S,
+}
+
+// The hash of a content, and where the search for it ended.
+#[derive(Clone, Copy)]
+pub(crate) struct Look {
+    pub(crate) hash: u64,
+    pub(crate) spot: Spot,
+}
+
+#[tactic(auto, using(crate::proofs::WordLemmas::word_laws))]
+// Whether two contents are equal. Words are compared at once, since the call that compares slices takes
+// longer.
+#[inline(always)]
+fn same(one: &[u8], other: &[u8]) -> bool
+    ensures { IsTrue result ↔ (one.now ≡ other.now) }
+{
+    if one.len() != other.len() {
+        return false;
+    }
+    match one.len() {
+        4 => half_of(one) == half_of(other),
+        8 => word_of(one) == word_of(other),
+        _ => one == other,
+    }
+}
+
+// Whether a key has this content.
+#[inline(always)]
+fn holds<K: ArenaKey, C: ChunkSource>(a: &Allocator<C>, key: K, wanted: &[u8]) -> bool
+    requires { IsTrue (is_readable a.now.memory.state (K.key.text key)) }
+    ensures { IsTrue result ↔ (content_in K.key a.now.memory key ≡ wanted.now) }
+{
+    let mut room = [0u8; 16];
+    same(key.content(a, &mut room), wanted)
+}
+
+// Looks for a content in a table that has slots.
+#[inline(always)]
+fn find<K: ArenaKey, V: Item, C: ChunkSource>(
+    a: &Allocator<C>,
+    table: Table<K, V>,
+    hash: u64,
+    wanted: &[u8],
+) -> Spot
+    requires keys_small { K.SIZE ≤ 2 ^ 24 }
+    requires values_small { V.SIZE ≤ 2 ^ 24 }
+    requires handle { IsTableHandle K.Item V.Item a.now.memory table }
+    requires free { HasFree K.Item V.Item a.now.memory table }
+    requires texts { (x : K × V) → Has (slots_in K.Item V.Item a.now.memory table) x
+        → IsTrue (is_readable a.now.memory.state (K.key.text x.0)) }
+    ensures { (h : List ℕ → ℕ) → IsTable K.Item V.Item (λ p. h
+        (content_in K.key a.now.memory p.0)) table.slots (bytes_of a.now.memory table.block)
+        → h wanted.now ≡ hash
+        → Ends (λ p. home_of table.slots (h (content_in K.key a.now.memory p.0))) table.slots
+        (slots_in K.Item V.Item a.now.memory table)
+        (λ p. content_in K.key a.now.memory p.0) wanted.now hash result }
+{
+    let bytes = a.read(table.block);
+    let mut at = ring(table.slots, hash);
+    let mut mark = home_mark(hash);
+    'slots: for _ in 0..table.slots {
+        let found = bytes[at as usize];
+        if found == mark && holds(a, key_at::<K, V>(bytes, table.slots, at), wanted) {
+            return Spot::Taken { at };
+        }
+        if found < least(mark) {
+            return Spot::Open { at, mark };
+        }
+        at = ring(table.slots, at + 1);
+        mark = farther(mark);
+    }
+    Spot::Open { at, mark }
+}
+
+impl<K: ArenaKey, V: Item, S: KeyHasher> HashMap<K, V, S> {
+    // The hash of a key.
+    #[inline]
+    pub(crate) fn hash_of<C: ChunkSource>(&self, a: &Allocator<C>, key: K) -> u64
+        requires { IsTrue (is_readable a.now.memory.state (K.key.text key)) }
+        ensures { result ≡ S.hash_of self.now.hasher (content_in K.key a.now.memory key) }
+    {
+        let mut room = [0u8; 16];
+        self.hasher.hash(key.content(a, &mut room))
+    }
+
+    // Looks for a key.
+    #[inline(always)]
+    pub(crate) fn look<C: ChunkSource>(&self, a: &Allocator<C>, key: K) -> Look
+        requires keys_small { K.SIZE ≤ 2 ^ 24 }
+        requires values_small { V.SIZE ≤ 2 ^ 24 }
+        requires held { IsTableIn
+            (kind K.Item K.key V.Item S.hash_of) a.now.memory self.now.hasher self.now.table }
+        requires free { 0 < self.now.table.slots → HasFree K.Item V.Item a.now.memory self.now.table }
+        requires text { IsTrue (is_readable a.now.memory.state (K.key.text key)) }
+        ensures hash { result.hash ≡ S.hash_of self.now.hasher (content_in K.key a.now.memory key) }
+        ensures ends { Ends (λ p. home_of self.now.table.slots (pair_hash
+            (kind K.Item K.key V.Item S.hash_of) a.now.memory self.now.hasher p))
+            self.now.table.slots (slots_in K.Item V.Item a.now.memory self.now.table)
+            (λ p. content_in K.key a.now.memory p.0)
+            (content_in K.key a.now.memory key) result.hash result.spot }
+    {
+        let mut room = [0u8; 16];
+        let wanted = key.content(a, &mut room);
+        let hash = self.hasher.hash(wanted);
+        let spot = if self.table.slots == 0 {
+            Spot::Open { at: 0, mark: 0 }
+        } else {
+            find(a, self.table, hash, wanted)
+        };
+        Look { hash, spot }
+    }
+
+    // The value in a slot.
+    #[inline(always)]
+    fn value<C: ChunkSource>(&self, a: &Allocator<C>, at: u64) -> V
+        requires keys_small { K.SIZE ≤ 2 ^ 24 }
+        requires values_small { V.SIZE ≤ 2 ^ 24 }
+        requires handle { IsTableHandle K.Item V.Item a.now.memory self.now.table }
+        requires index { at < self.now.table.slots }
+        ensures { (x : K × V) → slice_get (slots_in K.Item V.Item a.now.memory self.now.table) at ≡ Some
+            (Some x) → result ≡ x.1 }
+    {
+        value_at::<K, V>(a.read(self.table.block), self.table.slots, at)
+    }
+
+    /// How many pairs there are.
+    #[inline]
+    pub fn len(&self) -> u32
+        ensures { result ≡ self.now.len }
+    {
+        self.len
+    }
+
+    /// Whether there is no pair.
+    #[inline]
+    pub fn is_empty(&self) -> bool
+        ensures { result ≡ (self.now.len == 0) }
+    {
+        self.len == 0
+    }
+
+    /// The value of a key.
+    #[inline(always)]
+    pub fn get<C: ChunkSource>(&self, a: &Allocator<C>, key: K) -> Option<V>
+        requires keys_small { K.SIZE ≤ 2 ^ 24 }
+        requires values_small { V.SIZE ≤ 2 ^ 24 }
+        requires held { IsMapIn (kind K.Item K.key V.Item S.hash_of) a.now.memory self.now }
+        requires text { IsTrue (is_readable a.now.memory.state (K.key.text key)) }
+        ensures { result ≡ value_of (map_in (kind K.Item K.key V.Item S.hash_of) a.now.memory self.now
+            (content_in K.key a.now.memory key)) }
+    {
+        match self.look(a, key).spot {
+            Spot::Taken { at } => Some(self.value(a, at)),
+            Spot::Open { .. } => None,
+        }
+    }
+
+    /// Whether a key is there.
+    #[inline(always)]
+    pub fn contains_key<C: ChunkSource>(&self, a: &Allocator<C>, key: K) -> bool
+        requires keys_small { K.SIZE ≤ 2 ^ 24 }
+        requires values_small { V.SIZE ≤ 2 ^ 24 }
+        requires held { IsMapIn (kind K.Item K.key V.Item S.hash_of) a.now.memory self.now }
+        requires text { IsTrue (is_readable a.now.memory.state (K.key.text key)) }
+        ensures { result ≡ has (map_in (kind K.Item K.key V.Item S.hash_of) a.now.memory self.now)
+            (content_in K.key a.now.memory key) }
+    {
+        match self.look(a, key).spot {
+            Spot::Taken { .. } => true,
+            Spot::Open { .. } => false,
+        }
+    }
+
+    /// Puts a pair, and answers the value that the key had. A key that is there stays, with the new value.
+    ///
+    /// # Errors
+    ///
+    /// `CapacityOverflow` where the key is new and there are 4,294,967,295 pairs; `AllocErr` and
+    /// `OutOfMemory` as of the arena's `alloc_layout`, where the key is new and the table is full. Nothing
+    /// changes.
+    #[inline]
+    pub fn insert<C: ChunkSource>(
+        &mut self,
+        a: &mut Allocator<C>,
+        key: K,
+        value: V,
+    ) -> Grown<Option<V>>
+        requires keys_small { K.SIZE ≤ 2 ^ 24 }
+        requires values_small { V.SIZE ≤ 2 ^ 24 }
+        requires held { IsMapIn (kind K.Item K.key V.Item S.hash_of) a.old.memory self.old }
+        requires text { IsTrue (is_readable a.old.memory.state (K.key.text key)) }
+        requires apart { AreBlocksApart (K.key.text key) self.old.table.block }
+        ensures { Puts (kind K.Item K.key V.Item S.hash_of) a.old a.new self.old key value is_value
+            self.new result }
+    {
+        let look = self.look(a, key);
+        match look.spot {
+            Spot::Taken { at } => Ok(Some(self.replace(a, at, value))),
+            Spot::Open { at, mark } => {
+                if (self.len as u64) < limit_of(self.table.slots) {
+                    self.table
+                        .put(a, &self.hasher, look.hash, at, mark, key, value);
+                } else {
+                    self.table = self.grown(a)?;
+                    self.table.settle(a, &self.hasher, look.hash, key, value);
+                }
+                self.len += 1;
+                Ok(None)
+            }
+        }
+    }
+
+    // Puts a value into a slot, and answers the one that was there.
+    #[inline(always)]
+    fn replace<C: ChunkSource>(&self, a: &mut Allocator<C>, at: u64, value: V) -> V
+        requires keys_small { K.SIZE ≤ 2 ^ 24 }
+        requires values_small { V.SIZE ≤ 2 ^ 24 }
+        requires held { IsTableIn
+            (kind K.Item K.key V.Item S.hash_of) a.old.memory self.now.hasher self.now.table }
+        requires taken { (x : K × V) × (slice_get (slots_in K.Item V.Item a.old.memory self.now.table) at
+            ≡ Some (Some x)) }
+        ensures held { IsTableIn
+            (kind K.Item K.key V.Item S.hash_of) a.new.memory self.now.hasher self.now.table }
+        ensures replaced { (x : K × V) → slice_get (slots_in K.Item V.Item a.old.memory self.now.table) at
+            ≡ Some (Some x)
+            → (result ≡ x.1) × (slots_in K.Item V.Item a.new.memory self.now.table
+            ≡ slice_set (slots_in K.Item V.Item a.old.memory self.now.table) at (Some (x.0, value))) }
+        ensures places { SamePlaces a.old a.new }
+        ensures frame { Frame a.old.memory a.new.memory (self.now.table.block ∷ [])
+            (self.now.table.block ∷ []) }
+    {
+        let old = self.value(a, at);
+        let put = PutValue::<K, V> {
+            slots: self.table.slots,
+            at,
+            value,
+            of: PhantomData,
+        };
+        a.write_with(self.table.block, 0, self.table.block.size, &put);
+        old
+    }
+
+    /// Takes a pair out, and answers its value.
+    #[inline(always)]
+    pub fn remove<C: ChunkSource>(&mut self, a: &mut Allocator<C>, key: K) -> Option<V>
+        requires keys_small { K.SIZE ≤ 2 ^ 24 }
+        requires values_small { V.SIZE ≤ 2 ^ 24 }
+        requires held { IsMapIn (kind K.Item K.key V.Item S.hash_of) a.old.memory self.old }
+        requires text { IsTrue (is_readable a.old.memory.state (K.key.text key)) }
+        requires apart { AreBlocksApart (K.key.text key) self.old.table.block }
+        ensures { TakesOut (kind K.Item K.key V.Item S.hash_of) a.old a.new self.old key is_value
+            self.new result }
+    {
+        match self.look(a, key).spot {
+            Spot::Taken { at } => {
+                let value = self.value(a, at);
+                self.table.close(a, &self.hasher, at);
+                self.len -= 1;
+                Some(value)
+            }
+            Spot::Open { .. } => None,
+        }
+    }
+}

@@ -1,0 +1,244 @@
+// Sets: maps whose values have no bytes.
+ghost use Rattle.std.specs.Prelude.{◌≡◌, ◌==◌, ◌^◌, ◌≤◌, ◌↔◌, IfOk, IfErr, OnErr, IsTrue};
+ghost use Rattle.std.specs.Prelude.{List, [], ◌∷◌, Some};
+ghost use Rattle.std.specs.Iterator.{IsFinite, Yields, YieldsFirst, item_count};
+ghost use Rattle.arena_hash.specs.Collecting.{CollectsAll, CollectsSome};
+ghost use Rattle.arena_hash.specs.Sets.{set_kind, ListsKeys, HaveSame, StepsInPairs};
+ghost use Rattle.arena_chunks.specs.Memory.{is_readable};
+ghost use Rattle.arena_chunks.specs.Frame.{AreBlocksApart, Frame};
+ghost use Rattle.arena_hash.specs.Contents.{content_in};
+ghost use Rattle.arena_hash.specs.Finite.{has};
+ghost use Rattle.arena_hash.specs.Maps.{IsMapIn, map_in};
+ghost use Rattle.arena_hash.specs.Changes.{IsNew, PlacesMap, Puts, TakesOut, is_new, was_there};
+
+use crate::hasher::{FxHasher, KeyHasher};
+use crate::key::ArenaKey;
+use crate::map::HashMap;
+use crate::walk::IntoKeys;
+use arena_chunks::{Allocator, ChunkSource};
+use arena_items::{Grown, Item};
+use std::marker::Model;
+
+/// A finite set by content. It is a name: two of them may name one table.
+#[derive(Clone, Copy)]
+pub struct HashSet<T, S = FxHasher> {
+    /// The items are its keys.
+    pub map: HashMap<T, (), S>,
+}
+
+impl<T: ArenaKey, S: KeyHasher> HashSet<T, S> {
+    /// An empty set with the default hasher. It places nothing.
+    pub fn new_in() -> HashSet<T, S>
+        ensures { IsNew (set_kind T.Item T.key S.hash_of) result.map.hasher result.map }
+    {
+        HashSet {
+            map: HashMap::new_in(),
+        }
+    }
+
+    /// An empty set with this hasher. It places nothing.
+    pub fn with_hasher_in(hasher: S) -> HashSet<T, S>
+        ensures { IsNew (set_kind T.Item T.key S.hash_of) hasher result.map }
+    {
+        HashSet {
+            map: HashMap::with_hasher_in(hasher),
+        }
+    }
+
+    /// An empty set with room for so many items, and the default hasher.
+    ///
+    /// # Errors
+    ///
+    /// As of the map's `with_capacity_in`.
+    pub fn with_capacity_in<C: ChunkSource>(
+        capacity: u64,
+        a: &mut Allocator<C>,
+    ) -> Grown<HashSet<T, S>>
+    where
+        S: Drop,
+        requires { T.SIZE ≤ 2 ^ 24 }
+        ensures { PlacesMap (set_kind T.Item T.key S.hash_of) (λ s. s.map) a.old a.new capacity result }
+    {
+        let map = HashMap::with_capacity_in(capacity, a)?;
+        Ok(HashSet { map })
+    }
+
+    /// An empty set with room for so many items, and this hasher.
+    ///
+    /// # Errors
+    ///
+    /// As of the map's `with_capacity_and_hasher_in`.
+    pub fn with_capacity_and_hasher_in<C: ChunkSource>(
+        capacity: u64,
+        hasher: S,
+        a: &mut Allocator<C>,
+    ) -> Grown<HashSet<T, S>>
+    where
+        S: Drop,
+        requires { T.SIZE ≤ 2 ^ 24 }
+        ensures placed { PlacesMap (set_kind T.Item T.key S.hash_of) (λ s. s.map)
+            a.old a.new capacity result }
+        ensures hasher { IfOk result (λ s. s.map.hasher ≡ hasher) }
+    {
+        let map = HashMap::with_capacity_and_hasher_in(capacity, hasher, a)?;
+        Ok(HashSet { map })
+    }
+
+    /// A set of an iterator's items, inserted one by one. No hint is used.
+    ///
+    /// # Errors
+    ///
+    /// As of `insert`. What was placed stays.
+    pub fn from_iter_in<C: ChunkSource, I: Iterator<Item = T>>(
+        iter: I,
+        a: &mut Allocator<C>,
+    ) -> Grown<HashSet<T, S>>
+    where
+        I: Drop,
+        S: Drop,
+        requires small { T.SIZE ≤ 2 ^ 24 }
+        requires can { I.can_next iter }
+        requires ends { IsFinite (I.remaining iter) }
+        requires texts { (items : List T) (now rest : I) (last : T)
+            → Yields I.next_gives iter items now → I.next_gives now (Some last) rest
+            → IsTrue (is_readable a.old.memory.state (T.key.text last)) }
+        ensures held { IfOk result (λ s. IsMapIn (set_kind T.Item T.key S.hash_of) a.new.memory s.map) }
+        ensures frame { IfOk result (λ s. Frame a.old.memory a.new.memory [] (s.map.table.block ∷ [])) }
+        ensures beside { OnErr result (Frame a.old.memory a.new.memory [] []) }
+        ensures collects { IfOk result (λ s. CollectsAll (set_kind T.Item T.key S.hash_of)
+            (StepsInPairs I.next_gives) iter a.old a.new s.map) }
+        ensures refused { IfErr result (CollectsSome (set_kind T.Item T.key S.hash_of)
+            (StepsInPairs I.next_gives) iter a.old a.new) }
+    {
+        let mut iter = iter;
+        let mut map = HashMap::new_in();
+        while let Some(item) = iter.next() {
+            map.insert(a, item, ())?;
+        }
+        Ok(HashSet { map })
+    }
+
+    /// The set of a map's keys.
+    pub fn from(map: HashMap<T, (), S>) -> HashSet<T, S>
+        ensures { result.map ≡ map }
+    {
+        HashSet { map }
+    }
+
+    /// Puts an item, and answers whether it is new. One that is there stays.
+    ///
+    /// # Errors
+    ///
+    /// As of the map's `insert`. Nothing changes.
+    #[inline]
+    pub fn insert<C: ChunkSource>(&mut self, a: &mut Allocator<C>, item: T) -> Grown<bool>
+        requires small { T.SIZE ≤ 2 ^ 24 }
+        requires held { IsMapIn (set_kind T.Item T.key S.hash_of) a.old.memory self.old.map }
+        requires text { IsTrue (is_readable a.old.memory.state (T.key.text item)) }
+        requires apart { AreBlocksApart (T.key.text item) self.old.map.table.block }
+        ensures { Puts (set_kind T.Item T.key S.hash_of) a.old a.new self.old.map item tt is_new
+            self.new.map result }
+    {
+        let old = self.map.insert(a, item, ())?;
+        Ok(old.is_none())
+    }
+
+    /// Takes an item out, and answers whether it was there.
+    #[inline]
+    pub fn remove<C: ChunkSource>(&mut self, a: &mut Allocator<C>, item: T) -> bool
+        requires small { T.SIZE ≤ 2 ^ 24 }
+        requires held { IsMapIn (set_kind T.Item T.key S.hash_of) a.old.memory self.old.map }
+        requires text { IsTrue (is_readable a.old.memory.state (T.key.text item)) }
+        requires apart { AreBlocksApart (T.key.text item) self.old.map.table.block }
+        ensures { TakesOut (set_kind T.Item T.key S.hash_of) a.old a.new self.old.map item was_there
+            self.new.map result }
+    {
+        self.map.remove(a, item).is_some()
+    }
+
+    /// Whether an item is there.
+    #[inline]
+    pub fn contains<C: ChunkSource>(&self, a: &Allocator<C>, item: T) -> bool
+        requires small { T.SIZE ≤ 2 ^ 24 }
+        requires held { IsMapIn (set_kind T.Item T.key S.hash_of) a.now.memory self.now.map }
+        requires text { IsTrue (is_readable a.now.memory.state (T.key.text item)) }
+        ensures { result ≡ has (map_in (set_kind T.Item T.key S.hash_of) a.now.memory self.now.map)
+            (content_in T.key a.now.memory item) }
+    {
+        self.map.contains_key(a, item)
+    }
+
+    /// How many items there are.
+    #[inline]
+    pub fn len(&self) -> u32
+        ensures { result ≡ self.now.map.len }
+    {
+        self.map.len
+    }
+
+    /// Whether there is no item.
+    #[inline]
+    pub fn is_empty(&self) -> bool
+        ensures { result ≡ (self.now.map.len == 0) }
+    {
+        self.map.len == 0
+    }
+
+    /// The items, each once, in an open order.
+    pub fn iter<'a, C: ChunkSource>(&self, a: &'a Allocator<C>) -> SetIter<'a, T, C>
+        requires small { T.SIZE ≤ 2 ^ 24 }
+        requires held { IsMapIn (set_kind T.Item T.key S.hash_of) a.now.memory self.now.map }
+        ensures { ListsKeys (content_in T.key a.now.memory)
+            (map_in (set_kind T.Item T.key S.hash_of) a.now.memory self.now.map) result }
+    {
+        SetIter {
+            keys: IntoKeys {
+                pairs: self.map.iter(a),
+            },
+        }
+    }
+
+    /// Whether the same contents are items of both sets.
+    pub fn eq<C: ChunkSource>(&self, a: &Allocator<C>, other: &HashSet<T, S>) -> bool
+        requires small { T.SIZE ≤ 2 ^ 24 }
+        requires held { IsMapIn (set_kind T.Item T.key S.hash_of) a.now.memory self.now.map }
+        requires other { IsMapIn (set_kind T.Item T.key S.hash_of) a.now.memory other.now.map }
+        ensures { IsTrue result ↔ HaveSame
+            (map_in (set_kind T.Item T.key S.hash_of) a.now.memory self.now.map)
+            (map_in (set_kind T.Item T.key S.hash_of) a.now.memory other.now.map) }
+    {
+        self.map.eq(a, &other.map)
+    }
+}
+
+/// The items of a set, each once.
+#[derive(Drop)]
+pub struct SetIter<'a, T: Item, C: ChunkSource> {
+    keys: IntoKeys<'a, T, (), C>,
+}
+
+impl<'a, T: Item, C: ChunkSource> Model for SetIter<'a, T, C> {
+    ghost use Rattle.std.specs.Prelude.{List};
+
+    ghost Value = { List T };
+
+    ghost view = { λ s. s.keys };
+}
+
+impl<'a, T: Item, C: ChunkSource> Iterator for SetIter<'a, T, C> {
+    type Item = T;
+
+    ghost next_gives = { YieldsFirst (λ s. s) };
+
+    ghost remaining = { item_count (λ s. s) };
+
+    #[inline]
+    fn next(&mut self) -> Option<T> {
+        self.keys.next()
+    }
+
+    #[inline]
+    fn size_hint(&self) -> (usize, Option<usize>) {
+        self.keys.size_hint()
+    }
+}

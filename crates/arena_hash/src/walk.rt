@@ -1,0 +1,278 @@
+// The pairs of a map, in the order of its slots.
+ghost use Rattle.std.specs.Prelude.{◌≡◌, ◌≢◌, ℕ, ◌+◌, ◌*◌, ◌/◌, ◌%◌, ◌^◌, ◌<◌, ◌≤◌, ◌↔◌};
+ghost use Rattle.std.specs.Prelude.{List, length, map, take};
+ghost use Rattle.std.specs.Int.{bit_at};
+ghost use Rattle.std.specs.Option.{MatchOption};
+ghost use Rattle.std.specs.Iterator.{YieldsFirst, item_count};
+ghost use Rattle.arena_hash.specs.Contents.{kind, content_in};
+ghost use Rattle.arena_hash.specs.Maps.{IsMapIn, map_in};
+ghost use Rattle.arena_hash.specs.Sets.{ListsKeys};
+ghost use Rattle.arena_hash.specs.Walks.{front_of, AreFree, AreLanes, GoesOn, IsScan, Lists};
+
+use crate::hasher::KeyHasher;
+use crate::key::ArenaKey;
+use crate::map::HashMap;
+use crate::pairs::{key_at, value_at};
+use arena_chunks::{Allocator, ChunkSource};
+use arena_items::Item;
+use std::marker::{Model, PhantomData};
+
+// A place in a walk over marks: the first slot of eight, and a high bit for each of the eight that is taken
+// and was not given.
+#[derive(Clone, Copy)]
+pub(crate) struct Scan {
+    pub(crate) base: u64,
+    pub(crate) rest: u64,
+}
+
+const HIGH: u64 = 0x8080_8080_8080_8080;
+
+const LOW_SEVEN: u64 = 0x7f7f_7f7f_7f7f_7f7f;
+
+// The high bit of each byte that isn't 0.
+#[inline]
+fn taken_lanes(word: u64) -> u64
+    ensures lanes { (j : ℕ) → j < 8 → (bit_at result (8 * j + 7) ≡ 1) ↔ (word / 256 ^ j % 256 ≢ 0) }
+    ensures others { (i : ℕ) → i < 64 → bit_at result i ≡ 1 → i % 8 ≡ 7 }
+{
+    ((word & LOW_SEVEN) + LOW_SEVEN | word) & HIGH
+}
+
+// The taken slots of eight.
+#[inline]
+fn lanes_at(bytes: &[u8], base: u64) -> u64
+    requires { base + 8 ≤ length bytes.now }
+    ensures { AreLanes bytes.now base result }
+{
+    let at = base as usize;
+    taken_lanes(u64::from_le_bytes([
+        bytes[at],
+        bytes[at + 1],
+        bytes[at + 2],
+        bytes[at + 3],
+        bytes[at + 4],
+        bytes[at + 5],
+        bytes[at + 6],
+        bytes[at + 7],
+    ]))
+}
+
+// The place of a walk that gave nothing yet.
+#[inline]
+fn start(bytes: &[u8], slots: u64) -> Scan
+    requires eights { slots % 8 ≡ 0 }
+    requires long { slots ≤ length bytes.now }
+    ensures scan { IsScan slots (take slots bytes.now) result }
+    ensures free { AreFree (take slots bytes.now) 0 (front_of result) }
+{
+    Scan {
+        base: 0,
+        rest: if slots == 0 { 0 } else { lanes_at(bytes, 0) },
+    }
+}
+
+// The next taken slot, and the place behind it.
+#[inline]
+fn step(bytes: &[u8], slots: u64, scan: Scan) -> (Option<u64>, Scan)
+    requires eights { slots % 8 ≡ 0 }
+    requires long { slots ≤ length bytes.now }
+    requires scan { IsScan slots (take slots bytes.now) scan }
+    ensures scan { IsScan slots (take slots bytes.now) result.1 }
+    ensures goes { let marks = take slots bytes.now in
+        MatchOption result.0 (AreFree marks (front_of scan) slots × (slots ≤ front_of result.1))
+        (λ at. GoesOn slots marks scan at result.1) }
+{
+    let mut base = scan.base;
+    let mut rest = scan.rest;
+    'words: while rest == 0 {
+        if base + 8 >= slots {
+            return (None, Scan { base, rest });
+        }
+        base += 8;
+        rest = lanes_at(bytes, base);
+    }
+    let slot = base + rest.trailing_zeros() as u64 / 8;
+    (
+        Some(slot),
+        Scan {
+            base,
+            rest: rest & (rest - 1),
+        },
+    )
+}
+
+/// The pairs of a map, each once, in an open order.
+#[derive(Drop)]
+pub struct Iter<'a, K: Item, V: Item, C: ChunkSource> {
+    bytes: &'a [u8],
+    slots: u64,
+    scan: Scan,
+    left: u32,
+    // The types of the pairs, and the source of the arena's chunks, which isn't looked at.
+    of: PhantomData<(K, V)>,
+    source: PhantomData<C>,
+}
+
+impl<'a, K: Item, V: Item, C: ChunkSource> Model for Iter<'a, K, V, C> {
+    ghost use Rattle.std.specs.Prelude.{List, map};
+    ghost use Rattle.arena_hash.specs.Walks.{left_in, IsWalk};
+
+    ghost Value = { List (K × V) };
+
+    ghost view = { λ s. left_in K.Item V.Item s.slots s.bytes.now s.scan };
+
+    ghost invariant = { λ s. IsWalk K.Item V.Item s.slots s.bytes.now s.scan s.left };
+}
+
+impl<K: ArenaKey, V: Item, S: KeyHasher> HashMap<K, V, S> {
+    /// The pairs, each once, in an open order.
+    pub fn iter<'a, C: ChunkSource>(&self, a: &'a Allocator<C>) -> Iter<'a, K, V, C>
+        requires keys_small { K.SIZE ≤ 2 ^ 24 }
+        requires values_small { V.SIZE ≤ 2 ^ 24 }
+        requires held { IsMapIn (kind K.Item K.key V.Item S.hash_of) a.now.memory self.now }
+        ensures { Lists (content_in K.key a.now.memory)
+            (map_in (kind K.Item K.key V.Item S.hash_of) a.now.memory self.now) result }
+    {
+        let bytes = a.read(self.table.block);
+        Iter {
+            bytes,
+            slots: self.table.slots,
+            scan: start(bytes, self.table.slots),
+            left: self.len,
+            of: PhantomData,
+            source: PhantomData,
+        }
+    }
+
+    /// The keys, each once, in the order of `iter`.
+    pub fn into_keys<'a, C: ChunkSource>(self, a: &'a Allocator<C>) -> IntoKeys<'a, K, V, C>
+    where
+        S: Drop,
+        requires keys_small { K.SIZE ≤ 2 ^ 24 }
+        requires values_small { V.SIZE ≤ 2 ^ 24 }
+        requires held { IsMapIn (kind K.Item K.key V.Item S.hash_of) a.now.memory self }
+        ensures { ListsKeys (content_in K.key a.now.memory)
+            (map_in (kind K.Item K.key V.Item S.hash_of) a.now.memory self) result }
+    {
+        IntoKeys {
+            pairs: self.iter(a),
+        }
+    }
+
+    /// The value of each pair once, in the order of `iter`.
+    pub fn into_values<'a, C: ChunkSource>(self, a: &'a Allocator<C>) -> IntoValues<'a, K, V, C>
+    where
+        S: Drop,
+        requires keys_small { K.SIZE ≤ 2 ^ 24 }
+        requires values_small { V.SIZE ≤ 2 ^ 24 }
+        requires held { IsMapIn (kind K.Item K.key V.Item S.hash_of) a.now.memory self }
+        ensures { (pairs : List (K × V)) × (result ≡ map (λ p. p.1) pairs)
+            × Lists (content_in K.key a.now.memory)
+            (map_in (kind K.Item K.key V.Item S.hash_of) a.now.memory self) pairs }
+    {
+        IntoValues {
+            pairs: self.iter(a),
+        }
+    }
+}
+
+impl<'a, K: Item, V: Item, C: ChunkSource> Iterator for Iter<'a, K, V, C> {
+    type Item = (K, V);
+
+    ghost next_gives = { YieldsFirst (λ s. s) };
+
+    ghost remaining = { item_count (λ s. s) };
+
+    #[inline]
+    fn next(&mut self) -> Option<(K, V)> {
+        let (slot, scan) = step(self.bytes, self.slots, self.scan);
+        self.scan = scan;
+        match slot {
+            Some(i) => {
+                self.left -= 1;
+                Some((
+                    key_at::<K, V>(self.bytes, self.slots, i),
+                    value_at::<K, V>(self.bytes, self.slots, i),
+                ))
+            }
+            None => None,
+        }
+    }
+
+    #[inline]
+    fn size_hint(&self) -> (usize, Option<usize>) {
+        (self.left as usize, Some(self.left as usize))
+    }
+}
+
+/// The keys of a map, each once.
+#[derive(Drop)]
+pub struct IntoKeys<'a, K: Item, V: Item, C: ChunkSource> {
+    pub(crate) pairs: Iter<'a, K, V, C>,
+}
+
+impl<'a, K: Item, V: Item, C: ChunkSource> Model for IntoKeys<'a, K, V, C> {
+    ghost use Rattle.std.specs.Prelude.{List, map};
+    ghost use Rattle.arena_hash.specs.Walks.{left_in, IsWalk};
+
+    ghost Value = { List K };
+
+    ghost view = { λ s. map (λ p. p.0) s.pairs };
+}
+
+impl<'a, K: Item, V: Item, C: ChunkSource> Iterator for IntoKeys<'a, K, V, C> {
+    type Item = K;
+
+    ghost next_gives = { YieldsFirst (λ s. s) };
+
+    ghost remaining = { item_count (λ s. s) };
+
+    #[inline]
+    fn next(&mut self) -> Option<K> {
+        match self.pairs.next() {
+            Some((key, _)) => Some(key),
+            None => None,
+        }
+    }
+
+    #[inline]
+    fn size_hint(&self) -> (usize, Option<usize>) {
+        self.pairs.size_hint()
+    }
+}
+
+/// The values of a map, each pair's once.
+#[derive(Drop)]
+pub struct IntoValues<'a, K: Item, V: Item, C: ChunkSource> {
+    pairs: Iter<'a, K, V, C>,
+}
+
+impl<'a, K: Item, V: Item, C: ChunkSource> Model for IntoValues<'a, K, V, C> {
+    ghost use Rattle.std.specs.Prelude.{List, map};
+    ghost use Rattle.arena_hash.specs.Walks.{left_in, IsWalk};
+
+    ghost Value = { List V };
+
+    ghost view = { λ s. map (λ p. p.1) s.pairs };
+}
+
+impl<'a, K: Item, V: Item, C: ChunkSource> Iterator for IntoValues<'a, K, V, C> {
+    type Item = V;
+
+    ghost next_gives = { YieldsFirst (λ s. s) };
+
+    ghost remaining = { item_count (λ s. s) };
+
+    #[inline]
+    fn next(&mut self) -> Option<V> {
+        match self.pairs.next() {
+            Some((_, value)) => Some(value),
+            None => None,
+        }
+    }
+
+    #[inline]
+    fn size_hint(&self) -> (usize, Option<usize>) {
+        self.pairs.size_hint()
+    }
+}

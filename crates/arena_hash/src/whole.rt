@@ -1,0 +1,97 @@
+// Calls on whole maps.
+ghost use Rattle.std.specs.Prelude.{◌≡◌, ◌^◌, ◌≤◌, IfOk};
+ghost use Rattle.arena_hash.specs.Contents.{kind};
+ghost use Rattle.arena_hash.specs.Finite.{empty};
+ghost use Rattle.arena_hash.specs.Maps.{IsMapIn};
+ghost use Rattle.arena_hash.specs.Changes.{Becomes, IsNew, PlacesMap};
+
+use crate::hasher::KeyHasher;
+use crate::key::ArenaKey;
+use crate::map::HashMap;
+use crate::policy::slots_for;
+use crate::table::Table;
+use arena_chunks::{Allocator, ChunkSource};
+use arena_items::{AllocError, Grown, Item};
+
+impl<K: ArenaKey, V: Item, S: KeyHasher> HashMap<K, V, S> {
+    /// An empty map with the default hasher. It places nothing.
+    pub fn new_in() -> HashMap<K, V, S>
+        ensures { IsNew (kind K.Item K.key V.Item S.hash_of) result.hasher result }
+    {
+        HashMap::with_hasher_in(S::default())
+    }
+
+    /// An empty map with this hasher. It places nothing.
+    pub fn with_hasher_in(hasher: S) -> HashMap<K, V, S>
+        ensures { IsNew (kind K.Item K.key V.Item S.hash_of) hasher result }
+    {
+        HashMap {
+            table: Table::none(),
+            len: 0,
+            hasher,
+        }
+    }
+
+    /// An empty map with room for so many pairs, and the default hasher.
+    ///
+    /// # Errors
+    ///
+    /// As of `with_capacity_and_hasher_in`.
+    pub fn with_capacity_in<C: ChunkSource>(
+        capacity: u64,
+        a: &mut Allocator<C>,
+    ) -> Grown<HashMap<K, V, S>>
+    where
+        S: Drop,
+        requires keys_small { K.SIZE ≤ 2 ^ 24 }
+        requires values_small { V.SIZE ≤ 2 ^ 24 }
+        ensures { PlacesMap (kind K.Item K.key V.Item S.hash_of) (λ m. m) a.old a.new capacity result }
+    {
+        HashMap::with_capacity_and_hasher_in(capacity, S::default(), a)
+    }
+
+    /// An empty map with room for so many pairs, and this hasher. For none it places nothing.
+    ///
+    /// # Errors
+    ///
+    /// `CapacityOverflow` where the capacity passes 4,294,967,295, and else as of the arena's
+    /// `alloc_layout`. Nothing changes.
+    pub fn with_capacity_and_hasher_in<C: ChunkSource>(
+        capacity: u64,
+        hasher: S,
+        a: &mut Allocator<C>,
+    ) -> Grown<HashMap<K, V, S>>
+    where
+        S: Drop,
+        requires keys_small { K.SIZE ≤ 2 ^ 24 }
+        requires values_small { V.SIZE ≤ 2 ^ 24 }
+        ensures placed { PlacesMap (kind K.Item K.key V.Item S.hash_of) (λ m. m)
+            a.old a.new capacity result }
+        ensures hasher { IfOk result (λ m. m.hasher ≡ hasher) }
+    {
+        if capacity == 0 {
+            return Ok(HashMap::with_hasher_in(hasher));
+        }
+        if capacity > u32::MAX as u64 {
+            return Err(AllocError::CapacityOverflow);
+        }
+        let table = Table::place(a, slots_for(capacity))?;
+        Ok(HashMap {
+            table,
+            len: 0,
+            hasher,
+        })
+    }
+
+    /// Takes all pairs out. The table stays.
+    pub fn clear<C: ChunkSource>(&mut self, a: &mut Allocator<C>)
+        requires keys_small { K.SIZE ≤ 2 ^ 24 }
+        requires values_small { V.SIZE ≤ 2 ^ 24 }
+        requires held { IsMapIn (kind K.Item K.key V.Item S.hash_of) a.old.memory self.old }
+        ensures becomes { Becomes (kind K.Item K.key V.Item S.hash_of) a.old a.new self.old empty self.new }
+        ensures len { self.new.len ≡ 0 }
+    {
+        self.table.free_all(a);
+        self.len = 0;
+    }
+}

@@ -1,0 +1,127 @@
+// Room for more values, and for no more than there are.
+ghost use Rattle.std.specs.Prelude.{◌≡◌, ◌+◌, ◌^◌, ◌≤◌, IfOk, OnErr, OnOk};
+ghost use Rattle.arena_items.specs.Room.{MakesRoom};
+ghost use Rattle.arena_vec.specs.Growth.{amortised_growth, exact_growth};
+ghost use Rattle.arena_vec.specs.Held.{IsRawIn};
+ghost use Rattle.arena_vec.specs.Storage.{IsGrown, ShrinksTo};
+ghost use Rattle.arena_vec.specs.Vecs.{IsVecIn, vec_list};
+ghost use Rattle.arena_vec.specs.Changes.{Grows};
+
+use crate::raw::{RawVec, reserved};
+use crate::vec::Vec;
+use arena_chunks::{Allocator, ChunkSource};
+use arena_items::{Grown, Item};
+
+// The storage with room for so many more values.
+#[tactic(auto, unfolding(crate::specs::Growth::growth_to), using(crate::proofs::RoomLemmas::room_laws))]
+#[inline(always)]
+pub(crate) fn roomy<T: Item, C: ChunkSource>(
+    a: &mut Allocator<C>,
+    raw: RawVec<T>,
+    additional: u64,
+) -> Grown<RawVec<T>>
+    requires small { T.SIZE ≤ 2 ^ 24 }
+    requires held { IsRawIn T.Item a.old.memory raw }
+    ensures made { let growth = amortised_growth T.SIZE raw.cap (raw.len + additional) in
+        MakesRoom T.SIZE T.ALIGN a.old a.new raw.block raw.cap growth (λ r. r.block) result }
+    ensures grown { let growth = amortised_growth T.SIZE raw.cap (raw.len + additional) in
+        IfOk result (IsGrown T.Item a.old.memory a.new.memory raw growth) }
+    ensures enough { IfOk result (λ r. raw.len + additional ≤ r.cap) }
+    ensures err { OnErr result (a.new.memory ≡ a.old.memory) }
+{
+    if additional <= (raw.cap - raw.len) as u64 {
+        return Ok(raw);
+    }
+    reserved(a, raw, raw.len, additional, false)
+}
+
+#[tactic(auto, using(crate::proofs::VecLemmas::vec_laws))]
+impl<T: Item> Vec<T> {
+    /// Makes room for so many more values: for twice as many as there is room for, or for as many as are required.
+    ///
+    /// # Errors
+    ///
+    /// `CapacityOverflow` where so many don't fit, and else as of the arena's `alloc_layout` or `grow`. Nothing changes.
+    pub fn try_reserve<C: ChunkSource>(
+        &mut self,
+        a: &mut Allocator<C>,
+        additional: u64,
+    ) -> Grown<()>
+        requires small { T.SIZE ≤ 2 ^ 24 }
+        requires held { IsVecIn T.Item a.old.memory self.old }
+        ensures grows { let growth = amortised_growth T.SIZE self.old.raw.cap
+            (self.old.raw.len + additional) in
+            Grows T.Item a.old a.new self.old growth (vec_list T.Item a.old.memory self.old) self.new result }
+        ensures enough { OnOk result (self.old.raw.len + additional ≤ self.new.raw.cap) }
+    {
+        self.raw = roomy(a, self.raw, additional)?;
+        Ok(())
+    }
+
+    /// The same as `try_reserve`.
+    ///
+    /// # Errors
+    ///
+    /// As of `try_reserve`.
+    pub fn reserve<C: ChunkSource>(&mut self, a: &mut Allocator<C>, additional: u64) -> Grown<()>
+        requires small { T.SIZE ≤ 2 ^ 24 }
+        requires held { IsVecIn T.Item a.old.memory self.old }
+        ensures grows { let growth = amortised_growth T.SIZE self.old.raw.cap
+            (self.old.raw.len + additional) in
+            Grows T.Item a.old a.new self.old growth (vec_list T.Item a.old.memory self.old) self.new result }
+        ensures enough { OnOk result (self.old.raw.len + additional ≤ self.new.raw.cap) }
+    {
+        self.try_reserve(a, additional)
+    }
+
+    /// Makes room for exactly so many more values, where there is less.
+    ///
+    /// # Errors
+    ///
+    /// As of `try_reserve`.
+    pub fn try_reserve_exact<C: ChunkSource>(
+        &mut self,
+        a: &mut Allocator<C>,
+        additional: u64,
+    ) -> Grown<()>
+        requires small { T.SIZE ≤ 2 ^ 24 }
+        requires held { IsVecIn T.Item a.old.memory self.old }
+        ensures grows { let growth = exact_growth T.SIZE self.old.raw.cap (self.old.raw.len + additional) in
+            Grows T.Item a.old a.new self.old growth (vec_list T.Item a.old.memory self.old) self.new result }
+        ensures enough { OnOk result (self.old.raw.len + additional ≤ self.new.raw.cap) }
+    {
+        self.raw = reserved(a, self.raw, self.raw.len, additional, true)?;
+        Ok(())
+    }
+
+    /// The same as `try_reserve_exact`.
+    ///
+    /// # Errors
+    ///
+    /// As of `try_reserve`.
+    pub fn reserve_exact<C: ChunkSource>(
+        &mut self,
+        a: &mut Allocator<C>,
+        additional: u64,
+    ) -> Grown<()>
+        requires small { T.SIZE ≤ 2 ^ 24 }
+        requires held { IsVecIn T.Item a.old.memory self.old }
+        ensures grows { let growth = exact_growth T.SIZE self.old.raw.cap (self.old.raw.len + additional) in
+            Grows T.Item a.old a.new self.old growth (vec_list T.Item a.old.memory self.old) self.new result }
+        ensures enough { OnOk result (self.old.raw.len + additional ≤ self.new.raw.cap) }
+    {
+        self.try_reserve_exact(a, additional)
+    }
+
+    /// Leaves room for no more values than there are. Where there are none the block is given back.
+    pub fn shrink_to_fit<C: ChunkSource>(&mut self, a: &mut Allocator<C>)
+        requires small { T.SIZE ≤ 2 ^ 24 }
+        requires held { IsVecIn T.Item a.old.memory self.old }
+        ensures shrinks { ShrinksTo T.Item a.old a.new self.old.raw self.old.raw.len self.new.raw }
+        ensures held { IsVecIn T.Item a.new.memory self.new }
+        ensures list { vec_list T.Item a.new.memory self.new ≡ vec_list T.Item a.old.memory self.old }
+    {
+        let len = self.raw.len;
+        self.raw.shrink_to_fit(a, len);
+    }
+}

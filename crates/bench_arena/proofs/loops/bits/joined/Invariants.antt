@@ -1,0 +1,6 @@
+use Rattle.std.proofs.Common.{◌≡◌}
+use Rattle.arena_bits.specs.Sets.{IsSetIn}
+use Rattle.bench_arena.proofs.loops.bits.joined.Given as goal
+
+abbrev pub invariant-loop : goal.invariant-loop
+invariant-loop l = IsSetIn l.a.memory l.set × (l.set ≡ l.fn.set) × IsSetIn l.a.memory l.other

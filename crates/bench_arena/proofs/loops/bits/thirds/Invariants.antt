@@ -1,0 +1,6 @@
+use Rattle.std.proofs.Common.{◌≡◌}
+use Rattle.arena_bits.specs.Sets.{IsSetIn}
+use Rattle.bench_arena.proofs.loops.bits.thirds.Given as goal
+
+abbrev pub invariant-loop-bit : goal.invariant-loop-bit
+invariant-loop-bit l = IsSetIn l.a.memory l.set × (l.set.capacity ≡ l.capacity)

@@ -1,0 +1,175 @@
+// Loops over bit sets.
+ghost use Rattle.std.specs.Prelude.{◌≡◌, ◌<◌, IfOk, IsTrue};
+ghost use Rattle.arena_chunks.specs.Frame.{AreBlocksApart};
+ghost use Rattle.arena_bits.specs.Sets.{IsSetIn};
+
+use super::{BUDGET, Failed, Timed};
+use arena_bits::BitSet;
+use arena_chunks::{Allocator, Block, MemoryChunks};
+use arena_items::laws::frame_law;
+use std::time::Instant;
+
+// The capacity of sets that are joined.
+const JOINED: u64 = 4096;
+
+// Numbers below a limit, in scattered order.
+#[derive(Clone, Copy)]
+struct Scattered {
+    x: u64,
+    limit: u64,
+}
+
+impl Scattered {
+    fn below(limit: u64) -> Scattered
+        ensures { result.limit ≡ limit }
+    {
+        Scattered { x: 1, limit }
+    }
+
+    #[inline]
+    fn next(&mut self) -> u64
+        requires { 0 < self.old.limit }
+        ensures number { result < self.old.limit }
+        ensures limit { self.new.limit ≡ self.old.limit }
+    {
+        let x = self
+            .x
+            .wrapping_mul(6_364_136_223_846_793_005)
+            .wrapping_add(1_442_695_040_888_963_407);
+        self.x = x;
+        ((x as u128 * self.limit as u128) >> 64) as u64
+    }
+}
+
+fn new_allocator(rt: &HostRuntime) -> Allocator<MemoryChunks> {
+    Allocator::new(rt.alloc(), MemoryChunks::new(rt.alloc(), BUDGET))
+}
+
+// A set with every third number.
+fn thirds(a: &mut Allocator<MemoryChunks>, capacity: u64) -> Result<BitSet, Failed>
+    ensures { IfOk result (λ set. IsSetIn a.new.memory set × (set.capacity ≡ capacity)) }
+{
+    let mut set = BitSet::new_in(capacity, a)?;
+    for bit in (0..capacity).step_by(3) {
+        set.set_bit(a, bit);
+    }
+    Ok(set)
+}
+
+// How many numbers a set has.
+fn count(a: &Allocator<MemoryChunks>, set: &BitSet) -> u64
+    requires { IsSetIn a.now.memory set.now }
+{
+    set.ones(a).count() as u64
+}
+
+/// Numbers put into a set, in scattered order.
+pub fn bitset_set(rt: &HostRuntime, calls: u64) -> Result<Timed, Failed> {
+    let mut a = new_allocator(rt);
+    let mut set = BitSet::new_in(calls, &mut a)?;
+    let mut scattered = Scattered::below(calls);
+    let began = Instant::now(rt)?;
+    for _ in 0..calls {
+        set.set_bit(&mut a, scattered.next());
+    }
+    let time = began.elapsed(rt)?;
+    Ok(Timed {
+        time,
+        number: count(&a, &set),
+    })
+}
+
+/// Numbers put into a set, ascending.
+pub fn bitset_set_ascending(rt: &HostRuntime, calls: u64) -> Result<Timed, Failed> {
+    let mut a = new_allocator(rt);
+    let mut set = BitSet::new_in(calls, &mut a)?;
+    let began = Instant::now(rt)?;
+    for bit in 0..calls {
+        set.set_bit(&mut a, bit);
+    }
+    let time = began.elapsed(rt)?;
+    Ok(Timed {
+        time,
+        number: count(&a, &set),
+    })
+}
+
+/// Numbers that are asked for, in scattered order. A third are there.
+pub fn bitset_contains(rt: &HostRuntime, calls: u64) -> Result<Timed, Failed> {
+    let mut a = new_allocator(rt);
+    let set = thirds(&mut a, calls)?;
+    let mut scattered = Scattered::below(calls);
+    let began = Instant::now(rt)?;
+    let mut number: u64 = 0;
+    for _ in 0..calls {
+        number = number.wrapping_add(set.contains(&a, scattered.next()) as u64);
+    }
+    let time = began.elapsed(rt)?;
+    Ok(Timed { time, number })
+}
+
+/// The numbers of a set, added up. A third are there.
+pub fn bitset_ones(rt: &HostRuntime, calls: u64) -> Result<Timed, Failed> {
+    let mut a = new_allocator(rt);
+    let set = thirds(&mut a, calls)?;
+    let began = Instant::now(rt)?;
+    let mut number: u64 = 0;
+    for bit in set.ones(&a) {
+        number = number.wrapping_add(bit);
+    }
+    let time = began.elapsed(rt)?;
+    Ok(Timed { time, number })
+}
+
+// Whether a set may be read.
+fn is_held(a: &Allocator<MemoryChunks>, set: &BitSet) -> bool
+    ensures { IsTrue result → IsSetIn a.now.memory set.now }
+{
+    let count = set.words.len();
+    let block = set.words.block;
+    if !a.is_held_place(block) || block.align != 8 {
+        return false;
+    }
+    block.size % 8 == 0 && block.size / 8 == count && count == set.capacity.div_ceil(64)
+}
+
+// Whether two blocks lie apart, the first behind the other.
+fn are_apart(one: Block, other: Block) -> bool
+    ensures { IsTrue result → AreBlocksApart one other }
+{
+    match other.addr.checked_add(other.size) {
+        Some(end) => end <= one.addr,
+        None => false,
+    }
+}
+
+// Joins a set with another, so many times.
+fn joined(a: &mut Allocator<MemoryChunks>, set: BitSet, other: BitSet, times: u64)
+    requires set { IsSetIn a.old.memory set }
+    requires other { IsSetIn a.old.memory other }
+    requires apart { AreBlocksApart other.words.block set.words.block }
+    ensures { IsSetIn a.new.memory set }
+{
+    frame_law::<BitSet>();
+    let mut set = set;
+    for _ in 0..times {
+        set.union(a, &other);
+    }
+}
+
+/// Bits of sets of 4,096 that are joined.
+pub fn bitset_union(rt: &HostRuntime, calls: u64) -> Result<Timed, Failed> {
+    let mut a = new_allocator(rt);
+    let other = thirds(&mut a, JOINED)?;
+    let set = BitSet::new_in(JOINED, &mut a)?;
+    if !is_held(&a, &other) || !are_apart(other.words.block, set.words.block) {
+        return Err(Failed::NoPlace);
+    }
+    let began = Instant::now(rt)?;
+    joined(&mut a, set, other, calls.div_ceil(JOINED));
+    let time = began.elapsed(rt)?;
+    Ok(Timed {
+        time,
+        number: count(&a, &set),
+    })
+}

@@ -1,0 +1,56 @@
+// An arena that two threads own.
+ghost use Rattle.std.specs.Prelude.{◌≡◌, IfOk, IfErr, IfSome};
+ghost use Rattle.arena_pool.specs.GivingUp.{IsReturned};
+
+use arena_chunks::{Allocator, ChunkSource};
+use arena_pool::{GaveUp, Owner, ShareErr, share};
+use std::alloc::Global;
+use std::thread::{Threads, join};
+
+/// Gives up. The arena, where the other owner gave up before.
+pub fn freed<C: ChunkSource + Drop>(owner: Owner<C>) -> Option<Allocator<C>>
+    ensures { IfSome result (λ a. a ≡ owner.shared) }
+{
+    match owner.give_up() {
+        GaveUp::Stays(_) => None,
+        GaveUp::Freed(arena, _) => Some(arena),
+    }
+}
+
+/// The arena, where the other owner has given up.
+///
+/// # Errors
+///
+/// The other hasn't. The owner comes back.
+pub fn alone<C: ChunkSource + Drop>(owner: Owner<C>) -> Result<Allocator<C>, Owner<C>>
+    ensures arena { IfOk result (λ a. a ≡ owner.shared) }
+    ensures owner { IfErr result (λ o. o.shared ≡ owner.shared) }
+{
+    let mut owner = owner;
+    if owner.is_double_owned() {
+        return Err(owner);
+    }
+    match owner.give_up() {
+        GaveUp::Freed(arena, _) => Ok(arena),
+        // The look found that the other has given up, so the arena doesn't stay with it.
+        GaveUp::Stays(_) => unreachable!(),
+    }
+}
+
+/// Two threads own an arena, and both give up. What each of them freed is the arena, as it was shared.
+///
+/// # Errors
+///
+/// Memory is wanting. The arena comes back.
+pub fn freed_by_two<C: ChunkSource + Drop + Send, R: Threads>(
+    rt: &R,
+    alloc: Global,
+    a: Allocator<C>,
+) -> Result<(Option<Allocator<C>>, Option<Allocator<C>>), ShareErr<C>>
+    ensures first { IfOk result (λ r. IfSome r.0 (λ b. b ≡ a)) }
+    ensures second { IfOk result (λ r. IfSome r.1 (λ b. b ≡ a)) }
+    ensures wanting { IfErr result (IsReturned a) }
+{
+    let (one, other) = share(alloc, a)?;
+    Ok(join(rt, || freed(one), || freed(other)))
+}

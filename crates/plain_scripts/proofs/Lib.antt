@@ -1,0 +1,2 @@
+mod MapLemmas
+mod LoopLemmas

@@ -1,0 +1,132 @@
+-- What a loop does in one turn, to lists, sets and runs.
+use Rattle.std.proofs.Common.{◌≡◌, ℕ, suc, ◌+◌, ◌-◌, ◌*◌, ◌<◌, ◌≤◌, refl, sym, ap, ◌∙◌, arith, Bool, true, false, List, [], ◌∷◌, ◌++◌, length, drop, get_or, drop-cons, add-one, append_assoc}
+use Rattle.std.specs.Prelude.{nat_lt, ◌==◌, if◌then◌else◌}
+use Rattle.std.specs.List.{filter, list_any, range_with_len}
+use Rattle.std.proofs.lemmas.Bool.Decides.{nat_tests}
+use Rattle.std.proofs.lemmas.List.{append-nil}
+use Rattle.placement.specs.Bits.{Set, members}
+use Rattle.placement.specs.PrintedBits.{has_byte, highest, digits, lower, printed}
+use Rattle.script_rules.specs.Objects.{Bits, bind, united}
+use Rattle.script_rules.specs.Machine.{Ran, step, run_from, ran_on}
+use Rattle.script_rules.specs.declared.commands.Command.{Command}
+
+-- the item of a list at an index stands in front of those behind it
+pub drop_at : {X : Type 0} (xs : List X) (i : ℕ) (x : X) → i < length xs → x ≡ get_or xs i x → drop i xs ≡ x ∷ drop (i + 1) xs
+drop_at xs i x low is = rw add-one (drop-cons xs i x low ∙ ap (λ y. y ∷ drop (suc i) xs) (sym is))
+
+-- ---- Numbers in a row
+
+range_first : (from to : ℕ) → from < to → range_with_len from (to - from) ≡ from ∷ range_with_len (from + 1) (to - (from + 1))
+range_first from to h = let e : to - from ≡ suc (to - (from + 1)) = omega arith in ap (range_with_len from) e
+
+range_none : (from to : ℕ) → to ≤ from → range_with_len from (to - from) ≡ []
+range_none from to h = let e : to - from ≡ 0 = omega arith in ap (range_with_len from) e
+
+pub members_with : (set : Set) (from to : ℕ) → from < to → set from ≡ true → members set from to ≡ from ∷ members set (from + 1) to
+unfolding members
+members_with set from to h is_in = ap (filter set) (range_first from to h) ∙ rw is_in refl
+
+pub members_without : (set : Set) (from to : ℕ) → from < to → set from ≡ false → members set from to ≡ members set (from + 1) to
+unfolding members
+members_without set from to h not_in = ap (filter set) (range_first from to h) ∙ rw not_in refl
+
+pub members_none : (set : Set) (from to : ℕ) → to ≤ from → members set from to ≡ []
+unfolding members
+members_none set from to h = ap (filter set) (range_none from to h)
+
+-- whether one of the numbers from this one on passes
+abbrev pub some_from : (ℕ → Bool) → ℕ → ℕ → Bool
+some_from p from to = list_any p (range_with_len from (to - from))
+
+pub some_here : (p : ℕ → Bool) (from to : ℕ) → from < to → p from ≡ true → some_from p from to ≡ true
+some_here p from to h passes = ap (list_any p) (range_first from to h) ∙ rw passes refl
+
+pub some_later : (p : ℕ → Bool) (from to : ℕ) → from < to → p from ≡ false → some_from p from to ≡ some_from p (from + 1) to
+some_later p from to h fails = ap (list_any p) (range_first from to h) ∙ rw fails refl
+
+pub some_none : (p : ℕ → Bool) (from to : ℕ) → to ≤ from → some_from p from to ≡ false
+some_none p from to h = ap (list_any p) (range_none from to h)
+
+-- ---- Unions
+
+pub united_with : (end : ℕ) (bits : Bits) (e : ℕ × Unit {0}) (more : Bits) → e.0 < end
+    → united end bits (e ∷ more) ≡ united end (bind bits e.0 tt) more
+united_with end bits e more h =
+    let t : nat_lt e.0 end ≡ true = grind (arith, nat_tests) in ap (λ b. united end (if b then bind bits e.0 tt else bits) more) t
+
+pub united_without : (end : ℕ) (bits : Bits) (e : ℕ × Unit {0}) (more : Bits) → end ≤ e.0
+    → united end bits (e ∷ more) ≡ united end bits more
+united_without end bits e more h =
+    let t : nat_lt e.0 end ≡ false = grind (arith, nat_tests) in ap (λ b. united end (if b then bind bits e.0 tt else bits) more) t
+
+-- ---- Printed forms
+
+pub highest_here : (set : Set) (k n : ℕ) → n ≡ k + 1 → has_byte set k ≡ true → highest set n ≡ k
+unfolding highest
+highest_here set k n e has = ap (highest set) (e ∙ add-one k) ∙ rw has refl
+
+pub highest_below : (set : Set) (k n : ℕ) → n ≡ k + 1 → has_byte set k ≡ false → highest set n ≡ highest set k
+unfolding highest
+highest_below set k n e has = ap (highest set) (e ∙ add-one k) ∙ rw has refl
+
+pub highest_none : (set : Set) (n : ℕ) → n ≤ 0 → highest set n ≡ 0
+unfolding highest
+highest_none set n h = let e : n ≡ 0 = omega arith in ap (highest set) e
+
+pub digits_more : (text : List ℕ) (set : Set) (from k n : ℕ) → n ≡ k + 1
+    → (text ++ (if set (from + k) then 49 else 48) ∷ []) ++ digits set from k ≡ text ++ digits set from n
+unfolding digits
+digits_more text set from k n e =
+    append_assoc text ((if set (from + k) then 49 else 48) ∷ []) (digits set from k)
+    ∙ ap (λ m. text ++ digits set from m) (sym (e ∙ add-one k))
+
+pub digits_none : (text : List ℕ) (set : Set) (from n : ℕ) → n ≤ 0 → text ++ digits set from n ≡ text
+unfolding digits
+digits_none text set from n h = let e : n ≡ 0 = omega arith in ap (λ m. text ++ digits set from m) e ∙ append-nil text
+
+pub lower_more : (text : List ℕ) (set : Set) (k n : ℕ) → n ≡ k + 1
+    → ((text ++ 95 ∷ []) ++ digits set (8 * k) 8) ++ lower set k ≡ text ++ lower set n
+unfolding lower
+lower_more text set k n e =
+    append_assoc (text ++ 95 ∷ []) (digits set (8 * k) 8) (lower set k)
+    ∙ append_assoc text (95 ∷ []) (digits set (8 * k) 8 ++ lower set k)
+    ∙ ap (λ m. text ++ lower set m) (sym (e ∙ add-one k))
+
+pub lower_none : (text : List ℕ) (set : Set) (n : ℕ) → n ≤ 0 → text ++ lower set n ≡ text
+unfolding lower
+lower_none text set n h = let e : n ≡ 0 = omega arith in ap (λ m. text ++ lower set m) e ∙ append-nil text
+
+pub printed_none : (words : ℕ) (set : Set) → words ≤ 0 → printed words set ≡ []
+unfolding printed
+printed_none words set h = let t : (words == 0) ≡ true = grind (arith, nat_tests) in rw t refl
+
+pub printed_some : (words top : ℕ) (set : Set) → 0 < words → top ≡ highest set (8 * words)
+    → printed words set ≡ digits set (8 * top) 8 ++ lower set top
+unfolding printed
+printed_some words top set h e =
+    let t : (words == 0) ≡ false = grind (arith, nat_tests) in
+    rw t (ap (λ n. digits set (8 * n) 8 ++ lower set n) (sym e))
+
+-- ---- Runs
+
+pub run_more : (ran : Ran) (c : Command) (rest : List Command) → ran_on ran (c ∷ rest)
+    ≡ ran_on (record {
+      replies = ran.replies ++ (step c ran.objects).reply ∷ [];
+      costs = ran.costs ++
+          (step c ran.objects).cost ∷ [];
+      objects = (step c ran.objects).objects;
+    }) rest
+unfolding run_from
+run_more ran c rest =
+    let a = step c ran.objects in
+    let more = run_from a.objects rest in
+    ap (λ rs. record { replies = rs; costs = ran.costs ++ a.cost ∷ more.costs; objects = more.objects })
+    (sym (append_assoc ran.replies (a.reply ∷ []) more.replies))
+    ∙ ap (λ ns. record { replies = (ran.replies ++ a.reply ∷ []) ++ more.replies; costs = ns; objects = more.objects })
+    (sym (append_assoc ran.costs (a.cost ∷ []) more.costs))
+
+pub run_none : (ran : Ran) → ran_on ran [] ≡ ran
+unfolding run_from
+run_none ran =
+    ap (λ rs. record { replies = rs; costs = ran.costs ++ []; objects = ran.objects }) (append-nil ran.replies)
+    ∙ ap (λ ns. record { replies = ran.replies; costs = ns; objects = ran.objects }) (append-nil ran.costs)

@@ -1,0 +1,89 @@
+// Copies of lists, with a change.
+ghost use Rattle.std.specs.Prelude.{◌≡◌, ◌<◌, ◌≤◌, ◌∷◌, [], ◌++◌, IfOk, length, take, set};
+ghost use Rattle.std.specs.List.{insert, remove};
+
+use placement::OutOfMemory;
+use std::alloc::Global;
+
+// The same items.
+pub(crate) fn copied<T: Copy>(alloc: Global, old: &[T]) -> Result<Vec<T>, OutOfMemory>
+    ensures { IfOk result (λ all. all.items ≡ old.now) }
+{
+    match Vec::from_slice(alloc, old) {
+        Ok(all) => Ok(all),
+        Err(_) => Err(OutOfMemory),
+    }
+}
+
+// The items and one more.
+pub(crate) fn pushed(alloc: Global, old: &[u32], value: u32) -> Result<Vec<u32>, OutOfMemory>
+    ensures { IfOk result (λ all. all.items ≡ old.now ++ value ∷ []) }
+{
+    let mut all = copied(alloc, old)?;
+    match all.push(value) {
+        Ok(()) => Ok(all),
+        Err(_) => Err(OutOfMemory),
+    }
+}
+
+// The items with one more at a place.
+pub(crate) fn inserted(
+    alloc: Global,
+    old: &[u32],
+    at: usize,
+    value: u32,
+) -> Result<Vec<u32>, OutOfMemory>
+    requires { at ≤ length old.now }
+    ensures { IfOk result (λ all. all.items ≡ insert old.now at value) }
+{
+    let mut all = copied(alloc, old)?;
+    match all.insert(at, value) {
+        Ok(()) => Ok(all),
+        Err(_) => Err(OutOfMemory),
+    }
+}
+
+// The items without the one at a place.
+pub(crate) fn removed(alloc: Global, old: &[u32], at: usize) -> Result<Vec<u32>, OutOfMemory>
+    requires { at < length old.now }
+    ensures { IfOk result (λ all. all.items ≡ remove old.now at) }
+{
+    let mut all = copied(alloc, old)?;
+    all.remove(at);
+    Ok(all)
+}
+
+// The items with another one at a place.
+pub(crate) fn replaced(
+    alloc: Global,
+    old: &[u32],
+    at: usize,
+    value: u32,
+) -> Result<Vec<u32>, OutOfMemory>
+    requires { at < length old.now }
+    ensures { IfOk result (λ all. all.items ≡ set old.now at value) }
+{
+    let mut all = copied(alloc, old)?;
+    all[at] = value;
+    Ok(all)
+}
+
+// The first items, so many or all.
+pub(crate) fn first(alloc: Global, old: &[u32], len: usize) -> Result<Vec<u32>, OutOfMemory>
+    ensures { IfOk result (λ all. all.items ≡ take len old.now) }
+{
+    let mut all = copied(alloc, old)?;
+    all.truncate(len);
+    Ok(all)
+}
+
+// Bytes behind bytes.
+pub(crate) fn joined(alloc: Global, front: &[u8], back: &[u8]) -> Result<Vec<u8>, OutOfMemory>
+    ensures { IfOk result (λ all. all.items ≡ front.now ++ back.now) }
+{
+    let mut all = copied(alloc, front)?;
+    match all.extend_from_slice(back) {
+        Ok(()) => Ok(all),
+        Err(_) => Err(OutOfMemory),
+    }
+}

@@ -1,0 +1,90 @@
+// What names hold.
+ghost use Rattle.std.specs.Prelude.{◌≡◌, [], length, IfOk, OnOk, OnErr};
+ghost use Rattle.std.specs.Option.{option_copied};
+ghost use Rattle.script_rules.specs.Objects.{get, has, bind, unbind};
+
+use placement::OutOfMemory;
+use std::alloc::Global;
+use std::collections::BTreeMap;
+use std::marker::Model;
+
+/// A map from names to values, which contracts see as its entries by rising names.
+#[derive(Drop, Debug)]
+pub(crate) struct Names<V> {
+    pub(crate) values: BTreeMap<u32, V>,
+}
+
+impl<V> Model for Names<V> {
+    ghost use Rattle.std.specs.Ordering.{nat_cmp};
+    ghost use Rattle.std.specs.FinMap as map;
+    ghost use Rattle.std.specs.Coded.{coded_ℕ, coded_list, coded×};
+    ghost use Rattle.script_rules.specs.Objects.{Entries};
+
+    ghost Value = { Entries V };
+
+    ghost coded = { coded_list (coded× coded_ℕ V.code) };
+
+    ghost view = { λ n. map.entries (map.from_entries {R = nat_cmp} n.values.entries) };
+}
+
+impl<V: Drop> Names<V> {
+    pub(crate) fn new(alloc: Global) -> Names<V>
+        ensures { result ≡ [] }
+    {
+        Names {
+            values: BTreeMap::new(alloc),
+        }
+    }
+
+    pub(crate) fn get(&self, name: u32) -> Option<&V>
+        ensures { option_copied result ≡ get self.now name }
+    {
+        self.values.get(&name)
+    }
+
+    /// How many names hold a value.
+    pub(crate) fn len(&self) -> usize
+        ensures { result ≡ length self.now }
+    {
+        self.values.len()
+    }
+
+    /// The name holds this value. Where memory is wanting, it holds what it held.
+    pub(crate) fn insert(&mut self, name: u32, value: V) -> Result<(), OutOfMemory>
+        ensures ok { OnOk result (self.new ≡ bind self.old name value) }
+        ensures err { OnErr result (self.new ≡ self.old) }
+    {
+        match self.values.insert(name, value) {
+            Ok(_) => Ok(()),
+            Err(_) => Err(OutOfMemory),
+        }
+    }
+
+    pub(crate) fn remove(&mut self, name: u32)
+        ensures { self.new ≡ unbind self.old name }
+    {
+        self.values.remove(&name);
+    }
+}
+
+impl<V: Drop + Clone> Names<V> {
+    /// The same names with the same values.
+    pub(crate) fn copied(&self) -> Result<Names<V>, OutOfMemory>
+        requires { (v w : V) → V.is_clone v w → w ≡ v }
+        ensures { IfOk result (λ all. all ≡ self.now) }
+    {
+        match self.values.clone() {
+            Ok(values) => Ok(Names { values }),
+            Err(_) => Err(OutOfMemory),
+        }
+    }
+}
+
+impl Names<()> {
+    /// Whether a bit is in the set.
+    pub(crate) fn has(&self, bit: u32) -> bool
+        ensures { result ≡ has self.now bit }
+    {
+        self.get(bit).is_some()
+    }
+}

@@ -1,0 +1,52 @@
+// Whole runs.
+ghost use Rattle.std.specs.Prelude.{◌≡◌, IfOk};
+ghost use Rattle.script_rules.specs.Machine as machine;
+ghost use Rattle.plain_scripts.specs.Answers.{gives_all};
+
+use crate::machine::PlainScripts;
+use placement::OutOfMemory;
+use script_rules::{Command, Replies, Script};
+use std::alloc::Global;
+
+/// What commands answered and cost, one after another.
+#[derive(Drop, Debug)]
+pub struct PlainRun {
+    /// One reply for each command.
+    pub replies: Replies,
+    /// One cost for each command.
+    pub costs: Vec<u64>,
+}
+
+impl PlainScripts {
+    /// Serves commands one after another.
+    ///
+    /// # Errors
+    ///
+    /// Memory is wanting. The objects are then as after a first part of the commands.
+    pub fn run_from(&mut self, alloc: Global, commands: &[Command]) -> Result<PlainRun, OutOfMemory>
+        ensures { IfOk result (λ run. gives_all self.new run ≡ machine.run_from self.old commands.now) }
+    {
+        let mut replies = Replies::new(alloc);
+        let mut costs = Vec::new(alloc);
+        for command in commands {
+            let answered = self.step(alloc, command)?;
+            replies.push(answered.reply)?;
+            if costs.push(answered.cost).is_err() {
+                return Err(OutOfMemory);
+            }
+        }
+        Ok(PlainRun { replies, costs })
+    }
+
+    /// The whole run of a script, which begins with no objects.
+    ///
+    /// # Errors
+    ///
+    /// Memory is wanting.
+    pub fn run(alloc: Global, script: &Script) -> Result<PlainRun, OutOfMemory>
+        ensures replies { IfOk result (λ run. run.replies ≡ (machine.run script.now).replies) }
+        ensures costs { IfOk result (λ run. run.costs.items ≡ (machine.run script.now).costs) }
+    {
+        PlainScripts::new(alloc).run_from(alloc, script.as_slice())
+    }
+}

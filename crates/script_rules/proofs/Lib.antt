@@ -1,0 +1,10 @@
+pub mod EntryLemmas
+pub mod EffectLemmas
+pub mod LookupLemmas
+pub mod RunLemmas
+mod TextLemmas
+mod ReadingLemmas
+mod OneReadingLemmas
+mod SomeReadingLemmas
+mod StarvedLemmas
+mod Rows

@@ -1,0 +1,96 @@
+-- What is found under names, and which set bits are.
+use Rattle.std.proofs.Common.{◌≡◌, ℕ, refl, sym, ap, ◌∙◌, arith, Bool, true, false, true≢false, cond, not, ◌&&◌, ◌||◌, is_some, IsTrue, Some, None, Option, [], ◌∷◌, nat_cmp}
+use Rattle.std.specs.Prelude.{◌==◌, nat_lt, if◌then◌else◌}
+use Rattle.std.specs.Ordering.{eq_by_cmp}
+use Rattle.std.specs.Cmp.{nat_cmp_total, unsigned_tied}
+use Rattle.std.specs.FinMap.{nat_cmp-IsAntisymmetric}
+use Rattle.std.specs.FinMap.Entries.{find-put, find-where_key, same_entries}
+use Rattle.std.proofs.lemmas.Bool.Decides.{nat_tests}
+use Rattle.placement.specs.Bits.{with_bit, without_bit, joined, below}
+use Rattle.script_rules.specs.Objects.{Entries, get, bind, unbind, are_rising, Bits, has, united}
+use Rattle.script_rules.proofs.EntryLemmas.{to_T}
+
+module _ {X : Type 0} where
+  pub get_bind : (es : Entries X) (k : ℕ) (v : X) (q : ℕ) → get (bind es k v) q ≡ (if q == k then Some v else get es q)
+  get_bind es k v q = find-put nat_cmp nat_cmp_total q k v es ∙ ap (λ b. cond b (Some v) (get es q)) (unsigned_tied q k)
+
+  turned : (b : Bool) (o : Option X) → cond (not b) o None ≡ cond b None o
+  turned true o = refl
+  turned false o = refl
+
+  pub get_unbind : (es : Entries X) (k q : ℕ) → get (unbind es k) q ≡ (if q == k then None else get es q)
+  get_unbind es k q =
+      find-where_key nat_cmp (λ x. not (eq_by_cmp nat_cmp k x)) q
+      (λ x t. ap (λ y. not (eq_by_cmp nat_cmp k y)) (sym (nat_cmp-IsAntisymmetric q x t))) es
+      ∙ turned (eq_by_cmp nat_cmp k q) (get es q)
+      ∙ ap (λ b. cond b None (get es q)) (unsigned_tied k q ∙ other_way k q)
+    where
+      other_way : (x y : ℕ) → (x == y) ≡ (y == x)
+      other_way x y = grind (arith, nat_tests)
+
+  pub same_by_get : (es fs : Entries X) → IsTrue (are_rising es) → IsTrue (are_rising fs) → ((q : ℕ) → get es q ≡ get fs q) → es ≡ fs
+  same_by_get es fs h g same = same_entries nat_cmp nat_cmp_total nat_cmp-IsAntisymmetric es fs (to_T _ h) (to_T _ g) same
+
+-- ---- Bits are a set, and what is done to them is done to it
+
+is_some_if : (b : Bool) (o : Option (Unit {0})) → is_some (if b then Some tt else o) ≡ (is_some o || b)
+is_some_if true None = refl
+is_some_if true (Some u) = refl
+is_some_if false None = refl
+is_some_if false (Some u) = refl
+
+pub has_bind : (bits : Bits) (b q : ℕ) → has (bind bits b tt) q ≡ with_bit (has bits) b q
+has_bind bits b q = ap is_some (get_bind bits b tt q) ∙ is_some_if (q == b) (get bits q)
+
+none_if : (b : Bool) (o : Option (Unit {0})) → is_some (if b then None else o) ≡ (is_some o && not b)
+none_if true None = refl
+none_if true (Some u) = refl
+none_if false None = refl
+none_if false (Some u) = refl
+
+pub has_unbind : (bits : Bits) (b q : ℕ) → has (unbind bits b) q ≡ without_bit (has bits) b q
+has_unbind bits b q = ap is_some (get_unbind bits b q) ∙ none_if (q == b) (get bits q)
+
+-- a bit is in the union through this one of the other bits or not, where this one lies below the end or does not
+one_more : (a l m s : Bool) → (s ≡ true → l ≡ true) → ((a || s) || l && m) ≡ (a || l && (m || s))
+one_more true l m s h = refl
+one_more false true true true h = refl
+one_more false true true false h = refl
+one_more false true false true h = refl
+one_more false true false false h = refl
+one_more false false m true h = absurd (true≢false (sym (h refl)))
+one_more false false m false h = refl
+
+none_more : (a l m s : Bool) → (s ≡ true → l ≡ false) → (a || l && m) ≡ (a || l && (m || s))
+none_more true l m s h = refl
+none_more false true m true h = absurd (true≢false (h refl))
+none_more false true true false h = refl
+none_more false true false false h = refl
+none_more false false m s h = refl
+
+none_at_all : (a l : Bool) → a ≡ (a || l && false)
+none_at_all true l = refl
+none_at_all false true = refl
+none_at_all false false = refl
+
+has_first : (q : ℕ) (e : ℕ × Unit {0}) (more : Bits) → has (e ∷ more) q ≡ (has more q || q == e.0)
+has_first q e more = ap (λ b. is_some (cond b (Some e.1) (get more q))) (unsigned_tied q e.0) ∙ is_some_if (q == e.0) (get more q)
+
+inside : (x y z : ℕ) → nat_lt y z ≡ true → (x == y) ≡ true → nat_lt x z ≡ true
+inside x y z l s = grind (arith, nat_tests)
+
+outside : (x y z : ℕ) → nat_lt y z ≡ false → (x == y) ≡ true → nat_lt x z ≡ false
+outside x y z l s = grind (arith, nat_tests)
+
+pub has_united : (end : ℕ) (bits more : Bits) (q : ℕ) → has (united end bits more) q ≡ joined (has bits) (below end (has more)) q
+has_united end bits [] q = none_at_all (has bits q) (nat_lt q end)
+has_united end bits (e ∷ more) q =
+    has_united end (if nat_lt e.0 end then bind bits e.0 tt else bits) more q
+    ∙ elim (nat_lt e.0 end) as (λ b. nat_lt e.0 end ≡ b
+    → (has (if b then bind bits e.0 tt else bits) q || nat_lt q end && has more q)
+    ≡ (has bits q || nat_lt q end && (has more q || q == e.0))) [
+      | true ↦ λ t. ap (λ b. b || nat_lt q end && has more q) (has_bind bits e.0 q)
+          ∙ one_more (has bits q) (nat_lt q end) (has more q) (q == e.0) (inside q e.0 end t)
+      | false ↦ λ t. none_more (has bits q) (nat_lt q end) (has more q) (q == e.0) (outside q e.0 end t)
+    ] refl
+    ∙ ap (λ b. has bits q || nat_lt q end && b) (sym (has_first q e more))

@@ -1,0 +1,6 @@
+pub mod Objects
+pub mod Effects
+pub mod Machine
+pub mod Grammar
+pub mod Outcomes
+pub mod Starved

@@ -1,0 +1,47 @@
+// What commands and scripts leave, need and cost.
+ghost use Rattle.std.specs.Prelude.{◌≡◌, ℕ, ◌+◌, ◌≤◌, true, List, [], ◌++◌, length, take};
+ghost use Rattle.script_rules.specs.Objects.{Objects, need, AreObjects};
+ghost use Rattle.script_rules.specs.Machine.{step, is_refusal, run, run_from, ran_on, sum, cost_of, cost_of_first};
+ghost use Rattle.script_rules.specs.declared.commands.Command.{Command};
+
+/// A command leaves objects that are well formed, and they need no more than those before and what it costs.
+/// A refused command leaves them as they are, and costs nothing.
+pub fn steps()
+    ensures keeps { (c : Command) (objects : Objects) → AreObjects objects
+        → AreObjects (step c objects).objects }
+    ensures need { (c : Command) (objects : Objects) → AreObjects objects
+        → need (step c objects).objects ≤ need objects + (step c objects).cost }
+    ensures refused_objects { (c : Command) (objects : Objects) → AreObjects objects
+        → is_refusal (step c objects).reply ≡ true → (step c objects).objects ≡ objects }
+    ensures refused_cost { (c : Command) (objects : Objects) → AreObjects objects
+        → is_refusal (step c objects).reply ≡ true → (step c objects).cost ≡ 0 }
+{}
+
+/// A run ends with objects that are well formed, and they need no more than those before and what all
+/// commands cost. There is a reply and a cost for each command. A script begins with no objects, so its last
+/// ones need no more than it costs.
+pub fn runs()
+    ensures keeps { (objects : Objects) (script : List Command) → AreObjects objects
+        → AreObjects (run_from objects script).objects }
+    ensures need { (objects : Objects) (script : List Command) → AreObjects objects
+        → need (run_from objects script).objects ≤ need objects + sum (run_from objects script).costs }
+    ensures replies { (objects : Objects) (script : List Command)
+        → length (run_from objects script).replies ≡ length script }
+    ensures costs { (objects : Objects) (script : List Command)
+        → length (run_from objects script).costs ≡ length script }
+    ensures first { AreObjects [] }
+    ensures script_need { (script : List Command) → need (run script).objects ≤ cost_of script }
+{}
+
+/// A run goes on: more commands are run on what those before them left. So the first commands of a script
+/// have its first replies, and cost what they cost in it, which is the more the more there are of them.
+pub fn prefixes()
+    ensures goes_on { (objects : Objects) (a b : List Command)
+        → run_from objects (a ++ b) ≡ ran_on (run_from objects a) b }
+    ensures replies { (i : ℕ) (script : List Command)
+        → (run (take i script)).replies ≡ take i (run script).replies }
+    ensures cost { (i : ℕ) (script : List Command) → cost_of (take i script) ≡ cost_of_first i script }
+    ensures rises { (i j : ℕ) (script : List Command) → i ≤ j
+        → cost_of_first i script ≤ cost_of_first j script }
+    ensures within { (i : ℕ) (script : List Command) → cost_of_first i script ≤ cost_of script }
+{}

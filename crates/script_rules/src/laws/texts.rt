@@ -1,0 +1,34 @@
+// Laws of the texts of scripts and outcomes.
+ghost use Rattle.std.specs.Prelude.{◌≡◌, ℕ, List, map, Result};
+ghost use Rattle.std.specs.List.{AllByRecursion};
+ghost use Rattle.script_rules.specs.Objects.{Objects, AreObjects};
+ghost use Rattle.script_rules.specs.Machine.{run_from};
+ghost use Rattle.script_rules.specs.Grammar.{ScriptsOf};
+ghost use Rattle.script_rules.specs.Outcomes.{HasBytes, HaveBytes, told, text_of_outcomes};
+ghost use Rattle.script_rules.specs.declared.commands.Command.{Command};
+ghost use Rattle.script_rules.specs.declared.outcome.Outcome.{Outcome};
+
+/// No two lists of outcomes have the same text but where they differ in the bytes used alone, which aren't
+/// printed. Bytes are from 0 to 255, and printed forms have neither line feed nor dash. Numbers have no
+/// bound.
+pub fn one_text()
+    ensures { (a b : List Outcome) → AllByRecursion HaveBytes a → AllByRecursion HaveBytes b
+        → text_of_outcomes a ≡ text_of_outcomes b → map told a ≡ map told b }
+{}
+
+/// The replies of a run are such as have one text.
+pub fn run_bytes()
+    ensures { (objects : Objects) (script : List Command) → AreObjects objects
+        → AllByRecursion HasBytes (run_from objects script).replies }
+{}
+
+/// Bytes have at most one reading: a list of scripts, or the number of the first line that is refused.
+pub fn one_reading()
+    ensures { (bytes : List ℕ) (r s : Result (List (List Command)) ℕ)
+        → ScriptsOf bytes r → ScriptsOf bytes s → r ≡ s }
+{}
+
+/// All bytes have a reading, and by `one_reading` exactly one.
+pub fn some_reading()
+    ensures { (bytes : List ℕ) → (r : Result (List (List Command)) ℕ) × ScriptsOf bytes r }
+{}

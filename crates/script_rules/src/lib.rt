@@ -1,0 +1,17 @@
+//! The rules of scripts: plain objects under names, and the machine that serves commands on them.
+//!
+//! The definitions lie in `specs/`: contracts in the crates above cite them. The code here is the
+//! plain types that they speak of, and the laws that show what the definitions mean. `CALLING.md` says which
+//! to cite.
+#![tactic(auto)]
+
+mod commands;
+pub mod laws;
+mod numbers;
+mod outcome;
+mod script;
+
+pub use commands::{Command, Ended, ScriptReply};
+pub use numbers::Numbers;
+pub use outcome::{Outcome, Replies};
+pub use script::Script;

@@ -1,0 +1,83 @@
+// What running a script gives.
+ghost use Rattle.std.specs.Prelude.{◌≡◌, [], ◌∷◌, ◌++◌, length, OnOk, OnErr};
+
+use crate::commands::{Ended, ScriptReply};
+use placement::OutOfMemory;
+use std::alloc::Global;
+use std::marker::Model;
+
+/// Replies, which contracts see as their list.
+#[derive(Drop, Debug)]
+pub struct Replies {
+    items: Vec<ScriptReply>,
+}
+
+impl Model for Replies {
+    ghost use Rattle.std.specs.Prelude.{List};
+    ghost use Rattle.script_rules.specs.declared.commands.ScriptReply.{ScriptReply};
+
+    ghost Value = { List ScriptReply };
+
+    ghost view = { λ r. r.items.items };
+}
+
+impl Replies {
+    /// No replies. Takes no memory.
+    pub fn new(alloc: Global) -> Replies
+        ensures { result ≡ [] }
+    {
+        Replies {
+            items: Vec::new(alloc),
+        }
+    }
+
+    /// Adds a reply at the end. Where memory is wanting the replies stay as they are.
+    pub fn push(&mut self, reply: ScriptReply) -> Result<(), OutOfMemory>
+        ensures ok { OnOk result (self.new ≡ self.old ++ reply ∷ []) }
+        ensures err { OnErr result (self.new ≡ self.old) }
+    {
+        match self.items.push(reply) {
+            Ok(()) => Ok(()),
+            Err(_) => Err(OutOfMemory),
+        }
+    }
+
+    /// The replies of a vector, which takes no memory.
+    pub fn from_vec(items: Vec<ScriptReply>) -> Replies
+        ensures { result ≡ items.items }
+    {
+        Replies { items }
+    }
+
+    /// The vector of the replies, which takes no memory.
+    pub fn into_vec(self) -> Vec<ScriptReply>
+        ensures { result.items ≡ self }
+    {
+        self.items
+    }
+
+    /// The replies as a slice.
+    pub fn as_slice(&self) -> &[ScriptReply]
+        ensures { result.now ≡ self.now }
+    {
+        self.items.as_slice()
+    }
+
+    /// How many replies there are.
+    pub fn len(&self) -> u64
+        ensures { result ≡ length self.now }
+    {
+        self.items.len() as u64
+    }
+}
+
+/// What a script answered on an arena, how it ended, and how many bytes the arena then used.
+#[derive(Drop, Debug)]
+pub struct Outcome {
+    /// One reply for each command that was served, in order.
+    pub replies: Replies,
+    /// Why there are no more.
+    pub ended: Ended,
+    /// The bytes of the arena in use at the end.
+    pub used: u64,
+}
