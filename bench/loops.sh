@@ -10,7 +10,7 @@ program=$here/../crates/bench_arena/out/bench_arena
 
 for name; do
     "$program" "$name"
-    if [ -n "${BASELINE:-}" ] && [ "$name" != read_older ]; then
+    if [ -n "${BASELINE:-}" ] && [ "$name" != read_older ] && [ "$name" != map_walked ]; then
         # shellcheck disable=SC2086
         $BASELINE "$name" | sed 's/total.*ops/ops/; s/  (.*//; s/^/baseline /'
     fi

@@ -1,6 +1,6 @@
 -- Answers of calls that place a block.
 use Rattle.std.proofs.Common.{ℕ, Result, Ok, Err}
-use Rattle.std.specs.Prelude.{OnErr}
+use Rattle.std.specs.Prelude.{OnOk, OnErr}
 use Rattle.arena_chunks.specs.Answers.{Answer, answer_of, OnCounted}
 use Rattle.arena_chunks.specs.declared.block.ArenaErr.{ArenaErr}
 use Rattle.arena_chunks.specs.declared.block.ArenaErr.TheVariants.{AllocErr, OutOfMemory}
@@ -19,3 +19,8 @@ on_err (Err e) holds = holds
 pub on_err_less : {X E P Q : Type 0} → (r : Result X E) → (P → Q) → OnErr r P → OnErr r Q
 on_err_less (Ok x) less holds = tt
 on_err_less (Err e) less holds = less holds
+
+-- What holds where there is a value may be less.
+pub on_ok_less : {X E P Q : Type 0} → (r : Result X E) → (P → Q) → OnOk r P → OnOk r Q
+on_ok_less (Ok x) less holds = less holds
+on_ok_less (Err e) less holds = tt

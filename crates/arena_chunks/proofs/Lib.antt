@@ -24,4 +24,5 @@ mod WalkLemmas
 mod ShiftLemmas
 mod LayerLemmas
 mod UsedByCallLemmas
+mod NameLemmas
 pub mod Layers

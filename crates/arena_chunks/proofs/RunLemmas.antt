@@ -2,10 +2,11 @@
 use Rattle.std.proofs.Common.{◌≡◌, ℕ, ◌+◌, ◌<◌, ◌≤◌, ap, refl, sym, ◌∙◌, arith, List, [], ◌∷◌, ◌++◌, Bool, true, false, IsTrue, Option, Some, None, length, take, sum, append_assoc, append-nil}
 use Rattle.std.specs.Prelude.{◌||◌, slice_get}
 use Rattle.std.specs.Option.{option_map}
-use Rattle.std.specs.List.{list_any}
+use Rattle.std.specs.List.{list_any, flat_map}
 use Rattle.std.specs.FinMap as finite
 use Rattle.std.proofs.lemmas.Grind.{common_steps}
-use Rattle.std.proofs.lemmas.List.{map-append}
+use Rattle.std.proofs.lemmas.List.{map-append, map-id}
+use Rattle.std.proofs.lemmas.List.Concat.{flat_map_single}
 use Rattle.std.proofs.lemmas.List.Folds.{list_any-append}
 use Rattle.std.proofs.lemmas.Option.{same_Some, none-some, option_and_then_some}
 use Rattle.placement.specs.State.{IsValid}
@@ -133,13 +134,21 @@ running_over entry now names calls replies blocks running held = record {
 -- Where the next call, or what is made of the replies, finds no memory: before the first call, at one that takes memory, or after the last.
 pub running_stopped : (entry now : View) (names : Held) (calls : List Call) (done : ℕ) (replies : List Reply) → done ≤ length calls
     → (running : IsRunning entry now names (take done calls) replies)
-    → ((call : Call) → 0 < done → slice_get calls done ≡ Some call → IsTrue (takes_memory call (machine_of now.memory names running.bytes))) → RunsFirst entry now calls done
-running_stopped entry now names calls done replies within running stops = record {
-  within = within;
-  replies = replies;
-  last = machine_of now.memory names running.bytes;
-  ran = running.ran;
-  stands = stands entry now names (take done calls) replies running;
-  leaves = leaves entry now names (take done calls) replies running;
-  stops = stops;
-}
+    → ((call : Call) → 0 < done → slice_get calls done ≡ Some call → IsTrue (takes_memory call (machine_of now.memory names running.bytes)))
+    → (first : RunsFirst entry now calls done) × (first.replies ≡ replies)
+running_stopped entry now names calls done replies within running stops = (
+  record {
+    within = within;
+    replies = replies;
+    last = machine_of now.memory names running.bytes;
+    ran = running.ran;
+    stands = stands entry now names (take done calls) replies running;
+    leaves = leaves entry now names (take done calls) replies running;
+    stops = stops;
+  },
+  refl,
+)
+
+-- Replies that went into an empty list are that list.
+pub listed : (replies items none : List Reply) → none ≡ [] → items ≡ none ++ flat_map (λ (reply : Reply). reply ∷ []) replies → replies ≡ items
+listed replies items none empty shown = sym (shown ∙ ap (λ xs. xs ++ flat_map (λ (reply : Reply). reply ∷ []) replies) empty ∙ flat_map_single (λ (reply : Reply). reply) replies ∙ map-id replies)

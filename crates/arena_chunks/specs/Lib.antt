@@ -6,6 +6,7 @@ pub mod BlockCalls
 pub mod Adding
 pub mod Resizes
 pub mod Runs
+pub mod Replies
 pub mod Stored
 pub mod PlaceCode
 pub mod Serving

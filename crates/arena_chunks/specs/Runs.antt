@@ -75,3 +75,7 @@ pub record RunsFirst (entry exit : View) (calls : List Call) (done : ℕ) : Type
 
 abbrev pub Stops : View → View → List Call → Stopped → Type 0
 Stops entry exit calls (OutOfMemory done) = RunsFirst entry exit calls done
+
+-- the same, and a fact of the replies of the calls that were run
+abbrev pub StopsWith : View → View → List Call → (List Reply → Type 0) → Stopped → Type 0
+StopsWith entry exit calls P (OutOfMemory done) = (first : RunsFirst entry exit calls done) × P first.replies

@@ -202,6 +202,7 @@ impl<C: ChunkSource> Allocator<C> {
     }
 
     /// Changes a range of a block's bytes in their place, as the arena's `write_with` does.
+    #[inline(always)]
     pub fn write_with<E: Edit>(&mut self, block: Block, at: u64, size: u64, e: &E)
         requires readable { IsTrue (is_readable self.old.memory.state block) }
         requires range { at + size ≤ block.size }

@@ -17,4 +17,4 @@ pub use arena::{Arena, ChunkIter, ChunkRawIter, RawErr};
 pub use block::{ArenaErr, Block};
 pub use chunks::{ChunkSource, Edit, MemoryChunks, RefusingChunks};
 pub use placement::{Bytes, Call, OutOfMemory, Reply};
-pub use runs::{Ran, Stopped, run_calls};
+pub use runs::{Ran, Replies, Stopped, run_calls, run_calls_into};

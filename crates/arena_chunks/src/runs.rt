@@ -1,6 +1,8 @@
 // Runs of calls by name.
 mod names;
+mod replies;
 mod run;
 mod serve;
 
-pub use run::{Ran, Stopped, run_calls};
+pub use replies::Replies;
+pub use run::{Ran, Stopped, run_calls, run_calls_into};

@@ -24,7 +24,8 @@ use Rattle.arena_hash.specs.Contents.{Kind}
 use Rattle.arena_hash.specs.Policy.{most_pairs, table_align, slot_size, limit, credit, next_slots, growth_for, IsSlotsFor}
 use Rattle.arena_hash.specs.Tables.{IsRing}
 use Rattle.arena_hash.specs.declared.map.HashMap.{HashMap}
-use Rattle.arena_hash.proofs.PolicyLemmas.{unit-covers, table-fits, slots-ring, next-ring, capacity-bytes, growth-bytes, credit-rises, credit-falls}
+use Rattle.arena_hash.proofs.PolicyLemmas.{unit-covers, table-fits, slots-ring, next-ring, capacity-bytes, growth-bytes, credit-rises}
+use Rattle.arena_hash.proofs.PolicyLemmas.{credit-falls}
 
 -- ---- Layouts
 
@@ -42,8 +43,14 @@ table-layout k v ka va slots keys values small small' few =
     let bounds = IsAlign-bounds (table_align ka va) align in
     let near = up-is (slots * slot_size k v) (table_align ka va) align in
     let size = table-fits k v slots small small' few in
-    let plain = row_is_layout 0 0 (table_align ka va) (record { is_align = align; whole = zero-mod (table_align ka va); bounded = omega arith }) (omega arith) (omega arith) in
-    let fits : nat_le (up (slots * slot_size k v) (table_align ka va)) (2 ^ 63 - 1) ≡ true = grind (arith, nat_tests, near.below, bounds.1, size) in
+    let plain = row_is_layout 0 0 (table_align ka va) (record {
+      is_align = align;
+      whole = zero-mod (table_align ka va);
+      bounded = omega
+          arith;
+    }) (omega arith) (omega arith) in
+    let fits : nat_le (up (slots * slot_size k v) (table_align ka va)) (2 ^ 63 - 1) ≡ true = grind
+    (arith, nat_tests, near.below, bounds.1, size) in
     rw ((and_parts (is_power (table_align ka va)) _ plain).0, fits) refl
 
 -- ---- Answers
@@ -70,7 +77,8 @@ pub same-used : (old new : View) → SamePlaces old new → used new ≡ used ol
 same-used old new same = ap (λ s. used_bytes s) same.state
 
 -- A block that was placed brings at most its size and its padding into use.
-pub placed-used : (old between new : View) (size align : ℕ) (b : Block) → IsTrue (is_layout size align) → PlacesBlock old between size align (Placed b)
+pub placed-used : (old between new : View) (size align : ℕ) (b : Block) → IsTrue (is_layout size align)
+    → PlacesBlock old between size align (Placed b)
     → SamePlaces between new → used new ≤ used old + size + (max align 16 - 1)
 placed-used old between new size align b layout places same =
     let least = places.1.valid.entry.min_align in
@@ -78,12 +86,14 @@ placed-used old between new size align b layout places same =
     omega (arith, placed_most old between size align b layout places, same-used between new same, low)
 
 -- What `insert` does to the numbers of its map, by its growth.
-pub record MovesNumbers {X K V S : Type 0} (m : HashMap K V S) (is_there : Bool) (w : HashMap K V S) (result : Result X AllocError) : Type 0 where
+pub record MovesNumbers {X K V S : Type 0} (m : HashMap K V S) (is_there : Bool) (w : HashMap K V S) (result : Result X AllocError) : Type
+    0 where
   pub slots : OnOk result (w.table.slots ≡ capacity_after (growth_for is_there m.table.slots m.len) m.table.slots)
   pub len : OnOk result (w.len ≡ (if is_there then m.len else m.len + 1))
   pub err : OnErr result (w ≡ m)
 
-module _ {K V S : Type 0} (k : Kind K V S) (keys : IsItemLayout k.keys.SIZE k.keys.ALIGN) (values : IsItemLayout k.values.SIZE k.values.ALIGN)
+module _ {K V S : Type 0} (k : Kind K V S) (keys : IsItemLayout k.keys.SIZE k.keys.ALIGN)
+    (values : IsItemLayout k.values.SIZE k.values.ALIGN)
     (keys_small : k.keys.SIZE ≤ 2 ^ 24) (values_small : k.values.SIZE ≤ 2 ^ 24) where
   abbrev size : ℕ
   size = slot_size k.keys.SIZE k.values.SIZE
@@ -95,7 +105,8 @@ module _ {K V S : Type 0} (k : Kind K V S) (keys : IsItemLayout k.keys.SIZE k.ke
   covers = unit-covers k.keys.SIZE k.values.SIZE k.keys.ALIGN k.values.ALIGN
 
   -- a call that moved no cursor, on a table that has no more pairs than it had
-  pub free-costs : (old new : View) (m w : HashMap K V S) → SamePlaces old new → w.table.slots ≡ m.table.slots → w.len ≤ m.len → IsFree k old new m w
+  pub free-costs : (old new : View) (m w : HashMap K V S) → SamePlaces old new → w.table.slots ≡ m.table.slots → w.len ≤ m.len
+      → IsFree k old new m w
   free-costs old new m w same slots fewer = record {
     bytes = same-used old new same;
     credit = rw slots (credit-falls (unit_of k) m.table.slots w.len m.len fewer);
@@ -103,11 +114,18 @@ module _ {K V S : Type 0} (k : Kind K V S) (keys : IsItemLayout k.keys.SIZE k.ke
   }
 
   -- A table for so many pairs was asked for, and brought at most so many units into use.
-  pub capacity-costs : {X : Type 0} (old new : View) (block : X → Block) (pairs slots : ℕ) (result : Result X AllocError) → 0 < pairs → pairs < 2 ^ 32
+  pub capacity-costs : {X : Type 0} (old new : View) (block : X → Block) (pairs slots : ℕ) (result : Result X AllocError) → 0 < pairs
+      → pairs < 2 ^ 32
       → IsSlotsFor pairs slots → Took new (λ between. RoomAnswer block result (PlacesBlock old between (slots * size) align))
       → AsksOnce k old new block (unit_of k * pairs) result × OnOk result (used new ≤ used old + unit_of k * pairs)
   capacity-costs {X} old new block pairs slots result some few is took = (
-    record { size = slots * size; bounded = table-fits _ _ slots keys_small values_small ring.2; within = omega (arith, bytes); took = took },
+    record {
+      size = slots * size;
+      bounded = table-fits _ _ slots keys_small values_small ring.2;
+      within = omega (arith, bytes);
+      took =
+          took;
+    },
     brings result took.took,
   )
     where
@@ -124,7 +142,8 @@ module _ {K V S : Type 0} (k : Kind K V S) (keys : IsItemLayout k.keys.SIZE k.ke
           omega (arith, bytes, placed-used old took.between new (slots * size) align (block x) layout places took.places)
       brings (Err e) places = tt
 
-  module _ {X : Type 0} (old new : View) (m w : HashMap K V S) (ring : (m.table.slots ≡ 0) ⊎ IsRing m.table.slots) (within : m.len ≤ limit m.table.slots) where
+  module _ {X : Type 0} (old new : View) (m w : HashMap K V S) (ring : (m.table.slots ≡ 0) ⊎ IsRing m.table.slots)
+      (within : m.len ≤ limit m.table.slots) where
     -- The key is there.
     there-costs : (result : Result X AllocError)
         → MakesRoom size align old new m.table.block 0 (growth_for true m.table.slots m.len) (λ _. w.table.block) result
@@ -151,7 +170,12 @@ module _ {K V S : Type 0} (k : Kind K V S) (keys : IsItemLayout k.keys.SIZE k.ke
         size = next_slots m.table.slots * size;
         bounded = table-fits _ _ (next_slots m.table.slots) keys_small values_small next.2;
         within = omega (arith, bytes);
-        took = record { between = made.between; took = answer-map (λ _. w.table.block) result _ _ (λ x takes. takes.placed refl) made.took; places = made.places };
+        took = record {
+          between = made.between;
+          took = answer-map (λ _. w.table.block) result _ _ (λ x takes. takes.placed refl)
+              made.took;
+          places = made.places;
+        };
       };
       refused = refused result err;
     }
@@ -169,7 +193,8 @@ module _ {K V S : Type 0} (k : Kind K V S) (keys : IsItemLayout k.keys.SIZE k.ke
             → OnOk result (used new + credit_of k w ≤ used old + (2 * unit_of k + credit_of k m))
         grows (Ok x) made slots len =
             let layout = table-layout _ _ _ _ (next_slots m.table.slots) keys values keys_small values_small next.2 in
-            let brings = placed-used old made.between new (next_slots m.table.slots * size) align w.table.block layout (made.took.placed refl) made.places in
+            let brings = placed-used old made.between new (next_slots m.table.slots * size) align w.table.block layout
+            (made.took.placed refl) made.places in
             rw (slots, len) (omega (arith, bytes, brings))
         grows (Err e) made slots len = tt
 
@@ -179,10 +204,13 @@ module _ {K V S : Type 0} (k : Kind K V S) (keys : IsItemLayout k.keys.SIZE k.ke
         refused (Err e) err = (ap spare_of err, ap (credit_of k) err)
 
     -- The key is new, and there is room or not.
-    new-costs : (result : Result X AllocError) (has_room is_full : Bool) → nat_lt m.len (limit m.table.slots) ≡ has_room → (m.len == most_pairs) ≡ is_full
-        → MakesRoom size align old new m.table.block 0 (if has_room then Stays else (if is_full then Overflows else GrowsTo (next_slots m.table.slots)))
+    new-costs : (result : Result X AllocError) (has_room is_full : Bool) → nat_lt m.len (limit m.table.slots) ≡ has_room
+        → (m.len == most_pairs) ≡ is_full
+        → MakesRoom size align old new m.table.block 0 (if has_room then Stays else
+        (if is_full then Overflows else GrowsTo (next_slots m.table.slots)))
         (λ _. w.table.block) result
-        → OnOk result (w.table.slots ≡ capacity_after (if has_room then Stays else (if is_full then Overflows else GrowsTo (next_slots m.table.slots))) m.table.slots)
+        → OnOk result (w.table.slots ≡ capacity_after (if has_room then Stays else
+        (if is_full then Overflows else GrowsTo (next_slots m.table.slots))) m.table.slots)
         → OnOk result (w.len ≡ m.len + 1) → OnErr result (w ≡ m) → InsertCosts k old new m false w result
     new-costs (Ok x) true is_full less full made slots len err =
         let room : m.len < limit m.table.slots = grind (arith, nat_tests, less) in

@@ -12,7 +12,8 @@ use Rattle.arena_hash.specs.Slots.{items, Has}
 use Rattle.arena_hash.specs.Tables.{slots_in, IsTextBeside}
 use Rattle.arena_hash.specs.declared.map.HashMap.{HashMap}
 use Rattle.arena_hash.proofs.Places.{same_item, not_free}
-use Rattle.arena_hash.proofs.Once.{all-items, has-items}
+use Rattle.arena_hash.specs.AgreeLaws.{has-items}
+use Rattle.arena_hash.proofs.Once.{all-items}
 
 -- each lies apart from the others
 pub apart-items : {X : Type 0} (f : X → Block) (others : List Block) (slots : List (Option X))

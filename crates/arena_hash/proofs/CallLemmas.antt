@@ -1,5 +1,6 @@
 -- What calls on one key and on whole maps do, put together.
-use Rattle.std.proofs.Common.{◌≡◌, ℕ, ◌+◌, ◌^◌, ◌<◌, ◌≤◌, inl, inr, List, [], ◌∷◌, set, refl, sym, ap, subst, ◌∙◌, arith, Some, None, Option, Ok, Err, true, false, Bool}
+use Rattle.std.proofs.Common.{◌≡◌, ℕ, ◌+◌, ◌^◌, ◌<◌, ◌≤◌, inl, inr, List, [], ◌∷◌, set, refl, sym, ap, subst, ◌∙◌, arith, Some, None}
+use Rattle.std.proofs.Common.{Option, Ok, Err, true, false, Bool}
 use Rattle.std.proofs.Math.Path.{fun_ext}
 use Rattle.std.proofs.lemmas.Bool.{cases_Bool, cond-true, cond-false}
 use Rattle.std.proofs.lemmas.Bool.Decides.{nat_tests}
@@ -42,7 +43,8 @@ few-placed : {X : Type 0} (size align : ℕ) (old new : View) (block : Block) (l
     → MakesRoom size align old new block 0 (if len == most_pairs then Overflows else GrowsTo more) f (Ok x) → len < most_pairs
 few-placed size align old new block len more f x most made = go (len == most_pairs) refl made
   where
-    go : (is : Bool) → (len == most_pairs) ≡ is → MakesRoom size align old new block 0 (if is then Overflows else GrowsTo more) f (Ok x) → len < most_pairs
+    go : (is : Bool) → (len == most_pairs) ≡ is → MakesRoom size align old new block 0 (if is then Overflows else GrowsTo more) f (Ok x)
+        → len < most_pairs
     go true is made = absurd (let no = made.0 in cc)
     go false is made = grind (arith, nat_tests, is, most)
 
@@ -53,7 +55,8 @@ without-none f q none = fun_ext (λ r. elim (cases_Bool (bytes_eq r q)) [
   | inr t ↦ sym (cond-false (bytes_eq r q) None (f r) t)
 ])
 
-module _ {K V S : Type 0} (k : Kind K V S) (keys : IsItemLayout k.keys.SIZE k.keys.ALIGN) (values : IsItemLayout k.values.SIZE k.values.ALIGN)
+module _ {K V S : Type 0} (k : Kind K V S) (keys : IsItemLayout k.keys.SIZE k.keys.ALIGN)
+    (values : IsItemLayout k.values.SIZE k.values.ALIGN)
     (keys_small : k.keys.SIZE ≤ 2 ^ 24) (values_small : k.values.SIZE ≤ 2 ^ 24) where
   abbrev slots : Memory → HashMap K V S → List (Option (K × V))
   slots memory m = slots_in k.keys k.values memory m.table
@@ -77,9 +80,11 @@ module _ {K V S : Type 0} (k : Kind K V S) (keys : IsItemLayout k.keys.SIZE k.ke
 
     -- has another value then,
     pub puts-there : {X : Type 0} (value : V) (tells : Option V → X → Type 0) (x : X) → IsTableIn k new.memory m.hasher m.table
-        → slots new.memory m ≡ set (slots old.memory m) at (Some (p.0, value)) → tells (Some p.1) x → Puts k old new m key value tells m (Ok x)
+        → slots new.memory m ≡ set (slots old.memory m) at (Some (p.0, value)) → tells (Some p.1) x
+        → Puts k old new m key value tells m (Ok x)
     puts-there {X} value tells x table changed told =
-        let made : MakesRoom {X = X} size align old new m.table.block 0 (growth_for true m.table.slots m.len) (λ _. m.table.block) (Ok x) = (refl, places) in
+        let made : MakesRoom {X = X} size align old new m.table.block 0 (growth_for true m.table.slots m.len) (λ _. m.table.block)
+        (Ok x) = (refl, places) in
         record {
           made = rw is_there made;
           held = change-held k old.memory new.memory m m held frame table at p there value changed refl held.within;
@@ -96,7 +101,8 @@ module _ {K V S : Type 0} (k : Kind K V S) (keys : IsItemLayout k.keys.SIZE k.ke
         }
 
     -- or is gone.
-    pub takes-out : {X : Type 0} (w : HashMap K V S) (tells : Option V → X → Type 0) (x : X) → w.table ≡ m.table → w.hasher ≡ m.hasher → w.len + 1 ≡ m.len
+    pub takes-out : {X : Type 0} (w : HashMap K V S) (tells : Option V → X → Type 0) (x : X) → w.table ≡ m.table → w.hasher ≡ m.hasher
+        → w.len + 1 ≡ m.len
         → IsTableIn k new.memory w.hasher w.table → Closed (slots old.memory m) (slots new.memory w) at → tells (Some p.1) x
         → TakesOut k old new m key tells w x
     takes-out w tells x same_table same_hasher len table closed told =
@@ -129,7 +135,8 @@ module _ {K V S : Type 0} (k : Kind K V S) (keys : IsItemLayout k.keys.SIZE k.ke
     is_new = ap is_some nothing
 
     -- is put,
-    pub puts-new : {X : Type 0} (new : View) (w : HashMap K V S) (value : V) (tells : Option V → X → Type 0) (x : X) (mid : List (Option (K × V)))
+    pub puts-new : {X : Type 0} (new : View) (w : HashMap K V S) (value : V) (tells : Option V → X
+        → Type 0) (x : X) (mid : List (Option (K × V)))
         → IsTextBeside k.key old.memory m.table.block key
         → Frame old.memory new.memory (m.table.block ∷ []) (w.table.block ∷ []) → IsTableIn k new.memory w.hasher w.table
         → Moved (slots old.memory m) mid → Settled mid (slots new.memory w) (key, value)
@@ -160,49 +167,62 @@ module _ {K V S : Type 0} (k : Kind K V S) (keys : IsItemLayout k.keys.SIZE k.ke
         let framed : Frame old.memory new.memory (m.table.block ∷ []) (w.table.block ∷ []) = rw same_table frame in
         let tabled : IsTableIn k new.memory w.hasher w.table = rw (same_table, same_hasher) table in
         let put : Settled (slots old.memory m) (slots new.memory w) (key, value) = rw same_table settled in
-        let made : MakesRoom {X = X} size align old new m.table.block 0 Stays (λ _. w.table.block) (Ok x) = (ap (λ t. t.block) same_table, places) in
+        let made : MakesRoom {X = X} size align old new m.table.block 0 Stays (λ _. w.table.block) (Ok x) =
+        (ap (λ t. t.block) same_table, places) in
         puts-new new w value tells x (slots old.memory m) beside framed tabled (moved-none (slots old.memory m)) put same_hasher len
         (rw (same_table, len) (omega (arith, room)))
-        (subst (λ gr. w.table.slots ≡ capacity_after gr m.table.slots) (sym (growth-room m.table.slots m.len room)) (ap (λ t. t.slots) same_table))
-        (subst (λ gr. MakesRoom {X = X} size align old new m.table.block 0 gr (λ _. w.table.block) (Ok x)) (sym (growth-room m.table.slots m.len room)) made)
+        (subst (λ gr. w.table.slots ≡ capacity_after gr m.table.slots) (sym (growth-room m.table.slots m.len room))
+        (ap (λ t. t.slots) same_table))
+        (subst (λ gr. MakesRoom {X = X} size align old new m.table.block 0 gr (λ _. w.table.block) (Ok x))
+        (sym (growth-room m.table.slots m.len room)) made)
         told
 
     -- and where the next one was placed.
     pub puts-grown : {X : Type 0} (mid new : View) (t : Table K V) (w : HashMap K V S) (value : V) (tells : Option V → X → Type 0) (x : X)
-        → IsTextBeside k.key old.memory m.table.block key → limit m.table.slots ≤ m.len → w.table ≡ t → w.hasher ≡ m.hasher → w.len ≡ m.len + 1
-        → MakesRoom {X = Table K V} size align old mid m.table.block 0 (if m.len == most_pairs then Overflows else GrowsTo (next_slots m.table.slots))
+        → IsTextBeside k.key old.memory m.table.block key → limit m.table.slots ≤ m.len → w.table ≡ t → w.hasher ≡ m.hasher
+        → w.len ≡ m.len + 1
+        → MakesRoom {X = Table K V} size align old mid m.table.block 0
+        (if m.len == most_pairs then Overflows else GrowsTo (next_slots m.table.slots))
         (λ t. t.block) (Ok t)
         → t.slots ≡ next_slots m.table.slots → Moved (slots old.memory m) (slots_in k.keys k.values mid.memory t)
         → Frame old.memory mid.memory [] (t.block ∷ []) → SamePlaces mid new → Frame mid.memory new.memory (t.block ∷ []) (t.block ∷ [])
         → IsTableIn k new.memory m.hasher t
         → Settled (slots_in k.keys k.values mid.memory t) (slots_in k.keys k.values new.memory t) (key, value)
         → tells None x → Puts k old new m key value tells w (Ok x)
-    puts-grown {X} mid new t w value tells x beside full same_table same_hasher len made grows moved placed places frame table settled told =
+    puts-grown {X} mid new t w value tells x beside full same_table same_hasher len made grows moved placed places frame table settled
+        told =
         let framed : Frame old.memory new.memory (m.table.block ∷ []) (w.table.block ∷ []) =
         rw same_table (frame_weaken old.memory new.memory [] (m.table.block ∷ []) (t.block ∷ []) (t.block ∷ []) (λ addr n some apart. tt)
         (λ addr n some apart rest. rest) (frame_then old.memory mid.memory new.memory [] (t.block ∷ []) (t.block ∷ []) placed frame)) in
         let tabled : IsTableIn k new.memory w.hasher w.table = rw (same_table, same_hasher) table in
         let put : Settled (slots_in k.keys k.values mid.memory t) (slots new.memory w) (key, value) = rw same_table settled in
-        let few : m.len < most_pairs = few-placed size align old mid m.table.block m.len (next_slots m.table.slots) (λ t. t.block) t (omega (arith, held.within)) made in
+        let few : m.len < most_pairs = few-placed size align old mid m.table.block m.len (next_slots m.table.slots) (λ t. t.block) t
+        (omega (arith, held.within)) made in
         let grown = growth-full m.table.slots m.len full in
         let growth : Growth = if m.len == most_pairs then Overflows else GrowsTo (next_slots m.table.slots) in
         puts-new new w value tells x (slots_in k.keys k.values mid.memory t) beside framed tabled moved put same_hasher len
         (rw (same_table, len, grows) (next-room m.table.slots m.len held.handle.ring held.within few))
         (subst (λ gr. w.table.slots ≡ capacity_after gr m.table.slots) (sym grown) (rw (same_table, grows) (after few)))
         (subst (λ gr. MakesRoom {X = X} size align old new m.table.block 0 gr (λ _. w.table.block) (Ok x)) (sym grown)
-        (room_then size align old mid new m.table.block 0 growth (λ t. t.block) (λ _. w.table.block) t x (ap (λ t. t.block) same_table) made places))
+        (room_then size align old mid new m.table.block 0 growth (λ t. t.block) (λ _. w.table.block) t x (ap (λ t. t.block) same_table)
+        made places))
         told
       where
-        after : m.len < most_pairs → next_slots m.table.slots ≡ capacity_after (if m.len == most_pairs then Overflows else GrowsTo (next_slots m.table.slots)) m.table.slots
+        after : m.len < most_pairs → next_slots m.table.slots ≡ capacity_after
+            (if m.len == most_pairs then Overflows else GrowsTo (next_slots m.table.slots)) m.table.slots
         after few = let less : (m.len == most_pairs) ≡ false = grind (arith, nat_tests) in rw less refl
 
     -- or refused,
-    pub puts-refused : {X Y : Type 0} (new : View) (value : V) (tells : Option V → X → Type 0) (f : Y → Block) (e : AllocError) → limit m.table.slots ≤ m.len
-        → MakesRoom {X = Y} size align old new m.table.block 0 (if m.len == most_pairs then Overflows else GrowsTo (next_slots m.table.slots)) f (Err e)
+    pub puts-refused : {X Y : Type 0} (new : View) (value : V) (tells : Option V → X → Type 0) (f : Y → Block) (e : AllocError)
+        → limit m.table.slots ≤ m.len
+        → MakesRoom {X = Y} size align old new m.table.block 0 (if m.len == most_pairs then Overflows else GrowsTo
+        (next_slots m.table.slots)) f (Err e)
         → new.memory ≡ old.memory → Puts {X = X} k old new m key value tells m (Err e)
     puts-refused {X} {Y} new value tells f e full made same =
-        let refused : MakesRoom {X = X} size align old new m.table.block 0 (growth_for false m.table.slots m.len) (λ _. m.table.block) (Err e) =
-        subst (λ gr. MakesRoom {X = X} size align old new m.table.block 0 gr (λ _. m.table.block) (Err e)) (sym (growth-full m.table.slots m.len full))
+        let refused : MakesRoom {X = X} size align old new m.table.block 0 (growth_for false m.table.slots m.len) (λ _. m.table.block)
+        (Err e) =
+        subst (λ gr. MakesRoom {X = X} size align old new m.table.block 0 gr (λ _. m.table.block) (Err e))
+        (sym (growth-full m.table.slots m.len full))
         (room_refused size align old new m.table.block 0 _ f (λ _. m.table.block) e made) in
         record {
           made = rw is_new refused;
@@ -211,7 +231,8 @@ module _ {K V S : Type 0} (k : Kind K V S) (keys : IsItemLayout k.keys.SIZE k.ke
           says = tt;
           len = tt;
           err = (refl, same);
-          costs = rw is_new (insert-costs k keys values keys_small values_small old new m m held.handle.ring held.within false (Err e) refused
+          costs = rw is_new (insert-costs k keys values keys_small values_small old new m m held.handle.ring held.within false (Err e)
+              refused
               (record { slots = tt; len = tt; err = refl }));
           hasher = refl;
           frame = rw same (frame_reflexive old.memory (m.table.block ∷ []));

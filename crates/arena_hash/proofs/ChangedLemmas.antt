@@ -30,7 +30,8 @@ module _ {K V S : Type 0} (k : Kind K V S) (old new : Memory) (hasher : S) (t : 
   shape = handle-shape k.keys k.values old t keys_small values_small held.handle some
 
   changes : ChangesValue k.keys k.values t.slots (bytes_of old t.block) (bytes_of new t.block) at value
-  changes = edited-whole old new t.block (λ before after. ChangesValue k.keys k.values t.slots before after at value) (λ xs ys c. c.long) edits
+  changes = edited-whole old new t.block (λ before after. ChangesValue k.keys k.values t.slots before after at value) (λ xs ys c. c.long)
+      edits
 
   -- the slots then
   pub changed-slots : slots_in k.keys k.values new t ≡ set (slots_in k.keys k.values old t) at (Some (x.0, value))
@@ -38,18 +39,21 @@ module _ {K V S : Type 0} (k : Kind K V S) (old new : Memory) (hasher : S) (t : 
 
   table : IsTable k.keys k.values hash t.slots (bytes_of new t.block)
   table =
-      let away = away-of (λ p. home_of t.slots (hash p)) t.slots homes (slots_in k.keys k.values old t) at x held.table.ordered.long there in
+      let away = away-of (λ p. home_of t.slots (hash p)) t.slots homes (slots_in k.keys k.values old t) at x held.table.ordered.long
+      there in
       table-put k.keys k.values hash t.slots some (bytes_of old t.block) (bytes_of new t.block) shape held.table at (x.0, value) away.0
       (slice_index (bytes_of old t.block) at) (slot-within-long k.keys k.values t.slots (bytes_of old t.block) shape at x there) away.1.less
       away.1.place (held.table.marks at away.0 x away.1) (changes.sets x there)
-      (ordered-swap (λ p. home_of t.slots (hash p)) t.slots homes (slots_in k.keys k.values old t) at x (x.0, value) there refl held.table.ordered)
+      (ordered-swap (λ p. home_of t.slots (hash p)) t.slots homes (slots_in k.keys k.values old t) at x (x.0, value) there refl
+      held.table.ordered)
 
   -- and the table
   pub changed-table : IsTableIn k new hasher t
   changed-table = in-edited k old new hasher t held edits.writes.frame edits.writes.state table knows
     where
       knows : (y : K × V) → Has (slots_in k.keys k.values new t) y → IsTextBeside k.key old t.block y.0
-      knows y h = elim (put-cases (slots_in k.keys k.values old t) at h.0 (Some x) (x.0, value) y there (ap (λ s. slice_get s h.0) (sym changed-slots) ∙ h.1)) [
-        | inl e ↦ subst (λ q. IsTextBeside k.key old t.block q.0) (sym e.1) (held.texts x (at, there))
-        | inr e ↦ held.texts y (h.0, e.1)
-      ]
+      knows y h = elim (put-cases (slots_in k.keys k.values old t) at h.0 (Some x) (x.0, value) y there
+          (ap (λ s. slice_get s h.0) (sym changed-slots) ∙ h.1)) [
+            | inl e ↦ subst (λ q. IsTextBeside k.key old t.block q.0) (sym e.1) (held.texts x (at, there))
+            | inr e ↦ held.texts y (h.0, e.1)
+          ]

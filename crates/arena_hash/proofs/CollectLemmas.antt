@@ -13,7 +13,8 @@ use Rattle.arena_hash.specs.Maps.{IsMapIn}
 use Rattle.arena_hash.specs.declared.map.HashMap.{HashMap}
 
 -- one pair more
-PutsAll-push : {K V S : Type 0} (k : Kind K V S) (old mid new : View) (m u w : HashMap K V S) (ps : List (K × V)) (p : K × V) (before : Option V)
+PutsAll-push : {K V S : Type 0} (k : Kind K V S) (old mid new : View) (m u w : HashMap K V S) (ps : List (K × V)) (p : K × V)
+    (before : Option V)
     → PutsAll k old m ps mid u → Puts k mid new u p.0 p.1 is_value w (Ok before) → PutsAll k old m (ps ++ p ∷ []) new w
 PutsAll-push k old mid new m u w [] p before run put = (
   new,
@@ -63,7 +64,8 @@ module _ {K V S I : Type 0} (k : Kind K V S) (steps : I → Option (K × V) → 
     }
 
     -- no room for one more
-    pub collecting-refused : (e : AllocError) → Puts {X = Option V} k mid new u p.0 p.1 is_value w (Err e) → CollectsSome k steps iter old new e
+    pub collecting-refused : (e : AllocError) → Puts {X = Option V} k mid new u p.0 p.1 is_value w (Err e)
+        → CollectsSome k steps iter old new e
     collecting-refused e put = record {
       pairs = c.pairs;
       now = now;

@@ -18,11 +18,13 @@ pub record FarTo {X : Type 0} (home : X → ℕ) (n start : ℕ) (slots : List (
   pub place : at ≡ spot n start far
   pub reached : IsReached home n start slots far
 
-module _ {X : Type 0} (hash : X → ℕ) (n : ℕ) (some : 0 < n) (slots : List (Option X)) (mark : ℕ → ℕ) (are : AreMarked hash n some slots mark) (h : ℕ) where
+module _ {X : Type 0} (hash : X → ℕ) (n : ℕ) (some : 0 < n) (slots : List (Option X)) (mark : ℕ → ℕ)
+    (are : AreMarked hash n some slots mark) (h : ℕ) where
   homes : (x : X) → home_of n (hash x) < n
   homes x = mod-lt (hash x) some
 
-  pub far-start : (at : ℕ) → IsPowerOfTwo n → n ≤ 2 ^ 64 → IsPassed (λ x. home_of n (hash x)) n slots (home_of n h) 14 → at ≡ (h + 14) % 2 ^ 64 % n → FarTo (λ x. home_of n (hash x)) n (home_of n h) slots 14 at
+  pub far-start : (at : ℕ) → IsPowerOfTwo n → n ≤ 2 ^ 64 → IsPassed (λ x. home_of n (hash x)) n slots (home_of n h) 14
+      → at ≡ (h + 14) % 2 ^ 64 % n → FarTo (λ x. home_of n (hash x)) n (home_of n h) slots 14 at
   far-start at power fits passed is =
       let b = passed.behind 13 (omega arith) in
       let most : 14 ≤ n = omega (arith, b.far, b.away.less) in

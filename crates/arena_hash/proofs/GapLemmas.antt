@@ -1,5 +1,6 @@
 -- A slot of a table's bytes is freed, and the gap is closed.
-use Rattle.std.proofs.Common.{◌≡◌, ℕ, ◌+◌, ◌-◌, ◌%◌, ◌<◌, ◌≤◌, ◌⊎◌, inl, inr, List, length, get_or, refl, sym, ap, subst, ◌∙◌, arith, Some, None}
+use Rattle.std.proofs.Common.{◌≡◌, ℕ, ◌+◌, ◌-◌, ◌%◌, ◌<◌, ◌≤◌, ◌⊎◌, inl, inr, List, length, get_or, refl, sym, ap, subst, ◌∙◌, arith}
+use Rattle.std.proofs.Common.{Some, None}
 use Rattle.std.specs.Prelude.{slice_get}
 use Rattle.arena_items.specs.declared.item.Item.{Ghosts}
 use Rattle.arena_hash.specs.Edits.{SetsSlot, CopiesSlot, ClosesGap, IsNear}
@@ -77,9 +78,11 @@ module _ {K V : Type 0} (keys : Ghosts K) (values : Ghosts V) (n start : ℕ) (f
     pub place : gap ≡ spot n start k
     pub rest : (e : ℕ) → k < e → e < n → get_or bytes (spot n start e) 0 ≡ get_or from (spot n start e) 0
     pub run : (e : ℕ) → e < k → e + 1 < n → 32 ≤ get_or from (spot n start (e + 1)) 0
-    pub walk : (hash : K × V → ℕ) (x : K × V) → IsTable keys values hash n from → slice_get (slots_of keys values n from) start ≡ Some (Some x)
+    pub walk : (hash : K × V → ℕ) (x : K × V) → IsTable keys values hash n from
+        → slice_get (slots_of keys values n from) start ≡ Some (Some x)
         → length (items (slots_of keys values n from)) < n
-        → Closing (λ p. home_of n (hash p)) n start (slots_of keys values n from) k (slots_of keys values n bytes) gap × IsTable keys values hash n bytes
+        → Closing (λ p. home_of n (hash p)) n start (slots_of keys values n from) k (slots_of keys values n bytes) gap × IsTable keys
+        values hash n bytes
 
   module _ (begun : start < n) where
     homes : (hash : K × V → ℕ) (p : K × V) → home_of n (hash p) < n
@@ -122,7 +125,8 @@ module _ {K V : Type 0} (keys : Ghosts K) (values : Ghosts V) (n start : ℕ) (f
             long = copies.long ∙ s.long;
             place = there-is;
             rest = λ e l m.
-                sets.others (spot n start e) (spot-less n start e begun m) (λ q. absurd (omega (arith, l, spot-same n start e k begun m less (q ∙ s.place))))
+                sets.others (spot n start e) (spot-less n start e begun m)
+                (λ q. absurd (omega (arith, l, spot-same n start e k begun m less (q ∙ s.place))))
                 ∙ s.rest e (omega arith) m;
             run = λ e l m. elim (below_next e k l) [
               | inl b ↦ s.run e b m
@@ -140,21 +144,25 @@ module _ {K V : Type 0} (keys : Ghosts K) (values : Ghosts V) (n start : ℕ) (f
                 let far : away.0 ≡ away.0 - 1 + 1 = mark-away (hash y.0) away.0 (omega (arith, mark, high)) in
                 let a : IsAway home n slots (spot n gap 1) y.0 (away.0 - 1 + 1) = subst (λ d. IsAway home n slots (spot n gap 1) y.0 d) far
                 (subst (λ p. IsAway home n slots p y.0 away.0) next-is away.1) in
-                let on = closing-pull home n (homes hash) start (slots_of keys values n from) k slots gap begun w.0 room y.0 (away.0 - 1) a in
+                let on = closing-pull home n (homes hash) start (slots_of keys values n from) k slots gap begun w.0 room y.0 (away.0 - 1)
+                a in
                 let low-d : away.0 - 1 < n = omega (arith, a.less) in
                 let here : gap ≡ spot n (home y.0) (away.0 - 1) = spot-before n gap (spot n (home y.0) (away.0 - 1)) s.within
-                (spot-less n (home y.0) (away.0 - 1) (homes hash y.0) low-d) (a.place ∙ sym (spot-next n (home y.0) (away.0 - 1) (homes hash y.0) low-d)) in
+                (spot-less n (home y.0) (away.0 - 1) (homes hash y.0) low-d)
+                (a.place ∙ sym (spot-next n (home y.0) (away.0 - 1) (homes hash y.0) low-d)) in
                 let mark' : get_or bytes next 0 ≡ mark_of (hash y.0) (away.0 - 1 + 1) = mark ∙ ap (mark_of (hash y.0)) far in
                 let less' : get_or bytes next 0 - 16 ≡ mark_of (hash y.0) (away.0 - 1) =
                 ap (λ m. m - 16) mark' ∙ mark-back (hash y.0) (away.0 - 1) (subst (λ m. m < 240) mark' low) in (
                   subst (λ p. Closing home n start (slots_of keys values n from) (k + 1) (slots_of keys values n new) p) (sym next-is)
                       (subst (λ q. Closing home n start (slots_of keys values n from) (k + 1) q (spot n gap 1)) (sym sets.slots) on),
-                  table-put keys values hash n some bytes new s.shape w.1 gap y.0 (away.0 - 1) (get_or bytes next 0 - 16) s.within low-d here less' sets on.ordered,
+                  table-put keys values hash n some bytes new s.shape w.1 gap y.0 (away.0 - 1) (get_or bytes next 0 - 16) s.within low-d
+                      here less' sets on.ordered,
                 );
           }
 
       -- Nothing moves back from there: the gap is freed.
-      pub gap-stop : IsNear n from start → (get_or bytes next 0 < 32) ⊎ (240 ≤ get_or bytes next 0) → SetsSlot keys values n bytes new gap 0 None
+      pub gap-stop : IsNear n from start → (get_or bytes next 0 < 32) ⊎ (240 ≤ get_or bytes next 0)
+          → SetsSlot keys values n bytes new gap 0 None
           → ClosesGap keys values n from new start
       gap-stop near stops sets = record {
         long = sets.long ∙ s.long;
@@ -165,7 +173,8 @@ module _ {K V : Type 0} (keys : Ghosts K) (values : Ghosts V) (n start : ℕ) (f
             let more : k + 1 < n = closing-less home n (homes hash) start (slots_of keys values n from) k slots gap begun w.0 room in
             let was = s.rest (k + 1) (omega arith) more in
             let far : get_or from (spot n start (k + 1)) 0 < 240 = near.near k more (λ e l. s.run e l (omega arith)) in
-            let far' : get_or bytes next 0 < 240 = subst (λ p. get_or bytes p 0 < 240) (sym there-is) (subst (λ m. m < 240) (sym was) far) in
+            let far' : get_or bytes next 0 < 240 = subst (λ p. get_or bytes p 0 < 240) (sym there-is)
+            (subst (λ m. m < 240) (sym was) far) in
             let low : get_or bytes next 0 < 32 = elim stops [ inl l ↦ l | inr h ↦ absurd (omega (arith, far', h)) ] in
             let done = closing-free home n (homes hash) start (slots_of keys values n from) k slots gap begun w.0 (λ y e a.
             let a' : IsAway home n slots next y e = subst (λ p. IsAway home n slots p y e) (sym next-is) a in
@@ -181,5 +190,9 @@ module _ {K V : Type 0} (keys : Ghosts K) (values : Ghosts V) (n start : ℕ) (f
       long = s.long;
       closes = λ hash x table there room.
           let w = s.walk hash x table there room in
-          absurd (omega (arith, closing-less (λ p. home_of n (hash p)) n (homes hash) start (slots_of keys values n from) k (slots_of keys values n bytes) gap begun w.0 room));
+          absurd (omega (
+            arith,
+            closing-less (λ p. home_of n (hash p)) n (homes hash) start (slots_of keys values n from) k
+                (slots_of keys values n bytes) gap begun w.0 room,
+          ));
     }

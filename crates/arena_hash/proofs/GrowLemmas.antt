@@ -4,6 +4,7 @@ use Rattle.std.specs.Prelude.{slice_get, Result, ◌==◌, if◌then◌else◌}
 use Rattle.std.proofs.lemmas.Bool.Decides.{nat_tests}
 use Rattle.arena_chunks.specs.Source.{View}
 use Rattle.arena_chunks.specs.BlockCalls.{PlacesBlock}
+use Rattle.arena_items.specs.Values.{bytes_of}
 use Rattle.arena_items.specs.Room.{MakesRoom, RoomAnswer, TakesRoom, Took}
 use Rattle.arena_items.specs.declared.room.AllocError.{AllocError}
 use Rattle.arena_items.specs.declared.room.Growth.TheVariants.{GrowsTo, Overflows}
@@ -23,7 +24,10 @@ module _ {K V S : Type 0} (k : Kind K V S) (old new : Memory) (block : Block) (t
     own : Stays old new (block ∷ []) t.block
     own = frame_keeps old new (block ∷ []) (block ∷ []) t.block frame beside.handle.place.readable (beside.apart, tt)
 
-    pub read-same : slots_in k.keys k.values new t ≡ slots_in k.keys k.values old t
+    pub read-bytes : bytes_of new t.block ≡ bytes_of old t.block
+    read-bytes = own.bytes
+
+    read-same : slots_in k.keys k.values new t ≡ slots_in k.keys k.values old t
     read-same = ap (slots_of k.keys k.values t.slots) own.bytes
 
     pub read-stays : IsReadBeside k new block t
@@ -63,7 +67,8 @@ module _ {K V S : Type 0} (k : Kind K V S) (old new : Memory) (block : Block) (t
 -- ---- The room for more
 
 -- A call that placed a block, or was refused, makes room as a growth from no capacity.
-pub made-placed : {X : Type 0} (size align : ℕ) (old new : View) (block : Block) (len next more : ℕ) (f : X → Block) (result : Result X AllocError)
+pub made-placed : {X : Type 0} (size align : ℕ) (old new : View) (block : Block) (len next more : ℕ) (f : X
+    → Block) (result : Result X AllocError)
     → (len ≡ most_pairs → ⊥) → more ≡ next → Took new (λ between. RoomAnswer f result (PlacesBlock old between (more * size) align))
     → MakesRoom size align old new block 0 (if len == most_pairs then Overflows else GrowsTo next) f result
 made-placed size align old new block len next more f result few is took =

@@ -1,10 +1,12 @@
 -- Words of eight bytes, and one bit for each of them.
-use Rattle.std.proofs.Common.{◌≡◌, ℕ, zero, suc, ◌+◌, ◌-◌, ◌*◌, ◌/◌, ◌%◌, ◌^◌, ◌<◌, ◌≤◌, ◌≢◌, ◌↔◌, inl, inr, List, get_or, Bool, true, ◌&&◌, cond, eqb, refl, sym, ap, ◌∙◌, arith, w64, bit_and, bit_or, pow-add}
+use Rattle.std.proofs.Common.{◌≡◌, ℕ, zero, suc, ◌+◌, ◌-◌, ◌*◌, ◌/◌, ◌%◌, ◌^◌, ◌<◌, ◌≤◌, ◌≢◌, ◌↔◌, inl, inr, List, get_or, Bool, true}
+use Rattle.std.proofs.Common.{◌&&◌, cond, eqb, refl, sym, ap, ◌∙◌, arith, w64, bit_and, bit_or, pow-add}
 use Rattle.std.proofs.lemmas.Bool.{cases_eq, cases_lt, eqb-true, eq-eqb, ne_eqb, cond-true, cond-false, and_parts}
 use Rattle.std.proofs.Math.Nat.{mod-lt, one-le-pow, div-div-eq-div-mul}
 use Rattle.std.proofs.Math.Path.{ap₂}
 use Rattle.std.proofs.lemmas.Nat.{div-add-mod', and_block, or_block, or_lt, and_le_r}
-use Rattle.std.proofs.lemmas.Nat.Bits.{bit_at-zero, bit_at_and, bit_at_cat_low, bit_at_cat_high, bit_at-trailing_zeros, bit_at_above, bit_at-pow_same, bit_at-pow_other, same_from_bits_below}
+use Rattle.std.proofs.lemmas.Nat.Bits.{bit_at-zero, bit_at_and, bit_at_cat_low, bit_at_cat_high, bit_at-trailing_zeros, bit_at_above}
+use Rattle.std.proofs.lemmas.Nat.Bits.{bit_at-pow_same, bit_at-pow_other, same_from_bits_below}
 use Rattle.std.specs.Int.{bit_at, from_le_bytes, trailing_zeros}
 
 -- n numbers from the k-th on as the bytes of a word, the lowest first

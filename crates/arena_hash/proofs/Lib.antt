@@ -1,6 +1,7 @@
 pub mod Ring
 pub mod Places
 pub mod Order
+pub mod CostLemmas
 pub mod Count
 pub mod Room
 pub mod Settle

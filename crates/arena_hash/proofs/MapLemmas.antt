@@ -1,5 +1,6 @@
 -- Maps in an arena, as calls change them.
-use Rattle.std.proofs.Common.{◌≡◌, ℕ, ◌+◌, ◌<◌, ◌≤◌, inl, inr, List, [], ◌∷◌, length, set, refl, sym, ap, subst, ◌∙◌, arith, Some, None, Option, IsTrue}
+use Rattle.std.proofs.Common.{◌≡◌, ℕ, ◌+◌, ◌<◌, ◌≤◌, inl, inr, List, [], ◌∷◌, length, set, refl, sym, ap, subst, ◌∙◌, arith, Some, None}
+use Rattle.std.proofs.Common.{Option, IsTrue}
 use Rattle.std.proofs.lemmas.Option.{slice_get_within}
 use Rattle.std.specs.Prelude.{slice_get}
 use Rattle.arena_chunks.specs.Memory.{Memory, is_readable}
@@ -13,7 +14,8 @@ use Rattle.arena_hash.specs.Policy.{limit}
 use Rattle.arena_hash.specs.Slots.{items, Has, IsOnce, Lacks, Settled, Closed, Moved}
 use Rattle.arena_hash.specs.Tables.{slots_in, HasFree, IsTableIn, IsTextBeside}
 use Rattle.arena_hash.specs.declared.map.HashMap.{HashMap}
-use Rattle.arena_hash.proofs.Agree.{once-agree, under-agree}
+use Rattle.arena_hash.specs.AgreeLaws.{under-agree}
+use Rattle.arena_hash.proofs.Agree.{once-agree}
 use Rattle.arena_hash.proofs.Beside.{texts-beside, texts-readable, texts-apart}
 use Rattle.arena_hash.proofs.Count.{count-swap}
 use Rattle.arena_hash.proofs.Once.{are_once, is_once}
@@ -47,14 +49,17 @@ module _ {K V S : Type 0} (k : Kind K V S) where
   -- What a search finds stands under its content,
   pub found-under : (memory : Memory) (m : HashMap K V S) (at : ℕ) (p : K × V) (q : List ℕ) → IsMapIn k memory m
       → slice_get (slots memory m) at ≡ Some (Some p) → content memory p ≡ q → map_in k memory m q ≡ Some p
-  found-under memory m at p q held there has = has-under (content_in k.key memory) (slots memory m) at p q (map-once memory m held) there has
+  found-under memory m at p q held there has = has-under (content_in k.key memory) (slots memory m) at p q (map-once memory m held) there
+      has
 
   -- and under one that it doesn't find nothing stands.
-  pub open-under : (memory : Memory) (m : HashMap K V S) (q : List ℕ) → Lacks (content memory) (slots memory m) q → map_in k memory m q ≡ None
+  pub open-under : (memory : Memory) (m : HashMap K V S) (q : List ℕ) → Lacks (content memory) (slots memory m) q
+      → map_in k memory m q ≡ None
   open-under memory m q lacks = lacks-under (content_in k.key memory) (slots memory m) q lacks
 
   -- What stands in a slot stands in one of the table's.
-  pub taken-within : (memory : Memory) (m : HashMap K V S) (at : ℕ) (p : K × V) → IsMapIn k memory m → slice_get (slots memory m) at ≡ Some (Some p)
+  pub taken-within : (memory : Memory) (m : HashMap K V S) (at : ℕ) (p : K × V) → IsMapIn k memory m
+      → slice_get (slots memory m) at ≡ Some (Some p)
       → at < m.table.slots
   taken-within memory m at p held there = omega (arith, slice_get_within (slots memory m) at (Some p) there, held.table.ordered.long)
 
@@ -67,13 +72,15 @@ module _ {K V S : Type 0} (k : Kind K V S) where
     content-stays x readable apart = ap (k.key.content x) (frame_keeps old new before after (k.key.text x) frame readable apart).bytes
 
   -- A text that could be read lies beside a block that was placed since.
-  pub text-beside : (old new : Memory) (block : Block) (x : K) → Frame old new [] (block ∷ []) → IsTrue (is_readable old.state (k.key.text x))
+  pub text-beside : (old new : Memory) (block : Block) (x : K) → Frame old new [] (block ∷ [])
+      → IsTrue (is_readable old.state (k.key.text x))
       → IsTextBeside k.key new block x
   text-beside old new block x frame readable =
       let stays = frame_keeps old new [] (block ∷ []) (k.key.text x) frame readable tt in
       record { readable = stays.readable; apart = stays.apart.0 }
 
-  module _ (old new : Memory) (m w : HashMap K V S) (held : IsMapIn k old m) (frame : Frame old new (m.table.block ∷ []) (w.table.block ∷ []))
+  module _ (old new : Memory) (m w : HashMap K V S) (held : IsMapIn k old m)
+      (frame : Frame old new (m.table.block ∷ []) (w.table.block ∷ []))
       (table : IsTableIn k new w.hasher w.table) where
     known : (x : K × V) → Has (slots old m) x → IsTextBeside k.key old m.table.block x.0
     known x h = texts-beside k old m held.texts held.apart x h
@@ -89,7 +96,8 @@ module _ {K V S : Type 0} (k : Kind K V S) where
         table = table.table;
         texts = texts-readable k new w table.texts;
         apart = texts-apart k new w table.texts;
-        once = are_once (content_in k.key new) (slots new w) (once-agree (content old) (content new) (slots new w) (λ x h. same x (knows x h)) once);
+        once = are_once (content_in k.key new) (slots new w) (once-agree (content old) (content new) (slots new w)
+            (λ x h. same x (knows x h)) once);
         count = count;
         within = within;
       }
@@ -100,7 +108,8 @@ module _ {K V S : Type 0} (k : Kind K V S) where
     -- ---- A pair was put into a table that has what the map had
 
     module _ (key : K) (value : V) (beside : IsTextBeside k.key old m.table.block key)
-        (lacks : Lacks (content old) (slots old m) (content_in k.key old key)) (mid : List (Option (K × V))) (moved : Moved (slots old m) mid)
+        (lacks : Lacks (content old) (slots old m) (content_in k.key old key)) (mid : List (Option (K × V)))
+        (moved : Moved (slots old m) mid)
         (settled : Settled mid (slots new w) (key, value)) where
       put-knows : (x : K × V) → Has (slots new w) x → IsTextBeside k.key old m.table.block x.0
       put-knows x h = elim (settled.only x h) [
@@ -116,7 +125,8 @@ module _ {K V S : Type 0} (k : Kind K V S) where
 
       pub put-held : w.len ≡ m.len + 1 → w.len ≤ limit w.table.slots → IsMapIn k new w
       put-held len within =
-          next-held put-knows (settled.once (content old) mid-once mid-lacks) (omega (arith, settled.count, moved.count, held.count, len)) within
+          next-held put-knows (settled.once (content old) mid-once mid-lacks) (omega (arith, settled.count, moved.count, held.count, len))
+          within
 
       pub put-is : map_in k new w ≡ with_pair (map_in k old m) (content_in k.key old key) key value
       put-is =
@@ -131,15 +141,17 @@ module _ {K V S : Type 0} (k : Kind K V S) where
       -- another value in place of the one that was there
       module _ (value : V) (changed : slots new w ≡ set (slots old m) at (Some (p.0, value))) where
         change-knows : (x : K × V) → Has (slots new w) x → IsTextBeside k.key old m.table.block x.0
-        change-knows x h = elim (put-cases (slots old m) at h.0 (Some p) (p.0, value) x there (ap (λ s. slice_get s h.0) (sym changed) ∙ h.1)) [
-          | inl e ↦ subst (λ q. IsTextBeside k.key old m.table.block q.0) (sym e.1) (known p (at, there))
-          | inr e ↦ known x (h.0, e.1)
-        ]
+        change-knows x h = elim (put-cases (slots old m) at h.0 (Some p) (p.0, value) x there
+            (ap (λ s. slice_get s h.0) (sym changed) ∙ h.1)) [
+              | inl e ↦ subst (λ q. IsTextBeside k.key old m.table.block q.0) (sym e.1) (known p (at, there))
+              | inr e ↦ known x (h.0, e.1)
+            ]
 
         pub change-held : w.len ≡ m.len → w.len ≤ limit w.table.slots → IsMapIn k new w
         change-held len within =
             next-held change-knows
-            (subst (λ s. IsOnce (content old) s) (sym changed) (once-value (content_in k.key old) (slots old m) at p.0 p.1 value (map-once old m held) there))
+            (subst (λ s. IsOnce (content old) s) (sym changed) (once-value (content_in k.key old) (slots old m) at p.0 p.1 value
+            (map-once old m held) there))
             (omega (arith, len, held.count, ap (λ s. length (items s)) changed, count-swap (slots old m) at (p.0, value) p there))
             within
 
@@ -159,4 +171,5 @@ module _ {K V S : Type 0} (k : Kind K V S) where
             next-held close-knows (closed.once (content old) (map-once old m held)) (omega (arith, closed.count, held.count, len)) within
 
         pub close-is : map_in k new w ≡ without (map_in k old m) (content old p)
-        close-is = next-is close-knows ∙ under-closed (content_in k.key old) (slots old m) (slots new w) at p (map-once old m held) there closed
+        close-is = next-is close-knows ∙ under-closed (content_in k.key old) (slots old m) (slots new w) at p (map-once old m held) there
+            closed

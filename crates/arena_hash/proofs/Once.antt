@@ -5,6 +5,7 @@ use Rattle.std.proofs.lemmas.Bool.{both_ways, false_from_ne_true}
 use Rattle.std.proofs.lemmas.Slice.Eq.{bytes_eq-Decides}
 use Rattle.std.specs.Prelude.{slice_get, bytes_eq}
 use Rattle.std.specs.List.{IsDistinct, AllByRecursion}
+use Rattle.arena_hash.specs.AgreeLaws.{has-items}
 use Rattle.arena_hash.specs.Finite.{AreOnce}
 use Rattle.arena_hash.specs.Slots.{items, Has, IsOnce}
 use Rattle.arena_hash.proofs.Places.{same_item, not_free}
@@ -15,15 +16,6 @@ pub all-items : {X Y : Type 0} (P : Y → Type 0) (f : X → Y) (slots : List (O
 all-items P f [] each = tt
 all-items P f (None ∷ xs) each = all-items P f xs (λ x h. each x (suc h.0, h.1))
 all-items P f (Some z ∷ xs) each = (each z (0, refl), all-items P f xs (λ x h. each x (suc h.0, h.1)))
-
--- and the other way round
-pub has-items : {X Y : Type 0} (P : Y → Type 0) (f : X → Y) (slots : List (Option X)) (i : ℕ) (x : X) → slice_get slots i ≡ Some (Some x)
-    → AllByRecursion P (map f (items slots)) → P (f x)
-has-items P f [] i x s all = absurd (none-some (Some x) s)
-has-items P f (None ∷ xs) zero x s all = absurd (not_free x (sym s))
-has-items P f (None ∷ xs) (suc i) x s all = has-items P f xs i x s all
-has-items P f (Some z ∷ xs) zero x s all = subst (λ w. P (f w)) (same_item z x s) all.0
-has-items P f (Some z ∷ xs) (suc i) x s all = has-items P f xs i x s all.1
 
 module _ {K V : Type 0} (content : K → List ℕ) where
   -- no content stands twice in the list where none does in the slots

@@ -33,7 +33,8 @@ power-eights n is least = elim (less_or_not is.0 3) [
       let few : 2 ^ is.0 ≤ 2 ^ 2 = pow-le-pow_right (omega arith) (let le : is.0 ≤ 2 = omega arith in le) in
       absurd (omega (arith, is.1)))
   | inr more ↦ (
-      let split : 2 ^ is.0 ≡ 2 ^ 3 * 2 ^ (is.0 - 3) = ap (λ e. 2 ^ e) (let sum : is.0 ≡ 3 + (is.0 - 3) = omega arith in sum) ∙ pow-add 2 3 (is.0 - 3) in
+      let split : 2 ^ is.0 ≡ 2 ^ 3 * 2 ^ (is.0 - 3) = ap (λ e. 2 ^ e) (let sum : is.0 ≡ 3 + (is.0 - 3) = omega arith in sum) ∙ pow-add 2 3
+      (is.0 - 3) in
       (2 ^ (is.0 - 3), is.1 ∙ split, one-le-pow (is.0 - 3) 2 (omega arith)))
 ]
 
@@ -126,7 +127,8 @@ module _ (size pad u : ℕ) (covers : 8 * size + pad ≤ u) where
         let before : len - (slots / 4 + 1) ≡ 2 * m.0 - 1 = omega (arith, m.1) in
         let nothing : u * 0 ≡ 0 = omega arith in
         let saved : u * (2 * m.0 - 1) + u ≡ u * (2 * m.0) = less_one (2 * m.0) (omega (arith, m.2)) in
-        let bytes : 2 * slots * size ≡ 8 * (2 * m.0) * size = ap (λ n. n * size) (let twice : 2 * slots ≡ 8 * (2 * m.0) = omega (arith, m.1) in twice) in
+        let bytes : 2 * slots * size ≡ 8 * (2 * m.0) * size = ap (λ n. n * size)
+        (let twice : 2 * slots ≡ 8 * (2 * m.0) = omega (arith, m.1) in twice) in
         rw (next-some slots (omega (arith, m.1, m.2)), after, before, nothing) (omega (arith, eights (2 * m.0), saved, bytes)))
   ]
     where

@@ -9,7 +9,8 @@ use Rattle.arena_hash.specs.Tables.{home_of, mark_of, slots_of, IsShape, IsTable
 use Rattle.arena_hash.proofs.Find.{Passed, Stops, passed-more}
 use Rattle.arena_hash.proofs.Homes.{step-place}
 use Rattle.arena_hash.proofs.MarkLemmas.{mark-some}
-use Rattle.arena_hash.proofs.Passing.{AreMarked, marked-passes, marked-stops, marked-spot, marked-less, marked-same, marked-lacks, mark-passed-none}
+use Rattle.arena_hash.proofs.Passing.{AreMarked, marked-passes, marked-stops, marked-spot, marked-less, marked-same, marked-lacks}
+use Rattle.arena_hash.proofs.Passing.{mark-passed-none}
 use Rattle.arena_hash.proofs.Ring.{spot-zero}
 use Rattle.arena_hash.proofs.SlotLemmas.{slot-taken}
 use Rattle.arena_hash.proofs.TableLemmas.{table-marked}
@@ -49,18 +50,23 @@ module _ {K V : Type 0} (keys : Ghosts K) (values : Ghosts V) (n : ℕ) (bytes :
         within = subst (λ p. p < n) (sym is) (mod-lt (at + 1) some);
         place = step-place n (home_of n hash) k at next (mod-lt hash some) less s.place is;
         mark_is = mark';
-        passed = λ h table. marked-passes h n some (slots_of keys values n bytes) (λ i. slice_index bytes i) (marked h table) hash k less (s.passed h table)
-            (subst (λ p. mark_of hash k / 16 * 16 ≤ slice_index bytes p) s.place (subst (λ m. m / 16 * 16 ≤ slice_index bytes at) s.mark_is high));
+        passed = λ h table. marked-passes h n some (slots_of keys values n bytes) (λ i. slice_index bytes i) (marked h table) hash k less
+            (s.passed h table)
+            (subst (λ p. mark_of hash k / 16 * 16 ≤ slice_index bytes p) s.place
+            (subst (λ m. m / 16 * 16 ≤ slice_index bytes at) s.mark_is high));
       }
 
       -- what was passed has another content where its mark is another, or its content was seen to be another
-      pub seeking-other : mark / 16 * 16 ≤ slice_index bytes at → (h : K × V → ℕ) → IsTable keys values h n bytes → (content : K × V → List ℕ) (q : List ℕ)
+      pub seeking-other : mark / 16 * 16 ≤ slice_index bytes at → (h : K × V → ℕ) → IsTable keys values h n bytes
+          → (content : K × V → List ℕ) (q : List ℕ)
           → ((x : K × V) → content x ≡ q → h x ≡ hash)
           → (slice_index bytes at ≡ mark → (x : K × V) → slice_get (slots_of keys values n bytes) at ≡ Some (Some x) → content x ≡ q → ⊥)
-          → Passed n content q (home_of n hash) (slots_of keys values n bytes) k → Passed n content q (home_of n hash) (slots_of keys values n bytes) (k + 1)
+          → Passed n content q (home_of n hash) (slots_of keys values n bytes) k
+          → Passed n content q (home_of n hash) (slots_of keys values n bytes) (k + 1)
       seeking-other high h table content q hashed other passed =
           let y = slot-taken keys values n bytes shape at s.within (omega (arith, high, mark-some hash k, s.mark_is)) in
-          passed-more n (home_of n hash) (slots_of keys values n bytes) content q k y.0 passed (ap (slice_get (slots_of keys values n bytes)) (sym s.place) ∙ y.1)
+          passed-more n (home_of n hash) (slots_of keys values n bytes) content q k y.0 passed
+          (ap (slice_get (slots_of keys values n bytes)) (sym s.place) ∙ y.1)
           (λ same. other
           (ap (slice_index bytes) s.place
           ∙ marked-same h n some (slots_of keys values n bytes) (λ i. slice_index bytes i) (marked h table) hash k less y.0
@@ -72,16 +78,19 @@ module _ {K V : Type 0} (keys : Ghosts K) (values : Ghosts V) (n : ℕ) (bytes :
       module _ (h : K × V → ℕ) (table : IsTable keys values h n bytes) (low : slice_index bytes at < mark / 16 * 16) where
         stops : Stops (λ p. home_of n (h p)) n (home_of n hash) (slots_of keys values n bytes) k
         stops = marked-stops h n some (slots_of keys values n bytes) (λ i. slice_index bytes i) (marked h table) hash k less
-            (subst (λ p. slice_index bytes p < mark_of hash k / 16 * 16) s.place (subst (λ m. slice_index bytes at < m / 16 * 16) s.mark_is low))
+            (subst (λ p. slice_index bytes p < mark_of hash k / 16 * 16) s.place
+            (subst (λ m. slice_index bytes at < m / 16 * 16) s.mark_is low))
 
         pub seeking-spot : IsSpotFor (λ p. home_of n (h p)) n (slots_of keys values n bytes) hash at mark
         seeking-spot =
             subst (λ m. IsSpotFor (λ p. home_of n (h p)) n (slots_of keys values n bytes) hash at m) (sym s.mark_is)
             (subst (λ p. IsSpotFor (λ p. home_of n (h p)) n (slots_of keys values n bytes) hash p (mark_of hash k)) (sym s.place)
-            (marked-spot h n some (slots_of keys values n bytes) (λ i. slice_index bytes i) (marked h table) hash k less (s.passed h table) stops))
+            (marked-spot h n some (slots_of keys values n bytes) (λ i. slice_index bytes i) (marked h table) hash k less
+            (s.passed h table) stops))
 
         pub seeking-lacks : (content : K × V → List ℕ) (q : List ℕ)
             → ((j : ℕ) (x : K × V) → slice_get (slots_of keys values n bytes) j ≡ Some (Some x) → content x ≡ q → h x ≡ hash)
             → Passed n content q (home_of n hash) (slots_of keys values n bytes) k → Lacks content (slots_of keys values n bytes) q
         seeking-lacks content q hashed passed =
-            marked-lacks h n some (slots_of keys values n bytes) (λ i. slice_index bytes i) (marked h table) content q hash k hashed passed stops
+            marked-lacks h n some (slots_of keys values n bytes) (λ i. slice_index bytes i) (marked h table) content q hash k hashed
+            passed stops

@@ -24,7 +24,8 @@ module _ {K V S X Y : Type 0} (k : Kind K V S) (old new : View) (m : HashMap K V
   puts-as x y told p =
       let same : SamePlaces new new = record { state = refl; statistics = refl; source = refl } in
       record {
-        made = room_then (slot_size k.keys.SIZE k.values.SIZE) (table_align k.keys.ALIGN k.values.ALIGN) old new new m.table.block 0 _ (λ _. w.table.block)
+        made = room_then (slot_size k.keys.SIZE k.values.SIZE) (table_align k.keys.ALIGN k.values.ALIGN) old new new m.table.block 0 _
+            (λ _. w.table.block)
             (λ _. w.table.block) x y refl p.made same;
         held = p.held;
         map_is = p.map_is;
@@ -35,7 +36,8 @@ module _ {K V S X Y : Type 0} (k : Kind K V S) (old new : View) (m : HashMap K V
           there = λ is. (refl, (p.costs.there is).1);
           room = λ is some. (refl, (p.costs.room is some).1);
           grows = p.costs.grows;
-          asks = λ is none few. let a = p.costs.asks is none few in record { size = a.size; bounded = a.bounded; within = a.within; took = a.took };
+          asks = λ is none few. let a = p.costs.asks is none few in record
+              { size = a.size; bounded = a.bounded; within = a.within; took = a.took };
           refused = tt;
         };
         hasher = p.hasher;
@@ -43,9 +45,11 @@ module _ {K V S X Y : Type 0} (k : Kind K V S) (old new : View) (m : HashMap K V
       }
 
   -- and so may a refusal.
-  pub puts-refused-as : (e : AllocError) → Puts {X = X} k old new m key value tells w (Err e) → Puts {X = Y} k old new m key value says w (Err e)
+  pub puts-refused-as : (e : AllocError) → Puts {X = X} k old new m key value tells w (Err e) → Puts {X = Y} k old new m key value says w
+      (Err e)
   puts-refused-as e p = record {
-    made = room_refused (slot_size k.keys.SIZE k.values.SIZE) (table_align k.keys.ALIGN k.values.ALIGN) old new m.table.block 0 _ (λ _. w.table.block)
+    made = room_refused (slot_size k.keys.SIZE k.values.SIZE) (table_align k.keys.ALIGN k.values.ALIGN) old new m.table.block 0 _
+        (λ _. w.table.block)
         (λ _. w.table.block) e p.made;
     held = p.held;
     map_is = tt;

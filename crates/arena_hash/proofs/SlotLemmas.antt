@@ -1,9 +1,11 @@
 -- Slots of a table's bytes: read, put and freed.
-use Rattle.std.proofs.Common.{◌≡◌, ℕ, zero, suc, ◌+◌, ◌-◌, ◌*◌, ◌<◌, ◌≤◌, ◌⊎◌, inl, inr, List, [], ◌∷◌, ◌++◌, length, take, drop, set, get_or, refl, sym, ap, ◌∙◌, arith, Some, None, Option, false, length-append, append_assoc}
+use Rattle.std.proofs.Common.{◌≡◌, ℕ, zero, suc, ◌+◌, ◌-◌, ◌*◌, ◌<◌, ◌≤◌, ◌⊎◌, inl, inr, List, [], ◌∷◌, ◌++◌, length, take, drop, set}
+use Rattle.std.proofs.Common.{get_or, refl, sym, ap, ◌∙◌, arith, Some, None, Option, false, length-append, append_assoc}
 use Rattle.std.specs.Prelude.{slice_get, if◌then◌else◌, ◌==◌}
 use Rattle.std.proofs.lemmas.Grind.{common_steps}
 use Rattle.std.proofs.lemmas.Bool.Decides.{nat_tests}
-use Rattle.std.proofs.lemmas.List.{length-set, length-take, length-drop, take_at, drop_at, drop-drop, drop-take, drop-set-lt, get_or-set_same, get_or-set_other}
+use Rattle.std.proofs.lemmas.List.{length-set, length-take, length-drop, take_at, drop_at, drop-drop, drop-take, drop-set-lt}
+use Rattle.std.proofs.lemmas.List.{get_or-set_same, get_or-set_other}
 use Rattle.std.proofs.lemmas.Option.{none-some, same_Some, slice_get_within}
 use borrow.Rule.Slice.PartMut.{put_mid}
 use Rattle.placement.specs.Machine.{splice}
@@ -104,11 +106,17 @@ slot-within i n key value h = omega (arith, rows_before i n (key + value) h)
 pub slots-most : {K V : Type 0} (keys : Ghosts K) (values : Ghosts V) (n : ℕ) (bytes : List ℕ) → length (slots_of keys values n bytes) ≤ n
 unfolding slots_of
 slots-most keys values n bytes =
-    omega (arith, marked-most (take n bytes) (elements (keys.SIZE + values.SIZE) (pair_of keys values) n (drop n bytes)), length-take n bytes)
+    omega (
+      arith,
+      marked-most (take n bytes) (elements (keys.SIZE + values.SIZE) (pair_of keys values) n (drop n bytes)),
+      length-take n
+          bytes,
+    )
 
 -- the bytes of a pair give it back
 pub pair-back : {K V : Type 0} (keys : Ghosts K) (values : Ghosts V) (k : K) (v : V) → length (keys.encoded k) ≡ keys.SIZE
-    → keys.decoded (keys.encoded k) ≡ k → values.decoded (values.encoded v) ≡ v → pair_of keys values (keys.encoded k ++ values.encoded v) ≡ (k, v)
+    → keys.decoded (keys.encoded k) ≡ k → values.decoded (values.encoded v) ≡ v
+    → pair_of keys values (keys.encoded k ++ values.encoded v) ≡ (k, v)
 pair-back keys values k v long one two =
     let key = ap keys.decoded (take_at (keys.encoded k) (values.encoded v) keys.SIZE long) ∙ one in
     let value = ap values.decoded (drop_at (keys.encoded k) (values.encoded v) keys.SIZE long) ∙ two in
@@ -133,19 +141,23 @@ module _ {K V : Type 0} (keys : Ghosts K) (values : Ghosts V) (n : ℕ) (bytes :
   unfolding slots_of
   slots-long =
       let pairs = length-elements (keys.SIZE + values.SIZE) (pair_of keys values) n (drop n bytes) in
-      length-marked (take n bytes) (elements (keys.SIZE + values.SIZE) (pair_of keys values) n (drop n bytes)) (marks-long ∙ sym pairs) ∙ pairs
+      length-marked (take n bytes) (elements (keys.SIZE + values.SIZE) (pair_of keys values) n (drop n bytes)) (marks-long ∙ sym pairs)
+      ∙ pairs
 
   slot-is : (i : ℕ) → i < n → slice_get (slots_of keys values n bytes) i ≡ Some (held (get_or bytes i 0) (pair_at i))
   unfolding slots_of pair_at
   slot-is i h =
       let mark : get_or (take n bytes) i 0 ≡ get_or bytes i 0 = grind (arith, common_steps) in
-      marked-get (take n bytes) (elements (keys.SIZE + values.SIZE) (pair_of keys values) n (drop n bytes)) i (pair_at i) (omega (arith, marks-long))
+      marked-get (take n bytes) (elements (keys.SIZE + values.SIZE) (pair_of keys values) n (drop n bytes)) i (pair_at i)
+      (omega (arith, marks-long))
       (elements-get (keys.SIZE + values.SIZE) (pair_of keys values) n (drop n bytes) i h)
       ∙ ap (λ m. Some (held m (pair_at i))) mark
 
   -- a slot that holds something has a mark, and what it holds stands in its bytes
-  holds : (i : ℕ) (x : K × V) → i < n → slice_get (slots_of keys values n bytes) i ≡ Some (Some x) → (0 < get_or bytes i 0) × (pair_at i ≡ x)
-  holds i x h s = held-is (get_or bytes i 0) (pair_at i) x (same_Some (held (get_or bytes i 0) (pair_at i)) (Some x) (sym (slot-is i h) ∙ s))
+  holds : (i : ℕ) (x : K × V) → i < n → slice_get (slots_of keys values n bytes) i ≡ Some (Some x)
+      → (0 < get_or bytes i 0) × (pair_at i ≡ x)
+  holds i x h s = held-is (get_or bytes i 0) (pair_at i) x (same_Some (held (get_or bytes i 0) (pair_at i)) (Some x)
+      (sym (slot-is i h) ∙ s))
 
   pub slot-within-long : (i : ℕ) (x : K × V) → slice_get (slots_of keys values n bytes) i ≡ Some (Some x) → i < n
   slot-within-long i x s = omega (arith, slots-long, slice_get_within (slots_of keys values n bytes) i (Some x) s)
@@ -165,7 +177,8 @@ module _ {K V : Type 0} (keys : Ghosts K) (values : Ghosts V) (n : ℕ) (bytes :
       → keys.decoded (take keys.SIZE (drop (n + i * (keys.SIZE + values.SIZE)) bytes)) ≡ x.0
   unfolding pair_at
   key-is i x h s =
-      let at : drop (i * (keys.SIZE + values.SIZE)) (drop n bytes) ≡ drop (n + i * (keys.SIZE + values.SIZE)) bytes = grind (arith, common_steps) in
+      let at : drop (i * (keys.SIZE + values.SIZE)) (drop n bytes) ≡ drop (n + i * (keys.SIZE + values.SIZE)) bytes = grind
+      (arith, common_steps) in
       let one : take keys.SIZE (take (keys.SIZE + values.SIZE) (drop (i * (keys.SIZE + values.SIZE)) (drop n bytes)))
       ≡ take keys.SIZE (drop (i * (keys.SIZE + values.SIZE)) (drop n bytes)) = grind (arith, common_steps) in
       ap keys.decoded (sym (one ∙ ap (take keys.SIZE) at)) ∙ ap (λ p. p.0) (holds i x h s).1
@@ -174,7 +187,8 @@ module _ {K V : Type 0} (keys : Ghosts K) (values : Ghosts V) (n : ℕ) (bytes :
       → values.decoded (take values.SIZE (drop (n + i * (keys.SIZE + values.SIZE) + keys.SIZE) bytes)) ≡ x.1
   unfolding pair_at
   value-is i x h s =
-      let at : drop keys.SIZE (drop (i * (keys.SIZE + values.SIZE)) (drop n bytes)) ≡ drop (n + i * (keys.SIZE + values.SIZE) + keys.SIZE) bytes =
+      let at : drop keys.SIZE (drop (i * (keys.SIZE + values.SIZE)) (drop n bytes)) ≡ drop (n + i * (keys.SIZE + values.SIZE) + keys.SIZE)
+      bytes =
       grind (arith, common_steps) in
       let one = drop-take keys.SIZE values.SIZE (drop (i * (keys.SIZE + values.SIZE)) (drop n bytes)) in
       ap values.decoded (sym (one ∙ ap (take values.SIZE) at)) ∙ ap (λ p. p.1) (holds i x h s).1
@@ -188,15 +202,24 @@ module _ {K V : Type 0} (keys : Ghosts K) (values : Ghosts V) (n : ℕ) (bytes :
       let pairs : List ℕ = splice (drop n bytes) (i * (keys.SIZE + values.SIZE)) ys in
       let dec : List ℕ → K × V = pair_of keys values in
       let front : length (set (take n bytes) i m) ≡ n = length-set (take n bytes) i m ∙ marks-long in
-      let room : i * (keys.SIZE + values.SIZE) + (keys.SIZE + values.SIZE) ≤ length (drop n bytes) = omega (arith, pairs-fit, rows_before i n (keys.SIZE + values.SIZE) h) in
-      let behind : length (splice (drop n bytes) (i * (keys.SIZE + values.SIZE)) ys) ≡ length (drop n bytes) = length-splice (drop n bytes) (i * (keys.SIZE + values.SIZE)) ys (omega (arith, room, long)) in
+      let room : i * (keys.SIZE + values.SIZE) + (keys.SIZE + values.SIZE) ≤ length (drop n bytes) = omega
+      (arith, pairs-fit, rows_before i n (keys.SIZE + values.SIZE) h) in
+      let behind : length (splice (drop n bytes) (i * (keys.SIZE + values.SIZE)) ys) ≡ length (drop n bytes) = length-splice
+      (drop n bytes) (i * (keys.SIZE + values.SIZE)) ys (omega (arith, room, long)) in
       record {
         long = omega (arith, length-append marks pairs, front, behind, length-drop n bytes, marks-within);
-        slots = rw (take_at marks pairs n front, drop_at marks pairs n front, elements-set (keys.SIZE + values.SIZE) dec n (drop n bytes) i ys h pairs-fit long, back)
+        slots = rw (
+          take_at marks pairs n front,
+          drop_at marks pairs n front,
+          elements-set (keys.SIZE + values.SIZE) dec n (drop n bytes)
+              i ys h pairs-fit long,
+          back,
+        )
             (marked-put (take n bytes) (elements (keys.SIZE + values.SIZE) dec n (drop n bytes)) i m x
             ∙ ap (set (marked (take n bytes) (elements (keys.SIZE + values.SIZE) dec n (drop n bytes))) i) (held-some m x some));
         here = front-get marks pairs i (omega (arith, front)) ∙ get_or-set_same (take n bytes) i m 0 (omega (arith, marks-long));
-        others = λ j l e. front-get marks pairs j (omega (arith, front)) ∙ (get_or-set_other (take n bytes) i j m 0 (λ q. e q) ∙ front-take n bytes j l);
+        others = λ j l e. front-get marks pairs j (omega (arith, front))
+            ∙ (get_or-set_other (take n bytes) i j m 0 (λ q. e q) ∙ front-take n bytes j l);
       }
 
   -- a mark is cleared

@@ -34,20 +34,23 @@ module _ {K V : Type 0} (keys : Ghosts K) (values : Ghosts V) (hash : K × V →
     ordered = subst (IsOrdered (λ p. home_of n (hash p)) n) (sym sets.slots) ordered;
     marks = λ j e y a.
         let a' = subst (λ w. IsAway (λ p. home_of n (hash p)) n w j y e) sets.slots a in
-        elim (away-put (λ p. home_of n (hash p)) n homes (slots_of keys values n old) i (get_or (slots_of keys values n old) i None) x d j y e (was i within) less place a') [
+        elim (away-put (λ p. home_of n (hash p)) n homes (slots_of keys values n old) i (get_or (slots_of keys values n old) i None) x d j
+        y e (was i within) less place a') [
           | inl c ↦ ap (λ k. get_or new k 0) c.0 ∙ (sets.here ∙ (mark ∙ (λ k. mark_of (hash (sym c.1 k)) (sym c.2 k))))
           | inr c ↦ sets.others j (inside j y c.1.there) c.0 ∙ table.marks j e y c.1
         ];
   }
 
   -- A slot is freed.
-  pub table-free : (i : ℕ) → i < n → SetsSlot keys values n old new i 0 None → IsOrdered (λ p. home_of n (hash p)) n (set (slots_of keys values n old) i None)
+  pub table-free : (i : ℕ) → i < n → SetsSlot keys values n old new i 0 None
+      → IsOrdered (λ p. home_of n (hash p)) n (set (slots_of keys values n old) i None)
       → IsTable keys values hash n new
   table-free i within sets ordered = record {
     ordered = subst (IsOrdered (λ p. home_of n (hash p)) n) (sym sets.slots) ordered;
     marks = λ j e y a.
         let a' = subst (λ w. IsAway (λ p. home_of n (hash p)) n w j y e) sets.slots a in
-        let c = away-free (λ p. home_of n (hash p)) n homes (slots_of keys values n old) i (get_or (slots_of keys values n old) i None) j y e (was i within) a' in
+        let c = away-free (λ p. home_of n (hash p)) n homes (slots_of keys values n old) i (get_or (slots_of keys values n old) i None) j
+        y e (was i within) a' in
         sets.others j (inside j y c.1.there) c.0 ∙ table.marks j e y c.1;
   }
 
@@ -59,7 +62,12 @@ table-marked keys values hash n some bytes shape t = record {
   ordered = t.ordered;
   free = λ i s. elim (cases_lt 0 (get_or bytes i 0)) [
     | inl l ↦
-        let within : i < n = omega (arith, slots-long keys values n bytes shape, slice_get_within (slots_of keys values n bytes) i None s) in
+        let within : i < n = omega (
+          arith,
+          slots-long keys values n bytes shape,
+          slice_get_within (slots_of keys values n bytes) i None
+              s,
+        ) in
         let r = slot-taken keys values n bytes shape i within l in
         absurd (not_free r.0 (sym r.1 ∙ s))
     | inr l ↦ omega arith

@@ -1,5 +1,6 @@
 -- Walks over the pairs of a table.
-use Rattle.std.proofs.Common.{◌≡◌, ℕ, zero, suc, ◌+◌, ◌-◌, ◌%◌, ◌^◌, ◌<◌, ◌≤◌, ◌⊎◌, inl, inr, List, [], ◌∷◌, take, length, get_or, sym, ap, subst, ◌∙◌, arith, Some, None, pow-add}
+use Rattle.std.proofs.Common.{◌≡◌, ℕ, zero, suc, ◌+◌, ◌-◌, ◌%◌, ◌^◌, ◌<◌, ◌≤◌, ◌⊎◌, inl, inr, List, [], ◌∷◌, take, length, get_or, sym}
+use Rattle.std.proofs.Common.{ap, subst, ◌∙◌, arith, Some, None, pow-add}
 use Rattle.std.proofs.Math.Nat.{mul-mod_left}
 use Rattle.std.proofs.Math.Path.{ap₂}
 use Rattle.std.proofs.lemmas.Bool.{cases_lt}
@@ -45,15 +46,16 @@ module _ {K V : Type 0} (keys : Ghosts K) (values : Ghosts V) (n : ℕ) (bytes :
   walk-long shape = elim shape [ inl e ↦ omega arith | inr s ↦ omega (arith, s.long) ]
 
   module _ (shape : (n ≡ 0) ⊎ IsShape keys values n bytes) where
-    slots_long : length (slots_of keys values n bytes) ≡ n
+    -- it has its slots, of which those are free that have no mark
+    pub walk-slots : length (slots_of keys values n bytes) ≡ n
     unfolding slots_of
-    slots_long = elim shape [
+    walk-slots = elim shape [
       | inl e ↦ ap (λ m. length (slots_of keys values m bytes)) e ∙ sym e
       | inr s ↦ slots-long keys values n bytes s
     ]
 
-    free : (i : ℕ) → i < n → slice_index (take n bytes) i ≡ 0 → slice_get (slots_of keys values n bytes) i ≡ Some None
-    free i h e = elim shape [
+    pub walk-free : (i : ℕ) → i < n → slice_index (take n bytes) i ≡ 0 → slice_get (slots_of keys values n bytes) i ≡ Some None
+    walk-free i h e = elim shape [
       | inl z ↦ absurd (omega arith)
       | inr s ↦ slot-free keys values n bytes s i h (sym (get_or-take n bytes i 0 h) ∙ e)
     ]
@@ -61,11 +63,12 @@ module _ {K V : Type 0} (keys : Ghosts K) (values : Ghosts V) (n : ℕ) (bytes :
     -- at the start all pairs are left
     pub walk-start : (s : Scan) → AreFree (take n bytes) 0 (front_of s)
         → left_in keys values n bytes s ≡ items (slots_of keys values n bytes)
-    walk-start s none = sym (left-clear n (take n bytes) (slots_of keys values n bytes) slots_long free 0 (front_of s) (omega arith) none)
+    walk-start s none = sym (left-clear n (take n bytes) (slots_of keys values n bytes) walk-slots walk-free 0 (front_of s) (omega arith)
+        none)
 
     -- at the end none is
     pub walk-end : (s : Scan) → AreFree (take n bytes) (front_of s) n → left_in keys values n bytes s ≡ []
-    walk-end s none = left-end n (take n bytes) (slots_of keys values n bytes) slots_long free (front_of s) none
+    walk-end s none = left-end n (take n bytes) (slots_of keys values n bytes) walk-slots walk-free (front_of s) none
 
     -- where it goes on, the pair of the slot comes first
     pub walk-goes : (s t : Scan) (at : ℕ) → GoesOn n (take n bytes) s at t
@@ -76,7 +79,7 @@ module _ {K V : Type 0} (keys : Ghosts K) (values : Ghosts V) (n : ℕ) (bytes :
       | inr sh ↦
           let some : 0 < get_or bytes at 0 = omega (arith, g.taken, get_or-take n bytes at 0 g.less) in
           let x = slot-taken keys values n bytes sh at g.less some in
-          (x.0, x.1, left-goes n (take n bytes) (slots_of keys values n bytes) slots_long free s t at x.0 g x.1)
+          (x.0, x.1, left-goes n (take n bytes) (slots_of keys values n bytes) walk-slots walk-free s t at x.0 g x.1)
     ]
 
 -- ---- A step of a walk
@@ -125,16 +128,21 @@ walk-shape keys values memory t bytes small few handle is = elim (cases_lt 0 t.s
   | inr none ↦ inl (omega arith)
 ]
 
+module _ {K V : Type 0} (keys : Ghosts K) (values : Ghosts V) (memory : Memory) (t : Table K V) (bytes : List ℕ)
+    (small : keys.SIZE ≤ 2 ^ 24)
+    (few : values.SIZE ≤ 2 ^ 24) (handle : IsTableHandle keys values memory t) (is : bytes ≡ bytes_of memory t.block) where
+  -- its marks come by eights
+  pub table-eights : t.slots % 8 ≡ 0
+  table-eights = walk-eights keys values t.slots bytes (walk-shape keys values memory t bytes small few handle is)
+
+  -- and all are there
+  pub table-long : t.slots ≤ length bytes
+  table-long = walk-long keys values t.slots bytes (walk-shape keys values memory t bytes small few handle is)
+
 module _ {K V S : Type 0} (k : Kind K V S) (memory : Memory) (m : HashMap K V S) (bytes : List ℕ) (small : k.keys.SIZE ≤ 2 ^ 24)
     (few : k.values.SIZE ≤ 2 ^ 24) (held : IsMapIn k memory m) (is : bytes ≡ bytes_of memory m.table.block) where
   shape : (m.table.slots ≡ 0) ⊎ IsShape k.keys k.values m.table.slots bytes
   shape = walk-shape k.keys k.values memory m.table bytes small few held.handle is
-
-  pub map-eights : m.table.slots % 8 ≡ 0
-  map-eights = walk-eights k.keys k.values m.table.slots bytes shape
-
-  pub map-long : m.table.slots ≤ length bytes
-  map-long = walk-long k.keys k.values m.table.slots bytes shape
 
   module _ (s : Scan) (none : AreFree (take m.table.slots bytes) 0 (front_of s)) where
     all : left_in k.keys k.values m.table.slots bytes s ≡ pairs_in k memory m

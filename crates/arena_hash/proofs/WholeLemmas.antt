@@ -37,7 +37,8 @@ new-map k m handle none size len = record {
     free : (memory : Memory) → slots_in k.keys k.values memory m.table ≡ replicate m.table.slots None
     free memory = free-slots k.keys k.values m.table.slots (bytes_of memory m.table.block) (rw none refl)
 
-module _ {K V S : Type 0} (k : Kind K V S) (keys : IsItemLayout k.keys.SIZE k.keys.ALIGN) (values : IsItemLayout k.values.SIZE k.values.ALIGN)
+module _ {K V S : Type 0} (k : Kind K V S) (keys : IsItemLayout k.keys.SIZE k.keys.ALIGN)
+    (values : IsItemLayout k.values.SIZE k.values.ALIGN)
     (keys_small : k.keys.SIZE ≤ 2 ^ 24) (values_small : k.values.SIZE ≤ 2 ^ 24) where
   -- Room for none: nothing is placed.
   pub places-none : (old : View) (pairs : ℕ) (hasher : S) (m : HashMap K V S) → pairs ≡ 0 → IsNew k hasher m
@@ -58,7 +59,8 @@ module _ {K V S : Type 0} (k : Kind K V S) (keys : IsItemLayout k.keys.SIZE k.ke
   }
 
   -- Too many pairs are asked for.
-  pub places-too-many : (old : View) (pairs : ℕ) → 2 ^ 32 ≤ pairs → PlacesMap {X = HashMap K V S} k (λ m. m) old old pairs (Err CapacityOverflow)
+  pub places-too-many : (old : View) (pairs : ℕ) → 2 ^ 32 ≤ pairs → PlacesMap {X = HashMap K V S} k (λ m. m) old old pairs
+      (Err CapacityOverflow)
   places-too-many old pairs many = record {
     none = λ is. absurd (omega (arith, many, is));
     overflows = λ h. (refl, refl);
@@ -82,7 +84,8 @@ module _ {K V S : Type 0} (k : Kind K V S) (keys : IsItemLayout k.keys.SIZE k.ke
         → IsTableHandle k.keys k.values new.memory m.table → slots_in k.keys k.values new.memory m.table ≡ replicate slots None
         → Frame old.memory new.memory [] (m.table.block ∷ []) → PlacesMap {X = HashMap K V S} k (λ m. m) old new pairs (Ok m)
     places-table m same len took handle free frame =
-        let costs = capacity-costs k keys values keys_small values_small {X = HashMap K V S} old new (λ m. m.table.block) pairs slots (Ok m) some few is
+        let costs = capacity-costs k keys values keys_small values_small {X = HashMap K V S} old new (λ m. m.table.block) pairs slots
+        (Ok m) some few is
         (record { between = took.between; took = took.took; places = took.places }) in
         let free_all = subst (λ n. slots_in k.keys k.values new.memory m.table ≡ replicate n None) (sym same) free in
         record {
@@ -105,8 +108,14 @@ module _ {K V S : Type 0} (k : Kind K V S) (keys : IsItemLayout k.keys.SIZE k.ke
         (PlacesBlock old between (slots * slot_size k.keys.SIZE k.values.SIZE) (table_align k.keys.ALIGN k.values.ALIGN)))
         → new.memory ≡ old.memory → PlacesMap {X = HashMap K V S} k (λ m. m) old new pairs (Err e)
     places-refused e took same =
-        let costs = capacity-costs k keys values keys_small values_small {X = HashMap K V S} old new (λ m. m.table.block) pairs slots (Err e) some few is
-        (record { between = took.between; took = answer-refused {X = Table K V} {Y = HashMap K V S} (λ t. t.block) (λ m. m.table.block) e _ took.took; places = took.places }) in
+        let costs = capacity-costs k keys values keys_small values_small {X = HashMap K V S} old new (λ m. m.table.block) pairs slots
+        (Err e) some few is
+        (record {
+          between = took.between;
+          took = answer-refused {X = Table K V} {Y = HashMap K V S} (λ t. t.block) (λ m. m.table.block) e
+              _ took.took;
+          places = took.places;
+        }) in
         record {
           none = λ is. absurd (omega (arith, some, is));
           overflows = λ many. absurd (omega (arith, many, few));
@@ -123,7 +132,8 @@ module _ {K V S : Type 0} (k : Kind K V S) (keys : IsItemLayout k.keys.SIZE k.ke
         }
 
 -- The same of a set as of its map.
-pub places-as : {K V S X Y : Type 0} (k : Kind K V S) (f : X → HashMap K V S) (h : Y → HashMap K V S) (old new : View) (pairs : ℕ) (x : X) (y : Y)
+pub places-as : {K V S X Y : Type 0} (k : Kind K V S) (f : X → HashMap K V S) (h : Y
+    → HashMap K V S) (old new : View) (pairs : ℕ) (x : X) (y : Y)
     → h y ≡ f x → PlacesMap k f old new pairs (Ok x) → PlacesMap k h old new pairs (Ok y)
 places-as k f h old new pairs x y same p = record {
   none = λ is. let n = p.none is in (n.0, rw same n.1);
@@ -140,7 +150,8 @@ places-as k f h old new pairs x y same p = record {
   frame = rw same p.frame;
 }
 
-pub refused-as : {K V S X Y : Type 0} (k : Kind K V S) (f : X → HashMap K V S) (h : Y → HashMap K V S) (old new : View) (pairs : ℕ) (e : AllocError)
+pub refused-as : {K V S X Y : Type 0} (k : Kind K V S) (f : X → HashMap K V S) (h : Y
+    → HashMap K V S) (old new : View) (pairs : ℕ) (e : AllocError)
     → PlacesMap k f old new pairs (Err e) → PlacesMap k h old new pairs (Err e)
 refused-as k f h old new pairs e p = record {
   none = λ is. absurd (p.none is).1;
@@ -149,7 +160,11 @@ refused-as k f h old new pairs e p = record {
     size = a.size;
     bounded = a.bounded;
     within = a.within;
-    took = record { between = a.took.between; took = answer-refused (λ x. (f x).table.block) (λ y. (h y).table.block) e _ a.took.took; places = a.took.places };
+    took = record {
+      between = a.took.between;
+      took = answer-refused (λ x. (f x).table.block) (λ y. (h y).table.block) e _ a.took.took;
+      places = a.took.places;
+    };
   };
   held = tt;
   map_is = tt;

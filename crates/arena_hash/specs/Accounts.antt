@@ -36,7 +36,8 @@ pub record IsPaid {K V S : Type 0} (k : Kind K V S) (old new : View) (m w : Hash
   pub spare : spare_of m ≤ spare_of w + 1
 
 -- A call asked the arena for one layout, of at most so many bytes with its padding, and answers what the arena did.
-pub record AsksOnce {X K V S : Type 0} (k : Kind K V S) (old new : View) (block : X → Block) (most : ℕ) (result : Result X AllocError) : Type 0 where
+pub record AsksOnce {X K V S : Type 0} (k : Kind K V S) (old new : View) (block : X → Block) (most : ℕ)
+    (result : Result X AllocError) : Type 0 where
   pub size : ℕ
   pub bounded : size ≤ 2 ^ 62
   pub within : size + (table_align k.keys.ALIGN k.values.ALIGN - 1) ≤ most

@@ -1,5 +1,6 @@
 -- What calls on a map do.
-use Rattle.std.specs.Prelude.{◌≡◌, ℕ, ◌+◌, ◌-◌, ◌*◌, ◌^◌, ◌<◌, ◌≤◌, Bool, not, is_some, [], ◌∷◌, Option, Result, Err, IfOk, OnOk, OnErr, IsOkAnd, if◌then◌else◌}
+use Rattle.std.specs.Prelude.{◌≡◌, ℕ, ◌+◌, ◌-◌, ◌*◌, ◌^◌, ◌<◌, ◌≤◌, Bool, not, is_some, [], ◌∷◌, Option, Result, Err, IfOk, OnOk, OnErr}
+use Rattle.std.specs.Prelude.{IsOkAnd, if◌then◌else◌}
 use Rattle.arena_chunks.specs.Memory.{Memory}
 use Rattle.arena_chunks.specs.Source.{View}
 use Rattle.arena_chunks.specs.Frame.{Frame}
@@ -14,14 +15,15 @@ use Rattle.arena_hash.specs.Policy.{table_align, slot_size, growth_for, IsSlotsF
 use Rattle.arena_hash.specs.declared.map.HashMap.{HashMap}
 
 -- A call that takes no memory makes the handle this map, in its table. No cursor moves, and nothing is asked for or counted.
-pub record Becomes {K V S : Type 0} (k : Kind K V S) (old new : View) (m : HashMap K V S) (is : Finite K V) (w : HashMap K V S) : Type 0 where
-  pub held : IsMapIn k new.memory w
-  pub map_is : map_in k new.memory w ≡ is
-  pub table : w.table ≡ m.table
-  pub hasher : w.hasher ≡ m.hasher
-  pub places : SamePlaces old new
-  pub costs : IsFree k old new m w
-  pub frame : Frame old.memory new.memory (m.table.block ∷ []) (m.table.block ∷ [])
+pub record Becomes {K V S : Type 0} (k : Kind K V S) (old new : View) (m : HashMap K V S) (is : Finite K V) (w : HashMap K V S) : Type 0
+  where
+    pub held : IsMapIn k new.memory w
+    pub map_is : map_in k new.memory w ≡ is
+    pub table : w.table ≡ m.table
+    pub hasher : w.hasher ≡ m.hasher
+    pub places : SamePlaces old new
+    pub costs : IsFree k old new m w
+    pub frame : Frame old.memory new.memory (m.table.block ∷ []) (m.table.block ∷ [])
 
 -- A call that puts a pair, and tells of the value that stood there, or is refused and leaves all as it was. The arena is asked for
 -- the next table exactly where the key is new and there is no room.

@@ -32,7 +32,8 @@ module _ {K V : Type 0} (keys : Ghosts K) (values : Ghosts V) (n : ℕ) (old new
   -- A slot that holds something has another value then, and its mark and its key.
   pub record ChangesValue (at : ℕ) (value : V) : Type 0 where
     pub long : length new ≡ length old
-    pub sets : (x : K × V) → slice_get (slots_of keys values n old) at ≡ Some (Some x) → SetsSlot at (slice_index old at) (Some (x.0, value))
+    pub sets : (x : K × V) → slice_get (slots_of keys values n old) at ≡ Some (Some x)
+        → SetsSlot at (slice_index old at) (Some (x.0, value))
 
   -- The pair of a slot was written into another, with this mark.
   pub record CopiesSlot (from to mark : ℕ) : Type 0 where

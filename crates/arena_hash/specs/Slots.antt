@@ -75,8 +75,3 @@ pub record Moved {X : Type 0} (old new : List (Option X)) : Type 0 where
   pub only : (x : X) → Has new x → Has old x
   pub keeps : (x : X) → Has old x → Has new x
   pub once : (content : X → List ℕ) → IsOnce content old → IsOnce content new
-
--- slot i was carried over: it was free and nothing changed, or what stood there was put
-pub record CarriesOver {X : Type 0} (from : List (Option X)) (i : ℕ) (old new : List (Option X)) : Type 0 where
-  pub free : slice_get from i ≡ Some None → new ≡ old
-  pub taken : (x : X) → slice_get from i ≡ Some (Some x) → Settled old new x

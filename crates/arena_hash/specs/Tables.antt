@@ -1,5 +1,6 @@
 -- Tables: the bytes of their blocks.
-use Rattle.std.specs.Prelude.{IsTrue, ◌≡◌, ℕ, ◌+◌, ◌*◌, ◌/◌, ◌%◌, ◌<◌, ◌≤◌, ◌^◌, ◌==◌, min, ◌⊎◌, Option, Some, None, List, [], ◌∷◌, take, drop, length, slice_index, if◌then◌else◌}
+use Rattle.std.specs.Prelude.{IsTrue, ◌≡◌, ℕ, ◌+◌, ◌*◌, ◌/◌, ◌%◌, ◌<◌, ◌≤◌, ◌^◌, ◌==◌, min, ◌⊎◌, Option, Some, None, List, [], ◌∷◌, take}
+use Rattle.std.specs.Prelude.{drop, length, slice_index, if◌then◌else◌}
 use Rattle.std.specs.Int.{IsPowerOfTwo}
 use Rattle.arena_chunks.specs.Memory.{Memory, is_readable}
 use Rattle.arena_chunks.specs.Frame.{AreBlocksApart}
@@ -61,6 +62,10 @@ pub record IsTableHandle {K V : Type 0} (keys : Ghosts K) (values : Ghosts V) (m
 -- its slots
 abbrev pub slots_in : {K V : Type 0} → Ghosts K → Ghosts V → Memory → Table K V → List (Option (K × V))
 slots_in keys values memory t = slots_of keys values t.slots (bytes_of memory t.block)
+
+-- its marks
+abbrev pub marks_in : {K V : Type 0} → Memory → Table K V → List ℕ
+marks_in memory t = take t.slots (bytes_of memory t.block)
 
 -- there is a free one
 abbrev pub HasFree : {K V : Type 0} → Ghosts K → Ghosts V → Memory → Table K V → Type 0

@@ -1,8 +1,9 @@
 -- Walks over a map, its equality, and maps of an iterator's pairs.
-use Rattle.std.specs.Prelude.{◌≡◌, ◌≢◌, ℕ, ◌+◌, ◌*◌, ◌/◌, ◌%◌, ◌<◌, ◌≤◌, ◌==◌, ◌⊎◌, Bool, List, length, take, drop, slice_index, Option, Some, None, IsTrue, ◌↔◌, if◌then◌else◌}
+use Rattle.std.specs.Prelude.{◌≡◌, ◌≢◌, ℕ, ◌+◌, ◌*◌, ◌/◌, ◌%◌, ◌<◌, ◌≤◌, ◌==◌, ◌⊎◌, Bool, List, length, take, drop, slice_get}
+use Rattle.std.specs.Prelude.{slice_index, Option, Some, None, IsTrue, ◌↔◌, if◌then◌else◌}
 use Rattle.std.specs.Int.{w64, bit_at, trailing_zeros}
 use Rattle.arena_items.specs.declared.item.Item.{Ghosts}
-use Rattle.arena_hash.specs.Slots.{items}
+use Rattle.arena_hash.specs.Slots.{items, Settled}
 use Rattle.arena_hash.specs.Tables.{IsShape, slots_of}
 use Rattle.arena_hash.specs.declared.walk.Scan.{Scan}
 use Rattle.arena_hash.specs.Finite.{Finite, first_of, AreOnce, value_of}
@@ -41,6 +42,13 @@ pub record GoesOn (n : ℕ) (marks : List ℕ) (old : Scan) (at : ℕ) (new : Sc
   pub over : AreFree marks (front_of old) at
   pub on : at < front_of new
   pub behind : AreFree marks (at + 1) (front_of new)
+
+-- The next thing of a walk over other slots was put, and the walk goes on behind it.
+pub record CarriesNext {X : Type 0} (n : ℕ) (marks : List ℕ) (from old new : List (Option X)) (scan next : Scan) : Type 0 where
+  pub scan_next : IsScan n marks next
+  pub at : ℕ
+  pub goes : GoesOn n marks scan at next
+  pub settled : (x : X) → slice_get from at ≡ Some (Some x) → Settled old new x
 
 -- the pairs that a walk over a table's bytes has left
 abbrev pub left_in : {K V : Type 0} → Ghosts K → Ghosts V → ℕ → List ℕ → Scan → List (K × V)

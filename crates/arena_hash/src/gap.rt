@@ -10,7 +10,7 @@ use arena_items::Item;
 use std::marker::PhantomData;
 
 // Writes the pair of one slot into another, with this mark.
-#[inline]
+#[inline(always)]
 fn pull<K: Item, V: Item>(bytes: &mut [u8], slots: u64, from: u64, to: u64, mark: u8)
     requires shape { IsShape K.Item V.Item slots bytes.old }
     requires source { from < slots }
@@ -24,7 +24,7 @@ fn pull<K: Item, V: Item>(bytes: &mut [u8], slots: u64, from: u64, to: u64, mark
 }
 
 // Closes the gap at a slot.
-#[inline]
+#[inline(always)]
 fn close_gap<K: Item, V: Item>(bytes: &mut [u8], slots: u64, at: u64)
     requires shape { IsShape K.Item V.Item slots bytes.old }
     requires at { at < slots }
@@ -45,7 +45,7 @@ fn close_gap<K: Item, V: Item>(bytes: &mut [u8], slots: u64, at: u64)
 }
 
 /// Whether the gap at a slot is closed by marks alone: no pair that moves back is far from its home.
-#[inline]
+#[inline(always)]
 pub(crate) fn is_near(bytes: &[u8], slots: u64, at: u64) -> bool
     requires ring { IsRing slots }
     requires long { slots ≤ length bytes.now }
@@ -80,7 +80,7 @@ impl<K: Item, V: Item> Edit for CloseGap<K, V> {
 
     ghost relates = { λ e old new. ClosesGap K.Item V.Item e.slots old new e.at };
 
-    #[inline]
+    #[inline(always)]
     fn edit(&self, place: &mut [u8]) {
         close_gap::<K, V>(place, self.slots, self.at);
     }

@@ -214,7 +214,7 @@ impl<K: ArenaKey, V: Item, S: KeyHasher> HashMap<K, V, S> {
     /// `CapacityOverflow` where the key is new and there are 4,294,967,295 pairs; `AllocErr` and
     /// `OutOfMemory` as of the arena's `alloc_layout`, where the key is new and the table is full. Nothing
     /// changes.
-    #[inline]
+    #[inline(always)]
     pub fn insert<C: ChunkSource>(
         &mut self,
         a: &mut Allocator<C>,
@@ -236,12 +236,11 @@ impl<K: ArenaKey, V: Item, S: KeyHasher> HashMap<K, V, S> {
                 if (self.len as u64) < limit_of(self.table.slots) {
                     self.table
                         .put(a, &self.hasher, look.hash, at, mark, key, value);
+                    self.len += 1;
+                    Ok(None)
                 } else {
-                    self.table = self.grown(a)?;
-                    self.table.settle(a, &self.hasher, look.hash, key, value);
+                    self.insert_grown(a, look.hash, key, value)
                 }
-                self.len += 1;
-                Ok(None)
             }
         }
     }

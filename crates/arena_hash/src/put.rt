@@ -10,7 +10,7 @@ use arena_items::Item;
 use std::marker::PhantomData;
 
 // Puts a pair with its mark into a slot, and moves on what stands there.
-#[inline]
+#[inline(always)]
 fn put_at<K: Item, V: Item>(bytes: &mut [u8], slots: u64, at: u64, mark: u8, key: K, value: V)
     requires shape { IsShape K.Item V.Item slots bytes.old }
     requires at { at < slots }
@@ -51,7 +51,7 @@ impl<K: Item, V: Item> Edit for PutPair<K, V> {
 
     ghost relates = { λ e old new. PutsPair K.Item V.Item e.slots old new e.at e.mark (e.key, e.value) };
 
-    #[inline]
+    #[inline(always)]
     fn edit(&self, place: &mut [u8]) {
         put_at(place, self.slots, self.at, self.mark, self.key, self.value);
     }

@@ -2,16 +2,20 @@
 // its home, and where all pairs move to another table.
 ghost use Rattle.std.specs.Prelude.{◌≡◌, ℕ, ◌+◌, ◌*◌, ◌^◌, ◌<◌, ◌≤◌, ◌==◌, [], ◌∷◌, Some, None, IfOk, OnErr};
 ghost use Rattle.std.specs.Prelude.{length, replicate, slice_get, slice_index, if◌then◌else◌};
+ghost use Rattle.std.specs.Option.{MatchOption};
 ghost use Rattle.arena_chunks.specs.Frame.{Frame};
 ghost use Rattle.arena_items.specs.Values.{bytes_of};
 ghost use Rattle.arena_items.specs.Room.{MakesRoom, SamePlaces};
 ghost use Rattle.arena_items.specs.declared.room.Growth.TheVariants.{GrowsTo, Overflows};
+ghost use Rattle.arena_hash.specs.Changes.{Puts, is_value};
 ghost use Rattle.arena_hash.specs.Contents.{kind, content_in};
+ghost use Rattle.arena_hash.specs.Maps.{IsMapIn};
 ghost use Rattle.arena_hash.specs.Policy.{limit, most_pairs, next_slots, slot_size, table_align};
 ghost use Rattle.arena_hash.specs.Searches.{IsPassed, IsSpotFor};
-ghost use Rattle.arena_hash.specs.Slots.{items, CarriesOver, Closed, IsAway, IsPlaceFor, Moved, Settled};
-ghost use Rattle.arena_hash.specs.Tables.{home_of, mark_of, pair_hash, slots_in, HasFree, IsReadBeside};
-ghost use Rattle.arena_hash.specs.Tables.{IsTableIn, IsTextBeside};
+ghost use Rattle.arena_hash.specs.Slots.{items, Closed, IsAway, IsPlaceFor, Lacks, Moved, Settled};
+ghost use Rattle.arena_hash.specs.Tables.{home_of, mark_of, marks_in, pair_hash, slots_in, HasFree};
+ghost use Rattle.arena_hash.specs.Tables.{IsReadBeside, IsTableIn, IsTextBeside};
+ghost use Rattle.arena_hash.specs.Walks.{front_of, AreFree, CarriesNext, IsScan};
 
 use crate::gap::{CloseGap, PullBack, is_near};
 use crate::hasher::KeyHasher;
@@ -22,6 +26,7 @@ use crate::pairs::{key_at, value_at};
 use crate::policy::next_slots;
 use crate::put::PutPair;
 use crate::table::{Table, Zeros};
+use crate::walk::{Scan, start, step};
 use arena_chunks::{Allocator, ChunkSource};
 use arena_items::{AllocError, Grown, Item};
 use std::marker::PhantomData;
@@ -176,11 +181,13 @@ impl<K: ArenaKey, V: Item> Table<K, V> {
         if mark < FAR {
             return spot;
         }
-        far_spot(a, self, hasher, hash)
+        // A copy of its own, so that the common way writes none for the call.
+        let table = self;
+        far_spot(a, table, hasher, hash)
     }
 
     // Puts a pair, whose content no slot holds, where the search for it ended.
-    #[inline]
+    #[inline(always)]
     pub(crate) fn put<S: KeyHasher, C: ChunkSource>(
         self,
         a: &mut Allocator<C>,
@@ -217,7 +224,7 @@ impl<K: ArenaKey, V: Item> Table<K, V> {
     }
 
     // Puts a pair whose content no slot holds.
-    #[inline]
+    #[inline(always)]
     pub(crate) fn settle<S: KeyHasher, C: ChunkSource>(
         self,
         a: &mut Allocator<C>,
@@ -243,7 +250,7 @@ impl<K: ArenaKey, V: Item> Table<K, V> {
     }
 
     // Frees a slot, and closes the gap.
-    #[inline]
+    #[inline(always)]
     pub(crate) fn close<S: KeyHasher, C: ChunkSource>(
         self,
         a: &mut Allocator<C>,
@@ -263,7 +270,8 @@ impl<K: ArenaKey, V: Item> Table<K, V> {
         ensures frame { Frame a.old.memory a.new.memory (self.block ∷ []) (self.block ∷ []) }
     {
         if !is_near(a.read(self.block), self.slots, at) {
-            close_far(a, self, hasher, at);
+            let table = self;
+            close_far(a, table, hasher, at);
             return;
         }
         let close = CloseGap::<K, V> {
@@ -274,36 +282,40 @@ impl<K: ArenaKey, V: Item> Table<K, V> {
         a.write_with(self.block, 0, self.block.size, &close);
     }
 
-    // Puts the pair of a slot of another table, if there is one.
-    #[inline]
+    // Puts the next pair of a walk over another table, and answers where the walk goes on.
+    #[inline(always)]
     fn carry<S: KeyHasher, C: ChunkSource>(
         self,
         a: &mut Allocator<C>,
         hasher: &S,
         from: Table<K, V>,
-        i: u64,
-    )
+        scan: Scan,
+    ) -> Option<Scan>
         requires keys_small { K.SIZE ≤ 2 ^ 24 }
         requires values_small { V.SIZE ≤ 2 ^ 24 }
         requires held { IsTableIn (kind K.Item K.key V.Item S.hash_of) a.old.memory hasher.now self }
         requires free { HasFree K.Item V.Item a.old.memory self }
         requires from { IsReadBeside (kind K.Item K.key V.Item S.hash_of) a.old.memory self.block from }
-        requires index { i < from.slots }
+        requires scan { IsScan from.slots (marks_in a.old.memory from) scan }
         ensures held { IsTableIn (kind K.Item K.key V.Item S.hash_of) a.new.memory hasher.now self }
-        ensures carries { CarriesOver (slots_in K.Item V.Item a.old.memory from) i
-            (slots_in K.Item V.Item a.old.memory self) (slots_in K.Item V.Item a.new.memory self) }
+        ensures carries { MatchOption result (AreFree (marks_in a.old.memory from) (front_of scan) from.slots
+            × (slots_in K.Item V.Item a.new.memory self ≡ slots_in K.Item V.Item a.old.memory self))
+            (CarriesNext from.slots (marks_in a.old.memory from) (slots_in K.Item V.Item a.old.memory from)
+            (slots_in K.Item V.Item a.old.memory self) (slots_in K.Item V.Item a.new.memory self) scan) }
         ensures places { SamePlaces a.old a.new }
         ensures frame { Frame a.old.memory a.new.memory (self.block ∷ []) (self.block ∷ []) }
     {
         let bytes = a.read(from.block);
-        if bytes[i as usize] == 0 {
-            return;
-        }
+        let (slot, next) = step(bytes, from.slots, scan);
+        let Some(i) = slot else {
+            return None;
+        };
         let key = key_at::<K, V>(bytes, from.slots, i);
         let value = value_at::<K, V>(bytes, from.slots, i);
         let mut room = [0u8; 16];
         let hash = hasher.hash(key.content(a, &mut room));
         self.settle(a, hasher, hash, key, value);
+        Some(next)
     }
 
     // Puts all pairs of another table into this one, which has none.
@@ -325,8 +337,9 @@ impl<K: ArenaKey, V: Item> Table<K, V> {
         ensures places { SamePlaces a.old a.new }
         ensures frame { Frame a.old.memory a.new.memory (self.block ∷ []) (self.block ∷ []) }
     {
-        'slots: for i in 0..from.slots {
-            self.carry(a, hasher, from, i);
+        let mut scan = start(a.read(from.block), from.slots);
+        'pairs: while let Some(next) = self.carry(a, hasher, from, scan) {
+            scan = next;
         }
     }
 }
@@ -359,5 +372,33 @@ impl<K: ArenaKey, V: Item, S: KeyHasher> HashMap<K, V, S> {
         let table = Table::<K, V>::place(a, next_slots(self.table.slots))?;
         table.carry_all(a, &self.hasher, self.table);
         Ok(table)
+    }
+
+    // Puts a pair, whose content no slot holds, into the next table. In a call of its own, so that an insert
+    // that grows nothing writes nothing for it.
+    #[cold]
+    #[inline(never)]
+    pub(crate) fn insert_grown<C: ChunkSource>(
+        &mut self,
+        a: &mut Allocator<C>,
+        hash: u64,
+        key: K,
+        value: V,
+    ) -> Grown<Option<V>>
+        requires keys_small { K.SIZE ≤ 2 ^ 24 }
+        requires values_small { V.SIZE ≤ 2 ^ 24 }
+        requires held { IsMapIn (kind K.Item K.key V.Item S.hash_of) a.old.memory self.old }
+        requires text { IsTextBeside K.key a.old.memory self.old.table.block key }
+        requires hash { hash ≡ S.hash_of self.old.hasher (content_in K.key a.old.memory key) }
+        requires lacks { Lacks (λ p. content_in K.key a.old.memory p.0)
+            (slots_in K.Item V.Item a.old.memory self.old.table) (content_in K.key a.old.memory key) }
+        requires full { limit self.old.table.slots ≤ self.old.len }
+        ensures { Puts (kind K.Item K.key V.Item S.hash_of) a.old a.new self.old key value is_value
+            self.new result }
+    {
+        self.table = self.grown(a)?;
+        self.table.settle(a, &self.hasher, hash, key, value);
+        self.len += 1;
+        Ok(None)
     }
 }

@@ -120,7 +120,7 @@ impl<K: Item, V: Item> Table<K, V> {
     }
 
     // Where a pair with this hash goes, whose content no slot holds, with its mark.
-    #[inline]
+    #[inline(always)]
     pub(crate) fn spot_for(self, bytes: &[u8], hash: u64) -> (u64, u8)
         requires shape { IsShape K.Item V.Item self.slots bytes.now }
         ensures { (h : K × V → ℕ) → IsTable K.Item V.Item h self.slots bytes.now

@@ -1,12 +1,13 @@
 // The pairs of a map, in the order of its slots.
 ghost use Rattle.std.specs.Prelude.{◌≡◌, ◌≢◌, ℕ, ◌+◌, ◌*◌, ◌/◌, ◌%◌, ◌^◌, ◌<◌, ◌≤◌, ◌↔◌};
-ghost use Rattle.std.specs.Prelude.{List, length, map, take};
+ghost use Rattle.std.specs.Prelude.{List, Some, length, map, slice_get, take};
 ghost use Rattle.std.specs.Int.{bit_at};
 ghost use Rattle.std.specs.Option.{MatchOption};
 ghost use Rattle.std.specs.Iterator.{YieldsFirst, item_count};
 ghost use Rattle.arena_hash.specs.Contents.{kind, content_in};
 ghost use Rattle.arena_hash.specs.Maps.{IsMapIn, map_in};
 ghost use Rattle.arena_hash.specs.Sets.{ListsKeys};
+ghost use Rattle.arena_hash.specs.Tables.{slots_in, IsTableHandle};
 ghost use Rattle.arena_hash.specs.Walks.{front_of, AreFree, AreLanes, GoesOn, IsScan, Lists};
 
 use crate::hasher::KeyHasher;
@@ -39,7 +40,7 @@ fn taken_lanes(word: u64) -> u64
 }
 
 // The taken slots of eight.
-#[inline]
+#[inline(always)]
 fn lanes_at(bytes: &[u8], base: u64) -> u64
     requires { base + 8 ≤ length bytes.now }
     ensures { AreLanes bytes.now base result }
@@ -58,8 +59,8 @@ fn lanes_at(bytes: &[u8], base: u64) -> u64
 }
 
 // The place of a walk that gave nothing yet.
-#[inline]
-fn start(bytes: &[u8], slots: u64) -> Scan
+#[inline(always)]
+pub(crate) fn start(bytes: &[u8], slots: u64) -> Scan
     requires eights { slots % 8 ≡ 0 }
     requires long { slots ≤ length bytes.now }
     ensures scan { IsScan slots (take slots bytes.now) result }
@@ -72,8 +73,8 @@ fn start(bytes: &[u8], slots: u64) -> Scan
 }
 
 // The next taken slot, and the place behind it.
-#[inline]
-fn step(bytes: &[u8], slots: u64, scan: Scan) -> (Option<u64>, Scan)
+#[inline(always)]
+pub(crate) fn step(bytes: &[u8], slots: u64, scan: Scan) -> (Option<u64>, Scan)
     requires eights { slots % 8 ≡ 0 }
     requires long { slots ≤ length bytes.now }
     requires scan { IsScan slots (take slots bytes.now) scan }
@@ -142,6 +143,26 @@ impl<K: ArenaKey, V: Item, S: KeyHasher> HashMap<K, V, S> {
             of: PhantomData,
             source: PhantomData,
         }
+    }
+
+    /// The pair in a slot of the table, if one stands there. A walk by slots can go on while the arena changes elsewhere.
+    #[tactic(auto, using(crate::proofs::SlotLemmas::slot_laws))]
+    #[inline]
+    pub fn pair_at<C: ChunkSource>(&self, a: &Allocator<C>, slot: u64) -> Option<(K, V)>
+        requires keys_small { K.SIZE ≤ 2 ^ 24 }
+        requires values_small { V.SIZE ≤ 2 ^ 24 }
+        requires handle { IsTableHandle K.Item V.Item a.now.memory self.now.table }
+        requires index { slot < self.now.table.slots }
+        ensures { slice_get (slots_in K.Item V.Item a.now.memory self.now.table) slot ≡ Some result }
+    {
+        let bytes = a.read(self.table.block);
+        if bytes[slot as usize] == 0 {
+            return None;
+        }
+        Some((
+            key_at::<K, V>(bytes, self.table.slots, slot),
+            value_at::<K, V>(bytes, self.table.slots, slot),
+        ))
     }
 
     /// The keys, each once, in the order of `iter`.

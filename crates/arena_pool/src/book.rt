@@ -1,7 +1,7 @@
 // What a pool keeps: the arenas that are stored, and its counts.
 ghost use Rattle.std.specs.Prelude.{◌≡◌, ◌+◌, ◌%◌, ◌<◌, ◌≤◌, IfOk};
 ghost use Rattle.arena_pool.specs.Kinds.{is_fixed, HasId, HasRegions, IsNew, IsOfKind, IsUnused};
-ghost use Rattle.arena_pool.specs.Pool.{Begins, Gets, IsPool, IsPooled, store, put, give_up};
+ghost use Rattle.arena_pool.specs.Pool.{Begins, Gets, LendsStored, IsPool, IsPooled, store, put, give_up};
 ghost use Rattle.arena_pool.specs.declared.kind.PoolKind.TheVariants.{Standard, FixedSize};
 
 use crate::kind::{PoolKind, emptied};
@@ -166,10 +166,31 @@ impl<K: ChunkMaker> Book<K> {
         ensures gets { Gets self.old result self.new }
         ensures lent { IfOk result (IsPooled self.old.kind) }
     {
-        if let Some(pooled) = self.stack.pop() {
-            self.lent += 1;
-            return Ok(pooled);
+        if self.stored() > 0 {
+            return Ok(self.take_stored());
         }
+        self.take_new()
+    }
+
+    // Lends the newest arena that is stored.
+    #[inline]
+    pub(crate) fn take_stored(&mut self) -> (Allocator<K::Chunks>, Option<u32>)
+        requires { 0 < self.old.stored }
+        ensures lends { LendsStored self.old result self.new }
+        ensures lent { IsPooled self.old.kind result }
+    {
+        self.lent += 1;
+        self.stack.take_last()
+    }
+
+    // Lends a new arena, where none is stored. Out of line, so that what `take_stored` lends is moved in one piece.
+    #[cold]
+    #[inline(never)]
+    fn take_new(&mut self) -> Result<(Allocator<K::Chunks>, Option<u32>), PoolErr>
+        requires { self.old.stored ≡ 0 }
+        ensures gets { Gets self.old result self.new }
+        ensures lent { IfOk result (IsPooled self.old.kind) }
+    {
         if self.kind.is_fixed() {
             return Err(PoolErr::PoolEmpty);
         }
@@ -212,6 +233,14 @@ impl<K: ChunkMaker> Book<K> {
     {
         self.lent -= 1;
         self.given_up += 1;
+    }
+
+    // How many are stored.
+    #[inline]
+    pub(crate) fn stored(&self) -> usize
+        ensures { result ≡ self.now.stored }
+    {
+        self.stack.len()
     }
 
     // Whether the arenas don't grow.

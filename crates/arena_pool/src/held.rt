@@ -1,7 +1,7 @@
 // What lies under a pool's lock, and what each lent arena leaves.
 ghost use Rattle.std.specs.Prelude.{◌≡◌, ◌+◌, ◌<◌, IfOk, OnErr, IsOk, IsTrue, Ok, Err};
 ghost use Rattle.arena_pool.specs.Kinds.{is_fixed, HasId, IsUnused};
-ghost use Rattle.arena_pool.specs.Pool.{Gets, can_take, most_lent, store, give_up};
+ghost use Rattle.arena_pool.specs.Pool.{Gets, LendsStored, can_take, most_lent, store, give_up};
 
 use crate::book::{Book, Counts, PoolErr};
 use crate::maker::ChunkMaker;
@@ -36,6 +36,8 @@ pub(crate) struct Held<K: ChunkMaker, L: PoolName> {
     book: Book<K>,
     loans: ledger::Book<L>,
     spare: Share<L>,
+    // How many threads wait for an arena.
+    waiting: u64,
     ghost kind: { book.kind ≡ L.kind },
     ghost counted: { loans.total ≡ book.lent },
     ghost none_spare: { spare.amount ≡ 0 },
@@ -52,7 +54,12 @@ impl<K: ChunkMaker, L: PoolName> Held<K, L> {
         requires parts { spare.parts ≡ MOST_LENT }
         ensures { result.book ≡ book }
     {
-        Held { book, loans, spare }
+        Held {
+            book,
+            loans,
+            spare,
+            waiting: 0,
+        }
     }
 
     // Whether `take` lends an arena or wants memory for a new one.
@@ -72,16 +79,39 @@ impl<K: ChunkMaker, L: PoolName> Held<K, L> {
         ensures unused { IfOk result (λ lent. IsUnused L.kind lent.0) }
         ensures fixed { IsTrue (is_fixed L.kind) → IsOk result }
     {
-        let Held { book, loans, spare } = self;
+        let Held {
+            book,
+            loans,
+            spare,
+            ..
+        } = self;
         match book.take() {
             Ok((arena, id)) => {
-                loans.add(spare, 1);
-                let share = spare.split_off(1, 1);
+                let share = part(loans, spare);
                 Ok((arena, Loan { id, share }))
             }
             Err(PoolErr::OutOfMemory) => Err(OutOfMemory),
             Err(PoolErr::PoolEmpty | PoolErr::Limit) => unreachable!(),
         }
+    }
+
+    // The newest arena that is stored, with a loan.
+    #[inline]
+    pub(crate) fn take_stored(&mut self) -> (Allocator<K::Chunks>, Loan<L>)
+        requires room { self.old.book.lent < MOST_LENT }
+        requires stored { 0 < self.old.book.stored }
+        ensures lent { LendsStored self.old.book (result.0, result.1.id) self.new.book }
+        ensures unused { IsUnused L.kind result.0 }
+    {
+        let Held {
+            book,
+            loans,
+            spare,
+            ..
+        } = self;
+        let (arena, id) = book.take_stored();
+        let share = part(loans, spare);
+        (arena, Loan { id, share })
     }
 
     // The arena of a loan, of which nothing is used, is stored.
@@ -90,7 +120,12 @@ impl<K: ChunkMaker, L: PoolName> Held<K, L> {
         ensures { self.new.book ≡ store self.old.book (arena, loan.id) }
     {
         let Loan { id, share } = loan;
-        let Held { book, loans, spare } = self;
+        let Held {
+            book,
+            loans,
+            spare,
+            ..
+        } = self;
         settle(loans, spare, share);
         book.keep(arena, id);
     }
@@ -100,9 +135,42 @@ impl<K: ChunkMaker, L: PoolName> Held<K, L> {
         ensures { self.new.book ≡ give_up self.old.book }
     {
         let Loan { id: _, share } = loan;
-        let Held { book, loans, spare } = self;
+        let Held {
+            book,
+            loans,
+            spare,
+            ..
+        } = self;
         settle(loans, spare, share);
         book.forget();
+    }
+
+    // How many are stored.
+    #[inline]
+    pub(crate) fn stored(&self) -> usize
+        ensures { result ≡ self.now.book.stored }
+    {
+        self.book.stored()
+    }
+
+    // One more thread waits for an arena.
+    pub(crate) fn begin_wait(&mut self)
+        ensures { self.new.book ≡ self.old.book }
+    {
+        self.waiting = self.waiting.saturating_add(1);
+    }
+
+    // One thread waits no more.
+    pub(crate) fn end_wait(&mut self)
+        ensures { self.new.book ≡ self.old.book }
+    {
+        self.waiting = self.waiting.saturating_sub(1);
+    }
+
+    // Whether a thread waits for an arena.
+    #[inline]
+    pub(crate) fn is_awaited(&self) -> bool {
+        self.waiting > 0
     }
 
     pub(crate) fn counts(&self) -> Counts
@@ -113,6 +181,20 @@ impl<K: ChunkMaker, L: PoolName> Held<K, L> {
     {
         self.book.counts()
     }
+}
+
+// A share of the ledger for a loan.
+fn part<L: PoolName>(loans: &mut ledger::Book<L>, spare: &mut Share<L>) -> Share<L>
+    requires parts { 0 < spare.old.parts }
+    requires amount { spare.old.amount ≡ 0 }
+    ensures total { loans.new.total ≡ loans.old.total + 1 }
+    ensures parts { spare.new.parts + 1 ≡ spare.old.parts }
+    ensures amount { spare.new.amount ≡ 0 }
+    ensures part { result.parts ≡ 1 }
+    ensures one { result.amount ≡ 1 }
+{
+    loans.add(spare, 1);
+    spare.split_off(1, 1)
 }
 
 // A loan's share goes back to the ledger. So at least one arena is lent.

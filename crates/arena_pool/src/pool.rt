@@ -1,7 +1,9 @@
 // The pool under its lock.
 ghost use Rattle.std.specs.Prelude.{◌≡◌, ◌%◌, ◌≤◌, IfOk, IsOk, IsTrue};
 ghost use Rattle.arena_pool.specs.Kinds.{is_fixed, IsOfKind, IsUnused};
+ghost use Rattle.std.specs.Sync.Mutex.{mutex_guard_value};
 ghost use Rattle.arena_pool.specs.Names.{IsBlankOf};
+ghost use Rattle.arena_pool.specs.Pool.{can_take};
 ghost use Rattle.arena_pool.specs.declared.kind.PoolKind.TheVariants.{Standard, FixedSize};
 
 use crate::book::{Book, Counts};
@@ -13,7 +15,7 @@ use crate::name::PoolName;
 use arena_chunks::{Allocator, OutOfMemory};
 use std::alloc::Global;
 use std::sync::ledger::Blank;
-use std::sync::{Condvar, Mutex, Wait};
+use std::sync::{Condvar, Mutex, MutexGuard, Wait};
 
 /// Arenas of one kind, which threads borrow and give back.
 #[derive(Drop)]
@@ -90,7 +92,12 @@ impl<K: ChunkMaker, L: PoolName> AllocatorPool<K, L> {
         ensures unused { IfOk result (λ guard. IsUnused L.kind guard.0) }
         ensures fixed { IsTrue (is_fixed L.kind) → IsOk result }
     {
-        let (arena, loan) = self.lend(rt)?;
+        let mut held = self.ready(rt);
+        if held.stored() == 0 {
+            return self.get_new(held);
+        }
+        let (arena, loan) = held.take_stored();
+        drop(held);
         Ok(AllocatorGuard::new(self, arena, loan))
     }
 
@@ -108,7 +115,7 @@ impl<K: ChunkMaker, L: PoolName> AllocatorPool<K, L> {
 
     /// The four counts, as they are while the lock is held.
     pub fn counts<R: Wait>(&self, rt: &R) -> Counts {
-        self.held.lock(rt).counts()
+        self.lock(rt).counts()
     }
 
     // An arena with its loan.
@@ -119,9 +126,19 @@ impl<K: ChunkMaker, L: PoolName> AllocatorPool<K, L> {
         ensures unused { IfOk result (λ lent. IsUnused L.kind lent.0) }
         ensures fixed { IsTrue (is_fixed L.kind) → IsOk result }
     {
-        let mut held = self
-            .freed
-            .wait_while(rt, self.held.lock(rt), |held| !held.can_take());
+        self.lend_under(self.ready(rt))
+    }
+
+    // The same under the lock, which is let go.
+    fn lend_under(
+        &self,
+        held: MutexGuard<'_, Held<K, L>>,
+    ) -> Result<(Allocator<K::Chunks>, Loan<L>), OutOfMemory>
+        requires { IsTrue (can_take (mutex_guard_value held).book) }
+        ensures unused { IfOk result (λ lent. IsUnused L.kind lent.0) }
+        ensures fixed { IsTrue (is_fixed L.kind) → IsOk result }
+    {
+        let mut held = held;
         let lent = held.take();
         drop(held);
         if lent.is_err() {
@@ -131,18 +148,83 @@ impl<K: ChunkMaker, L: PoolName> AllocatorPool<K, L> {
         lent
     }
 
+    // A guard of a new arena. Out of line, as `Book::take_new` is.
+    #[cold]
+    #[inline(never)]
+    fn get_new(
+        &self,
+        held: MutexGuard<'_, Held<K, L>>,
+    ) -> Result<AllocatorGuard<'_, K, L>, OutOfMemory>
+        requires { IsTrue (can_take (mutex_guard_value held).book) }
+        ensures unused { IfOk result (λ guard. IsUnused L.kind guard.0) }
+        ensures fixed { IsTrue (is_fixed L.kind) → IsOk result }
+    {
+        let (arena, loan) = self.lend_under(held)?;
+        Ok(AllocatorGuard::new(self, arena, loan))
+    }
+
+    // Takes the lock. Where it is free that is one step, in line.
+    #[inline]
+    fn lock<R: Wait>(&self, rt: &R) -> MutexGuard<'_, Held<K, L>> {
+        match self.held.try_lock() {
+            Some(held) => held,
+            None => self.held.lock(rt),
+        }
+    }
+
+    // Takes the lock, once an arena can be lent.
+    #[inline]
+    fn ready<R: Wait>(&self, rt: &R) -> MutexGuard<'_, Held<K, L>>
+        ensures { IsTrue (can_take (mutex_guard_value result).book) }
+    {
+        let held = self.lock(rt);
+        if held.can_take() {
+            return held;
+        }
+        self.wait(rt, held)
+    }
+
+    // Waits until an arena can be lent. Those that wait are counted, so that who gives back wakes one only where there is one.
+    #[cold]
+    #[inline(never)]
+    fn wait<'b, R: Wait>(
+        &self,
+        rt: &R,
+        held: MutexGuard<'b, Held<K, L>>,
+    ) -> MutexGuard<'b, Held<K, L>>
+        ensures { IsTrue (can_take (mutex_guard_value result).book) }
+    {
+        let mut held = held;
+        held.begin_wait();
+        let mut held = self.freed.wait_while(rt, held, |held| !held.can_take());
+        held.end_wait();
+        held
+    }
+
+    // Lets the lock go, and wakes one that waits.
+    #[inline]
+    fn wake_one(&self, held: MutexGuard<'_, Held<K, L>>) {
+        let is_awaited = held.is_awaited();
+        drop(held);
+        if is_awaited {
+            self.freed.notify_one();
+        }
+    }
+
     // Stores an arena. It is reset before the lock is taken, and one that waits is woken.
     pub(crate) fn add<R: Wait>(&self, rt: &R, a: Allocator<K::Chunks>, loan: Loan<L>)
         requires { IsOfKind L.kind a.memory.state }
     {
         let a = emptied(a);
-        self.held.lock(rt).keep(a, loan);
-        self.freed.notify_one();
+        let mut held = self.lock(rt);
+        held.keep(a, loan);
+        self.wake_one(held);
     }
 
     // An arena doesn't come back. One that waits for its part of the ledger is woken.
     pub(crate) fn forget<R: Wait>(&self, rt: &R, loan: Loan<L>) {
-        self.held.lock(rt).forget(loan);
-        self.freed.notify_one();
+        let mut held = self.lock(rt);
+        held.forget(loan);
+        self.wake_one(held);
     }
 }

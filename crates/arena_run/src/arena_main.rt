@@ -4,9 +4,9 @@ ghost use Rattle.arena_chunks.specs.Source.{view};
 ghost use Rattle.arena_run.specs.Ends.{Ends, Outside, code_of};
 
 use crate::lines::{LinesErr, parse_calls};
-use crate::replies::print_replies;
+use crate::replies::Text;
 use crate::streams::{Input, Output, ReadErr, read_all, write_all};
-use arena_chunks::{Arena, Bytes, ChunkSource, run_calls};
+use arena_chunks::{Arena, Bytes, ChunkSource, run_calls_into};
 use std::alloc::Global;
 
 /// How the program ends.
@@ -93,16 +93,15 @@ pub fn arena_main<C: ChunkSource, I: Input, O: Output>(
         Err(LinesErr::BadLine(n)) => return Status::BadLine(n),
         Err(LinesErr::OutOfMemory) => return Status::OutOfMemory,
     };
-    // What has been read is let go as soon as it may, since the text of the replies needs the most memory.
+    // What has been read is let go before the run, since the text of the replies needs the most memory.
     drop(bytes);
-    let Ok(ran) = run_calls(alloc, arena, chunks, calls.as_slice()) else {
+    let mut text = Text {
+        bytes: Vec::new(alloc),
+    };
+    let Ok(_) = run_calls_into(alloc, arena, chunks, calls.as_slice(), &mut text) else {
         return Status::OutOfMemory;
     };
-    drop(calls);
-    let Ok(text) = print_replies(alloc, ran.replies.as_slice()) else {
-        return Status::OutOfMemory;
-    };
-    match write_all(output, text.as_slice()) {
+    match write_all(output, text.bytes.as_slice()) {
         Ok(()) => Status::Done,
         Err(_) => Status::WriteFault,
     }

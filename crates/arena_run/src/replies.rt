@@ -1,21 +1,53 @@
-// Prints replies.
-ghost use Rattle.std.specs.Prelude.{◌≡◌, ◌*◌, ◌++◌, ◌∷◌, [], ◌<◌, IfOk, OnOk, length};
+// Replies as the text of their lines.
+ghost use Rattle.std.specs.Prelude.{◌≡◌, ℕ, ◌+◌, ◌*◌, ◌-◌, ◌/◌, ◌++◌, ◌∷◌, [], ◌<◌, ◌≤◌, false, OnOk, length, codes, vec_len, vec_capacity};
 ghost use Rattle.std.specs.List.{flat_map};
-ghost use Rattle.placement.specs.Grammar.{number, fields, hex, hex_digit, hex_pair};
-ghost use Rattle.placement.specs.Replies.{reply_line, with_feed, text_of};
+ghost use Rattle.placement.specs.Grammar.{fields, hex, hex_digit, hex_pair};
+ghost use Rattle.placement.specs.Replies.{reply_line, with_feed};
+ghost use Rattle.arena_chunks.specs.Replies.{has_bytes};
 
+use arena_chunks::Replies;
 use itoa::Buffer;
-use placement::Reply;
-use std::alloc::{AllocError, Global};
+use placement::{OutOfMemory, Reply};
+
+// The most bytes that a line has with its feed, where the reply holds none: `placed`, a number of 64 bits,
+// `refused` and a number of 32 bits.
+const LONGEST: usize = 47;
+
+// Adds bytes for which there is room.
+fn put(out: &mut Vec<u8>, bytes: &[u8])
+    requires { vec_len out.old + length bytes.now ≤ vec_capacity out.old }
+    ensures items { out.new.items ≡ out.old.items ++ bytes.now }
+    ensures len { vec_len out.new ≡ vec_len out.old + length bytes.now }
+    ensures capacity { vec_capacity out.old ≤ vec_capacity out.new }
+{
+    match out.extend_from_slice(bytes) {
+        Ok(()) => {}
+        Err(_) => unreachable!(),
+    }
+}
 
 // A space and the number.
-fn push_field(out: &mut Vec<u8>, n: u64) -> Result<(), AllocError>
-    ensures { OnOk result (out.new.items ≡ out.old.items ++ fields (n ∷ [])) }
+fn put_field(out: &mut Vec<u8>, n: u64)
+    requires { vec_len out.old + 21 ≤ vec_capacity out.old }
+    ensures items { out.new.items ≡ out.old.items ++ fields (n ∷ []) }
+    ensures len { vec_len out.new ≤ vec_len out.old + 21 }
+    ensures capacity { vec_capacity out.old ≤ vec_capacity out.new }
 {
-    out.push(b' ')?;
+    put(out, b" ");
     let mut buffer = Buffer::new();
-    out.extend_from_slice(buffer.format(n).as_bytes())?;
-    Ok(())
+    put(out, buffer.format(n).as_bytes());
+}
+
+// How often a request was refused.
+fn put_refused(out: &mut Vec<u8>, refused: u32)
+    requires { vec_len out.old + 19 ≤ vec_capacity out.old }
+    ensures items { out.new.items ≡ out.old.items ++ codes " refused" ++ fields (refused ∷ []) }
+    ensures len { vec_len out.new ≤ vec_len out.old + 19 }
+    ensures capacity { vec_capacity out.old ≤ vec_capacity out.new }
+{
+    put(out, b" refused ");
+    let mut buffer = Buffer::new();
+    put(out, buffer.format(refused).as_bytes());
 }
 
 fn hex_glyph(d: u8) -> u8
@@ -36,67 +68,115 @@ fn fill_pairs(place: &mut [u8], bytes: &[u8])
     }
 }
 
-// All room is made first, so that the loop over the digits has no more to test.
-fn push_pairs(out: &mut Vec<u8>, bytes: &[u8]) -> Result<(), AllocError>
-    ensures { OnOk result (out.new.items ≡ out.old.items ++ flat_map hex_pair bytes.now) }
+// The place is filled with zeros first, so that the loop over the digits has no room to test.
+fn put_pairs(out: &mut Vec<u8>, bytes: &[u8])
+    requires { vec_len out.old + 2 * length bytes.now ≤ vec_capacity out.old }
+    ensures items { out.new.items ≡ out.old.items ++ flat_map hex_pair bytes.now }
+    ensures len { vec_len out.new ≡ vec_len out.old + 2 * length bytes.now }
+    ensures capacity { vec_capacity out.old ≤ vec_capacity out.new }
 {
     let at = out.len();
-    let Some(end) = at.checked_add(2 * bytes.len()) else {
-        return Err(AllocError);
-    };
-    out.resize(end, 0)?;
-    fill_pairs(&mut out[at..], bytes);
-    Ok(())
-}
-
-fn push_hex(out: &mut Vec<u8>, bytes: &[u8]) -> Result<(), AllocError>
-    ensures { OnOk result (out.new.items ≡ out.old.items ++ hex bytes.now) }
-{
-    if bytes.is_empty() {
-        out.extend_from_slice(b"-")
-    } else {
-        push_pairs(out, bytes)
+    match out.resize(at + 2 * bytes.len(), 0) {
+        Ok(()) => fill_pairs(&mut out[at..], bytes),
+        Err(_) => unreachable!(),
     }
 }
 
-fn push_reply(out: &mut Vec<u8>, reply: &Reply) -> Result<(), AllocError>
-    ensures { OnOk result (out.new.items ≡ out.old.items ++ reply_line reply.now) }
+fn put_hex(out: &mut Vec<u8>, bytes: &[u8])
+    requires { vec_len out.old + 2 * length bytes.now + 1 ≤ vec_capacity out.old }
+    ensures items { out.new.items ≡ out.old.items ++ hex bytes.now }
+    ensures len { vec_len out.new ≤ vec_len out.old + 2 * length bytes.now + 1 }
+    ensures capacity { vec_capacity out.old ≤ vec_capacity out.new }
+{
+    if bytes.is_empty() {
+        put(out, b"-");
+    } else {
+        put_pairs(out, bytes);
+    }
+}
+
+// The line of a reply that holds no bytes, without its feed.
+fn put_reply(out: &mut Vec<u8>, reply: &Reply)
+    requires fixed { has_bytes reply.now ≡ false }
+    requires room { vec_len out.old + 46 ≤ vec_capacity out.old }
+    ensures items { out.new.items ≡ out.old.items ++ reply_line reply.now }
+    ensures len { vec_len out.new ≤ vec_len out.old + 46 }
+    ensures capacity { vec_capacity out.old ≤ vec_capacity out.new }
 {
     match reply {
         Reply::Placed { addr, refused } => {
-            out.extend_from_slice(b"placed")?;
-            push_field(out, *addr)?;
-            out.extend_from_slice(b" refused")?;
-            push_field(out, u64::from(*refused))
+            put(out, b"placed");
+            put_field(out, *addr);
+            put_refused(out, *refused);
         }
-        Reply::Done => out.extend_from_slice(b"done"),
-        Reply::Bytes(bytes) => {
-            out.extend_from_slice(b"bytes ")?;
-            push_hex(out, bytes.as_slice())
-        }
+        Reply::Done => put(out, b"done"),
+        Reply::Bytes(_) => unreachable!(),
         Reply::Number(n) => {
-            out.extend_from_slice(b"number")?;
-            push_field(out, *n)
+            put(out, b"number");
+            put_field(out, *n);
         }
         Reply::AllocErr { refused } => {
-            out.extend_from_slice(b"allocerr refused")?;
-            push_field(out, u64::from(*refused))
+            put(out, b"allocerr");
+            put_refused(out, *refused);
         }
-        Reply::NoSuchName => out.extend_from_slice(b"no such name"),
-        Reply::NameTaken => out.extend_from_slice(b"name taken"),
-        Reply::BadLayout => out.extend_from_slice(b"bad layout"),
-        Reply::OutOfRange => out.extend_from_slice(b"out of range"),
+        Reply::NoSuchName => put(out, b"no such name"),
+        Reply::NameTaken => put(out, b"name taken"),
+        Reply::BadLayout => put(out, b"bad layout"),
+        Reply::OutOfRange => put(out, b"out of range"),
     }
 }
 
-/// The text of the replies, a line for each.
-pub fn print_replies(alloc: Global, replies: &[Reply]) -> Result<Vec<u8>, AllocError>
-    ensures { IfOk result (λ text. text.items ≡ text_of replies.now) }
-{
-    let mut text = Vec::new(alloc);
-    for reply in replies {
-        push_reply(&mut text, reply)?;
-        text.push(b'\n')?;
+/// The text of the replies so far, a line for each.
+#[derive(Drop)]
+pub struct Text {
+    pub bytes: Vec<u8>,
+}
+
+impl Text {
+    // Makes room for so many lines of replies that hold no bytes, and for more bytes.
+    fn make_room(&mut self, lines: usize, more: usize) -> Result<(), OutOfMemory>
+        ensures same { self.new.bytes.items ≡ self.old.bytes.items }
+        ensures room { OnOk result
+            (vec_len self.new.bytes + more + 47 * lines ≤ vec_capacity self.new.bytes) }
+    {
+        let Some(fixed) = LONGEST.checked_mul(lines) else {
+            return Err(OutOfMemory);
+        };
+        let Some(room) = fixed.checked_add(more) else {
+            return Err(OutOfMemory);
+        };
+        // Room may grow by doubling: what lies past the text's end isn't touched, and so takes no memory.
+        match self.bytes.reserve(room) {
+            Ok(()) => Ok(()),
+            Err(_) => Err(OutOfMemory),
+        }
     }
-    Ok(text)
+}
+
+impl Replies for Text {
+    ghost Part = { ℕ };
+
+    ghost shown = { λ a. a.bytes.items };
+
+    ghost part = { with_feed };
+
+    ghost room = { λ a. (vec_capacity a.bytes - vec_len a.bytes) / 47 };
+
+    fn reserve(&mut self, count: usize) -> Result<(), OutOfMemory> {
+        self.make_room(count, 0)
+    }
+
+    fn take(&mut self, reply: Reply) {
+        put_reply(&mut self.bytes, &reply);
+        put(&mut self.bytes, b"\n");
+    }
+
+    fn take_bytes(&mut self, bytes: &[u8], left: usize) -> Result<(), OutOfMemory> {
+        // One line more has room for what stands beside the digits.
+        self.make_room(left + 1, 2 * bytes.len())?;
+        put(&mut self.bytes, b"bytes ");
+        put_hex(&mut self.bytes, bytes);
+        put(&mut self.bytes, b"\n");
+        Ok(())
+    }
 }

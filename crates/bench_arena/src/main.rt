@@ -9,9 +9,10 @@ mod loops;
 use loops::{
     Failed, Timed, alloc_and_reset, alloc_fixed, alloc_warm, bitset_contains, bitset_ones,
     bitset_set, bitset_set_ascending, bitset_union, box_new, claim, claim_threads, grow_at_cursor,
-    pool_get, pool_get_threads, read_older, reset_chunks, slice_copy, str_copy, string_push_byte,
-    string_push_start, string_push_str, vec_extend, vec_insert_front, vec_iter, vec_push,
-    vec_push_reserved, vec_retain, vec_small, vec_sum,
+    map_get, map_insert, map_iter, map_remove, map_small, map_walked, pool_get, pool_get_threads,
+    read_older, reset_chunks, slice_copy, str_copy, string_push_byte, string_push_start,
+    string_push_str, vec_extend, vec_insert_front, vec_iter, vec_push, vec_push_reserved,
+    vec_retain, vec_small, vec_sum,
 };
 use std::process::ExitCode;
 use std::sync::Wait;
@@ -55,10 +56,16 @@ enum Loop {
     BitsetContains,
     BitsetOnes,
     BitsetUnion,
+    MapSmall,
+    MapGet,
+    MapRemove,
+    MapInsert,
+    MapIter,
+    MapWalked,
 }
 
 impl Loop {
-    const ALL: [Loop; 29] = [
+    const ALL: [Loop; 35] = [
         Loop::AllocWarm,
         Loop::GrowAtCursor,
         Loop::AllocAndReset,
@@ -88,6 +95,12 @@ impl Loop {
         Loop::BitsetContains,
         Loop::BitsetOnes,
         Loop::BitsetUnion,
+        Loop::MapSmall,
+        Loop::MapGet,
+        Loop::MapRemove,
+        Loop::MapInsert,
+        Loop::MapIter,
+        Loop::MapWalked,
     ];
 
     fn name(self) -> &'static str {
@@ -121,6 +134,12 @@ impl Loop {
             Loop::BitsetContains => "bitset_contains",
             Loop::BitsetOnes => "bitset_ones",
             Loop::BitsetUnion => "bitset_union",
+            Loop::MapSmall => "map_small",
+            Loop::MapGet => "map_get",
+            Loop::MapRemove => "map_remove",
+            Loop::MapInsert => "map_insert",
+            Loop::MapIter => "map_iter",
+            Loop::MapWalked => "map_walked",
         }
     }
 
@@ -131,6 +150,8 @@ impl Loop {
             Loop::ResetChunks => 100_000,
             Loop::SliceCopy | Loop::VecExtend => 50_000_000,
             Loop::BitsetUnion => 400_000_000,
+            Loop::MapInsert | Loop::MapGet | Loop::MapRemove | Loop::MapIter | Loop::MapWalked =>
+                1_000_000,
             _ => 10_000_000,
         }
     }
@@ -171,6 +192,12 @@ impl Loop {
             Loop::BitsetContains => bitset_contains(rt, calls),
             Loop::BitsetOnes => bitset_ones(rt, calls),
             Loop::BitsetUnion => bitset_union(rt, calls),
+            Loop::MapSmall => map_small(rt, calls),
+            Loop::MapGet => map_get(rt, calls),
+            Loop::MapRemove => map_remove(rt, calls),
+            Loop::MapInsert => map_insert(rt, calls),
+            Loop::MapIter => map_iter(rt, calls),
+            Loop::MapWalked => map_walked(rt, calls),
         }
     }
 
@@ -207,7 +234,7 @@ fn measure<R: Threads + Wait + Sync>(
     threads: &R,
     each: Loop,
 ) -> Result<(), Failed> {
-    let calls = each.calls();
+    let calls = asked(rt, each.calls())?.max(1);
     let best = each.best(rt, threads, calls)?;
     let name = each.name();
     let picoseconds = best.time.as_nanos() * 1000 / calls as u128;
@@ -216,6 +243,12 @@ fn measure<R: Threads + Wait + Sync>(
     let number = best.number;
     println!(rt; "{name:<21} {whole:>4}.{part:03} ns/op  ops {calls}  number {number}")?;
     Ok(())
+}
+
+// The number of calls that the second word tells, or this one.
+fn asked(rt: &HostRuntime, calls: u64) -> io::Result<u64> {
+    let mut words = env::args(rt)?.skip(2);
+    Ok(words.next().map_or(calls, |word| word.as_str().parse::<u64>().unwrap_or(calls)))
 }
 
 // Whether this is the one word, or there is none and any will do.

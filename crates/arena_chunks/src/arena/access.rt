@@ -46,6 +46,7 @@ impl<const MIN_ALIGN: usize> Arena<MIN_ALIGN> {
     }
 
     /// Changes `size` bytes of a block, from the index `at` on, in their place with no buffer in between.
+    #[inline(always)]
     pub fn write_with<E: Edit>(&mut self, block: Block, at: u64, size: u64, e: &E)
         requires readable { IsTrue (is_readable self.old.state block) }
         requires range { at + size ≤ block.size }
@@ -99,6 +100,7 @@ impl<const MIN_ALIGN: usize> Arena<MIN_ALIGN> {
     }
 
     // Changes a range of a block's bytes.
+    #[inline(always)]
     fn edit<E: Edit>(&mut self, block: Block, at: u64, size: u64, e: &E)
         requires readable { IsTrue (is_readable self.old.state block) }
         requires range { at + size ≤ block.size }

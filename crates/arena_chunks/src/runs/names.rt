@@ -7,13 +7,13 @@ ghost use Rattle.arena_chunks.specs.Runs.{held_blocks};
 use crate::block::Block;
 use placement::{OutOfMemory, Place};
 use std::alloc::Global;
-use std::collections::BTreeMap;
+use std::collections::{BTreeMap, HashMap};
 use std::marker::Model;
 
 /// A map from names to places.
 #[derive(Drop)]
 pub(crate) struct Names {
-    places: BTreeMap<u32, Place>,
+    places: HashMap<u32, Place>,
 }
 
 impl Model for Names {
@@ -35,7 +35,7 @@ impl Names {
         ensures { result ≡ map.empty }
     {
         Names {
-            places: BTreeMap::new(alloc),
+            places: HashMap::new(alloc),
         }
     }
 
@@ -75,11 +75,24 @@ impl Names {
         }
     }
 
-    // Lets all names go.
-    pub(crate) fn clear(&mut self)
+    // Lets all names go. The table is let go with them, since to clear it would take as long as it once was large.
+    pub(crate) fn clear(&mut self, alloc: Global)
         ensures { self.new ≡ map.empty }
     {
-        self.places.clear();
+        self.places = HashMap::new(alloc);
+    }
+
+    // The names and their places, in a tree.
+    fn sorted(&self, alloc: Global) -> Result<BTreeMap<u32, Place>, OutOfMemory>
+        ensures { IfOk result (λ tree. map.from_entries tree.entries ≡ self.now) }
+    {
+        let mut tree = BTreeMap::new(alloc);
+        for (name, place) in &self.places {
+            let Ok(_) = tree.insert(*name, *place) else {
+                return Err(OutOfMemory);
+            };
+        }
+        Ok(tree)
     }
 
     // The names and their blocks, each of this generation, by ascending name.
@@ -90,8 +103,9 @@ impl Names {
     ) -> Result<Vec<(u32, Block)>, OutOfMemory>
         ensures { IfOk result (λ blocks. blocks.items ≡ held_blocks generation self.now) }
     {
+        let tree = self.sorted(alloc)?;
         let mut blocks = Vec::new(alloc);
-        for (name, place) in &self.places {
+        for (name, place) in &tree {
             let block = Block {
                 generation,
                 addr: place.addr,

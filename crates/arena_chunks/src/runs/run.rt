@@ -1,13 +1,16 @@
 // A run of calls.
-ghost use Rattle.std.specs.Prelude.{◌≡◌, ◌+◌, ◌<◌, ◌≤◌, ◌++◌, ◌∷◌, [], IfOk, IfErr, vec_len, vec_capacity};
+ghost use Rattle.std.specs.Prelude.{◌≡◌, List, ◌++◌, IfOk, IfErr};
+ghost use Rattle.std.specs.List.{flat_map};
+ghost use Rattle.placement.specs.declared.calls.Reply.{Reply};
 ghost use Rattle.arena_chunks.specs.Source.{view};
-ghost use Rattle.arena_chunks.specs.Runs.{Runs, Stops};
+ghost use Rattle.arena_chunks.specs.Runs.{Runs, Stops, StopsWith};
 
 use crate::arena::Arena;
 use crate::block::Block;
 use crate::chunks::ChunkSource;
 use crate::runs::names::Names;
-use crate::runs::serve::serve;
+use crate::runs::replies::{Listed, Replies};
+use crate::runs::serve::serve_into;
 use placement::{Call, Reply};
 use std::alloc::Global;
 
@@ -25,16 +28,47 @@ pub enum Stopped {
     OutOfMemory { done: u64 },
 }
 
-// Adds a reply where there is room for one more.
-fn push_within(replies: &mut Vec<Reply>, reply: Reply)
-    requires { vec_len replies.old < vec_capacity replies.old }
-    ensures items { replies.new.items ≡ replies.old.items ++ reply ∷ [] }
-    ensures capacity { vec_capacity replies.old ≤ vec_capacity replies.new }
-    ensures len { vec_len replies.new ≡ vec_len replies.old + 1 }
+/// Runs calls over an arena, one after another, beginning with no names, and gives each reply to what takes the
+/// replies. Answers the blocks that names hold at the end, by ascending name.
+///
+/// # Errors
+///
+/// `OutOfMemory` where memory is wanting, which leaves the arena as after a first part of the calls, its blocks sound
+/// and with their bytes; the replies of these calls were taken. That is before the first call, after the last, or at
+/// one that places a block anew or answers bytes.
+pub fn run_calls_into<const M: usize, C: ChunkSource, R: Replies>(
+    alloc: Global,
+    arena: &mut Arena<M>,
+    chunks: &mut C,
+    calls: &[Call],
+    replies: &mut R,
+) -> Result<Vec<(u32, Block)>, Stopped>
+    ensures ok { IfOk result (λ held. (list : List Reply)
+        × Runs (view arena.old (C.source chunks.old)) (view arena.new (C.source chunks.new))
+        calls.now list held.items
+        × (R.shown replies.new ≡ R.shown replies.old ++ flat_map R.part list)) }
+    ensures err { IfErr result (StopsWith
+        (view arena.old (C.source chunks.old)) (view arena.new (C.source chunks.new)) calls.now
+        (λ list. R.shown replies.new ≡ R.shown replies.old ++ flat_map R.part list)) }
 {
-    match replies.push(reply) {
-        Ok(()) => {}
-        Err(_) => unreachable!(),
+    // A run begins with a valid state, which the contract of this call tells.
+    let _valid = arena.cursor();
+    let mut names = Names::new(alloc);
+    // All room for the replies is made first, so that no call is run whose reply has no place.
+    let Ok(()) = replies.reserve(calls.len()) else {
+        return Err(Stopped::OutOfMemory { done: 0 });
+    };
+    for (done, call) in calls.iter().enumerate() {
+        let left = calls.len() - done - 1;
+        let Ok(()) = serve_into(alloc, arena, chunks, &mut names, call, left, replies) else {
+            return Err(Stopped::OutOfMemory { done: done as u64 });
+        };
+    }
+    match names.blocks(alloc, arena.generation()) {
+        Ok(held) => Ok(held),
+        Err(_) => Err(Stopped::OutOfMemory {
+            done: calls.len() as u64,
+        }),
     }
 }
 
@@ -56,23 +90,13 @@ pub fn run_calls<const M: usize, C: ChunkSource>(
     ensures err { IfErr result (Stops
         (view arena.old (C.source chunks.old)) (view arena.new (C.source chunks.new)) calls.now) }
 {
-    // A run begins with a valid state, which the contract of this call tells.
-    let _valid = arena.cursor();
-    let mut names = Names::new(alloc);
-    // All room for the replies is made first, so that no call is run whose reply has no place.
-    let Ok(mut replies) = Vec::with_capacity(alloc, calls.len()) else {
-        return Err(Stopped::OutOfMemory { done: 0 });
+    let mut listed = Listed {
+        alloc,
+        replies: Vec::new(alloc),
     };
-    for (done, call) in calls.iter().enumerate() {
-        match serve(alloc, arena, chunks, &mut names, call) {
-            Ok(reply) => push_within(&mut replies, reply),
-            Err(_) => return Err(Stopped::OutOfMemory { done: done as u64 }),
-        }
-    }
-    match names.blocks(alloc, arena.generation()) {
-        Ok(held) => Ok(Ran { replies, held }),
-        Err(_) => Err(Stopped::OutOfMemory {
-            done: calls.len() as u64,
-        }),
-    }
+    let held = run_calls_into(alloc, arena, chunks, calls, &mut listed)?;
+    Ok(Ran {
+        replies: listed.replies,
+        held,
+    })
 }

@@ -1,7 +1,9 @@
 // One call after another.
-ghost use Rattle.std.specs.Prelude.{◌≡◌, IfOk, OnErr, IsSome};
+ghost use Rattle.std.specs.Prelude.{◌≡◌, ◌≢◌, ℕ, ◌<◌, ◌≤◌, ◌++◌, false, IfOk, OnOk, OnErr, IsSome};
 ghost use Rattle.std.specs.FinMap as map;
 ghost use Rattle.placement.specs.declared.calls.Call.{Call};
+ghost use Rattle.placement.specs.declared.calls.Reply.{Reply};
+ghost use Rattle.arena_chunks.specs.Replies.{has_bytes};
 ghost use Rattle.arena_chunks.specs.Source.{Source, view};
 ghost use Rattle.arena_chunks.specs.Serving.{Serves, Wants, Holds};
 
@@ -9,8 +11,9 @@ use crate::arena::Arena;
 use crate::block::ArenaErr;
 use crate::chunks::ChunkSource;
 use crate::runs::names::Names;
+use crate::runs::replies::Replies;
 use arena_place::Layout;
-use placement::{Bytes, Call, OutOfMemory, Place, Reply};
+use placement::{Call, OutOfMemory, Place, Reply};
 use std::alloc::Global;
 
 // The size and the alignment wanted for the block of a name.
@@ -44,6 +47,7 @@ fn serve_alloc<const M: usize, C: ChunkSource>(
     requires { Holds arena.old.state names.old }
     ensures serves { IfOk result (λ reply. Serves (Call.Alloc wanted.name wanted.size wanted.align fill) reply
         (view arena.old (C.source chunks.old)) (view arena.new (C.source chunks.new)) names.old names.new) }
+    ensures fixed { IfOk result (λ reply. has_bytes reply ≡ false) }
     ensures wants { OnErr result (Wants (Call.Alloc wanted.name wanted.size wanted.align fill)
         (view arena.old (C.source chunks.old)) (view arena.new (C.source chunks.new)) names.old) }
 {
@@ -81,6 +85,7 @@ fn serve_grow<const M: usize, C: ChunkSource>(
     requires { Holds arena.old.state names.old }
     ensures serves { IfOk result (λ reply. Serves (Call.Grow wanted.name wanted.size wanted.align fill) reply
         (view arena.old (C.source chunks.old)) (view arena.new (C.source chunks.new)) names.old names.new) }
+    ensures fixed { IfOk result (λ reply. has_bytes reply ≡ false) }
     ensures wants { OnErr result (Wants (Call.Grow wanted.name wanted.size wanted.align fill)
         (view arena.old (C.source chunks.old)) (view arena.new (C.source chunks.new)) names.old) }
 {
@@ -114,6 +119,7 @@ fn serve_shrink<const M: usize, C: ChunkSource>(
     requires { Holds arena.old.state names.old }
     ensures serves { IfOk result (λ reply. Serves (Call.Shrink wanted.name wanted.size wanted.align) reply
         (view arena.old (C.source chunks.old)) (view arena.new (C.source chunks.new)) names.old names.new) }
+    ensures fixed { IfOk result (λ reply. has_bytes reply ≡ false) }
     ensures wants { OnErr result (Wants (Call.Shrink wanted.name wanted.size wanted.align)
         (view arena.old (C.source chunks.old)) (view arena.new (C.source chunks.new)) names.old) }
 {
@@ -139,8 +145,9 @@ fn serve_shrink<const M: usize, C: ChunkSource>(
 
 fn serve_dealloc<const M: usize>(arena: &mut Arena<M>, names: &mut Names, name: u32) -> Reply
     requires { Holds arena.old.state names.old }
-    ensures { (source : Source) → Serves (Call.Dealloc name) result (view arena.old source)
+    ensures serves { (source : Source) → Serves (Call.Dealloc name) result (view arena.old source)
         (view arena.new source) names.old names.new }
+    ensures fixed { has_bytes result ≡ false }
 {
     let Some(place) = names.remove(name) else {
         return Reply::NoSuchName;
@@ -157,8 +164,9 @@ fn serve_write<const M: usize>(
     bytes: &[u8],
 ) -> Reply
     requires { Holds arena.old.state names.now }
-    ensures { (source : Source) → Serves (Call.Write name at bytes.now) result
+    ensures serves { (source : Source) → Serves (Call.Write name at bytes.now) result
         (view arena.old source) (view arena.new source) names.now names.now }
+    ensures fixed { has_bytes result ≡ false }
 {
     let Some(place) = names.get(name) else {
         return Reply::NoSuchName;
@@ -171,44 +179,53 @@ fn serve_write<const M: usize>(
     Reply::Done
 }
 
-fn serve_read<const M: usize>(
-    alloc: Global,
+// Lends the bytes of a name's block to what takes the replies.
+fn serve_read<const M: usize, R: Replies>(
     arena: &Arena<M>,
     names: &Names,
     name: u32,
-) -> Result<Reply, OutOfMemory>
-    requires { Holds arena.now.state names.now }
-    ensures serves { (source : Source) → IfOk result (λ reply. Serves (Call.Read name) reply
-        (view arena.now source) (view arena.now source) names.now names.now) }
+    left: usize,
+    replies: &mut R,
+) -> Result<(), OutOfMemory>
+    requires holds { Holds arena.now.state names.now }
+    requires room { left < R.room replies.old }
+    ensures serves { (source : Source) → OnOk result ((reply : Reply)
+        × Serves (Call.Read name) reply (view arena.now source) (view arena.now source) names.now names.now
+        × (R.shown replies.new ≡ R.shown replies.old ++ R.part reply)) }
+    ensures room { OnOk result (left ≤ R.room replies.new) }
     ensures wants { OnErr result (IsSome (map.get names.now name)) }
+    ensures same { OnErr result (R.shown replies.new ≡ R.shown replies.old) }
 {
     let Some(place) = names.get(name) else {
-        return Ok(Reply::NoSuchName);
+        replies.take(Reply::NoSuchName);
+        return Ok(());
     };
-    let bytes = Bytes::of(alloc, arena.read(arena.block_at(place)))?;
-    Ok(Reply::Bytes(bytes))
+    replies.take_bytes(arena.read(arena.block_at(place)), left)
 }
 
-fn serve_reset<const M: usize>(arena: &mut Arena<M>, names: &mut Names) -> Reply
-    ensures { (source : Source) → Serves Call.Reset result (view arena.old source)
+fn serve_reset<const M: usize>(alloc: Global, arena: &mut Arena<M>, names: &mut Names) -> Reply
+    ensures serves { (source : Source) → Serves Call.Reset result (view arena.old source)
         (view arena.new source) names.old names.new }
+    ensures fixed { has_bytes result ≡ false }
 {
     arena.reset();
-    names.clear();
+    names.clear(alloc);
     Reply::Done
 }
 
-// Serves a call. Where memory is wanting the arena and the source are as they were.
-pub(crate) fn serve<const M: usize, C: ChunkSource>(
+// Serves a call that isn't a read. Where memory is wanting the arena and the source are as they were.
+fn serve<const M: usize, C: ChunkSource>(
     alloc: Global,
     arena: &mut Arena<M>,
     chunks: &mut C,
     names: &mut Names,
     call: &Call,
 ) -> Result<Reply, OutOfMemory>
-    requires { Holds arena.old.state names.old }
+    requires holds { Holds arena.old.state names.old }
+    requires other { (name : ℕ) → call.now ≢ Call.Read name }
     ensures serves { IfOk result (λ reply. Serves call.now reply
         (view arena.old (C.source chunks.old)) (view arena.new (C.source chunks.new)) names.old names.new) }
+    ensures fixed { IfOk result (λ reply. has_bytes reply ≡ false) }
     ensures wants { OnErr result (Wants call.now
         (view arena.old (C.source chunks.old)) (view arena.new (C.source chunks.new)) names.old) }
 {
@@ -234,9 +251,38 @@ pub(crate) fn serve<const M: usize, C: ChunkSource>(
             at,
             ref bytes,
         } => Ok(serve_write(arena, names, name, at, bytes.as_slice())),
-        Call::Read { name } => serve_read(alloc, arena, names, name),
-        Call::Reset => Ok(serve_reset(arena, names)),
+        Call::Read { .. } => unreachable!(),
+        Call::Reset => Ok(serve_reset(alloc, arena, names)),
         Call::Used => Ok(Reply::Number(arena.used_bytes())),
         Call::Allocated => Ok(Reply::Number(arena.allocated_bytes())),
     }
+}
+
+// Serves a call, and gives its reply to what takes the replies.
+pub(crate) fn serve_into<const M: usize, C: ChunkSource, R: Replies>(
+    alloc: Global,
+    arena: &mut Arena<M>,
+    chunks: &mut C,
+    names: &mut Names,
+    call: &Call,
+    left: usize,
+    replies: &mut R,
+) -> Result<(), OutOfMemory>
+    requires holds { Holds arena.old.state names.old }
+    requires room { left < R.room replies.old }
+    ensures serves { OnOk result ((reply : Reply)
+        × Serves call.now reply
+        (view arena.old (C.source chunks.old)) (view arena.new (C.source chunks.new)) names.old names.new
+        × (R.shown replies.new ≡ R.shown replies.old ++ R.part reply)) }
+    ensures room { OnOk result (left ≤ R.room replies.new) }
+    ensures wants { OnErr result (Wants call.now
+        (view arena.old (C.source chunks.old)) (view arena.new (C.source chunks.new)) names.old) }
+    ensures same { OnErr result (R.shown replies.new ≡ R.shown replies.old) }
+{
+    if let Call::Read { name } = *call {
+        return serve_read(arena, names, name, left, replies);
+    }
+    let reply = serve(alloc, arena, chunks, names, call)?;
+    replies.take(reply);
+    Ok(())
 }

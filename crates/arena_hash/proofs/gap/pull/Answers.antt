@@ -8,5 +8,6 @@ returns-clause-copies g c = record {
   sets = λ x s some.
       let key = c.key_at-key.ensures x s in
       let value = c.value_at-value.ensures x s in
-      subst (λ p. SetsSlot g.K.Item g.V.Item c.args.slots c.args.bytes.now c.set_slot.new.bytes c.args.to c.args.mark (Some p)) (λ i. (key i, value i)) (c.set_slot.ensures.sets some);
+      subst (λ p. SetsSlot g.K.Item g.V.Item c.args.slots c.args.bytes.now c.set_slot.new.bytes c.args.to c.args.mark (Some p))
+      (λ i. (key i, value i)) (c.set_slot.ensures.sets some);
 }

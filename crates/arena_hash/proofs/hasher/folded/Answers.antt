@@ -6,8 +6,10 @@ use Rattle.arena_hash.specs.Fx.{mixed, number_of, folded}
 use Rattle.arena_hash.proofs.hasher.folded.Goals as goal
 
 -- one word more
-folded-step : (hash words i : ℕ) (bytes : List ℕ) (word next : ℕ) → i < words → word ≡ from_le_bytes w64 (take (8 * i + 8 - 8 * i) (drop (8 * i) bytes))
-    → next ≡ mixed (bit_xor hash word) → folded next (words - (i + 1)) (drop (8 * (i + 1)) bytes) ≡ folded hash (words - i) (drop (8 * i) bytes)
+folded-step : (hash words i : ℕ) (bytes : List ℕ) (word next : ℕ) → i < words
+    → word ≡ from_le_bytes w64 (take (8 * i + 8 - 8 * i) (drop (8 * i) bytes))
+    → next ≡ mixed (bit_xor hash word) → folded next (words - (i + 1)) (drop (8 * (i + 1)) bytes) ≡ folded hash (words - i)
+    (drop (8 * i) bytes)
 unfolding folded
 folded-step hash words i bytes word next less word_is next_is =
     let left : words - i ≡ suc (words - (i + 1)) = omega arith in
@@ -31,10 +33,12 @@ loop-i-init c = let all : length c.args.content.now / 8 - 0 ≡ length c.args.co
 
 pub loop-i-preserved : goal.loop-i-preserved
 loop-i-preserved c =
-    folded-step c.loop-i.hash _ c.loop-i.i c.args.content.now c.word_of.result _ c.loop-i-test.true c.word_of.ensures c.mixed-hash-in-loop-i.ensures
+    folded-step c.loop-i.hash _ c.loop-i.i c.args.content.now c.word_of.result _ c.loop-i-test.true c.word_of.ensures
+    c.mixed-hash-in-loop-i.ensures
     ∙ c.loop-i.invariant
 
 pub returns : goal.returns
 returns c =
-    folded-last c.loop-i.hash _ c.loop-i.i c.number_of.result _ c.args.content.now c.loop-i.auto.i-end c.loop-i-test.false c.number_of.ensures c.mixed.ensures
+    folded-last c.loop-i.hash _ c.loop-i.i c.number_of.result _ c.args.content.now c.loop-i.auto.i-end c.loop-i-test.false
+    c.number_of.ensures c.mixed.ensures
     ∙ c.loop-i.invariant ∙ ap (λ h. folded h (length c.args.content.now / 8) c.args.content.now) c.mixed-hash.ensures

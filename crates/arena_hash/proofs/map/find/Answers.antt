@@ -20,16 +20,19 @@ slots-init g c =
     let m = c.args.a.now.memory in
     let shape = handle-shape g.K.Item g.V.Item m c.args.table c.requires.keys_small c.requires.values_small c.requires.handle some in
     record {
-      seeking = seeking-start g.K.Item g.V.Item c.args.table.slots (bytes_of m c.args.table.block) c.args.hash some shape c.ring-at.result c.home_mark-mark.result
+      seeking = seeking-start g.K.Item g.V.Item c.args.table.slots (bytes_of m c.args.table.block) c.args.hash some shape c.ring-at.result
+          c.home_mark-mark.result
           c.ring-at.ensures c.home_mark-mark.ensures;
-      passed = λ h table same. passed-none c.args.table.slots (home_of c.args.table.slots c.args.hash) (slots_in g.K.Item g.V.Item m c.args.table)
+      passed = λ h table same. passed-none c.args.table.slots (home_of c.args.table.slots c.args.hash)
+          (slots_in g.K.Item g.V.Item m c.args.table)
           (λ p. content_in g.K.ArenaKey.key m p.0) c.args.wanted.now;
     }
 
 pub bounds-bytes-at : goal.bounds-bytes-at
 bounds-bytes-at g c =
     let some : 0 < c.args.table.slots = omega (arith, c.requires.free) in
-    let shape = handle-shape g.K.Item g.V.Item c.args.a.now.memory c.args.table c.requires.keys_small c.requires.values_small c.requires.handle some in
+    let shape = handle-shape g.K.Item g.V.Item c.args.a.now.memory c.args.table c.requires.keys_small c.requires.values_small
+    c.requires.handle some in
     rw c.read-bytes.ensures (omega (arith, shape.long, c.slots.invariant.seeking.within))
 
 pub key_at-requires-clause-shape : goal.key_at-requires-clause-shape
@@ -70,10 +73,13 @@ returns-then-found-least g c = λ h table same.
     let low = rw (c.read-bytes.ensures, c.least.ensures) at c.if-found-least.true in
     let s = c.slots.invariant in
     let n : ℕ = c.args.table.slots in (
-      seeking-lacks g.K.Item g.V.Item n (bytes_of m c.args.table.block) c.args.hash some shape c.slots.counter c.slots.at c.slots.mark (omega arith) s.seeking
-          (λ p. h (content_in g.K.ArenaKey.key m p.0)) table low (λ p. content_in g.K.ArenaKey.key m p.0) c.args.wanted.now (λ j x t e. ap h e ∙ same)
+      seeking-lacks g.K.Item g.V.Item n (bytes_of m c.args.table.block) c.args.hash some shape c.slots.counter c.slots.at c.slots.mark
+          (omega arith) s.seeking
+          (λ p. h (content_in g.K.ArenaKey.key m p.0)) table low (λ p. content_in g.K.ArenaKey.key m p.0) c.args.wanted.now
+          (λ j x t e. ap h e ∙ same)
           (s.passed h table same),
-      λ more. seeking-spot g.K.Item g.V.Item n (bytes_of m c.args.table.block) c.args.hash some shape c.slots.counter c.slots.at c.slots.mark (omega arith) s.seeking
+      λ more. seeking-spot g.K.Item g.V.Item n (bytes_of m c.args.table.block) c.args.hash some shape c.slots.counter c.slots.at
+          c.slots.mark (omega arith) s.seeking
           (λ p. h (content_in g.K.ArenaKey.key m p.0)) table low,
     )
 
@@ -86,11 +92,15 @@ slots-preserved g c =
     let high = rw (c.read-bytes.ensures, c.least.ensures) at c.if-found-least.false in
     let s = c.slots.invariant in
     record {
-      seeking = seeking-on g.K.Item g.V.Item n (bytes_of m c.args.table.block) c.args.hash some shape c.slots.counter c.slots.at c.slots.mark (omega arith) s.seeking
-          c.ring-at-in-slots.result c.farther-mark.result high c.ring-at-in-slots.ensures (c.farther-mark.ensures c.args.hash c.slots.counter s.seeking.mark_is);
+      seeking = seeking-on g.K.Item g.V.Item n (bytes_of m c.args.table.block) c.args.hash some shape c.slots.counter c.slots.at
+          c.slots.mark (omega arith) s.seeking
+          c.ring-at-in-slots.result c.farther-mark.result high c.ring-at-in-slots.ensures
+          (c.farther-mark.ensures c.args.hash c.slots.counter s.seeking.mark_is);
       passed = λ h table same.
-          seeking-other g.K.Item g.V.Item n (bytes_of m c.args.table.block) c.args.hash some shape c.slots.counter c.slots.at c.slots.mark (omega arith) s.seeking
-          high (λ p. h (content_in g.K.ArenaKey.key m p.0)) table (λ p. content_in g.K.ArenaKey.key m p.0) c.args.wanted.now (λ x e. ap h e ∙ same)
+          seeking-other g.K.Item g.V.Item n (bytes_of m c.args.table.block) c.args.hash some shape c.slots.counter c.slots.at c.slots.mark
+          (omega arith) s.seeking
+          high (λ p. h (content_in g.K.ArenaKey.key m p.0)) table (λ p. content_in g.K.ArenaKey.key m p.0) c.args.wanted.now
+          (λ x e. ap h e ∙ same)
           (λ is x t e. elim c.else-found-mark.branch [
             | else-found-mark-via-then-found-mark+else-holds w ↦
                 let key = (rw c.read-bytes.ensures at w.key_at.ensures) x t in
@@ -107,6 +117,7 @@ returns g c = λ h table same.
     let shape = handle-shape g.K.Item g.V.Item m c.args.table c.requires.keys_small c.requires.values_small c.requires.handle some in
     absurd (omega (
       arith,
-      seeking-less g.K.Item g.V.Item c.args.table.slots (bytes_of m c.args.table.block) c.args.hash some shape c.slots.counter c.slots.at c.slots.mark
+      seeking-less g.K.Item g.V.Item c.args.table.slots (bytes_of m c.args.table.block) c.args.hash some shape c.slots.counter c.slots.at
+          c.slots.mark
           c.slots.invariant.seeking (λ p. h (content_in g.K.ArenaKey.key m p.0)) table c.requires.free,
     ))

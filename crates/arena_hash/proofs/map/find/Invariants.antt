@@ -10,6 +10,8 @@ abbrev pub invariant-slots : goal.invariant-slots
 invariant-slots g l = record {
   seeking : Seeking g.K.Item g.V.Item l.table.slots (bytes_of l.a.memory l.table.block) l.hash l.counter l.at l.mark;
   passed : (h : List ℕ → ℕ)
-      → IsTable g.K.Item g.V.Item (λ p. h (content_in g.K.ArenaKey.key l.a.memory p.0)) l.table.slots (bytes_of l.a.memory l.table.block) → h l.wanted ≡ l.hash
-      → Passed l.table.slots (λ p. content_in g.K.ArenaKey.key l.a.memory p.0) l.wanted (home_of l.table.slots l.hash) (slots_in g.K.Item g.V.Item l.a.memory l.table) l.counter;
+      → IsTable g.K.Item g.V.Item (λ p. h (content_in g.K.ArenaKey.key l.a.memory p.0)) l.table.slots (bytes_of l.a.memory l.table.block)
+      → h l.wanted ≡ l.hash
+      → Passed l.table.slots (λ p. content_in g.K.ArenaKey.key l.a.memory p.0) l.wanted (home_of l.table.slots l.hash)
+      (slots_in g.K.Item g.V.Item l.a.memory l.table) l.counter;
 }

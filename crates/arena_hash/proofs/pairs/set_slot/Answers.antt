@@ -11,7 +11,8 @@ returns-clause-sets g c = λ some.
     let long : length (g.K.Item.encoded c.args.key ++ g.V.Item.encoded c.args.value) ≡ g.K.Item.SIZE + g.V.Item.SIZE =
     omega (arith, key, value, length-append (g.K.Item.encoded c.args.key) (g.V.Item.encoded c.args.value)) in
     let back = pair-back g.K.Item g.V.Item c.args.key c.args.value key
-    (met.K.Item.round_trip c.args.key c.set_pair.ensures.key shape.keys_small) (met.V.Item.round_trip c.args.value c.set_pair.ensures.value shape.values_small) in
+    (met.K.Item.round_trip c.args.key c.set_pair.ensures.key shape.keys_small)
+    (met.V.Item.round_trip c.args.value c.set_pair.ensures.value shape.values_small) in
     rw (
       c.split_at_mut-marks.ensures.front,
       c.split_at_mut-marks.ensures.back,

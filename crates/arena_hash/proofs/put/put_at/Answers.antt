@@ -11,7 +11,8 @@ slots-init g c =
       shape = c.requires.shape;
       within = c.requires.at;
       long = refl;
-      walk = λ hash d table place is room. putting-start g.K.Item g.V.Item hash c.args.slots some c.args.bytes.now (c.args.key, c.args.value) c.args.at d c.args.mark table place is;
+      walk = λ hash d table place is room. putting-start g.K.Item g.V.Item hash c.args.slots some c.args.bytes.now
+          (c.args.key, c.args.value) c.args.at d c.args.mark table place is;
     }
 
 pub returns-then-old-eq0 : goal.returns-then-old-eq0
@@ -41,8 +42,10 @@ slots-preserved g c =
       walk = λ hash d table place is room.
           let s = at.walk hash d table place is room in
           let sets = c.set_slot-in-slots.ensures.sets (putting-marked g.K.Item g.V.Item hash n some _ _ _ _ _ _ _ _ s) in
-          putting-on g.K.Item g.V.Item hash n some _ _ _ _ _ _ _ _ _ c.requires.at room at.shape at.within s sets taken.0 _ _ _ c.farther-carried.result taken.1
-          (c.key_at-old_key.ensures taken.0 taken.1) (c.value_at-old_value.ensures taken.0 taken.1) c.ring-i.ensures (λ e is. c.farther-carried.ensures (hash taken.0) e is);
+          putting-on g.K.Item g.V.Item hash n some _ _ _ _ _ _ _ _ _ c.requires.at room at.shape at.within s sets taken.0 _ _ _
+          c.farther-carried.result taken.1
+          (c.key_at-old_key.ensures taken.0 taken.1) (c.value_at-old_value.ensures taken.0 taken.1) c.ring-i.ensures
+          (λ e is. c.farther-carried.ensures (hash taken.0) e is);
     }
 
 pub returns : goal.returns

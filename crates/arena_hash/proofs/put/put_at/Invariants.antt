@@ -10,7 +10,8 @@ invariant-slots g l = record {
   within : l.i < l.slots;
   long : length l.bytes ≡ length l.fn.bytes;
   walk : (hash : g.row.K.Denot × g.row.V.Denot → ℕ) (d : ℕ) → IsTable g.K.Item g.V.Item hash l.slots l.fn.bytes
-      → IsPlaceFor (λ p. home_of l.slots (hash p)) l.slots (slots_of g.K.Item g.V.Item l.slots l.fn.bytes) (home_of l.slots (hash (l.fn.key, l.fn.value))) l.fn.at d
+      → IsPlaceFor (λ p. home_of l.slots (hash p)) l.slots (slots_of g.K.Item g.V.Item l.slots l.fn.bytes)
+      (home_of l.slots (hash (l.fn.key, l.fn.value))) l.fn.at d
       → l.fn.mark ≡ mark_of (hash (l.fn.key, l.fn.value)) d → length (items (slots_of g.K.Item g.V.Item l.slots l.fn.bytes)) < l.slots
       → Putting g.K.Item g.V.Item hash l.slots l.fn.at l.fn.bytes (l.fn.key, l.fn.value) l.counter l.bytes (l.key, l.value) l.i l.carried;
 }

@@ -26,7 +26,8 @@ slots-init g c =
     record {
       held = c.requires.held;
       closing = closing-start (λ p. home_of c.args.table.slots (pair_hash k m c.args.hasher.now p)) c.args.table.slots
-          (λ p. mod-lt (pair_hash k m c.args.hasher.now p) some) (slots_in g.K.Item g.V.Item m c.args.table) c.args.at c.requires.taken.0 begun c.requires.taken.1
+          (λ p. mod-lt (pair_hash k m c.args.hasher.now p) some) (slots_in g.K.Item g.V.Item m c.args.table) c.args.at c.requires.taken.0
+          begun c.requires.taken.1
           c.requires.held.table.ordered;
       within = begun;
       places = record { state = refl; statistics = refl; source = refl };
@@ -36,7 +37,8 @@ slots-init g c =
 pub bounds-read-from : goal.bounds-read-from
 bounds-read-from g c =
     let some : 0 < c.args.table.slots = omega (arith, c.requires.free) in
-    let shape = handle-shape g.K.Item g.V.Item c.slots.a.memory c.args.table c.requires.keys_small c.requires.values_small c.slots.invariant.held.handle some in
+    let shape = handle-shape g.K.Item g.V.Item c.slots.a.memory c.args.table c.requires.keys_small c.requires.values_small
+    c.slots.invariant.held.handle some in
     let within : c.ring-from.result < c.args.table.slots = subst (λ w. w < c.args.table.slots) (sym c.ring-from.ensures) (mod-lt _ some) in
     rw c.read.ensures (omega (arith, shape.long, within))
 
@@ -50,8 +52,10 @@ returns-then-mark-lt-AWAY-clause-held g c =
       c.requires.held.table.ordered.long,
       slice_get_within (slots_in g.K.Item g.V.Item c.args.a.now.memory c.args.table) c.args.at (Some c.requires.taken.0) c.requires.taken.1,
     ) in
-    far-freed k c.slots.a.memory c.write_with.new.self.memory c.args.hasher.now c.args.table c.requires.keys_small c.requires.values_small some at.held c.args.at
-    (slots_in g.K.Item g.V.Item c.args.a.now.memory c.args.table) c.slots.counter c.slots.gap c.ring-from.result begun c.requires.free at.within c.ring-from.ensures
+    far-freed k c.slots.a.memory c.write_with.new.self.memory c.args.hasher.now c.args.table c.requires.keys_small c.requires.values_small
+    some at.held c.args.at
+    (slots_in g.K.Item g.V.Item c.args.a.now.memory c.args.table) c.slots.counter c.slots.gap c.ring-from.result begun c.requires.free
+    at.within c.ring-from.ensures
     at.closing (rw c.read.ensures at c.if-mark-lt-AWAY.true) c.write_with.ensures.edits
 
 pub returns-then-mark-lt-AWAY-clause-closed : goal.returns-then-mark-lt-AWAY-clause-closed
@@ -64,8 +68,10 @@ returns-then-mark-lt-AWAY-clause-closed g c =
       c.requires.held.table.ordered.long,
       slice_get_within (slots_in g.K.Item g.V.Item c.args.a.now.memory c.args.table) c.args.at (Some c.requires.taken.0) c.requires.taken.1,
     ) in
-    far-closed k c.slots.a.memory c.write_with.new.self.memory c.args.hasher.now c.args.table c.requires.keys_small c.requires.values_small some at.held c.args.at
-    (slots_in g.K.Item g.V.Item c.args.a.now.memory c.args.table) c.slots.counter c.slots.gap c.ring-from.result begun c.requires.free at.within c.ring-from.ensures
+    far-closed k c.slots.a.memory c.write_with.new.self.memory c.args.hasher.now c.args.table c.requires.keys_small
+    c.requires.values_small some at.held c.args.at
+    (slots_in g.K.Item g.V.Item c.args.a.now.memory c.args.table) c.slots.counter c.slots.gap c.ring-from.result begun c.requires.free
+    at.within c.ring-from.ensures
     at.closing (rw c.read.ensures at c.if-mark-lt-AWAY.true) c.write_with.ensures.edits
 
 pub write_with-requires-in-slots-clause-suits : goal.write_with-requires-in-slots-clause-suits
@@ -92,15 +98,20 @@ slots-preserved g c =
     let within : c.ring-from.result < c.args.table.slots = subst (λ w. w < c.args.table.slots) (sym c.ring-from.ensures) (mod-lt _ some) in
     let shape = handle-shape g.K.Item g.V.Item m c.args.table c.requires.keys_small c.requires.values_small at.held.handle some in
     let high : 32 ≤ slice_index (bytes_of m c.args.table.block) c.ring-from.result = rw c.read.ensures at c.if-mark-lt-AWAY.false in
-    let x = slot-taken g.K.Item g.V.Item c.args.table.slots (bytes_of m c.args.table.block) shape c.ring-from.result within (omega (arith, high)) in
+    let x = slot-taken g.K.Item g.V.Item c.args.table.slots (bytes_of m c.args.table.block) shape c.ring-from.result within
+    (omega (arith, high)) in
     let back = c.mark_back.ensures x.0 x.1 in
     let edits = c.write_with-in-slots.ensures.edits in
     record {
-      held = far-held k c.slots.a.memory c.write_with-in-slots.new.self.memory c.args.hasher.now c.args.table c.requires.keys_small c.requires.values_small some at.held c.args.at
-          (slots_in g.K.Item g.V.Item c.args.a.now.memory c.args.table) c.slots.counter c.slots.gap c.ring-from.result begun c.requires.free at.within c.ring-from.ensures
+      held = far-held k c.slots.a.memory c.write_with-in-slots.new.self.memory c.args.hasher.now c.args.table c.requires.keys_small
+          c.requires.values_small some at.held c.args.at
+          (slots_in g.K.Item g.V.Item c.args.a.now.memory c.args.table) c.slots.counter c.slots.gap c.ring-from.result begun
+          c.requires.free at.within c.ring-from.ensures
           at.closing x.0 back.0 c.mark_back.result back.1 back.2 edits;
-      closing = far-closing k c.slots.a.memory c.write_with-in-slots.new.self.memory c.args.hasher.now c.args.table c.requires.keys_small c.requires.values_small some at.held c.args.at
-          (slots_in g.K.Item g.V.Item c.args.a.now.memory c.args.table) c.slots.counter c.slots.gap c.ring-from.result begun c.requires.free at.within c.ring-from.ensures
+      closing = far-closing k c.slots.a.memory c.write_with-in-slots.new.self.memory c.args.hasher.now c.args.table c.requires.keys_small
+          c.requires.values_small some at.held c.args.at
+          (slots_in g.K.Item g.V.Item c.args.a.now.memory c.args.table) c.slots.counter c.slots.gap c.ring-from.result begun
+          c.requires.free at.within c.ring-from.ensures
           at.closing x.0 back.0 c.mark_back.result back.1 back.2 edits;
       within = within;
       places = same_then c.args.a.now c.slots.a c.write_with-in-slots.new.self at.places (record {
@@ -108,7 +119,8 @@ slots-preserved g c =
         statistics = edits.writes.statistics;
         source = c.write_with-in-slots.ensures.source;
       });
-      frame = frame_then c.args.a.now.memory m c.write_with-in-slots.new.self.memory (c.args.table.block ∷ []) (c.args.table.block ∷ []) (c.args.table.block ∷ [])
+      frame = frame_then c.args.a.now.memory m c.write_with-in-slots.new.self.memory (c.args.table.block ∷ []) (c.args.table.block ∷ [])
+          (c.args.table.block ∷ [])
           at.frame edits.writes.frame;
     }
 
@@ -125,6 +137,7 @@ returns-clause-closed g c =
     absurd (omega (
       arith,
       closing-less (λ p. home_of c.args.table.slots (pair_hash k c.slots.a.memory c.args.hasher.now p)) c.args.table.slots
-          (λ p. mod-lt (pair_hash k c.slots.a.memory c.args.hasher.now p) some) c.args.at (slots_in g.K.Item g.V.Item c.args.a.now.memory c.args.table) c.slots.counter
+          (λ p. mod-lt (pair_hash k c.slots.a.memory c.args.hasher.now p) some) c.args.at
+          (slots_in g.K.Item g.V.Item c.args.a.now.memory c.args.table) c.slots.counter
           (slots_in g.K.Item g.V.Item c.slots.a.memory c.args.table) c.slots.gap begun at.closing c.requires.free,
     ))

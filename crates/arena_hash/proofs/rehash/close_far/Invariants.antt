@@ -11,7 +11,8 @@ invariant-slots g l =
     let k = kind g.K.Item g.K.ArenaKey.key g.V.Item g.S.KeyHasher.hash_of in
     record {
       held : IsTableIn k l.a.memory l.hasher l.table;
-      closing : Closing (λ p. home_of l.table.slots (pair_hash k l.a.memory l.hasher p)) l.table.slots l.at (slots_in g.K.Item g.V.Item l.fn.a.memory l.table) l.counter
+      closing : Closing (λ p. home_of l.table.slots (pair_hash k l.a.memory l.hasher p)) l.table.slots l.at
+          (slots_in g.K.Item g.V.Item l.fn.a.memory l.table) l.counter
           (slots_in g.K.Item g.V.Item l.a.memory l.table) l.gap;
       within : l.gap < l.table.slots;
       places : SamePlaces l.fn.a l.a;

@@ -19,7 +19,8 @@ slots-init g c =
     let slots = slots_in g.K.Item g.V.Item m c.args.table in
     let are = in-marked k m c.args.hasher.now c.args.table c.requires.keys_small c.requires.values_small some c.requires.held in
     let shape = handle-shape g.K.Item g.V.Item m c.args.table c.requires.keys_small c.requires.values_small c.requires.held.handle some in
-    far-start hash n some slots (λ i. slice_index (bytes_of m c.args.table.block) i) are c.args.hash c.ring-at.result shape.ring.0 (omega (arith, shape.ring.2)) c.requires.passed c.ring-at.ensures
+    far-start hash n some slots (λ i. slice_index (bytes_of m c.args.table.block) i) are c.args.hash c.ring-at.result shape.ring.0
+    (omega (arith, shape.ring.2)) c.requires.passed c.ring-at.ensures
 
 pub bounds-read-at : goal.bounds-read-at
 bounds-read-at g c =
@@ -37,7 +38,8 @@ returns-then-read-at-lt-FAR g c =
     let hash = pair_hash k m c.args.hasher.now in
     let slots = slots_in g.K.Item g.V.Item m c.args.table in
     let are = in-marked k m c.args.hasher.now c.args.table c.requires.keys_small c.requires.values_small some c.requires.held in
-    far-near_mark hash n some slots (λ i. slice_index (bytes_of m c.args.table.block) i) are c.args.hash c.slots.far c.slots.at (omega arith) c.slots.invariant (rw c.read.ensures at c.if-read-at-lt-FAR.true)
+    far-near_mark hash n some slots (λ i. slice_index (bytes_of m c.args.table.block) i) are c.args.hash c.slots.far c.slots.at
+    (omega arith) c.slots.invariant (rw c.read.ensures at c.if-read-at-lt-FAR.true)
 
 pub hash_at-requires-clause-taken : goal.hash_at-requires-clause-taken
 hash_at-requires-clause-taken g c =
@@ -66,7 +68,8 @@ returns-then-distance-far g c =
       less = c.distance.ensures.less;
       place = c.distance.ensures.place ∙ ap (λ w. spot n (home_of n w) c.distance.result) is;
     } in
-    far-nearer hash n some slots (λ i. slice_index (bytes_of m c.args.table.block) i) are c.args.hash c.slots.far c.slots.at (omega arith) c.slots.invariant there.0 c.distance.result away c.if-distance-far.true
+    far-nearer hash n some slots (λ i. slice_index (bytes_of m c.args.table.block) i) are c.args.hash c.slots.far c.slots.at (omega arith)
+    c.slots.invariant there.0 c.distance.result away c.if-distance-far.true
 
 pub slots-preserved : goal.slots-preserved
 slots-preserved g c =
@@ -86,7 +89,8 @@ slots-preserved g c =
       less = c.distance.ensures.less;
       place = c.distance.ensures.place ∙ ap (λ w. spot n (home_of n w) c.distance.result) is;
     } in
-    far-on hash n some slots (λ i. slice_index (bytes_of m c.args.table.block) i) are c.args.hash c.slots.far c.slots.at (omega arith) c.slots.invariant there.0 c.distance.result away c.if-distance-far.false
+    far-on hash n some slots (λ i. slice_index (bytes_of m c.args.table.block) i) are c.args.hash c.slots.far c.slots.at (omega arith)
+    c.slots.invariant there.0 c.distance.result away c.if-distance-far.false
     c.ring-at-in-slots.result c.ring-at-in-slots.ensures
 
 pub returns : goal.returns
@@ -98,4 +102,8 @@ returns g c =
     let hash = pair_hash k m c.args.hasher.now in
     let slots = slots_in g.K.Item g.V.Item m c.args.table in
     let are = in-marked k m c.args.hasher.now c.args.table c.requires.keys_small c.requires.values_small some c.requires.held in
-    absurd (omega (arith, far-ends hash n some slots (λ i. slice_index (bytes_of m c.args.table.block) i) are c.args.hash c.slots.far c.slots.at c.slots.invariant c.requires.free))
+    absurd (omega (
+      arith,
+      far-ends hash n some slots (λ i. slice_index (bytes_of m c.args.table.block) i) are c.args.hash c.slots.far
+          c.slots.at c.slots.invariant c.requires.free,
+    ))

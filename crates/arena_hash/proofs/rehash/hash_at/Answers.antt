@@ -7,7 +7,12 @@ use Rattle.arena_hash.proofs.rehash.hash_at.Goals as goal
 pub key_at-key-requires-clause-index : goal.key_at-key-requires-clause-index
 key_at-key-requires-clause-index g c =
     let x = c.requires.taken in
-    omega (arith, c.requires.held.table.ordered.long, slice_get_within (slots_in g.K.Item g.V.Item c.args.a.now.memory c.args.table) c.args.i (Some x.0) x.1)
+    omega (
+      arith,
+      c.requires.held.table.ordered.long,
+      slice_get_within (slots_in g.K.Item g.V.Item c.args.a.now.memory c.args.table)
+          c.args.i (Some x.0) x.1,
+    )
 
 pub key_at-key-requires-clause-shape : goal.key_at-key-requires-clause-shape
 key_at-key-requires-clause-shape g c =

@@ -1,21 +1,31 @@
 use Rattle.std.proofs.Common.{arith, sym, ◌∙◌, refl}
 use Rattle.placement.specs.Machine.{step}
 use Rattle.placement.specs.Requests.{placed_anew}
+use Rattle.placement.specs.declared.calls.Reply.TheVariants.{Bytes, NoSuchName}
+use Rattle.placement.specs.declared.calls.Call.TheVariants.{Read}
+use Rattle.arena_chunks.specs.Source.{view}
+use Rattle.arena_chunks.specs.Serving.{Serves}
+use Rattle.arena_chunks.proofs.AnswerLemmas.{on_ok_less}
 use Rattle.arena_chunks.proofs.ServingLemmas.{readable_at, asks_still, serves_still, absent_at, found_at}
 use Rattle.arena_chunks.proofs.runs.serve.serve_read.Goals as goal
 
 pub returns-in_default-clause-serves : goal.returns-in_default-clause-serves
 unfolding step placed_anew
-returns-in_default-clause-serves g c = λ source.
-    serves_still _ _ _ _ _ _ c.requires (λ bytes held. absent_at c.args.arena.now c.args.names.now bytes c.args.name _ (sym c.get.ensures ∙ c.in_default.is))
-    (asks_still _ _ _ _ _ refl (λ bytes. refl) (λ bytes. refl))
+returns-in_default-clause-serves g c = λ source. (
+  NoSuchName,
+  serves_still _ _ _ _ _ _ c.requires.holds (λ bytes held. absent_at c.args.arena.now c.args.names.now bytes c.args.name _ (sym c.get.ensures ∙ c.in_default.is))
+      (asks_still _ _ _ _ _ refl (λ bytes. refl) (λ bytes. refl)),
+  c.take.ensures.shown,
+)
 
 pub read-requires : goal.read-requires
-read-requires g c = (omega arith, rw c.block_at.ensures (readable_at _ _ c.args.name c.in-Some.place c.requires (sym c.get.ensures ∙ c.in-Some.is)))
+read-requires g c = (omega arith, rw c.block_at.ensures (readable_at _ _ c.args.name c.in-Some.place c.requires.holds (sym c.get.ensures ∙ c.in-Some.is)))
 
 pub returns-clause-serves : goal.returns-clause-serves
 unfolding step placed_anew
 returns-clause-serves g c = λ source.
-    serves_still _ _ _ _ _ _ c.requires (λ bytes held.
+    let serves : Serves (Read c.args.name) (Bytes c.read.result.now) (view c.args.arena.now source) (view c.args.arena.now source) c.args.names.now c.args.names.now =
+    serves_still _ _ _ _ _ _ c.requires.holds (λ bytes held.
     found_at c.args.arena.now c.args.names.now bytes c.args.name 0 c.in-Some.place _ held (sym c.get.ensures ∙ c.in-Some.is)
-    ∙ rw (c.in_ok-bytes.ensures, c.read.ensures, c.block_at.ensures) refl) (asks_still _ _ _ _ _ refl (λ bytes. refl) (λ bytes. refl))
+    ∙ rw (c.read.ensures, c.block_at.ensures) refl) (asks_still _ _ _ _ _ refl (λ bytes. refl) (λ bytes. refl)) in
+    on_ok_less c.take_bytes.result (λ shown. (Bytes c.read.result.now, serves, shown)) c.take_bytes.ensures.shown

@@ -5,15 +5,15 @@ use Rattle.arena_chunks.proofs.ServingLemmas.{readable_at, asks_still, serves_st
 use Rattle.arena_chunks.proofs.runs.serve.serve_write.Goals as goal
 use Rattle.arena_chunks.proofs.runs.serve.serve_write.Goals.{then-len-place-via-then-len-place, then-len-place-via-else-len-place+then-at-place}
 
-pub returns-in_default : goal.returns-in_default
+pub returns-in_default-clause-serves : goal.returns-in_default-clause-serves
 unfolding step placed_anew
-returns-in_default g c = λ source.
+returns-in_default-clause-serves g c = λ source.
     serves_still _ _ _ _ _ _ c.requires (λ bytes held. absent_at c.args.arena.now c.args.names.now bytes c.args.name _ (sym c.get.ensures ∙ c.in_default.is))
     (asks_still _ _ _ _ _ refl (λ bytes. refl) (λ bytes. refl))
 
-pub returns-then-len-place : goal.returns-then-len-place
+pub returns-then-len-place-clause-serves : goal.returns-then-len-place-clause-serves
 unfolding step placed_anew
-returns-then-len-place g c = λ source.
+returns-then-len-place-clause-serves g c = λ source.
     let past : c.in-Some.place.size < c.args.at + length c.args.bytes.now = elim c.then-len-place.branch [
       | then-len-place-via-then-len-place w ↦ omega arith
       | then-len-place-via-else-len-place+then-at-place w ↦ omega arith
@@ -25,7 +25,7 @@ returns-then-len-place g c = λ source.
 pub write-requires : goal.write-requires
 write-requires g c = (omega arith, (rw c.block_at.ensures (readable_at _ _ c.args.name c.in-Some.place c.requires (sym c.get.ensures ∙ c.in-Some.is)), rw c.block_at.ensures (omega arith)))
 
-pub returns : goal.returns
-returns g c = λ source.
+pub returns-clause-serves : goal.returns-clause-serves
+returns-clause-serves g c = λ source.
     serves_write c.args.arena.now c.write.new.self c.args.names.now c.args.name c.args.at c.args.bytes.now c.in-Some.place source c.requires (sym c.get.ensures ∙ c.in-Some.is)
     (omega arith) (rw c.block_at.ensures at c.write.ensures)

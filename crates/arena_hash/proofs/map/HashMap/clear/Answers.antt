@@ -17,7 +17,8 @@ returns-clause-becomes g c =
       table = refl;
       hasher = refl;
       places = freed.places;
-      costs = free-costs k g.met.K.Item.layout g.met.V.Item.layout c.requires.keys_small c.requires.values_small c.args.a.now c.free_all.new.a
+      costs = free-costs k g.met.K.Item.layout g.met.V.Item.layout c.requires.keys_small c.requires.values_small c.args.a.now
+          c.free_all.new.a
           m w freed.places refl (omega arith);
       frame = freed.frame;
     }

@@ -7,7 +7,8 @@ use Rattle.arena_hash.proofs.map.HashMap.from_iter_in.Goals as goal
 
 pub loop-pair-init : goal.loop-pair-init
 loop-pair-init g c =
-    collecting-none (kind g.K.Item g.K.ArenaKey.key g.V.Item g.S.KeyHasher.hash_of) g.I.Iterator.next_gives c.args.iter c.args.a.now c.new_in-map.result
+    collecting-none (kind g.K.Item g.K.ArenaKey.key g.V.Item g.S.KeyHasher.hash_of) g.I.Iterator.next_gives c.args.iter c.args.a.now
+    c.new_in-map.result
     c.new_in-map.ensures
 
 pub insert-requires-clause-text : goal.insert-requires-clause-text
@@ -24,8 +25,10 @@ insert-requires-clause-apart g c =
 
 pub loop-pair-preserved : goal.loop-pair-preserved
 loop-pair-preserved g c =
-    collecting-more (kind g.K.Item g.K.ArenaKey.key g.V.Item g.S.KeyHasher.hash_of) g.I.Iterator.next_gives c.args.iter c.loop-pair.iter c.next.new.self
-    c.args.a.now c.loop-pair.a c.insert.new.a c.loop-pair.map c.insert.new.self c.in-Some.pair c.loop-pair.invariant c.in-Some.ensures.steps _
+    collecting-more (kind g.K.Item g.K.ArenaKey.key g.V.Item g.S.KeyHasher.hash_of) g.I.Iterator.next_gives c.args.iter c.loop-pair.iter
+    c.next.new.self
+    c.args.a.now c.loop-pair.a c.insert.new.a c.loop-pair.map c.insert.new.self c.in-Some.pair c.loop-pair.invariant
+    c.in-Some.ensures.steps _
     c.in_ok-insert.ensures
 
 pub returns-in_err-insert-clause-refused : goal.returns-in_err-insert-clause-refused
@@ -38,5 +41,6 @@ returns-in_err-insert-clause-refused g c =
 
 pub returns-clause-collects : goal.returns-clause-collects
 returns-clause-collects g c =
-    collecting-all (kind g.K.Item g.K.ArenaKey.key g.V.Item g.S.KeyHasher.hash_of) g.I.Iterator.next_gives c.args.iter c.loop-pair.iter c.next.new.self
+    collecting-all (kind g.K.Item g.K.ArenaKey.key g.V.Item g.S.KeyHasher.hash_of) g.I.Iterator.next_gives c.args.iter c.loop-pair.iter
+    c.next.new.self
     c.args.a.now c.loop-pair.a c.loop-pair.map c.loop-pair.invariant (rw c.in_default.is at c.next.ensures.steps)

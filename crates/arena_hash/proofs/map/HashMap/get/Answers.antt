@@ -16,7 +16,8 @@ pub returns-in-Taken : goal.returns-in-Taken
 returns-in-Taken g c =
     let k = kind g.K.Item g.K.ArenaKey.key g.V.Item g.S.KeyHasher.hash_of in
     let x = rw c.in-Taken.is at c.look.ensures.ends in
-    ap Some (c.value.ensures x.0 x.1) ∙ sym (ap value_of (found-under k c.args.a.now.memory c.args.self.now c.in-Taken.at x.0 _ c.requires.held x.1 x.2))
+    ap Some (c.value.ensures x.0 x.1) ∙ sym (ap value_of (found-under k c.args.a.now.memory c.args.self.now c.in-Taken.at x.0 _
+    c.requires.held x.1 x.2))
 
 pub returns-in-Open : goal.returns-in-Open
 returns-in-Open g c =

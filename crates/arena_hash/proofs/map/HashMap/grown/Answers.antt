@@ -24,7 +24,8 @@ returns-in_err-table-clause-made g c =
     let size : ℕ = slot_size g.K.Item.SIZE g.V.Item.SIZE in
     let align : ℕ = table_align g.K.Item.ALIGN g.V.Item.ALIGN in
     rw (e.1, e.2)
-    (made-placed size align c.args.a.now c.place.new.a c.args.self.now.table.block c.args.self.now.len (next_slots c.args.self.now.table.slots) c.next_slots.result
+    (made-placed size align c.args.a.now c.place.new.a c.args.self.now.table.block c.args.self.now.len
+    (next_slots c.args.self.now.table.slots) c.next_slots.result
     (λ t. t.block) _ c.if-self.false c.next_slots.ensures c.in_err-table.ensures.asks)
 
 pub carry_all-requires-clause-held : goal.carry_all-requires-clause-held
@@ -55,15 +56,18 @@ carry_all-requires-clause-room g c =
 pub carry_all-requires-clause-from : goal.carry_all-requires-clause-from
 carry_all-requires-clause-from g c =
     let k = kind g.K.Item g.K.ArenaKey.key g.V.Item g.S.KeyHasher.hash_of in
-    placed-beside k c.args.a.now.memory c.place.new.a.memory c.in_ok-table.table.block c.args.self.now.table c.args.self.now.hasher c.in_ok-table.ensures.frame c.requires.held
+    placed-beside k c.args.a.now.memory c.place.new.a.memory c.in_ok-table.table.block c.args.self.now.table c.args.self.now.hasher
+    c.in_ok-table.ensures.frame c.requires.held
 
 pub returns-clause-moved : goal.returns-clause-moved
 returns-clause-moved g c =
     let k = kind g.K.Item g.K.ArenaKey.key g.V.Item g.S.KeyHasher.hash_of in
-    let same = placed-same k c.args.a.now.memory c.place.new.a.memory c.in_ok-table.table.block c.args.self.now.table c.args.self.now.hasher c.in_ok-table.ensures.frame c.requires.held in
+    let same = placed-same k c.args.a.now.memory c.place.new.a.memory c.in_ok-table.table.block c.args.self.now.table
+    c.args.self.now.hasher c.in_ok-table.ensures.frame c.requires.held in
     subst (λ s. Moved s (slots_in g.K.Item g.V.Item c.carry_all.new.a.memory c.in_ok-table.table)) same c.carry_all.ensures.moved
 
 pub returns-clause-frame : goal.returns-clause-frame
 returns-clause-frame g c =
-    frame_then c.args.a.now.memory c.place.new.a.memory c.carry_all.new.a.memory [] (c.in_ok-table.table.block ∷ []) (c.in_ok-table.table.block ∷ [])
+    frame_then c.args.a.now.memory c.place.new.a.memory c.carry_all.new.a.memory [] (c.in_ok-table.table.block ∷ [])
+    (c.in_ok-table.table.block ∷ [])
     c.in_ok-table.ensures.frame c.carry_all.ensures.frame

@@ -1,21 +1,24 @@
 use Rattle.arena_hash.specs.Contents.{kind}
-use Rattle.arena_hash.proofs.WalkLemmas.{map-eights, map-lists, map-long, map-walk}
+use Rattle.arena_hash.proofs.WalkLemmas.{map-lists, map-walk, table-eights, table-long}
 use Rattle.arena_hash.proofs.map.HashMap.iter.Goals as goal
 
 pub start-requires-clause-eights : goal.start-requires-clause-eights
 start-requires-clause-eights g c =
-    map-eights (kind g.K.Item g.K.ArenaKey.key g.V.Item g.S.KeyHasher.hash_of) c.args.a.now.memory c.args.self.now c.read-bytes.result.now
-    c.requires.keys_small c.requires.values_small c.requires.held c.read-bytes.ensures
+    table-eights g.K.Item g.V.Item c.args.a.now.memory c.args.self.now.table c.read-bytes.result.now c.requires.keys_small
+    c.requires.values_small
+    c.requires.held.handle c.read-bytes.ensures
 
 pub start-requires-clause-long : goal.start-requires-clause-long
 start-requires-clause-long g c =
-    map-long (kind g.K.Item g.K.ArenaKey.key g.V.Item g.S.KeyHasher.hash_of) c.args.a.now.memory c.args.self.now c.read-bytes.result.now
-    c.requires.keys_small c.requires.values_small c.requires.held c.read-bytes.ensures
+    table-long g.K.Item g.V.Item c.args.a.now.memory c.args.self.now.table c.read-bytes.result.now c.requires.keys_small
+    c.requires.values_small
+    c.requires.held.handle c.read-bytes.ensures
 
 pub invariant_of-result : goal.invariant_of-result
 invariant_of-result g c =
     map-walk (kind g.K.Item g.K.ArenaKey.key g.V.Item g.S.KeyHasher.hash_of) c.args.a.now.memory c.args.self.now c.read-bytes.result.now
-    c.requires.keys_small c.requires.values_small c.requires.held c.read-bytes.ensures c.start.result c.start.ensures.free c.start.ensures.scan
+    c.requires.keys_small c.requires.values_small c.requires.held c.read-bytes.ensures c.start.result c.start.ensures.free
+    c.start.ensures.scan
 
 pub returns : goal.returns
 returns g c =

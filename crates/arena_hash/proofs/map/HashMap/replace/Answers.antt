@@ -27,7 +27,8 @@ returns-clause-held g c =
     let taken = c.requires.taken in
     let some : 0 < t.slots =
     omega (arith, slice_get_within (slots_in g.K.Item g.V.Item m t) c.args.at (Some taken.0) taken.1, c.requires.held.table.ordered.long) in
-    changed-table k m c.write_with.new.self.memory c.args.self.now.hasher t c.requires.keys_small c.requires.values_small c.requires.held some c.args.at
+    changed-table k m c.write_with.new.self.memory c.args.self.now.hasher t c.requires.keys_small c.requires.values_small c.requires.held
+    some c.args.at
     c.args.value taken.0 taken.1 c.write_with.ensures.edits
 
 pub returns-clause-replaced : goal.returns-clause-replaced
@@ -38,6 +39,7 @@ returns-clause-replaced g c = λ x there.
     let some : 0 < t.slots =
     omega (arith, slice_get_within (slots_in g.K.Item g.V.Item m t) c.args.at (Some x) there, c.requires.held.table.ordered.long) in (
       c.value-old.ensures x there,
-      changed-slots k m c.write_with.new.self.memory c.args.self.now.hasher t c.requires.keys_small c.requires.values_small c.requires.held some c.args.at
+      changed-slots k m c.write_with.new.self.memory c.args.self.now.hasher t c.requires.keys_small c.requires.values_small
+          c.requires.held some c.args.at
           c.args.value x there c.write_with.ensures.edits,
     )

@@ -8,26 +8,30 @@ use Rattle.arena_hash.proofs.set.HashSet.from_iter_in.Goals as goal
 
 pub loop-item-init : goal.loop-item-init
 loop-item-init g c =
-    collecting-none (set_kind g.T.Item g.T.ArenaKey.key g.S.KeyHasher.hash_of) (StepsInPairs g.I.Iterator.next_gives) c.args.iter c.args.a.now
+    collecting-none (set_kind g.T.Item g.T.ArenaKey.key g.S.KeyHasher.hash_of) (StepsInPairs g.I.Iterator.next_gives) c.args.iter
+    c.args.a.now
     c.new_in-map.result c.new_in-map.ensures
 
 pub insert-requires-clause-text : goal.insert-requires-clause-text
 insert-requires-clause-text g c =
     let so_far = c.loop-item.invariant in
     let gave = items-yielded g.I.Iterator.next_gives c.args.iter so_far.pairs c.loop-item.iter so_far.yields in
-    let readable = c.requires.texts (map (λ p. p.0) so_far.pairs) c.loop-item.iter c.next.new.self c.in-Some.item gave c.in-Some.ensures.steps in
+    let readable = c.requires.texts (map (λ p. p.0) so_far.pairs) c.loop-item.iter c.next.new.self c.in-Some.item gave
+    c.in-Some.ensures.steps in
     (frame_keeps _ _ [] (c.loop-item.map.table.block ∷ []) (g.T.ArenaKey.key.text c.in-Some.item) so_far.frame readable tt).readable
 
 pub insert-requires-clause-apart : goal.insert-requires-clause-apart
 insert-requires-clause-apart g c =
     let so_far = c.loop-item.invariant in
     let gave = items-yielded g.I.Iterator.next_gives c.args.iter so_far.pairs c.loop-item.iter so_far.yields in
-    let readable = c.requires.texts (map (λ p. p.0) so_far.pairs) c.loop-item.iter c.next.new.self c.in-Some.item gave c.in-Some.ensures.steps in
+    let readable = c.requires.texts (map (λ p. p.0) so_far.pairs) c.loop-item.iter c.next.new.self c.in-Some.item gave
+    c.in-Some.ensures.steps in
     (frame_keeps _ _ [] (c.loop-item.map.table.block ∷ []) (g.T.ArenaKey.key.text c.in-Some.item) so_far.frame readable tt).apart.0
 
 pub loop-item-preserved : goal.loop-item-preserved
 loop-item-preserved g c =
-    collecting-more (set_kind g.T.Item g.T.ArenaKey.key g.S.KeyHasher.hash_of) (StepsInPairs g.I.Iterator.next_gives) c.args.iter c.loop-item.iter
+    collecting-more (set_kind g.T.Item g.T.ArenaKey.key g.S.KeyHasher.hash_of) (StepsInPairs g.I.Iterator.next_gives) c.args.iter
+    c.loop-item.iter
     c.next.new.self c.args.a.now c.loop-item.a c.insert.new.a c.loop-item.map c.insert.new.self (c.in-Some.item, tt) c.loop-item.invariant
     c.in-Some.ensures.steps _ c.in_ok-insert.ensures
 
@@ -35,11 +39,13 @@ pub returns-in_err-insert-clause-refused : goal.returns-in_err-insert-clause-ref
 returns-in_err-insert-clause-refused g c =
     let p = err_from_is_err_and c.from_residual.result c.from_residual.ensures.1 in
     rw (p.1, p.2)
-    (collecting-refused (set_kind g.T.Item g.T.ArenaKey.key g.S.KeyHasher.hash_of) (StepsInPairs g.I.Iterator.next_gives) c.args.iter c.loop-item.iter
+    (collecting-refused (set_kind g.T.Item g.T.ArenaKey.key g.S.KeyHasher.hash_of) (StepsInPairs g.I.Iterator.next_gives) c.args.iter
+    c.loop-item.iter
     c.next.new.self c.args.a.now c.loop-item.a c.insert.new.a c.loop-item.map c.insert.new.self (c.in-Some.item, tt) c.loop-item.invariant
     c.in-Some.ensures.steps _ c.in_err-insert.ensures)
 
 pub returns-clause-collects : goal.returns-clause-collects
 returns-clause-collects g c =
-    collecting-all (set_kind g.T.Item g.T.ArenaKey.key g.S.KeyHasher.hash_of) (StepsInPairs g.I.Iterator.next_gives) c.args.iter c.loop-item.iter c.next.new.self
+    collecting-all (set_kind g.T.Item g.T.ArenaKey.key g.S.KeyHasher.hash_of) (StepsInPairs g.I.Iterator.next_gives) c.args.iter
+    c.loop-item.iter c.next.new.self
     c.args.a.now c.loop-item.a c.loop-item.map c.loop-item.invariant (rw c.in_default.is at c.next.ensures.steps)

@@ -1,78 +1,70 @@
-use Rattle.std.proofs.Common.{◌≡◌, ℕ, ◌<◌, refl, sym, subst, ◌∙◌, arith, IsTrue}
+use Rattle.std.proofs.Common.{inr, sym, subst, arith, IsTrue}
+use Rattle.std.proofs.lemmas.Option.{MatchOption-at_some}
 use Rattle.arena_chunks.specs.Memory.{is_readable}
 use Rattle.arena_items.specs.Values.{bytes_of}
 use Rattle.arena_hash.specs.Slots.{Settled}
 use Rattle.arena_hash.specs.Tables.{slots_in, IsTextBeside}
 use Rattle.arena_hash.proofs.HandleLemmas.{handle-shape}
-use Rattle.arena_hash.proofs.Places.{not_free}
-use Rattle.arena_hash.proofs.SlotLemmas.{slot-free, slot-taken}
+use Rattle.arena_hash.proofs.WalkLemmas.{table-eights, table-long, walk-goes}
 use Rattle.arena_hash.proofs.table.Table.carry.Goals as goal
 
-positive : (n : ℕ) → (n ≡ 0 → ⊥) → 0 < n
-positive n h = grind (arith, h)
+pub step-slot-requires-clause-eights : goal.step-slot-requires-clause-eights
+step-slot-requires-clause-eights g c =
+    table-eights g.K.Item g.V.Item c.args.a.now.memory c.args.from c.read-bytes.result.now c.requires.keys_small c.requires.values_small
+    c.requires.from.handle c.read-bytes.ensures
 
-pub bounds-bytes-i : goal.bounds-bytes-i
-bounds-bytes-i g c =
-    let m = c.args.a.now.memory in
-    let some : 0 < c.args.from.slots = omega (arith, c.requires.index) in
-    let shape = handle-shape g.K.Item g.V.Item m c.args.from c.requires.keys_small c.requires.values_small c.requires.from.handle some in
-    rw c.read-bytes.ensures (omega (arith, shape.long, c.requires.index))
-
-pub returns-then-bytes-i-eq0-clause-carries : goal.returns-then-bytes-i-eq0-clause-carries
-returns-then-bytes-i-eq0-clause-carries g c =
-    let m = c.args.a.now.memory in
-    let some : 0 < c.args.from.slots = omega (arith, c.requires.index) in
-    let shape = handle-shape g.K.Item g.V.Item m c.args.from c.requires.keys_small c.requires.values_small c.requires.from.handle some in
-    let free = slot-free g.K.Item g.V.Item c.args.from.slots (bytes_of m c.args.from.block) shape c.args.i c.requires.index (rw c.read-bytes.ensures at c.if-bytes-i-eq0.true) in
-    record { free = λ e. refl; taken = λ x s. absurd (not_free x (sym s ∙ free)) }
+pub step-slot-requires-clause-long : goal.step-slot-requires-clause-long
+step-slot-requires-clause-long g c =
+    table-long g.K.Item g.V.Item c.args.a.now.memory c.args.from c.read-bytes.result.now c.requires.keys_small c.requires.values_small
+    c.requires.from.handle c.read-bytes.ensures
 
 pub key_at-key-requires-clause-shape : goal.key_at-key-requires-clause-shape
 key_at-key-requires-clause-shape g c =
-    let m = c.args.a.now.memory in
-    let some : 0 < c.args.from.slots = omega (arith, c.requires.index) in
-    let shape = handle-shape g.K.Item g.V.Item m c.args.from c.requires.keys_small c.requires.values_small c.requires.from.handle some in
-    rw c.read-bytes.ensures shape
+    let goes = MatchOption-at_some _ _ c.in-Some.i c.in-Some.is c.step-slot.ensures.goes in
+    rw c.read-bytes.ensures
+    (handle-shape g.K.Item g.V.Item c.args.a.now.memory c.args.from c.requires.keys_small c.requires.values_small c.requires.from.handle
+    (omega (arith, goes.less)))
 
 pub value_at-value-requires-clause-shape : goal.value_at-value-requires-clause-shape
 value_at-value-requires-clause-shape g c =
-    let m = c.args.a.now.memory in
-    let some : 0 < c.args.from.slots = omega (arith, c.requires.index) in
-    let shape = handle-shape g.K.Item g.V.Item m c.args.from c.requires.keys_small c.requires.values_small c.requires.from.handle some in
-    rw c.read-bytes.ensures shape
+    let goes = MatchOption-at_some _ _ c.in-Some.i c.in-Some.is c.step-slot.ensures.goes in
+    rw c.read-bytes.ensures
+    (handle-shape g.K.Item g.V.Item c.args.a.now.memory c.args.from c.requires.keys_small c.requires.values_small c.requires.from.handle
+    (omega (arith, goes.less)))
 
 pub content-requires : goal.content-requires
 content-requires g c =
     let m = c.args.a.now.memory in
-    let some : 0 < c.args.from.slots = omega (arith, c.requires.index) in
-    let shape = handle-shape g.K.Item g.V.Item m c.args.from c.requires.keys_small c.requires.values_small c.requires.from.handle some in
-    let marked = rw c.read-bytes.ensures at c.if-bytes-i-eq0.false in
-    let x = slot-taken g.K.Item g.V.Item c.args.from.slots (bytes_of m c.args.from.block) shape c.args.i c.requires.index (positive _ marked) in
+    let goes = MatchOption-at_some _ _ c.in-Some.i c.in-Some.is c.step-slot.ensures.goes in
+    let shape = handle-shape g.K.Item g.V.Item m c.args.from c.requires.keys_small c.requires.values_small c.requires.from.handle
+    (omega (arith, goes.less)) in
+    let x = walk-goes g.K.Item g.V.Item c.args.from.slots (bytes_of m c.args.from.block) (inr shape) c.args.scan c.step-slot.result.1
+    c.in-Some.i
+    (rw c.read-bytes.ensures at goes) in
     let key = (rw c.read-bytes.ensures at c.key_at-key.ensures) x.0 x.1 in
-    subst (λ w. IsTrue (is_readable m.state (g.K.ArenaKey.key.text w))) (sym key) (c.requires.from.texts x.0 (c.args.i, x.1)).readable
+    subst (λ w. IsTrue (is_readable m.state (g.K.ArenaKey.key.text w))) (sym key) (c.requires.from.texts x.0 (c.in-Some.i, x.1)).readable
 
 pub settle-requires-clause-text : goal.settle-requires-clause-text
 settle-requires-clause-text g c =
     let m = c.args.a.now.memory in
-    let some : 0 < c.args.from.slots = omega (arith, c.requires.index) in
-    let shape = handle-shape g.K.Item g.V.Item m c.args.from c.requires.keys_small c.requires.values_small c.requires.from.handle some in
-    let marked = rw c.read-bytes.ensures at c.if-bytes-i-eq0.false in
-    let x = slot-taken g.K.Item g.V.Item c.args.from.slots (bytes_of m c.args.from.block) shape c.args.i c.requires.index (positive _ marked) in
+    let goes = MatchOption-at_some _ _ c.in-Some.i c.in-Some.is c.step-slot.ensures.goes in
+    let shape = handle-shape g.K.Item g.V.Item m c.args.from c.requires.keys_small c.requires.values_small c.requires.from.handle
+    (omega (arith, goes.less)) in
+    let x = walk-goes g.K.Item g.V.Item c.args.from.slots (bytes_of m c.args.from.block) (inr shape) c.args.scan c.step-slot.result.1
+    c.in-Some.i
+    (rw c.read-bytes.ensures at goes) in
     let key = (rw c.read-bytes.ensures at c.key_at-key.ensures) x.0 x.1 in
-    subst (λ w. IsTextBeside g.K.ArenaKey.key m c.args.self.block w) (sym key) (c.requires.from.texts x.0 (c.args.i, x.1))
+    subst (λ w. IsTextBeside g.K.ArenaKey.key m c.args.self.block w) (sym key) (c.requires.from.texts x.0 (c.in-Some.i, x.1))
 
 pub returns-clause-carries : goal.returns-clause-carries
-returns-clause-carries g c =
-    let m = c.args.a.now.memory in
-    let some : 0 < c.args.from.slots = omega (arith, c.requires.index) in
-    let shape = handle-shape g.K.Item g.V.Item m c.args.from c.requires.keys_small c.requires.values_small c.requires.from.handle some in
-    let marked = rw c.read-bytes.ensures at c.if-bytes-i-eq0.false in
-    let x = slot-taken g.K.Item g.V.Item c.args.from.slots (bytes_of m c.args.from.block) shape c.args.i c.requires.index (positive _ marked) in
-    let key = (rw c.read-bytes.ensures at c.key_at-key.ensures) x.0 x.1 in
-    record {
-      free = λ e. absurd (not_free x.0 (sym x.1 ∙ e));
-      taken = λ y s.
-          let value = (rw c.read-bytes.ensures at c.value_at-value.ensures) y s in
-          let first = (rw c.read-bytes.ensures at c.key_at-key.ensures) y s in
-          subst (λ w. Settled (slots_in g.K.Item g.V.Item m c.args.self) (slots_in g.K.Item g.V.Item c.settle.new.a.memory c.args.self) w) (λ i. (first i, value i))
-          c.settle.ensures.settled;
-    }
+returns-clause-carries g c = record {
+  scan_next = rw c.read-bytes.ensures at c.step-slot.ensures.scan;
+  at = c.in-Some.i;
+  goes = rw c.read-bytes.ensures at (MatchOption-at_some _ _ c.in-Some.i c.in-Some.is c.step-slot.ensures.goes);
+  settled = λ y s.
+      let value = (rw c.read-bytes.ensures at c.value_at-value.ensures) y s in
+      let first = (rw c.read-bytes.ensures at c.key_at-key.ensures) y s in
+      subst (λ w. Settled (slots_in g.K.Item g.V.Item c.args.a.now.memory c.args.self)
+      (slots_in g.K.Item g.V.Item c.settle.new.a.memory c.args.self) w)
+      (λ i. (first i, value i)) c.settle.ensures.settled;
+}

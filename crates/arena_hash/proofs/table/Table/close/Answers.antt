@@ -10,7 +10,8 @@ use Rattle.arena_hash.proofs.table.Table.close.Goals as goal
 pub is_near-requires-clause-long : goal.is_near-requires-clause-long
 is_near-requires-clause-long g c =
     let some : 0 < c.args.self.slots = omega (arith, c.requires.free) in
-    let shape = handle-shape g.K.Item g.V.Item c.args.a.now.memory c.args.self c.requires.keys_small c.requires.values_small c.requires.held.handle some in
+    let shape = handle-shape g.K.Item g.V.Item c.args.a.now.memory c.args.self c.requires.keys_small c.requires.values_small
+    c.requires.held.handle some in
     rw c.read.ensures (omega (arith, shape.long))
 
 pub is_near-requires-clause-at : goal.is_near-requires-clause-at
@@ -25,7 +26,8 @@ is_near-requires-clause-at g c =
 pub write_with-requires-clause-suits : goal.write_with-requires-clause-suits
 write_with-requires-clause-suits g c =
     let some : 0 < c.args.self.slots = omega (arith, c.requires.free) in
-    let shape = handle-shape g.K.Item g.V.Item c.args.a.now.memory c.args.self c.requires.keys_small c.requires.values_small c.requires.held.handle some in
+    let shape = handle-shape g.K.Item g.V.Item c.args.a.now.memory c.args.self c.requires.keys_small c.requires.values_small
+    c.requires.held.handle some in
     let at : c.args.at < c.args.self.slots = omega (
       arith,
       c.requires.held.table.ordered.long,
@@ -41,11 +43,13 @@ write_with-requires-clause-suits g c =
 pub returns-clause-held : goal.returns-clause-held
 returns-clause-held g c =
     let k = kind g.K.Item g.K.ArenaKey.key g.V.Item g.S.KeyHasher.hash_of in
-    (in-close k c.args.a.now.memory c.write_with.new.self.memory c.args.hasher.now c.args.self c.requires.held c.args.at c.requires.taken.0 c.requires.free
+    (in-close k c.args.a.now.memory c.write_with.new.self.memory c.args.hasher.now c.args.self c.requires.held c.args.at
+    c.requires.taken.0 c.requires.free
     c.requires.taken.1 c.write_with.ensures.edits).0
 
 pub returns-clause-closed : goal.returns-clause-closed
 returns-clause-closed g c =
     let k = kind g.K.Item g.K.ArenaKey.key g.V.Item g.S.KeyHasher.hash_of in
-    (in-close k c.args.a.now.memory c.write_with.new.self.memory c.args.hasher.now c.args.self c.requires.held c.args.at c.requires.taken.0 c.requires.free
+    (in-close k c.args.a.now.memory c.write_with.new.self.memory c.args.hasher.now c.args.self c.requires.held c.args.at
+    c.requires.taken.0 c.requires.free
     c.requires.taken.1 c.write_with.ensures.edits).1

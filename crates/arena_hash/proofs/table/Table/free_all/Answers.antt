@@ -9,7 +9,8 @@ use Rattle.arena_hash.proofs.table.Table.free_all.Goals as goal
 pub write_with-requires-clause-range : goal.write_with-requires-clause-range
 write_with-requires-clause-range g c =
     let n = c.args.self.slots in
-    let more : n * 1 ≤ n * slot_size g.K.Item.SIZE g.V.Item.SIZE = mul-le-mul_left n (let le : 1 ≤ slot_size g.K.Item.SIZE g.V.Item.SIZE = omega arith in le) in
+    let more : n * 1 ≤ n * slot_size g.K.Item.SIZE g.V.Item.SIZE = mul-le-mul_left n
+    (let le : 1 ≤ slot_size g.K.Item.SIZE g.V.Item.SIZE = omega arith in le) in
     omega (arith, c.requires.held.place.of_size, more)
 
 pub returns-clause-free : goal.returns-clause-free

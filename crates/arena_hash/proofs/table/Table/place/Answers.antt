@@ -10,4 +10,5 @@ unreachable-requires g c =
     let valid = rw (c.in_default.is, c.pair_size.ensures, c.table_align.ensures) at c.new.ensures.valid in
     let layout = table-layout g.K.Item.SIZE g.V.Item.SIZE g.K.Item.ALIGN g.V.Item.ALIGN c.args.slots g.met.K.Item.layout g.met.V.Item.layout
     c.requires.keys_small c.requires.values_small c.requires.ring.2 in
-    both_ways (is_layout (c.args.slots * slot_size g.K.Item.SIZE g.V.Item.SIZE) (table_align g.K.Item.ALIGN g.V.Item.ALIGN)) (sym valid) layout
+    both_ways (is_layout (c.args.slots * slot_size g.K.Item.SIZE g.V.Item.SIZE) (table_align g.K.Item.ALIGN g.V.Item.ALIGN)) (sym valid)
+    layout

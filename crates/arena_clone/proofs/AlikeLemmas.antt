@@ -1,0 +1,48 @@
+-- Options and lists that are alike.
+use Rattle.std.proofs.Common.{◌≡◌, ℕ, zero, suc, ◌↔◌, ap, sym, ◌∙◌, refl, arith, Option, Some, None, List, [], ◌∷◌}
+use Rattle.std.specs.Prelude.{slice_get}
+use Rattle.arena_chunks.specs.Memory.{Memory}
+use Rattle.arena_clone.specs.Alike.{AreOptionsAlike, AreListsAlike}
+use Rattle.arena_clone.specs.Kinds.{Kind, AreAlike, option_of, row_of}
+use Rattle.arena_clone.specs.declared.ids.CloneInSemanticIds.{CloneInSemanticIds}
+
+some_same : {A : Type 0} (x y : A) → Some x ≡ Some y → x ≡ y
+some_same x y same = cc
+
+cons_same : {A : Type 0} (x y : A) (xs ys : List A) → x ∷ xs ≡ y ∷ ys → (x ≡ y) × (xs ≡ ys)
+cons_same x y xs ys same = (cc, cc)
+
+module _ {T : Type 0} (kind : Kind T) (ids : CloneInSemanticIds) (a c : Memory) where
+  -- Two options mean what copies mean where both are none, or their values do.
+  pub options_alike : (v w : Option T) → AreAlike (option_of kind) ids a v c w ↔ AreOptionsAlike kind ids a v c w
+  options_alike None None = ((λ same. tt), (λ alike. refl))
+  options_alike None (Some w) = ((λ same. cc), (λ alike. absurd alike))
+  options_alike (Some v) None = ((λ same. cc), (λ alike. absurd alike))
+  options_alike (Some v) (Some w) = (some_same _ _, (λ alike. ap Some alike))
+
+  -- Two lists do where their values do, position by position.
+  lists_apart : (vs ws : List T) → AreAlike (row_of kind) ids a vs c ws → AreListsAlike kind ids a vs c ws
+  lists_apart [] [] same = record { lengths = refl; each = λ i v w at there. cc }
+  lists_apart [] (w ∷ ws) same = absurd cc
+  lists_apart (v ∷ vs) [] same = absurd cc
+  lists_apart (v ∷ vs) (w ∷ ws) same =
+      let both = cons_same _ _ _ _ same in
+      let rest = lists_apart vs ws both.1 in
+      record { lengths = ap suc rest.lengths; each = each both.0 rest }
+    where
+      each : AreAlike kind ids a v c w → AreListsAlike kind ids a vs c ws → (i : ℕ) (x y : T)
+          → slice_get (v ∷ vs) i ≡ Some x → slice_get (w ∷ ws) i ≡ Some y → AreAlike kind ids a x c y
+      each first rest zero x y at there = sym (ap (kind.whole c) (some_same w y there)) ∙ first
+          ∙ ap (λ t. kind.by_ids ids (kind.whole a t)) (some_same v x at)
+      each first rest (suc i) x y at there = rest.each i x y at there
+
+  lists_joined : (vs ws : List T) → AreListsAlike kind ids a vs c ws → AreAlike (row_of kind) ids a vs c ws
+  lists_joined [] [] alike = refl
+  lists_joined [] (w ∷ ws) alike = absurd (let no = alike.lengths in omega arith)
+  lists_joined (v ∷ vs) [] alike = absurd (let no = alike.lengths in omega arith)
+  lists_joined (v ∷ vs) (w ∷ ws) alike =
+      let rest = lists_joined vs ws (record { lengths = omega (arith, alike.lengths); each = λ i. alike.each (suc i) }) in
+      λ i. alike.each zero v w refl refl i ∷ rest i
+
+  pub lists_alike : (vs ws : List T) → AreAlike (row_of kind) ids a vs c ws ↔ AreListsAlike kind ids a vs c ws
+  lists_alike vs ws = (lists_apart vs ws, lists_joined vs ws)

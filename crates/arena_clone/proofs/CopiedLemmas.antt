@@ -1,0 +1,32 @@
+-- A new block with the bytes of another, and values of such blocks.
+use Rattle.std.proofs.Common.{◌≡◌, ℕ, ◌≤◌, ap, sym, subst, ◌∙◌, List, [], ◌∷◌, length, IsTrue}
+use Rattle.arena_chunks.specs.Memory.{image, bytes_from, is_readable}
+use Rattle.arena_chunks.specs.Source.{View, Source, view}
+use Rattle.arena_chunks.specs.Answers.Answer.{Placed}
+use Rattle.arena_chunks.specs.BlockCalls.{PlacesBlock, WritesBlock}
+use Rattle.arena_chunks.specs.declared.block.Block.{Block}
+use Rattle.arena_chunks.proofs.Layers.{length-bytes, places_written, wrote_whole, frame_keeps_new}
+use Rattle.arena_items.specs.Values.{bytes_of}
+use Rattle.arena_items.proofs.Layers.{front_readable}
+
+module _ (old mid new : View) (size align : ℕ) (b : Block) (list : List ℕ) (places : PlacesBlock old mid size align (Placed b))
+    (writes : WritesBlock mid.memory new.memory b 0 list) where
+  -- A block that was placed is so after a write.
+  pub copied_placed : new.source ≡ mid.source → PlacesBlock old new size align (Placed b)
+  copied_placed source = subst (λ (s : Source). PlacesBlock old (view new.memory s) size align (Placed b)) (sym source)
+      (places_written old.memory mid.memory new.memory old.source mid.source size align b 0 list places writes)
+
+  -- It has the bytes that were written,
+  pub written_bytes : length list ≡ size → bytes_of new.memory b ≡ list
+  written_bytes sized = wrote_whole mid.memory new.memory b list writes (sized ∙ sym places.1.outcome.of_layout.of_size)
+
+  pub copied_bytes : (f : ℕ → ℕ) (addr : ℕ) → list ≡ bytes_from f addr size → bytes_of new.memory b ≡ bytes_from f addr size
+  copied_bytes f addr same = written_bytes (ap length same ∙ length-bytes f addr size) ∙ same
+
+-- which are those of a block that was there before.
+pub front_kept : (old mid : View) (size align n : ℕ) (b source : Block) → PlacesBlock old mid size align (Placed b)
+    → IsTrue (is_readable old.memory.state source) → n ≤ source.size
+    → bytes_from (image mid.memory) source.addr n ≡ bytes_from (image old.memory) source.addr n
+front_kept old mid size align n b source places readable enough =
+    (frame_keeps_new old.memory mid.memory (b ∷ []) (record source { size = n }) places.1.outcome.frame
+    (front_readable old.memory.state source n readable enough)).bytes

@@ -1,0 +1,61 @@
+-- Values whose bytes are copied in one move of memory.
+use Rattle.std.proofs.Common.{◌≡◌, ℕ, ◌*◌, ◌≤◌, refl, List, [], ◌∷◌, Ok, take, arith, IsTrue, subst, sym}
+use Rattle.std.specs.Prelude.{IsPermutation}
+use Rattle.std.specs.List.{AllByRecursion, flat_map}
+use Rattle.std.proofs.lemmas.List.Sorted.{IsPermutation-refl}
+use Rattle.arena_chunks.specs.Memory.{Memory, image, is_readable}
+use Rattle.arena_chunks.specs.Source.{View}
+use Rattle.arena_chunks.specs.BlockCalls.{WritesBlock}
+use Rattle.arena_chunks.specs.declared.block.Block.{Block}
+use Rattle.arena_chunks.proofs.Layers.{length-bytes, take_bytes, wrote_first, wrote_readable}
+use Rattle.arena_items.specs.Values.{bytes_of, elements}
+use Rattle.arena_items.proofs.Layers.{values_kept, wrote_same}
+use Rattle.arena_clone.specs.Kinds.{Kind, row_of}
+use Rattle.arena_clone.specs.Copies.{IsFlat}
+use Rattle.arena_clone.specs.Rows.{CopiesRow}
+use Rattle.arena_clone.specs.declared.ids.CloneInSemanticIds.{CloneInSemanticIds}
+
+-- what holds of all holds of each in a list
+everywhere : {A : Type 0} (P : A → Type 0) → ((x : A) → P x) → (xs : List A) → AllByRecursion P xs
+everywhere P all [] = tt
+everywhere P all (x ∷ xs) = (all x, everywhere P all xs)
+
+-- lists of nothing are nothing together
+none_in_all : {A B : Type 0} (f : A → List B) → ((x : A) → f x ≡ []) → (xs : List A) → flat_map f xs ≡ []
+none_in_all f none [] = refl
+none_in_all f none (x ∷ xs) = rw (none x) (none_in_all f none xs)
+
+module _ {T : Type 0} (kind : Kind T) (ids : CloneInSemanticIds) (flat : IsFlat kind ids) where
+  -- Flat values elsewhere mean what copies of them mean.
+  all_alike : (a c : Memory) (xs : List T)
+      → (row_of kind).whole c xs ≡ (row_of kind).by_ids ids ((row_of kind).whole a xs)
+  all_alike a c [] = refl
+  all_alike a c (x ∷ xs) = λ i. flat.alike a c x i ∷ all_alike a c xs i
+
+  -- So a row of them is copied by a write that puts the same values there.
+  pub row_written : {X : Type 0} (source : Memory) (old new : View) (target : Block) (at : ℕ) (list : List ℕ) (xs ys : List T) (x : X)
+      → WritesBlock old.memory new.memory target at list → new.source ≡ old.source → IsTrue (is_readable old.memory.state target)
+      → ys ≡ xs → CopiesRow kind ids source old new target xs ys (Ok x)
+  row_written source old new target at list xs ys x writes same readable are = rw are (record {
+    blocks = [];
+    asked = rw (none_in_all (kind.asks source) (flat.asks source) xs) (refl, refl, wrote_same old new target at list writes same);
+    apart = (tt, tt);
+    frame = writes.frame;
+    readable = rw (wrote_readable old.memory new.memory target target at list writes) readable;
+    made = record {
+      held = everywhere (kind.is_held new.memory) (flat.held new.memory) xs;
+      means = all_alike source new.memory xs;
+      trim = everywhere (kind.is_trim new.memory) (flat.trim new.memory) xs;
+      deep = subst (λ ds. IsPermutation ds []) (sym (none_in_all (kind.deep new.memory) (flat.deep new.memory) xs)) (IsPermutation-refl []);
+    };
+  })
+
+-- The first values of a block whose front was written with the front of another.
+pub front_written : {T : Type 0} (dec : List ℕ → T) (source old new : Memory) (from target : Block) (size n : ℕ)
+    → n * size ≤ from.size → n * size ≤ target.size → WritesBlock old new target 0 (take (n * size) (bytes_of source from))
+    → elements size dec n (bytes_of new target) ≡ elements size dec n (bytes_of source from)
+front_written dec source old new from target size n within room writes =
+    let front = take_bytes (image source) from.addr from.size (n * size) within in
+    let long = length-bytes (image source) from.addr (n * size) in
+    let wrote = rw (front, long) at (wrote_first old new target (take (n * size) (bytes_of source from)) writes) in
+    values_kept dec source new from target size n (n * size) (omega arith) within room wrote

@@ -1,0 +1,20 @@
+mod AsksLemmas
+mod CopyLemmas
+mod FlatLemmas
+mod RowLemmas
+mod WithinLemmas
+mod ThroughLemmas
+mod AlikeLemmas
+mod LawLemmas
+mod BoxLemmas
+mod LayoutLemmas
+mod SliceLemmas
+mod VectorLemmas
+mod CopiedLemmas
+mod PairLemmas
+mod FiniteLemmas
+mod PutLemmas
+mod PutWithinLemmas
+mod MapLemmas
+mod BothLemmas
+pub mod Layers

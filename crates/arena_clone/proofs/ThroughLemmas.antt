@@ -1,0 +1,126 @@
+-- Copies of what stands in a block of its own: the block is placed, and then the values are copied into it.
+use Rattle.std.proofs.Common.{◌≡◌, ℕ, List, [], ◌∷◌, Some, None, Ok, Err, IsTrue, subst, sym, ap}
+use Rattle.std.specs.Prelude.{Result, IsPermutation}
+use Rattle.std.proofs.lemmas.List.Sorted.{IsPermutation-cons, IsPermutation-refl}
+use Rattle.arena_chunks.specs.Memory.{Memory, is_readable}
+use Rattle.arena_chunks.specs.Source.{View}
+use Rattle.arena_chunks.specs.Frame.{Frame, AreAllApart, Stays}
+use Rattle.arena_chunks.specs.declared.block.Block.{Block}
+use Rattle.arena_chunks.proofs.Layers.{frame_then, frame_keeps_new}
+use Rattle.arena_items.specs.Values.{bytes_of, elements}
+use Rattle.arena_items.specs.declared.item.Item.{Ghosts}
+use Rattle.arena_items.specs.declared.room.AllocError.{AllocError}
+use Rattle.arena_clone.specs.Asks.{Ask, PlacesAll, refusal}
+use Rattle.arena_vec.specs.Held.{empty_block}
+use Rattle.arena_clone.specs.Asks.Ask.{Empty}
+use Rattle.arena_clone.specs.Kinds.{Kind, plain, row_of, row_in}
+use Rattle.arena_clone.specs.KindLaws.{IsLawful, row_lawful}
+use Rattle.arena_clone.specs.Copies.{Copies, MakesNew, StaysWhole}
+use Rattle.arena_clone.specs.Rows.{CopiesRow}
+use Rattle.arena_clone.specs.declared.ids.CloneInSemanticIds.{CloneInSemanticIds}
+use Rattle.arena_clone.proofs.AsksLemmas.{asked_then}
+use Rattle.arena_clone.proofs.CopyLemmas.{apart_of_none, makes_empty, deep_agree, deep_stays, places_refused}
+
+module _ {V T : Type 0} (item : Ghosts T) (kind : Kind T) (block : V → Block) (is_in : Memory → V → Type 0)
+    (values : Memory → V → List T) (is_trim : V → Type 0) (ask : V → Ask) (ids : CloneInSemanticIds) (source : Memory) (old : View)
+    (v : V) where
+  -- The own block is refused.
+  pub own_refused : (new : View) (e : AllocError) → PlacesAll (ask v ∷ []) old new [] (Some e)
+      → Copies (row_in item kind block is_in values is_trim ask) ids source old new v (Err e)
+  own_refused new e placed = record {
+    blocks = [];
+    placed = places_refused (ask v ∷ []) ((row_of kind).asks source (values source v)) old new [] e placed;
+    made = tt;
+  }
+
+  module _ {X : Type 0} (mid new : View) (target : Block) (own : PlacesAll (ask v ∷ []) old mid (target ∷ []) None) where
+    -- The own block is placed, and then those of the values.
+    both_placed : (ys : List T) (r : Result X AllocError) (row : CopiesRow kind ids source mid new target (values source v) ys r)
+        → PlacesAll (ask v ∷ (row_of kind).asks source (values source v)) old new (target ∷ row.blocks) (refusal r)
+    both_placed ys r row = record {
+      asked = asked_then (ask v ∷ []) ((row_of kind).asks source (values source v)) old mid new (target ∷ []) row.blocks
+          (refusal r) own.asked row.asked;
+      apart = row.apart;
+      frame = frame_then old.memory mid.memory new.memory [] (target ∷ []) (target ∷ row.blocks) own.frame row.frame;
+    }
+
+    -- A value is refused.
+    pub value_refused : (ys : List T) (e : AllocError) → CopiesRow {X = X} kind ids source mid new target (values source v) ys (Err e)
+        → Copies (row_in item kind block is_in values is_trim ask) ids source old new v (Err e)
+    value_refused ys e row = record {
+      blocks = target ∷ row.blocks;
+      placed = both_placed ys (Err e) row;
+      made = tt;
+    }
+
+    -- All are copied, and reached through this handle.
+    pub values_made : (w : V) (x : X) → CopiesRow kind ids source mid new target (values source v) (values new.memory w) (Ok x)
+        → block w ≡ target → is_in new.memory w → is_trim w
+        → Copies (row_in item kind block is_in values is_trim ask) ids source old new v (Ok w)
+    values_made w x row at held trim = record {
+      blocks = target ∷ row.blocks;
+      placed = both_placed (values new.memory w) (Ok x) row;
+      made = record {
+        held = (held, row.made.held);
+        means = row.made.means;
+        trim = (trim, row.made.trim);
+        deep = subst (λ b. IsPermutation (b ∷ (row_of kind).deep new.memory (values new.memory w)) (target ∷ row.blocks)) (sym at)
+            (IsPermutation-cons target ((row_of kind).deep new.memory (values new.memory w)) row.blocks row.made.deep);
+      };
+    }
+
+-- No values are reached through a handle whose block is that of no storage.
+pub makes_no_values : {V T : Type 0} (item : Ghosts T) (block : V → Block) (is_in : Memory → V → Type 0) (values : Memory → V → List T)
+    (is_trim : V → Type 0) (ask : V → Ask) (align : ℕ) (a : View) (w : V) → is_in a.memory w → block w ≡ empty_block align
+    → values a.memory w ≡ [] → is_trim w → MakesNew (row_in item plain block is_in values is_trim ask) [] (Empty align ∷ []) a a (Ok w)
+makes_no_values item block is_in values is_trim ask align a w held at none trim =
+    makes_empty (row_in item plain block is_in values is_trim ask) [] align a w (record {
+      held = (held, subst (λ vs. (row_of plain).is_held a.memory vs) (sym none) tt);
+      means = ap ((row_of plain).whole a.memory) none;
+      trim = (trim, subst (λ vs. (row_of plain).is_trim a.memory vs) (sym none) tt);
+      deep = subst (λ b. IsPermutation (b ∷ (row_of plain).deep a.memory (values a.memory w)) (empty_block align ∷ [])) (sym at)
+          (subst (λ vs. IsPermutation (empty_block align ∷ (row_of plain).deep a.memory vs) (empty_block align ∷ [])) (sym none)
+          (IsPermutation-refl (empty_block align ∷ [])));
+    })
+
+-- ---- Within one arena
+
+module _ {T : Type 0} (item : Ghosts T) (kind : Kind T) (is : IsLawful kind) (old mid : View) (target from : Block) (n : ℕ)
+    (frame : Frame old.memory mid.memory [] (target ∷ [])) (readable : IsTrue (is_readable old.memory.state from))
+    (held : (row_of kind).is_held old.memory (elements item.SIZE item.decoded n (bytes_of old.memory from))) where
+  abbrev values_in : Memory → List T
+  values_in m = elements item.SIZE item.decoded n (bytes_of m from)
+
+  -- When a block is placed, values and their own block are what they were,
+  pub from_stays : Stays old.memory mid.memory (target ∷ []) from
+  from_stays = frame_keeps_new old.memory mid.memory (target ∷ []) from frame readable
+
+  none_before : AreAllApart ((row_of kind).deep old.memory (values_in old.memory)) []
+  none_before = apart_of_none ((row_of kind).deep old.memory (values_in old.memory))
+
+  row_stays : StaysWhole (row_of kind) old.memory mid.memory (target ∷ []) (values_in old.memory)
+  row_stays = deep_stays (row_of kind) (row_lawful kind is) old.memory mid.memory [] (target ∷ []) frame (values_in old.memory) held none_before
+
+  pub row_held : (row_of kind).is_held mid.memory (values_in mid.memory)
+  row_held = rw from_stays.bytes row_stays.held
+
+  -- and lie apart from it.
+  pub row_apart : AreAllApart (from ∷ (row_of kind).deep mid.memory (values_in mid.memory)) (target ∷ [])
+  row_apart = (from_stays.apart, rw from_stays.bytes row_stays.apart)
+
+  -- So copies of them are copies of what they were.
+  pub row_before : {X : Type 0} (ids : CloneInSemanticIds) (new : View) (ys : List T) (r : Result X AllocError)
+      → CopiesRow kind ids mid.memory mid new target (values_in mid.memory) ys r
+      → CopiesRow kind ids old.memory mid new target (values_in old.memory) ys r
+  row_before {X} ids new ys r row =
+      let here : CopiesRow {X = X} kind ids mid.memory mid new target (values_in old.memory) ys r = rw from_stays.bytes at row in
+      let asks = (row_lawful kind is).asks old.memory mid.memory (values_in old.memory)
+      (deep_agree (row_of kind) (row_lawful kind is) old.memory mid.memory [] (target ∷ []) frame (values_in old.memory) held none_before) in
+      record {
+        blocks = here.blocks;
+        asked = rw asks at here.asked;
+        apart = here.apart;
+        frame = here.frame;
+        readable = here.readable;
+        made = rw row_stays.whole at here.made;
+      }

@@ -1,0 +1,20 @@
+use Rattle.std.proofs.Common.{◌≡◌, ◌*◌, ap, ◌∙◌}
+use Rattle.std.proofs.lemmas.Result.{err_from_is_err_and}
+use Rattle.arena_items.specs.Layout.IsAlign.{eight}
+use Rattle.arena_bits.specs.Bits.{words_for}
+use Rattle.arena_clone.specs.Kinds.{bit_set}
+use Rattle.arena_clone.proofs.LayoutLemmas.{readable_layout}
+use Rattle.arena_clone.proofs.CopyLemmas.{one_refused}
+use Rattle.arena_clone.proofs.sets.BitSetCloneIn.clone_within.Goals as goal
+
+pub place_copy_within-requires-clause-fits : goal.place_copy_within-requires-clause-fits
+place_copy_within-requires-clause-fits g c =
+    readable_layout c.args.a.now.memory.state c.args.self.now.words.block 8 c.min_align.ensures.valid eight c.requires.held.place.readable
+
+pub returns-in_err-block : goal.returns-in_err-block
+returns-in_err-block g c =
+    let p = err_from_is_err_and c.from_residual.result c.from_residual.ensures.1 in
+    let size : c.args.self.now.words.block.size ≡ words_for c.args.self.now.capacity * 8 =
+    c.requires.held.place.of_size ∙ ap (λ n. n * 8) c.requires.held.count in
+    rw (p.1, p.2, ← size) (one_refused bit_set (bit_set.whole c.args.a.now.memory c.args.self.now) (λ b. b) c.args.self.now.words.block.size 8 c.args.a.now c.place_copy_within.new.a _
+    c.in_err-block.ensures.placed)

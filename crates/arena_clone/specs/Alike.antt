@@ -1,0 +1,17 @@
+-- When values that are made of others are alike.
+use Rattle.std.specs.Prelude.{◌≡◌, ℕ, Option, Some, None, List, length, slice_get}
+use Rattle.arena_chunks.specs.Memory.{Memory}
+use Rattle.arena_clone.specs.Kinds.{Kind, AreAlike}
+use Rattle.arena_clone.specs.declared.ids.CloneInSemanticIds.{CloneInSemanticIds}
+
+-- both are none, or their values are alike
+abbrev pub AreOptionsAlike : {T : Type 0} → Kind T → CloneInSemanticIds → Memory → Option T → Memory → Option T → Type 0
+AreOptionsAlike kind ids a None c None = Unit {0}
+AreOptionsAlike kind ids a (Some v) c (Some w) = AreAlike kind ids a v c w
+AreOptionsAlike kind ids a v c w = ⊥
+
+-- there are as many of both, and those at each position are alike
+pub record AreListsAlike {T : Type 0} (kind : Kind T) (ids : CloneInSemanticIds) (a : Memory) (vs : List T) (c : Memory) (ws : List T)
+    : Type 0 where
+  pub lengths : length vs ≡ length ws
+  pub each : (i : ℕ) (v w : T) → slice_get vs i ≡ Some v → slice_get ws i ≡ Some w → AreAlike kind ids a v c w

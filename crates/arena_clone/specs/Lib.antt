@@ -1,0 +1,12 @@
+pub mod Asks
+pub mod Kinds
+pub mod KindLaws
+pub mod Alike
+pub mod Copies
+pub mod Rows
+pub mod Placing
+pub mod Dummies
+pub mod MapKind
+pub mod KeyLaws
+pub mod MapLaws
+pub mod MapCopies

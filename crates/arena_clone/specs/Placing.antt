@@ -1,0 +1,33 @@
+-- What calls that convert values into an arena do.
+use Rattle.std.specs.Prelude.{◌≡◌, ℕ, Option, Some, None, Result, Ok, Err, IfOk, List, length}
+use Rattle.arena_chunks.specs.Source.{View}
+use Rattle.arena_chunks.specs.BlockCalls.{PlacesBlock}
+use Rattle.arena_chunks.specs.declared.allocator.text.Str.{Str}
+use Rattle.arena_items.specs.declared.item.Item.{Ghosts}
+use Rattle.arena_items.specs.declared.boxes.Box.{Box}
+use Rattle.arena_items.specs.declared.room.AllocError.{AllocError}
+use Rattle.arena_items.specs.Room.{RoomAnswer}
+use Rattle.arena_items.specs.Values.{IsBoxIn, box_value, IsTextIn, text_bytes}
+
+-- A value is placed as the arena places a block of its type's layout, and the box holds it.
+pub record Boxes {T : Type 0} (item : Ghosts T) (old new : View) (v : T) (result : Result (Box T) AllocError) : Type 0 where
+  pub placed : RoomAnswer (λ b. b.block) result (PlacesBlock old new item.SIZE item.ALIGN)
+  pub held : IfOk result (IsBoxIn item new.memory)
+  pub value : IfOk result (λ b. box_value item new.memory b ≡ v)
+
+-- the same answer for something of the value
+abbrev pub answer_of : {A B : Type 0} → (A → B) → Result A AllocError → Result B AllocError
+answer_of f (Ok x) = Ok (f x)
+answer_of f (Err e) = Err e
+
+-- A value is placed, if there is one. Nothing is done for none.
+abbrev pub MayBox : {T : Type 0} → Ghosts T → View → View → Option T → Result (Option (Box T)) AllocError → Type 0
+MayBox item old new None result = (result ≡ Ok None) × (new ≡ old)
+MayBox {T} item old new (Some v) result =
+    (boxed : Result (Box T) AllocError) × Boxes item old new v boxed × (result ≡ answer_of Some boxed)
+
+-- A text is placed as the arena places a block of its length.
+pub record PlacesText (old new : View) (bytes : List ℕ) (result : Result Str AllocError) : Type 0 where
+  pub placed : RoomAnswer (λ s. s.block) result (PlacesBlock old new (length bytes) 1)
+  pub held : IfOk result (IsTextIn new.memory)
+  pub text : IfOk result (λ s. text_bytes new.memory s ≡ bytes)

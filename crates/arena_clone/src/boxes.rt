@@ -1,0 +1,40 @@
+// Copies of boxes.
+ghost use Rattle.arena_clone.specs.Kinds.{box_of};
+ghost use Rattle.arena_clone.specs.KindLaws.{box_lawful};
+
+use crate::blocks::place_box;
+use crate::clone_in::CloneIn;
+use crate::ids::CloneInSemanticIds;
+use arena_chunks::{Allocator, ChunkSource};
+use arena_items::{Box, Grown, Item};
+
+impl<T: CloneIn + Item> CloneIn for Box<T> {
+    ghost kind = { box_of T.Item T.kind };
+
+    ghost lawful = { box_lawful
+        (record { is_value = T.is_value; encoded = T.encoded; decoded = T.decoded; SIZE = T.SIZE; ALIGN = T.ALIGN })
+        T.kind T.lawful };
+
+    fn is_flat(_ids: CloneInSemanticIds) -> bool {
+        false
+    }
+
+    fn clone_in_impl<C: ChunkSource, D: ChunkSource>(
+        &self,
+        ids: CloneInSemanticIds,
+        from: &Allocator<C>,
+        to: &mut Allocator<D>,
+    ) -> Grown<Self> {
+        let value = self.get(from).clone_in_impl(ids, from, to)?;
+        place_box(to, value)
+    }
+
+    fn clone_within<C: ChunkSource>(
+        &self,
+        ids: CloneInSemanticIds,
+        a: &mut Allocator<C>,
+    ) -> Grown<Self> {
+        let value = self.get(a).clone_within(ids, a)?;
+        place_box(a, value)
+    }
+}

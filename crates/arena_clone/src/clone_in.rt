@@ -1,0 +1,87 @@
+// Values that can be copied at every depth.
+ghost use Rattle.std.specs.Prelude.{IsTrue};
+ghost use Rattle.arena_clone.specs.Kinds.{Kind};
+ghost use Rattle.arena_clone.specs.KindLaws.{IsLawful};
+ghost use Rattle.arena_clone.specs.Copies.{IsFlat, Copies};
+
+use crate::ids::CloneInSemanticIds;
+use arena_chunks::{Allocator, ChunkSource};
+use arena_items::Grown;
+
+/// A value that can be copied at every depth, into another arena or within its own. The copy's blocks are all its own, and
+/// from then on neither knows of the other.
+pub trait CloneIn: Sized {
+    // What its values are at every depth.
+    ghost kind: { Kind Self };
+
+    /// Whether a value's bytes, copied elsewhere, are a copy of it. So a row of them is copied in one move of memory.
+    fn is_flat(ids: CloneInSemanticIds) -> bool
+        ensures { IsTrue result → IsFlat kind ids };
+
+    /// A copy in another arena, which keeps semantic ids where that is asked for.
+    ///
+    /// # Errors
+    ///
+    /// `AllocErr` and `OutOfMemory` as of the arena's `alloc_layout`, at the first block that it refuses, and
+    /// `CapacityOverflow` where a vector's values have more than 4,294,967,295 bytes. Blocks that were placed for the copy
+    /// stay then, and nobody names them.
+    fn clone_in_impl<C: ChunkSource, D: ChunkSource>(
+        &self,
+        ids: CloneInSemanticIds,
+        from: &Allocator<C>,
+        to: &mut Allocator<D>,
+    ) -> Grown<Self>
+        requires small { kind.is_small }
+        requires held { kind.is_held from.now.memory self.now }
+        ensures { Copies kind ids from.now.memory to.old to.new self.now result };
+
+    /// A copy in the same arena, which keeps semantic ids where that is asked for. The source stays as it is.
+    ///
+    /// # Errors
+    ///
+    /// As of `clone_in_impl`.
+    fn clone_within<C: ChunkSource>(
+        &self,
+        ids: CloneInSemanticIds,
+        a: &mut Allocator<C>,
+    ) -> Grown<Self>
+        requires small { kind.is_small }
+        requires held { kind.is_held a.old.memory self.now }
+        ensures { Copies kind ids a.old.memory a.old a.new self.now result };
+
+    /// A copy in another arena, with 0 for each semantic id.
+    ///
+    /// # Errors
+    ///
+    /// As of `clone_in_impl`.
+    final fn clone_in<C: ChunkSource, D: ChunkSource>(
+        &self,
+        from: &Allocator<C>,
+        to: &mut Allocator<D>,
+    ) -> Grown<Self>
+        requires small { kind.is_small }
+        requires held { kind.is_held from.now.memory self.now }
+        ensures { Copies kind CloneInSemanticIds.Without from.now.memory to.old to.new self.now result }
+    {
+        self.clone_in_impl(CloneInSemanticIds::Without, from, to)
+    }
+
+    /// A copy in another arena, with its semantic ids.
+    ///
+    /// # Errors
+    ///
+    /// As of `clone_in_impl`.
+    final fn clone_in_with_semantic_ids<C: ChunkSource, D: ChunkSource>(
+        &self,
+        from: &Allocator<C>,
+        to: &mut Allocator<D>,
+    ) -> Grown<Self>
+        requires small { kind.is_small }
+        requires held { kind.is_held from.now.memory self.now }
+        ensures { Copies kind CloneInSemanticIds.With from.now.memory to.old to.new self.now result }
+    {
+        self.clone_in_impl(CloneInSemanticIds::With, from, to)
+    }
+
+    ghost lawful: { IsLawful kind };
+}

@@ -1,0 +1,66 @@
+// What becomes of values and of their copies while an arena is used. Each law is a call that does nothing: made in a body, it
+// gives its facts there.
+ghost use Rattle.std.specs.Prelude.{◌≡◌, ◌*◌, ◌↔◌, Option, List, [], ◌∷◌};
+ghost use Rattle.arena_chunks.specs.Memory.{Memory};
+ghost use Rattle.arena_chunks.specs.Frame.{Frame, AreAllApart};
+ghost use Rattle.arena_chunks.specs.declared.block.Block.{Block};
+ghost use Rattle.arena_clone.specs.Asks.{vector_ask};
+ghost use Rattle.arena_clone.specs.Asks.Ask.{Room};
+ghost use Rattle.arena_clone.specs.Kinds.{AreAlike, option_of, box_of, slice_of, vec_of};
+ghost use Rattle.arena_clone.specs.Alike.{AreOptionsAlike, AreListsAlike};
+ghost use Rattle.arena_clone.specs.Copies.{IsMade, StaysWhole};
+ghost use Rattle.arena_vec.specs.declared.vec.Vec.{Vec};
+ghost use Rattle.arena_vec.specs.Vecs.{vec_list};
+ghost use Rattle.arena_items.specs.Values.{box_value, slice_list};
+ghost use Rattle.arena_items.specs.declared.boxes.Box.{Box};
+ghost use Rattle.arena_items.specs.declared.slices.BoxSlice.{BoxSlice};
+ghost use Rattle.arena_clone.specs.declared.ids.CloneInSemanticIds.{CloneInSemanticIds};
+
+use crate::clone_in::CloneIn;
+use arena_items::Item;
+
+/// When values that are made of others are alike by the rule for ids, whichever memory each stands in: options where both are
+/// none or their values are alike, boxes where their values are, and slices and vectors where there are as many values and
+/// those at each position are alike.
+pub fn alike_law<T: CloneIn + Item>()
+    ensures options { (ids : CloneInSemanticIds) (a c : Memory) (v w : Option T)
+        → AreAlike (option_of T.kind) ids a v c w ↔ AreOptionsAlike T.kind ids a v c w }
+    ensures boxes { (ids : CloneInSemanticIds) (a c : Memory) (v w : Box T)
+        → AreAlike (box_of T.Item T.kind) ids a v c w
+        ↔ AreAlike T.kind ids a (box_value T.Item a v) c (box_value T.Item c w) }
+    ensures slices { (ids : CloneInSemanticIds) (a c : Memory) (v w : BoxSlice T)
+        → AreAlike (slice_of T.Item T.kind) ids a v c w
+        ↔ AreListsAlike T.kind ids a (slice_list T.Item a v) c (slice_list T.Item c w) }
+    ensures vectors { (ids : CloneInSemanticIds) (a c : Memory) (v w : Vec T)
+        → AreAlike (vec_of T.Item T.kind) ids a v c w
+        ↔ AreListsAlike T.kind ids a (vec_list T.Item a v) c (vec_list T.Item c w) }
+{}
+
+/// The frame law at every depth. A call on some blocks leaves every value whose blocks lie apart from them: it is held, names
+/// the same blocks, means the same, and its blocks lie apart from those that the call has then.
+pub fn deep_frame_law<T: CloneIn>()
+    ensures { (old new : Memory) (before after : List Block) (v : T) → Frame old new before after
+        → T.kind.is_held old v → AreAllApart (T.kind.deep old v) before
+        → StaysWhole T.kind old new after v }
+{}
+
+/// A value and its copy. Whatever arena the source is in, a call on blocks that lie apart from the copy's leaves the copy as it
+/// was made. A source in the arena of its copy is as it was before the copy was made, and the blocks of each lie apart from
+/// those of the other: so a call on the blocks of one alone leaves the other.
+pub fn copy_law<T: CloneIn>()
+    ensures copy { (new later : Memory) (blocks before after : List Block) (meaning : T.kind.Whole) (w : T)
+        → IsMade T.kind meaning new blocks w → Frame new later before after → AreAllApart blocks before
+        → IsMade T.kind meaning later blocks w }
+    ensures source { (old new : Memory) (blocks : List Block) (v : T) → Frame old new [] blocks
+        → T.kind.is_held old v → StaysWhole T.kind old new blocks v }
+    ensures apart { (old new : Memory) (blocks : List Block) (v : T) → Frame old new [] blocks
+        → T.kind.is_held old v → AreAllApart blocks (T.kind.deep old v) }
+{}
+
+/// Values that place nothing ask for nothing, so that a copy of a list of them asks for its one block alone.
+pub fn one_block_law<T: CloneIn + Item>()
+    ensures vector { ((m : Memory) (v : T) → T.kind.asks m v ≡ []) → (m : Memory) (v : Vec T)
+        → (vec_of T.Item T.kind).asks m v ≡ vector_ask T.SIZE T.ALIGN v.raw.len ∷ [] }
+    ensures slice { ((m : Memory) (v : T) → T.kind.asks m v ≡ []) → (m : Memory) (s : BoxSlice T)
+        → (slice_of T.Item T.kind).asks m s ≡ Room (s.length * T.SIZE) T.ALIGN ∷ [] }
+{}

@@ -1,0 +1,32 @@
+//! Copies of values at every depth, conversions into an arena, dummies and exchange.
+#![tactic(auto)]
+
+mod blocks;
+mod boxes;
+mod clone_in;
+mod convert;
+mod dummy;
+mod ids;
+mod keys;
+pub mod laws;
+mod maps;
+mod numbers;
+mod options;
+mod replace_with;
+mod rows;
+mod semantic_id;
+mod sets;
+mod slices;
+mod take_in;
+mod texts;
+mod vectors;
+
+pub use arena_items::{AllocError, Grown};
+pub use clone_in::CloneIn;
+pub use convert::{FromIn, IntoIn};
+pub use dummy::Dummy;
+pub use ids::CloneInSemanticIds;
+pub use keys::CloneKey;
+pub use replace_with::ReplaceWith;
+pub use semantic_id::SemanticId;
+pub use take_in::TakeIn;

@@ -1,0 +1,23 @@
+// Values replaced by what is made of them.
+use crate::dummy::Dummy;
+use arena_items::{Box, BoxSlice, Item};
+use arena_vec::Vec;
+
+/// A value that can be replaced by one that is made of it.
+pub trait ReplaceWith: Dummy + Copy {
+    /// Puts what the closure makes of the value in its place. Nothing is placed in any arena but by the closure itself.
+    final fn replace_with<F: FnOnce(Self) -> Self>(&mut self, replacer: F)
+        requires { F.pre replacer self.old }
+        ensures { F.post replacer self.old self.new }
+    {
+        *self = replacer(*self);
+    }
+}
+
+impl<T: ReplaceWith> ReplaceWith for Option<T> {}
+
+impl<T: Dummy + Item> ReplaceWith for Box<T> {}
+
+impl<T: Item> ReplaceWith for BoxSlice<T> {}
+
+impl<T: Item> ReplaceWith for Vec<T> {}

@@ -1,0 +1,93 @@
+// Semantic ids: their byte form, and their copies.
+ghost use Rattle.std.specs.Prelude.{◌≡◌, ◌^◌, ◌<◌, refl};
+ghost use Rattle.std.specs.Int.{w32, to_le_bytes, from_le_bytes};
+ghost use Rattle.arena_items.specs.LayoutLaws.{plain_4};
+ghost use Rattle.arena_items.specs.NumberLaws.{bytes_back};
+ghost use Rattle.arena_clone.specs.Kinds.{semantic_id, id_by};
+ghost use Rattle.arena_clone.specs.KindLaws.{semantic_id_lawful};
+
+use crate::clone_in::CloneIn;
+use crate::ids::CloneInSemanticIds;
+use arena_chunks::{Allocator, ChunkSource};
+use arena_items::{Grown, Item};
+
+/// A number by which an analysis knows a node of a tree. A copy has it only where that is asked for.
+#[derive(Clone, Copy, PartialEq, Eq, Debug)]
+pub struct SemanticId(pub u32);
+
+impl SemanticId {
+    // The id that a copy has.
+    #[inline]
+    fn copied(self, ids: CloneInSemanticIds) -> SemanticId
+        ensures { result.0 ≡ id_by ids self.0 }
+    {
+        match ids {
+            CloneInSemanticIds::With => self,
+            CloneInSemanticIds::Without => SemanticId(0),
+        }
+    }
+}
+
+impl Item for SemanticId {
+    ghost is_value = { λ id. id.0 < 2 ^ 32 };
+
+    ghost encoded = { λ id. to_le_bytes w32 id.0 };
+
+    ghost decoded = { λ bytes. record { 0 = from_le_bytes w32 bytes } };
+
+    ghost SIZE = { 4 };
+
+    ghost ALIGN = { 4 };
+
+    const SIZE: u64 = 4;
+
+    const ALIGN: u64 = 4;
+
+    ghost round_trip = { λ v h s. λ i. record { 0 = bytes_back 3 v.0 h i } };
+
+    ghost encoded_length = { λ v h s. refl };
+
+    ghost layout = { plain_4 };
+
+    fn known(&self) {
+        let _number = self.0;
+    }
+
+    fn encode(self, out: &mut [u8]) {
+        self.0.encode(out);
+    }
+
+    fn decode(bytes: &[u8]) -> Self {
+        SemanticId(u32::decode(bytes))
+    }
+}
+
+impl CloneIn for SemanticId {
+    ghost kind = { semantic_id };
+
+    ghost lawful = { semantic_id_lawful };
+
+    fn is_flat(ids: CloneInSemanticIds) -> bool {
+        match ids {
+            CloneInSemanticIds::With => true,
+            CloneInSemanticIds::Without => false,
+        }
+    }
+
+    fn clone_in_impl<C: ChunkSource, D: ChunkSource>(
+        &self,
+        ids: CloneInSemanticIds,
+        _from: &Allocator<C>,
+        _to: &mut Allocator<D>,
+    ) -> Grown<Self> {
+        Ok(self.copied(ids))
+    }
+
+    fn clone_within<C: ChunkSource>(
+        &self,
+        ids: CloneInSemanticIds,
+        _a: &mut Allocator<C>,
+    ) -> Grown<Self> {
+        Ok(self.copied(ids))
+    }
+}

@@ -1,0 +1,56 @@
+// Copies of bit sets.
+ghost use Rattle.arena_clone.specs.Kinds.{bit_set};
+ghost use Rattle.arena_clone.specs.KindLaws.{bit_set_lawful};
+
+use crate::blocks::{place_copy, place_copy_within};
+use crate::clone_in::CloneIn;
+use crate::ids::CloneInSemanticIds;
+use arena_bits::BitSet;
+use arena_chunks::{Allocator, ChunkSource};
+use arena_items::{BoxSlice, Grown};
+
+impl CloneIn for BitSet {
+    ghost kind = { bit_set };
+
+    ghost lawful = { bit_set_lawful };
+
+    fn is_flat(_ids: CloneInSemanticIds) -> bool {
+        false
+    }
+
+    fn clone_in_impl<C: ChunkSource, D: ChunkSource>(
+        &self,
+        _ids: CloneInSemanticIds,
+        from: &Allocator<C>,
+        to: &mut Allocator<D>,
+    ) -> Grown<Self> {
+        // So the arena's state is known to be valid, and the words few enough for a layout.
+        let _ = from.min_align();
+        let words = self.words.block;
+        let block = place_copy(from, words, to, words.size, 8)?;
+        Ok(BitSet {
+            words: BoxSlice {
+                block,
+                ..self.words
+            },
+            ..*self
+        })
+    }
+
+    fn clone_within<C: ChunkSource>(
+        &self,
+        _ids: CloneInSemanticIds,
+        a: &mut Allocator<C>,
+    ) -> Grown<Self> {
+        let _ = a.min_align();
+        let words = self.words.block;
+        let block = place_copy_within(a, words, words.size, 8)?;
+        Ok(BitSet {
+            words: BoxSlice {
+                block,
+                ..self.words
+            },
+            ..*self
+        })
+    }
+}

@@ -1,0 +1,65 @@
+// Copies of boxed slices.
+ghost use Rattle.arena_clone.specs.Kinds.{slice_of};
+ghost use Rattle.arena_clone.specs.KindLaws.{slice_lawful};
+
+use crate::blocks::place;
+use crate::clone_in::CloneIn;
+use crate::ids::CloneInSemanticIds;
+use crate::rows::{Row, copy_row, copy_row_within};
+use arena_chunks::{Allocator, ChunkSource};
+use arena_items::{BoxSlice, Grown, Item};
+use std::marker::PhantomData;
+
+impl<T: CloneIn + Item> CloneIn for BoxSlice<T> {
+    ghost kind = { slice_of T.Item T.kind };
+
+    ghost lawful = { slice_lawful
+        (record { is_value = T.is_value; encoded = T.encoded; decoded = T.decoded; SIZE = T.SIZE; ALIGN = T.ALIGN })
+        T.kind T.lawful };
+
+    fn is_flat(_ids: CloneInSemanticIds) -> bool {
+        false
+    }
+
+    fn clone_in_impl<C: ChunkSource, D: ChunkSource>(
+        &self,
+        ids: CloneInSemanticIds,
+        from: &Allocator<C>,
+        to: &mut Allocator<D>,
+    ) -> Grown<Self> {
+        // So the arena's state is known to be valid, and the slice short enough for a layout.
+        let _ = from.min_align();
+        let target = place(to, self.length * T::SIZE, T::ALIGN)?;
+        let row = Row {
+            source: self.block,
+            count: self.length,
+            target,
+        };
+        copy_row::<T, C, D>(row, ids, from, to)?;
+        Ok(BoxSlice {
+            block: target,
+            length: self.length,
+            of: PhantomData,
+        })
+    }
+
+    fn clone_within<C: ChunkSource>(
+        &self,
+        ids: CloneInSemanticIds,
+        a: &mut Allocator<C>,
+    ) -> Grown<Self> {
+        let _ = a.min_align();
+        let target = place(a, self.length * T::SIZE, T::ALIGN)?;
+        let row = Row {
+            source: self.block,
+            count: self.length,
+            target,
+        };
+        copy_row_within::<T, C>(row, ids, a)?;
+        Ok(BoxSlice {
+            block: target,
+            length: self.length,
+            of: PhantomData,
+        })
+    }
+}

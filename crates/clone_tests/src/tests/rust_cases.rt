@@ -1,0 +1,121 @@
+// The Rust crate's own cases of copies and of `replace_with`, but for maps.
+use super::ample;
+use super::checked::is_raw_held;
+use arena_chunks::{Allocator, ChunkSource};
+use arena_clone::{CloneIn, ReplaceWith};
+use arena_items::BoxSlice;
+use arena_vec::Vec;
+use std::process::Abort;
+use std::rt::HostRuntime;
+
+fn is_list<C: ChunkSource>(
+    rt: &impl Abort,
+    a: &Allocator<C>,
+    list: Vec<u32>,
+    numbers: &[u32],
+) -> bool {
+    assert!(rt; is_raw_held(a, list.raw));
+    list.eq_slice(a, numbers)
+}
+
+fn is_slice<C: ChunkSource>(
+    rt: &impl Abort,
+    a: &Allocator<C>,
+    slice: BoxSlice<u32>,
+    numbers: &[u32],
+) -> bool {
+    assert!(rt; a.is_held_place(slice.block) && slice.block.align == 4);
+    assert!(rt; slice.length == numbers.len() as u64);
+    assert!(rt; slice.length < 1 << 32);
+    assert!(rt; slice.block.size == slice.length * 4);
+    for (i, number) in numbers.iter().enumerate() {
+        if slice.get(a, i as u64) != *number {
+            return false;
+        }
+    }
+    true
+}
+
+#[test]
+fn copies_of_a_boxed_slice(rt: HostRuntime) {
+    let alloc = rt.alloc();
+    let mut from = ample(alloc);
+    let mut to = ample(alloc);
+    let list = Vec::from_array_in([1u32, 2, 3], &mut from).expect(&rt, "a list");
+    let original = list.into_boxed_slice();
+    let copied = original.clone_in(&from, &mut to).expect(&rt, "a copy");
+    let second = original
+        .clone_in_with_semantic_ids(&from, &mut to)
+        .expect(&rt, "a copy");
+    original.set(&mut from, 1, 4);
+    assert!(rt; is_slice(&rt, &from, original, &[1, 4, 3]));
+    assert!(rt; is_slice(&rt, &to, copied, &[1, 2, 3]) && is_slice(&rt, &to, second, &[1, 2, 3]));
+}
+
+#[test]
+fn copies_of_an_empty_boxed_slice(rt: HostRuntime) {
+    let alloc = rt.alloc();
+    let mut a = ample(alloc);
+    let list: Vec<u32> = Vec::new_in();
+    let original = list.into_boxed_slice();
+    let mut to = ample(alloc);
+    let copied = original.clone_in(&a, &mut to).expect(&rt, "a copy");
+    let second = original
+        .clone_in_with_semantic_ids(&a, &mut to)
+        .expect(&rt, "a copy");
+    a.reset();
+    assert!(rt; is_slice(&rt, &to, copied, &[]) && is_slice(&rt, &to, second, &[]));
+}
+
+#[test]
+fn copies_of_a_list(rt: HostRuntime) {
+    let alloc = rt.alloc();
+    let mut from = ample(alloc);
+    let mut to = ample(alloc);
+    let mut original = Vec::with_capacity_in(8, &mut from).expect(&rt, "a list");
+    original
+        .extend_from_slice(&mut from, &[1u32, 2, 3])
+        .expect(&rt, "room");
+    let copied = original.clone_in(&from, &mut to).expect(&rt, "a copy");
+    let second = original
+        .clone_in_with_semantic_ids(&from, &mut to)
+        .expect(&rt, "a copy");
+    original.set(&mut from, 1, 4);
+    assert!(rt; is_list(&rt, &from, original, &[1, 4, 3]));
+    for list in [copied, second] {
+        assert!(rt; is_list(&rt, &to, list, &[1, 2, 3]) && list.capacity() == 3);
+    }
+}
+
+#[test]
+fn copies_of_an_empty_list(rt: HostRuntime) {
+    let alloc = rt.alloc();
+    let from = ample(alloc);
+    let mut to = ample(alloc);
+    let original: Vec<u32> = Vec::new_in();
+    let copied = original.clone_in(&from, &mut to).expect(&rt, "a copy");
+    let second = original
+        .clone_in_with_semantic_ids(&from, &mut to)
+        .expect(&rt, "a copy");
+    for list in [copied, second] {
+        assert!(rt; list.is_empty() && list.capacity() == 0);
+    }
+}
+
+#[test]
+fn replacing_a_list(rt: HostRuntime) {
+    let alloc = rt.alloc();
+    let mut a = ample(alloc);
+    let mut list = Vec::from_array_in([1u32, 2, 3], &mut a).expect(&rt, "a list");
+    let more = Vec::from_array_in([0u32, 1, 2, 3], &mut a).expect(&rt, "a list");
+    list.replace_with(|old| old);
+    assert!(rt; is_list(&rt, &a, list, &[1, 2, 3]));
+    list.replace_with(|old| if old.raw.len == 3 { more } else { old });
+    assert!(rt; is_list(&rt, &a, list, &[0, 1, 2, 3]));
+    list.replace_with(|old| {
+        let mut first = old;
+        first.truncate(1);
+        first
+    });
+    assert!(rt; is_list(&rt, &a, list, &[0]));
+}

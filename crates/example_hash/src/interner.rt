@@ -1,0 +1,72 @@
+// Texts with a number each.
+ghost use Rattle.std.specs.Prelude.{◌≡◌, IsTrue};
+ghost use Rattle.arena_chunks.specs.Memory.{Memory, is_readable};
+ghost use Rattle.arena_chunks.specs.Frame.{AreBlocksApart};
+ghost use Rattle.arena_hash.specs.Contents.{kind, content_in};
+ghost use Rattle.example_hash.specs.Numbers.{numbers_in, IsInternerIn, Interns};
+
+use arena_chunks::{Allocator, ChunkSource, Str};
+use arena_hash::{ArenaKey, FxHasher, HashMap, KeyHasher};
+use arena_items::{Grown, Item};
+
+/// Texts, each with a number of its own: 0, 1, 2 and so on in the order in which they came. Two blocks with
+/// the same bytes are one text.
+#[derive(Clone, Copy)]
+pub struct Interner<S = FxHasher> {
+    /// The number of each text.
+    pub numbers: HashMap<Str, u32, S>,
+}
+
+impl<S: KeyHasher> Interner<S> {
+    /// An interner with no text. It places nothing.
+    pub fn new_in() -> Interner<S>
+        ensures held { (memory : Memory) → IsInternerIn (kind ⟦<Str as Item>⟧
+            ⟦<Str as ArenaKey>⟧.key ⟦<u32 as Item>⟧ S.hash_of) memory result.numbers }
+        ensures count { result.numbers.len ≡ 0 }
+    {
+        Interner {
+            numbers: HashMap::new_in(),
+        }
+    }
+
+    /// How many texts have a number.
+    pub fn len(&self) -> u32
+        ensures { result ≡ self.now.numbers.len }
+    {
+        self.numbers.len()
+    }
+
+    /// The number of a text, if it has one.
+    pub fn number_of<C: ChunkSource>(&self, a: &Allocator<C>, text: Str) -> Option<u32>
+        requires held { IsInternerIn (kind ⟦<Str as Item>⟧ ⟦<Str as ArenaKey>⟧.key
+            ⟦<u32 as Item>⟧ S.hash_of) a.now.memory self.now.numbers }
+        requires text { IsTrue (is_readable a.now.memory.state text.block) }
+        ensures { result ≡ numbers_in (kind ⟦<Str as Item>⟧ ⟦<Str as ArenaKey>⟧.key
+            ⟦<u32 as Item>⟧ S.hash_of) a.now.memory self.now.numbers
+            (content_in ⟦<Str as ArenaKey>⟧.key a.now.memory text) }
+    {
+        self.numbers.get(a, text)
+    }
+
+    /// The number of a text: the one that it has, or the next one.
+    ///
+    /// # Errors
+    ///
+    /// As of the map's `insert`, where the text is new. Nothing changes.
+    pub fn intern<C: ChunkSource>(&mut self, a: &mut Allocator<C>, text: Str) -> Grown<u32>
+        requires held { IsInternerIn (kind ⟦<Str as Item>⟧ ⟦<Str as ArenaKey>⟧.key
+            ⟦<u32 as Item>⟧ S.hash_of) a.old.memory self.old.numbers }
+        requires text { IsTrue (is_readable a.old.memory.state text.block) }
+        requires apart { AreBlocksApart text.block self.old.numbers.table.block }
+        ensures { Interns (kind ⟦<Str as Item>⟧ ⟦<Str as ArenaKey>⟧.key
+            ⟦<u32 as Item>⟧ S.hash_of) a.old a.new self.old.numbers
+            (content_in ⟦<Str as ArenaKey>⟧.key a.old.memory text) self.new.numbers result }
+    {
+        if let Some(number) = self.numbers.get(a, text) {
+            return Ok(number);
+        }
+        let number = self.numbers.len();
+        self.numbers.insert(a, text, number)?;
+        Ok(number)
+    }
+}

@@ -1,0 +1,7 @@
+//! A small caller of maps in an arena, for who builds on them: texts get a number each. Nothing of the crates
+//! below is opened here: each proof uses the records of their calls and their laws alone.
+#![tactic(auto)]
+
+mod interner;
+
+pub use interner::Interner;

@@ -1,0 +1,146 @@
+// Texts as keys, in several blocks and chunks.
+ghost use Rattle.arena_hash.specs.Contents.{kind};
+ghost use Rattle.hash_tests.specs.Held.{IsKept};
+
+use super::{Zero, ample};
+use arena_chunks::{Allocator, ChunkSource, MemoryChunks, Str};
+use arena_hash::{ArenaKey, FxHasher, HashMap, KeyHasher};
+use arena_items::{Grown, Item};
+use arena_place::Layout;
+use std::alloc::Global;
+use std::marker::Model;
+use std::process::Abort;
+
+// A map whose keys are texts, in an arena of its own. It always stands there.
+#[derive(Drop)]
+struct Texts<S: KeyHasher + Copy> {
+    a: Allocator<MemoryChunks>,
+    map: HashMap<Str, u32, S>,
+}
+
+impl<S: KeyHasher + Copy> Model for Texts<S> {
+    ghost Value = { Unit {0} };
+
+    ghost view = { λ s. tt };
+
+    ghost invariant = { λ s. IsKept
+        (kind ⟦<Str as Item>⟧ ⟦<Str as ArenaKey>⟧.key ⟦<u32 as Item>⟧ S.hash_of) s.a.memory s.map };
+}
+
+impl<S: KeyHasher + Copy> Texts<S> {
+    fn new(alloc: Global) -> Texts<S> {
+        Texts {
+            a: ample(alloc),
+            map: HashMap::new_in(),
+        }
+    }
+
+    // Places a text, puts it as a key, and answers it.
+    fn insert(&mut self, rt: &impl Abort, text: &str, value: u32) -> (Str, Grown<Option<u32>>) {
+        let key = self.a.alloc_str(text).expect(rt, "a text");
+        (key, self.map.insert(&mut self.a, key, value))
+    }
+
+    // Places a text, and looks for it.
+    fn get(&mut self, rt: &impl Abort, text: &str) -> Option<u32> {
+        let key = self.a.alloc_str(text).expect(rt, "a text");
+        self.map.get(&self.a, key)
+    }
+
+    // Places a text, and takes it out.
+    fn remove(&mut self, rt: &impl Abort, text: &str) -> Option<u32> {
+        let key = self.a.alloc_str(text).expect(rt, "a text");
+        self.map.remove(&mut self.a, key)
+    }
+
+    // Fills most of a chunk.
+    fn fill(&mut self, rt: &impl Abort) {
+        let layout = Layout::new(20_000, 1).expect(rt, "a layout");
+        self.a.alloc_layout(layout).expect(rt, "a block");
+    }
+
+    fn len(&self) -> u32 {
+        self.map.len()
+    }
+
+    fn capacity(&self) -> u64 {
+        self.a.capacity()
+    }
+
+    // Whether each key is one of these, with this value.
+    fn has_just(&self, keys: &[Str], value: u32) -> bool {
+        for (key, found) in self.map.iter(&self.a) {
+            if !keys.contains(&key) || found != value {
+                return false;
+            }
+        }
+        true
+    }
+}
+
+#[test]
+fn two_blocks_of_one_text(rt: HostRuntime) {
+    let mut map: Texts<FxHasher> = Texts::new(rt.alloc());
+    let (first, was) = map.insert(&rt, "x", 1);
+    assert_eq!(rt; was, Ok(None));
+    let (second, was) = map.insert(&rt, "x", 2);
+    assert_eq!(rt; was, Ok(Some(1)));
+    assert!(rt; first != second && map.len() == 1);
+    assert!(rt; map.has_just(&[first], 2));
+    assert_eq!(rt; map.get(&rt, "x"), Some(2));
+    assert_eq!(rt; map.get(&rt, "y"), None);
+    assert_eq!(rt; map.remove(&rt, "x"), Some(2));
+}
+
+// Texts of no byte, of one word and less, and of more than one.
+const TEXTS: [&str; 20] = [
+    "",
+    "a",
+    "b",
+    "ab",
+    "ba",
+    "abc",
+    "abcd",
+    "bcda",
+    "abcde",
+    "abcdefg",
+    "abcdefgh",
+    "abcdefgi",
+    "abcdefghi",
+    "bbcdefghi",
+    "abcdefghijklmnop",
+    "abcdefghijklmnoq",
+    "bbcdefghijklmnop",
+    "abcdefghijklmnopqrstuvwxyz",
+    "abcdefghijklmnoprqstuvwxyz",
+    "äöü",
+];
+
+// Each text is put in each of six rounds, in another chunk. All its blocks are one key, and the first stays.
+fn in_several_chunks<S: KeyHasher + Copy>(rt: &impl Abort, alloc: Global) {
+    let mut map: Texts<S> = Texts::new(alloc);
+    let mut firsts = Vec::new(alloc);
+    let mut chunks = 0u32;
+    for round in 0..6u32 {
+        let before = map.capacity();
+        for text in TEXTS {
+            let (key, was) = map.insert(rt, text, round);
+            assert_eq!(rt; was, Ok(round.checked_sub(1)), "{text}");
+            if round == 0 {
+                firsts.push(key).expect(rt, "memory");
+            }
+        }
+        map.fill(rt);
+        if map.capacity() > before {
+            chunks = chunks.saturating_add(1);
+        }
+        assert!(rt; map.len() == 20 && map.has_just(&firsts, round));
+    }
+    assert!(rt; chunks > 2);
+}
+
+#[test]
+fn texts_in_several_chunks(rt: HostRuntime) {
+    in_several_chunks::<FxHasher>(&rt, rt.alloc());
+    in_several_chunks::<Zero>(&rt, rt.alloc());
+}

@@ -1,0 +1,49 @@
+// Worked examples of the rules, one call of each function, and refusals in the midst. Most are tables of calls.
+mod comparisons;
+mod numbers;
+mod splices;
+mod two_vectors;
+mod vector_calls;
+mod vector_growth;
+mod vector_handles;
+mod vector_hints;
+mod vector_lists;
+mod vector_parts;
+mod vector_refusals;
+mod vector_storage;
+mod vector_types;
+mod vector_walks;
+mod vectors;
+
+ghost use Rattle.std.specs.Prelude.{◌≡◌, IsTrue};
+ghost use Rattle.arena_chunks.specs.Memory.{is_readable};
+
+use arena_chunks::{Allocator, Block, ChunkSource, MemoryChunks};
+use std::alloc::Global;
+use std::process::Abort;
+
+// An allocator with ample memory.
+fn ample(alloc: Global) -> Allocator<MemoryChunks> {
+    Allocator::new(alloc, MemoryChunks::new(alloc, 1 << 20))
+}
+
+// The block, which must be held.
+fn held<C: ChunkSource>(rt: &impl Abort, a: &Allocator<C>, block: Block) -> Block
+    ensures readable { IsTrue (is_readable a.now.memory.state result) }
+    ensures block { result ≡ block }
+{
+    assert!(rt; a.is_held_place(block), "a held block");
+    block
+}
+
+// So many bytes are used, and so many blocks were placed, and grown or shrunk.
+fn has<C: ChunkSource>(
+    rt: &impl Abort,
+    what: &str,
+    a: &Allocator<C>,
+    used: u64,
+    counts: (u64, u64),
+) {
+    assert_eq!(rt; a.used_bytes(), used, "{what}");
+    assert_eq!(rt; a.get_allocation_stats(), counts, "{what}");
+}

@@ -1,0 +1,72 @@
+// How vectors compare, their hashes and their texts.
+use super::ample;
+use super::vectors::vec_of;
+use arena_items::Item;
+use std::alloc::Global;
+use std::cmp::Ordering;
+use std::fmt::Debug;
+use std::hash::{DefaultHasher, Hash, Hasher};
+use std::process::Abort;
+
+// How the values before an index compare with those from there on. All calls say the same.
+fn compared(rt: &impl Abort, alloc: Global, values: &[u8], at: u32) -> Ordering {
+    let mut a = ample(alloc);
+    let mut vec = vec_of(rt, &mut a, values);
+    assert!(rt; at <= vec.len() && at as usize <= values.len());
+    let tail = vec.split_off(&mut a, at).expect(rt, "room");
+    let order = vec.cmp(&a, &tail);
+    assert_eq!(rt; vec.partial_cmp(&a, &tail), Some(order));
+    assert_eq!(rt; vec.eq(&a, &tail), order.is_eq());
+    assert_eq!(rt; vec.eq_slice(&a, &values[at as usize..]), order.is_eq());
+    order
+}
+
+const ORDERS: [(&[u8], u32, Ordering); 9] = [
+    (&[1, 2, 3, 1, 2, 3], 3, Ordering::Equal),
+    (&[1, 2, 3, 1, 2, 4], 3, Ordering::Less),
+    (&[1, 2, 3, 1, 2], 3, Ordering::Greater),
+    (&[1, 2, 1, 2, 3], 2, Ordering::Less),
+    (&[2, 1, 1], 1, Ordering::Greater),
+    (&[1, 1, 0], 1, Ordering::Less),
+    (&[1, 0], 2, Ordering::Greater),
+    (&[1, 0], 0, Ordering::Less),
+    (&[], 0, Ordering::Equal),
+];
+
+#[test]
+fn orders(rt: HostRuntime) {
+    for (values, at, order) in ORDERS {
+        assert_eq!(rt; compared(&rt, rt.alloc(), values, at), order);
+    }
+}
+
+// The hash is that of the slice.
+#[test]
+fn hashes(rt: HostRuntime) {
+    let rows: [&[u32]; 3] = [&[1, 2], &[2, 1], &[]];
+    for list in rows {
+        let mut a = ample(rt.alloc());
+        let vec = vec_of(&rt, &mut a, list);
+        let (mut one, mut other) = (DefaultHasher::new(), DefaultHasher::new());
+        vec.hash(&a, &mut one);
+        list.hash(&mut other);
+        assert_eq!(rt; one.finish(), other.finish());
+    }
+}
+
+// The values have this text.
+fn says<T: Item + Debug>(rt: &impl Abort, alloc: Global, list: &[T], wanted: &str) {
+    assert!(rt; T::SIZE <= 48);
+    let mut a = ample(alloc);
+    let vec = vec_of(rt, &mut a, list);
+    let text = vec.debug(alloc, &a).expect(rt, "memory");
+    assert_eq!(rt; text.as_str(), wanted);
+}
+
+#[test]
+fn texts(rt: HostRuntime) {
+    says(&rt, rt.alloc(), &[1u32, 2], "Vec([1, 2])");
+    says(&rt, rt.alloc(), &['x'], "Vec(['x'])");
+    says(&rt, rt.alloc(), &[Some(1u8), None], "Vec([Some(1), None])");
+    says::<u32>(&rt, rt.alloc(), &[], "Vec([])");
+}

@@ -1,0 +1,179 @@
+// Ranges of vectors in whose place other values come.
+use super::ample;
+use super::numbers::Hints;
+use super::vector_refusals::{NONE_REFUSED, fixed};
+use super::vectors::{holds, known, vec_of};
+use arena_chunks::{Allocator, MemoryChunks};
+use arena_vec::{Grown, Vec};
+use std::process::Abort;
+
+// Takes a value from each end of a range, and puts the numbers from 7 on in its place. It tells the two, and
+// the answer.
+fn splice(
+    rt: &impl Abort,
+    a: &mut Allocator<MemoryChunks>,
+    vec: &mut Vec<u32>,
+    range: (u32, u32),
+    hints: Hints,
+) -> ((Option<u32>, Option<u32>), Grown<()>) {
+    known(rt, a, *vec);
+    let (start, end) = range;
+    assert!(rt; start <= end && end <= vec.len());
+    let mut gone = vec.splice(a, start, end, hints.numbers(7));
+    assert_eq!(rt; gone.len(), (end - start) as usize);
+    let ends = (gone.next(), gone.next_back());
+    let answer = gone.finish();
+    (ends, answer)
+}
+
+const FOUR: &[u32] = &[1, 2, 3, 4];
+
+// What is told, the list then, its capacity, and how many bytes are used. 2 and 3 were taken out of four
+// values.
+const IN_THE_MIDST: [(Hints, &[u32], u32, u64); 11] = [
+    (Hints::Exactly(3), &[1, 7, 8, 9, 4], 8, 32),
+    (
+        Hints::Exactly(8),
+        &[1, 7, 8, 9, 10, 11, 12, 13, 14, 4],
+        10,
+        40,
+    ),
+    // As many as there are places, or fewer.
+    (Hints::Exactly(2), &[1, 7, 8, 4], 4, 16),
+    (Hints::Exactly(1), &[1, 7, 4], 4, 16),
+    (Hints::Exactly(0), &[1, 4], 4, 16),
+    (Hints::AtMost(10, 2), &[1, 7, 8, 4], 4, 16),
+    // Nothing is told: a vector of the third, and then a block of 32 bytes.
+    (Hints::AtLeast(0, 3), &[1, 7, 8, 9, 4], 8, 52),
+    // What is told doesn't fit.
+    (Hints::AtLeast(1 << 30, 3), &[1, 7, 8, 9, 4], 8, 52),
+    // One is told: room for it, a vector of the three others, and they have room too.
+    (Hints::AtLeast(1, 6), &[1, 7, 8, 9, 10, 11, 12, 4], 8, 48),
+    // The three others, and then a block of 64 bytes.
+    (
+        Hints::AtLeast(1, 7),
+        &[1, 7, 8, 9, 10, 11, 12, 13, 4],
+        16,
+        112,
+    ),
+    // More are told than come.
+    (Hints::AtLeast(5, 3), &[1, 7, 8, 9, 4], 9, 36),
+];
+
+#[test]
+fn in_the_midst(rt: HostRuntime) {
+    for (n, row) in IN_THE_MIDST.iter().enumerate() {
+        let (hints, list, cap, used) = *row;
+        let mut a = ample(rt.alloc());
+        let mut vec = vec_of(&rt, &mut a, FOUR);
+        let (ends, answer) = splice(&rt, &mut a, &mut vec, (1, 3), hints);
+        assert_eq!(rt; (ends, answer), ((Some(2), Some(3)), Ok(())), "row {n}");
+        assert!(rt; holds(&rt, &a, vec, list), "row {n}");
+        assert_eq!(rt; (vec.capacity(), a.used_bytes()), (cap, used), "row {n}");
+    }
+}
+
+// The range, what is told, the values at its ends, the list then, and its capacity.
+const OF_RANGES: [((u32, u32), Hints, (Option<u32>, Option<u32>), &[u32], u32); 10] = [
+    (
+        (0, 2),
+        Hints::Exactly(2),
+        (Some(1), Some(2)),
+        &[7, 8, 3, 4],
+        4,
+    ),
+    (
+        (0, 1),
+        Hints::Exactly(2),
+        (Some(1), None),
+        &[7, 8, 2, 3, 4],
+        8,
+    ),
+    ((0, 3), Hints::Exactly(0), (Some(1), Some(3)), &[4], 4),
+    (
+        (2, 2),
+        Hints::Exactly(2),
+        (None, None),
+        &[1, 2, 7, 8, 3, 4],
+        8,
+    ),
+    (
+        (2, 2),
+        Hints::AtLeast(0, 1),
+        (None, None),
+        &[1, 2, 7, 3, 4],
+        8,
+    ),
+    // Nothing stands behind the range.
+    (
+        (2, 4),
+        Hints::Exactly(3),
+        (Some(3), Some(4)),
+        &[1, 2, 7, 8, 9],
+        8,
+    ),
+    (
+        (2, 4),
+        Hints::AtLeast(4, 3),
+        (Some(3), Some(4)),
+        &[1, 2, 7, 8, 9],
+        9,
+    ),
+    ((0, 4), Hints::Exactly(1), (Some(1), Some(4)), &[7], 4),
+    ((4, 4), Hints::Exactly(1), (None, None), &[1, 2, 3, 4, 7], 8),
+    ((4, 4), Hints::Exactly(0), (None, None), FOUR, 4),
+];
+
+#[test]
+fn of_ranges(rt: HostRuntime) {
+    for (n, row) in OF_RANGES.iter().enumerate() {
+        let (range, hints, wanted, list, cap) = *row;
+        let mut a = ample(rt.alloc());
+        let mut vec = vec_of(&rt, &mut a, FOUR);
+        let (ends, answer) = splice(&rt, &mut a, &mut vec, range, hints);
+        assert_eq!(rt; (ends, answer), (wanted, Ok(())), "row {n}");
+        assert!(rt; holds(&rt, &a, vec, list), "row {n}");
+        assert_eq!(rt; vec.capacity(), cap, "row {n}");
+    }
+}
+
+// How many bytes there are, the range, what is told, the list then, and how many bytes are used.
+const REFUSED: [(usize, (u32, u32), Hints, &[u32], u64); 7] = [
+    // There is no room for the third, which is told.
+    (16, (1, 3), Hints::Exactly(3), &[1, 7, 8, 4], 16),
+    // The third was taken, and no place is left for it.
+    (16, (1, 3), Hints::AtLeast(0, 5), &[1, 7, 8, 4], 16),
+    // There is room for one more, but not in this vector.
+    (32, (1, 3), Hints::AtLeast(0, 3), &[1, 7, 8, 4], 20),
+    // Of the five others four are gathered.
+    (32, (1, 3), Hints::AtLeast(0, 7), &[1, 7, 8, 4], 32),
+    // The one that is told has its place, and the next has none.
+    (32, (1, 3), Hints::AtLeast(1, 5), &[1, 7, 8, 9, 4], 32),
+    // Nothing stands behind the range.
+    (16, (2, 4), Hints::Exactly(3), &[1, 2, 7, 8], 16),
+    (16, (4, 4), Hints::AtLeast(0, 2), FOUR, 16),
+];
+
+#[test]
+fn refused(rt: HostRuntime) {
+    for (n, row) in REFUSED.iter().enumerate() {
+        let (bytes, range, hints, list, used) = *row;
+        let mut a = fixed(&rt, rt.alloc(), bytes);
+        let mut vec = vec_of(&rt, &mut a, FOUR);
+        let (_, answer) = splice(&rt, &mut a, &mut vec, range, hints);
+        assert_eq!(rt; answer, NONE_REFUSED, "row {n}");
+        assert!(rt; holds(&rt, &a, vec, list), "row {n}");
+        assert_eq!(rt; a.used_bytes(), used, "row {n}");
+    }
+}
+
+#[test]
+fn units(rt: HostRuntime) {
+    let mut a = ample(rt.alloc());
+    let mut vec = vec_of(&rt, &mut a, &[(), (), ()]);
+    assert!(rt; vec.len() == 3);
+    let mut gone = vec.splice(&mut a, 0, 1, [(), (), ()].into_iter());
+    assert_eq!(rt; (gone.next(), gone.next()), (Some(()), None));
+    assert!(rt; gone.finish().is_ok());
+    assert_eq!(rt; vec.len(), 5);
+}

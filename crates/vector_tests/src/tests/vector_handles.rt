@@ -1,0 +1,94 @@
+// Vectors of handles, and handles of vectors.
+ghost use Rattle.arena_items.specs.Values.{IsHeld};
+
+use super::vectors::{holds, known, vec_of};
+use super::{ample, held};
+use arena_chunks::{Allocator, Block, ChunkSource};
+use arena_items::{ArenaItems, Box, InArena, Item};
+use arena_vec::Vec;
+use std::process::Abort;
+
+// The block of a number, which must be held.
+fn of_number<C: ChunkSource>(rt: &impl Abort, a: &Allocator<C>, block: Block)
+    ensures { IsHeld 4 4 a.now.memory.state block }
+{
+    held(rt, a, block);
+    assert!(rt; block.size == 4 && block.align == 4);
+}
+
+// The number in the box at an index.
+fn number<C: ChunkSource>(rt: &impl Abort, a: &Allocator<C>, boxes: Vec<Box<u32>>, i: u32) -> u32 {
+    known(rt, a, boxes);
+    assert!(rt; i < boxes.len());
+    let found = boxes.get(a, i);
+    of_number(rt, a, found.block);
+    found.get(a)
+}
+
+#[test]
+fn vectors_of_boxes(rt: HostRuntime) {
+    let mut a = ample(rt.alloc());
+    let one = a.alloc(1u32).expect(&rt, "a box");
+    let two = a.alloc(2u32).expect(&rt, "a box");
+    let mut boxes = vec_of(&rt, &mut a, &[one, two]);
+    boxes.push(&mut a, one).expect(&rt, "room");
+    // The first is the last, too.
+    of_number(&rt, &a, one.block);
+    one.set(&mut a, 9);
+    for (i, wanted) in [(0, 9), (1, 2), (2, 9)] {
+        assert_eq!(rt; number(&rt, &a, boxes, i), wanted);
+    }
+    assert_eq!(rt; (boxes.capacity(), boxes.as_ptr().size), (4, 128));
+}
+
+// The numbers of the vector at an index, and for how many there is room.
+fn numbers<C: ChunkSource>(
+    rt: &impl Abort,
+    a: &Allocator<C>,
+    outer: Vec<Vec<u16>>,
+    i: u32,
+    list: &[u16],
+    cap: u32,
+) {
+    known(rt, a, outer);
+    assert!(rt; i < outer.len());
+    let inner = outer.get(a, i);
+    assert!(rt; holds(rt, a, inner, list) && inner.capacity() == cap);
+}
+
+// The handle in the outer vector isn't brought up to date.
+#[test]
+fn vectors_of_vectors(rt: HostRuntime) {
+    let mut a = ample(rt.alloc());
+    let mut inner = vec_of(&rt, &mut a, &[1u16, 2]);
+    let mut outer = vec_of(&rt, &mut a, &[inner, Vec::new_in()]);
+    known(&rt, &a, inner);
+    inner.push(&mut a, 3).expect(&rt, "room");
+    known(&rt, &a, outer);
+    outer.push(&mut a, inner).expect(&rt, "room");
+    numbers(&rt, &a, outer, 0, &[1, 2], 2);
+    numbers(&rt, &a, outer, 1, &[], 0);
+    numbers(&rt, &a, outer, 2, &[1, 2, 3], 4);
+    assert_eq!(rt; outer.own_block(), outer.as_ptr());
+}
+
+// The block, the length and the capacity.
+#[test]
+fn handles(rt: HostRuntime) {
+    let form = [
+        1, 2, 3, 4, 5, 6, 7, 8, 9, 10, 11, 12, 13, 14, 15, 16, 17, 18, 19, 20, 21, 22, 23, 24, 25,
+        26, 27, 28, 29, 30, 31, 32, 33, 34, 35, 36, 37, 38, 39, 40,
+    ];
+    let block = Block {
+        generation: 0x0807_0605_0403_0201,
+        addr: 0x100f_0e0d_0c0b_0a09,
+        size: 0x1817_1615_1413_1211,
+        align: 0x201f_1e1d_1c1b_1a19,
+    };
+    let vec = <Vec<u8>>::decode(&form);
+    assert_eq!(rt; vec.as_ptr(), block);
+    assert_eq!(rt; (vec.len(), vec.capacity()), (0x2423_2221, 0x2827_2625));
+    let mut out = [9; 40];
+    vec.encode(&mut out);
+    assert_eq!(rt; out, form);
+}

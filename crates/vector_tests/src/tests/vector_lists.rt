@@ -1,0 +1,148 @@
+// How vectors are made, taken apart and put together.
+use super::ample;
+use super::numbers::Hints;
+use super::two_vectors::{Pair, Row, both};
+use super::vector_refusals::fixed;
+use super::vectors::{Answer, Call, holds, vec_of};
+use arena_chunks::{Allocator, MemoryChunks};
+use arena_vec::{AllocError, Grown, Vec};
+
+// How a vector is made.
+#[derive(Clone, Copy)]
+enum New {
+    // With room for so many.
+    Room(u64),
+    Value(u32),
+    Three([u32; 3]),
+    Five([u32; 5]),
+    None([u32; 0]),
+    Items(Hints),
+}
+
+fn make(a: &mut Allocator<MemoryChunks>, new: New, taken: &mut u64) -> Grown<Vec<u32>> {
+    match new {
+        New::Room(cap) => Vec::with_capacity_in(cap, a),
+        New::Value(value) => Vec::from_value_in(value, a),
+        New::Three(values) => Vec::from_array_in(values, a),
+        New::Five(values) => Vec::from_array_in(values, a),
+        New::None(values) => Vec::from_array_in(values, a),
+        New::Items(hints) => Vec::from_iter_in(hints.counting(taken), a),
+    }
+}
+
+// The list, the capacity, and how many bytes are used.
+const NEW_VECTORS: [(New, &[u32], u32, u64); 8] = [
+    (New::Room(10), &[], 10, 40),
+    (New::Room(0), &[], 0, 0),
+    (New::Value(123), &[123], 1, 4),
+    (New::Three([1, 2, 3]), &[1, 2, 3], 3, 12),
+    (New::None([]), &[], 0, 0),
+    (New::Items(Hints::Exactly(3)), &[1, 2, 3], 3, 12),
+    (New::Items(Hints::Exactly(0)), &[], 0, 0),
+    (New::Items(Hints::AtLeast(0, 3)), &[1, 2, 3], 4, 16),
+];
+
+#[test]
+fn new_vectors(rt: HostRuntime) {
+    for (n, row) in NEW_VECTORS.iter().enumerate() {
+        let (new, list, cap, used) = *row;
+        let mut a = ample(rt.alloc());
+        let vec = make(&mut a, new, &mut 0).expect(&rt, "room");
+        assert!(rt;
+            holds(&rt, &a, vec, list) && vec.is_empty() == list.is_empty(),
+            "row {n}"
+        );
+        assert_eq!(rt; (vec.capacity(), a.used_bytes()), (cap, used), "row {n}");
+        assert_eq!(rt; vec.as_ptr().size, used, "row {n}");
+    }
+}
+
+// There is no place, and no chunk was asked for.
+const NO_PLACE: AllocError = AllocError::AllocErr { refused: 0 };
+
+// 16 bytes are there. How many items were taken, and how many bytes are used then.
+const REFUSED: [(New, AllocError, u64, u64); 7] = [
+    (New::Room(5), NO_PLACE, 0, 0),
+    (New::Five([1, 2, 3, 4, 5]), NO_PLACE, 0, 0),
+    // Nothing is taken where the first room is refused.
+    (New::Items(Hints::Exactly(5)), NO_PLACE, 0, 0),
+    (New::Items(Hints::AtMost((1 << 30) - 1, 3)), NO_PLACE, 0, 0),
+    // Four items have a place. The fifth was taken too, and the block of the others stays.
+    (New::Items(Hints::AtLeast(0, 9)), NO_PLACE, 5, 16),
+    (New::Room(1 << 30), AllocError::CapacityOverflow, 0, 0),
+    (New::Room(u64::MAX), AllocError::CapacityOverflow, 0, 0),
+];
+
+#[test]
+fn refused(rt: HostRuntime) {
+    for (n, row) in REFUSED.iter().enumerate() {
+        let (new, wanted, items, used) = *row;
+        let mut a = fixed(&rt, rt.alloc(), 16);
+        let mut taken = 0;
+        let made = make(&mut a, new, &mut taken);
+        assert!(rt; matches!(made, Err(e) if e == wanted), "row {n}");
+        assert_eq!(rt; (taken, a.used_bytes()), (items, used), "row {n}");
+    }
+}
+
+const SPLIT_AND_JOINED: [Row<'static>; 10] = [
+    (Pair::SplitOff(1), Answer::Done, (&[1], 3), (&[2, 3], 2)),
+    (Pair::Append, Answer::Done, (&[1, 2, 3], 3), (&[], 2)),
+    (Pair::Append, Answer::Done, (&[1, 2, 3], 3), (&[], 2)),
+    (Pair::AppendBack, Answer::Done, (&[], 3), (&[1, 2, 3], 4)),
+    (Pair::Append, Answer::Done, (&[1, 2, 3], 3), (&[], 4)),
+    (Pair::SplitOff(0), Answer::Done, (&[], 3), (&[1, 2, 3], 3)),
+    (Pair::Append, Answer::Done, (&[1, 2, 3], 3), (&[], 3)),
+    (Pair::SplitOff(3), Answer::Done, (&[1, 2, 3], 3), (&[], 0)),
+    (
+        Pair::Second(Call::Extend(&[4, 5, 6])),
+        Answer::Done,
+        (&[1, 2, 3], 3),
+        (&[4, 5, 6], 3),
+    ),
+    (
+        Pair::Append,
+        Answer::Done,
+        (&[1, 2, 3, 4, 5, 6], 6),
+        (&[], 3),
+    ),
+];
+
+#[test]
+fn split_and_joined(rt: HostRuntime) {
+    let mut a = ample(rt.alloc());
+    let vec = vec_of(&rt, &mut a, &[1, 2, 3]);
+    both(&rt, &mut a, vec, &SPLIT_AND_JOINED);
+}
+
+const CUT_AND_GROWN: [Row<'static>; 4] = [
+    (
+        Pair::First(Call::Insert(1, 9)),
+        Answer::Done,
+        (&[1, 9, 2, 3], 6),
+        (&[], 0),
+    ),
+    (Pair::SplitOff(2), Answer::Done, (&[1, 9], 6), (&[2, 3], 2)),
+    (Pair::Append, Answer::Done, (&[1, 9, 2, 3], 6), (&[], 2)),
+    (
+        Pair::First(Call::Resize(5, 0)),
+        Answer::Done,
+        (&[1, 9, 2, 3, 0], 6),
+        (&[], 2),
+    ),
+];
+
+#[test]
+fn cut_and_grown(rt: HostRuntime) {
+    let mut a = ample(rt.alloc());
+    let vec = Vec::from_array_in([1u32, 2, 3], &mut a).expect(&rt, "room");
+    both(&rt, &mut a, vec, &CUT_AND_GROWN);
+}
+
+#[test]
+fn one_and_another(rt: HostRuntime) {
+    let mut a = ample(rt.alloc());
+    let mut vec = Vec::from_value_in(123u32, &mut a).expect(&rt, "room");
+    vec.push(&mut a, 456).expect(&rt, "room");
+    assert!(rt; holds(&rt, &a, vec, &[123, 456]) && vec.capacity() == 2);
+}

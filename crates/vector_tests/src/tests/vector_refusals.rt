@@ -1,0 +1,123 @@
+// A fixed arena that is full before a call on a vector is through.
+use super::has;
+use super::numbers::Hints;
+use super::two_vectors::{self, Pair, both};
+use super::vectors::{Answer, Call, Row, holds, runs, vec_of};
+use arena_chunks::{Allocator, MemoryChunks};
+use arena_vec::{AllocError, Grown, Vec};
+use std::alloc::Global;
+use std::process::Abort;
+
+// There is no place, and no chunk was asked for.
+pub(super) const NONE_REFUSED: Grown<()> = Err(AllocError::AllocErr { refused: 0 });
+
+// An allocator that has so many bytes and asks for no chunk.
+pub(super) fn fixed(rt: &impl Abort, alloc: Global, bytes: usize) -> Allocator<MemoryChunks> {
+    assert!(rt; bytes <= 1024);
+    let region = vec![in alloc; 0; bytes + 48].expect(rt, "memory");
+    let size = region.len();
+    assert!(rt; size % 16 == 0 && size >= 48);
+    let chunks = MemoryChunks::new(alloc, 1 << 20);
+    let made = Allocator::from_raw_parts(alloc, region, chunks);
+    made.ok().expect(rt, "an allocator")
+}
+
+const NO: Answer<u32> = Answer::Refused(0);
+
+const ON_A_LIST: [Row<'static, u32>; 20] = [
+    (Call::Extend(&[3, 4, 5]), NO, &[1, 2], 2),
+    (Call::ExtendCopy(&[3, 4, 5]), NO, &[1, 2], 2),
+    (Call::ExtendSlices(&[&[3], &[4, 5]]), NO, &[1, 2], 2),
+    (Call::Resize(5, 9), NO, &[1, 2], 2),
+    (Call::Reserve(3), NO, &[1, 2], 2),
+    (Call::TryReserve(3), NO, &[1, 2], 2),
+    (Call::ReserveExact(3), NO, &[1, 2], 2),
+    (Call::TryReserveExact(3), NO, &[1, 2], 2),
+    (Call::Insert(0, 9), Answer::Done, &[9, 1, 2], 4),
+    (Call::Push(3), Answer::Done, &[9, 1, 2, 3], 4),
+    (Call::Push(4), NO, &[9, 1, 2, 3], 4),
+    (Call::PushFast(4), NO, &[9, 1, 2, 3], 4),
+    (Call::PushMut(4), NO, &[9, 1, 2, 3], 4),
+    (Call::PushFastMut(4), NO, &[9, 1, 2, 3], 4),
+    (Call::Insert(2, 4), NO, &[9, 1, 2, 3], 4),
+    (Call::Extend(&[4]), NO, &[9, 1, 2, 3], 4),
+    (Call::Extend(&[]), Answer::Done, &[9, 1, 2, 3], 4),
+    (Call::Resize(4, 0), Answer::Done, &[9, 1, 2, 3], 4),
+    (Call::Pop, Answer::Value(3), &[9, 1, 2], 4),
+    (Call::Push(5), Answer::Done, &[9, 1, 2, 5], 4),
+];
+
+#[test]
+fn calls_on_a_list(rt: HostRuntime) {
+    let mut a = fixed(&rt, rt.alloc(), 16);
+    let mut vec = vec_of(&rt, &mut a, &[1u32, 2]);
+    runs(&rt, &mut a, &mut vec, &ON_A_LIST);
+    assert_eq!(rt; vec.as_ptr().addr, 4096);
+    has(&rt, "a full arena", &a, 16, (1, 1));
+}
+
+// No room even for the first value.
+const NO_BYTES: [Row<'static, u32>; 6] = [
+    (Call::Push(1), NO, &[], 0),
+    (Call::Insert(0, 1), NO, &[], 0),
+    (Call::Resize(1, 1), NO, &[], 0),
+    (Call::Reserve(1), NO, &[], 0),
+    (Call::Reserve(0), Answer::Done, &[], 0),
+    (Call::Resize(0, 1), Answer::Done, &[], 0),
+];
+
+#[test]
+fn no_bytes_at_all(rt: HostRuntime) {
+    let mut a = fixed(&rt, rt.alloc(), 0);
+    let mut vec = Vec::new_in();
+    runs(&rt, &mut a, &mut vec, &NO_BYTES);
+}
+
+const TWO_LISTS: [two_vectors::Row<'static>; 6] = [
+    (Pair::SplitOff(1), NO, (&[1, 2, 3], 3), (&[], 0)),
+    (Pair::SplitOff(2), Answer::Done, (&[1, 2], 3), (&[3], 1)),
+    (
+        Pair::First(Call::Push(4)),
+        Answer::Done,
+        (&[1, 2, 4], 3),
+        (&[3], 1),
+    ),
+    (Pair::Append, NO, (&[1, 2, 4], 3), (&[3], 1)),
+    (Pair::AppendBack, NO, (&[1, 2, 4], 3), (&[3], 1)),
+    (Pair::SplitOff(3), Answer::Done, (&[1, 2, 4], 3), (&[], 0)),
+];
+
+#[test]
+fn two_lists(rt: HostRuntime) {
+    let mut a = fixed(&rt, rt.alloc(), 16);
+    let vec = vec_of(&rt, &mut a, &[1, 2, 3]);
+    both(&rt, &mut a, vec, &TWO_LISTS);
+}
+
+// The list, what is told of the items that are put behind them, how many were taken, the list then, and how
+// many bytes are used. Those that were taken are there, but for the last.
+const BEHIND_A_LIST: [(&[u32], Hints, u64, &[u32], u64); 5] = [
+    (&[8, 9], Hints::Exactly(3), 1, &[8, 9], 8),
+    (&[8, 9], Hints::AtLeast(2, 9), 1, &[8, 9], 8),
+    (&[8, 9], Hints::AtLeast(0, 9), 3, &[8, 9, 1, 2], 16),
+    (&[8, 9], Hints::AtMost(3, 9), 3, &[8, 9, 1, 2], 16),
+    (&[], Hints::AtLeast(0, 9), 5, &[1, 2, 3, 4], 16),
+];
+
+#[test]
+fn items_behind_a_list(rt: HostRuntime) {
+    for (n, row) in BEHIND_A_LIST.iter().enumerate() {
+        let (list, hints, wanted, then, used) = *row;
+        let mut a = fixed(&rt, rt.alloc(), 16);
+        let mut vec = vec_of(&rt, &mut a, list);
+        let mut taken = 0;
+        let answer = vec.extend(&mut a, hints.counting(&mut taken));
+        assert_eq!(rt; (answer, taken), (NONE_REFUSED, wanted), "row {n}");
+        assert!(rt; holds(&rt, &a, vec, then), "row {n}");
+        assert_eq!(rt;
+            (a.used_bytes(), vec.capacity() as u64 * 4),
+            (used, used),
+            "row {n}"
+        );
+    }
+}

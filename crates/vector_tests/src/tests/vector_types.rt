@@ -1,0 +1,192 @@
+// Vectors of values of each kind.
+use super::ample;
+use super::vectors::{Answer, Call, Row, from, known, vec_of};
+use arena_chunks::Block;
+use arena_items::Item;
+use arena_vec::{AllocError, Vec};
+use std::alloc::Global;
+use std::process::Abort;
+
+const MOST: u64 = u64::MAX;
+
+const WORDS: [Row<'static, u64>; 6] = [
+    (Call::Push(MOST), Answer::Done, &[1, MOST], 2),
+    (Call::Insert(0, 0), Answer::Done, &[0, 1, MOST], 4),
+    (Call::SwapRemove(0), Answer::Value(0), &[MOST, 1], 4),
+    (Call::Extend(&[2, 3]), Answer::Done, &[MOST, 1, 2, 3], 4),
+    (Call::Remove(1), Answer::Value(1), &[MOST, 2, 3], 4),
+    (Call::Resize(5, 7), Answer::Done, &[MOST, 2, 3, 7, 7], 8),
+];
+
+const DOUBLE_WORDS: [Row<'static, u128>; 3] = [
+    (Call::Insert(0, 5), Answer::Done, &[5, u128::MAX], 2),
+    (Call::Push(6), Answer::Done, &[5, u128::MAX, 6], 4),
+    (Call::SwapRemove(1), Answer::Value(u128::MAX), &[5, 6], 4),
+];
+
+const SIGNED: [Row<'static, i16>; 3] = [
+    (Call::Insert(0, i16::MIN), Answer::Done, &[i16::MIN, -1], 2),
+    (Call::Resize(3, 0), Answer::Done, &[i16::MIN, -1, 0], 4),
+    (Call::Remove(0), Answer::Value(i16::MIN), &[-1, 0], 4),
+];
+
+const FLAGS: [Row<'static, bool>; 2] = [
+    (Call::Push(false), Answer::Done, &[true, false], 2),
+    (Call::Remove(0), Answer::Value(true), &[false], 2),
+];
+
+#[test]
+fn numbers(rt: HostRuntime) {
+    from(&rt, rt.alloc(), &[1], &WORDS);
+    from(&rt, rt.alloc(), &[u128::MAX], &DOUBLE_WORDS);
+    from(&rt, rt.alloc(), &[-1], &SIGNED);
+    from(&rt, rt.alloc(), &[true], &FLAGS);
+}
+
+const PAIRS: [Row<'static, (u8, u32)>; 4] = [
+    (Call::Push((3, 4)), Answer::Done, &[(1, 2), (3, 4)], 2),
+    (
+        Call::Insert(0, (5, 6)),
+        Answer::Done,
+        &[(5, 6), (1, 2), (3, 4)],
+        4,
+    ),
+    (
+        Call::SwapRemove(0),
+        Answer::Value((5, 6)),
+        &[(3, 4), (1, 2)],
+        4,
+    ),
+    (Call::Set(1, (255, 7)), Answer::Done, &[(3, 4), (255, 7)], 4),
+];
+
+const OPTIONS: [Row<'static, Option<u32>>; 4] = [
+    (Call::Push(None), Answer::Done, &[Some(5), None], 2),
+    (
+        Call::Insert(0, Some(0)),
+        Answer::Done,
+        &[Some(0), Some(5), None],
+        4,
+    ),
+    (Call::Pop, Answer::Value(None), &[Some(0), Some(5)], 4),
+    (Call::Set(0, None), Answer::Done, &[None, Some(5)], 4),
+];
+
+const PAIRS_OF_OPTIONS: [Row<'static, (Option<u16>, bool)>; 2] = [
+    (
+        Call::Push((Some(7), false)),
+        Answer::Done,
+        &[(None, true), (Some(7), false)],
+        2,
+    ),
+    (
+        Call::Remove(0),
+        Answer::Value((None, true)),
+        &[(Some(7), false)],
+        2,
+    ),
+];
+
+#[test]
+fn pairs_and_options(rt: HostRuntime) {
+    from(&rt, rt.alloc(), &[(1, 2)], &PAIRS);
+    from(&rt, rt.alloc(), &[Some(5)], &OPTIONS);
+    from(&rt, rt.alloc(), &[(None, true)], &PAIRS_OF_OPTIONS);
+}
+
+#[test]
+fn handles(rt: HostRuntime) {
+    let (one, other) = (Block::empty(8), Block::empty(1));
+    from(
+        &rt,
+        rt.alloc(),
+        &[one],
+        &[
+            (Call::Push(other), Answer::Done, &[one, other], 2),
+            (Call::SwapRemove(0), Answer::Value(one), &[other], 2),
+        ],
+    );
+}
+
+// The values stand one after another as these bytes.
+fn written<T: Item>(rt: &impl Abort, alloc: Global, list: &[T], bytes: &[u8]) {
+    assert!(rt; T::SIZE <= 48);
+    let mut a = ample(alloc);
+    let vec = vec_of(rt, &mut a, list);
+    assert_eq!(rt; vec.as_slice(&a), bytes);
+    assert_eq!(rt; a.used_bytes(), bytes.len() as u64);
+}
+
+#[test]
+fn bytes_of_values(rt: HostRuntime) {
+    written(&rt, rt.alloc(), &[123u32, 1], b"\x7b\0\0\0\x01\0\0\0");
+    written(&rt, rt.alloc(), b"ab", b"ab");
+    written(
+        &rt,
+        rt.alloc(),
+        &[(1u8, 2u32), (3, 4)],
+        b"\x01\0\0\0\x02\0\0\0\x03\0\0\0\x04\0\0\0",
+    );
+    written(
+        &rt,
+        rt.alloc(),
+        &[None, Some(5u32)],
+        b"\0\0\0\0\0\0\0\0\x01\0\0\0\x05\0\0\0",
+    );
+    written(&rt, rt.alloc(), &['é'], b"\xe9\0\0\0");
+    written(&rt, rt.alloc(), &[(), ()], b"");
+    written::<u64>(&rt, rt.alloc(), &[], b"");
+}
+
+const ALL: u32 = u32::MAX;
+
+const UNITS: [Row<'static, ()>; 15] = [
+    (Call::Push(()), Answer::Done, &[()], ALL),
+    (Call::PushMut(()), Answer::Index(1), &[(); 2], ALL),
+    (Call::PushFastMut(()), Answer::Index(2), &[(); 3], ALL),
+    (Call::Resize(9, ()), Answer::Done, &[(); 9], ALL),
+    (Call::PushMut(()), Answer::Index(9), &[(); 10], ALL),
+    (Call::Pop, Answer::Value(()), &[(); 9], ALL),
+    (Call::Insert(4, ()), Answer::Done, &[(); 10], ALL),
+    (Call::PushFastMut(()), Answer::Index(10), &[(); 11], ALL),
+    (Call::Reserve((1 << 32) - 12), Answer::Done, &[(); 11], ALL),
+    (
+        Call::Reserve((1 << 32) - 11),
+        Answer::Overflows,
+        &[(); 11],
+        ALL,
+    ),
+    (
+        Call::ReserveExact(1 << 32),
+        Answer::Overflows,
+        &[(); 11],
+        ALL,
+    ),
+    (Call::ShrinkToFit, Answer::Done, &[(); 11], ALL),
+    (Call::Extend(&[(); 3]), Answer::Done, &[(); 14], ALL),
+    (Call::Remove(0), Answer::Value(()), &[(); 13], ALL),
+    (Call::Clear, Answer::Done, &[], ALL),
+];
+
+#[test]
+fn units(rt: HostRuntime) {
+    from(&rt, rt.alloc(), &[], &UNITS);
+}
+
+// No block is placed, and the last place is taken.
+#[test]
+fn as_many_units_as_there_are(rt: HostRuntime) {
+    let mut a = ample(rt.alloc());
+    let mut vec = Vec::with_capacity_in(10, &mut a).expect(&rt, "units");
+    vec.resize(&mut a, 5, ()).expect(&rt, "units");
+    assert!(rt; vec.len() == 5 && vec.capacity() == ALL && a.used_bytes() == 0);
+    vec.raw.increase_len(ALL - 6);
+    let overflows = Err(AllocError::CapacityOverflow);
+    for wanted in [Ok(ALL - 1), overflows, overflows] {
+        known(&rt, &a, vec);
+        assert_eq!(rt; vec.push_mut(&mut a, ()), wanted);
+        assert_eq!(rt; (vec.len(), a.used_bytes()), (ALL, 0));
+    }
+    let refused = <Vec<()>>::with_capacity_in(1 << 32, &mut a);
+    assert!(rt; matches!(refused, Err(AllocError::CapacityOverflow)));
+}
