@@ -1,5 +1,5 @@
 -- What an arena shows of a block that was placed.
-use Rattle.std.proofs.Common.{◌≡◌, ℕ, ◌+◌, ◌-◌, ◌≤◌, max, inl, inr, ap, sym, refl, subst, arith, true, false, IsTrue, Some, None, Err, eq-eqb}
+use Rattle.std.proofs.Common.{◌≡◌, ℕ, ◌+◌, ◌-◌, ◌≤◌, max, inl, inr, ap, sym, refl, subst, ◌∙◌, arith, true, false, IsTrue, Some, None, Err, eq-eqb}
 use Rattle.std.specs.Prelude.{nat_le, ◌==◌, ◌&&◌}
 use Rattle.std.proofs.lemmas.Bool.{cases_lt, or_left, or_right}
 use Rattle.std.proofs.lemmas.Bool.Decides.{nat_tests}
@@ -13,10 +13,13 @@ use Rattle.placement.proofs.CursorLemmas.{start_positive, cursor_within, valid_m
 use Rattle.placement.proofs.UsedLemmas.{used_under}
 use Rattle.placement.proofs.AllocLemmas.{alloc_placed, alloc_refused, IsGranted, is_granted}
 use Rattle.placement.proofs.NewBlockLemmas.{is_new_block, alloc_valid}
+use Rattle.placement.specs.Causes.{counted}
 use Rattle.placement.specs.Statistics.{one_allocation}
 use Rattle.placement.proofs.AllocatedLemmas.{alloc_allocated}
 use Rattle.arena_chunks.specs.Memory.{Memory, image}
-use Rattle.arena_chunks.specs.Source.{Source, view, IsAsked}
+use Rattle.arena_chunks.specs.Stored.{memory_of}
+use Rattle.arena_chunks.specs.declared.arena.Arena.TheInside.{Inside}
+use Rattle.arena_chunks.specs.Source.{Source, View, view, IsAsked}
 use Rattle.arena_chunks.specs.Adding.{IsAdded, AddsChunk, OnFound}
 use Rattle.arena_chunks.specs.Answers.{OnCounted}
 use Rattle.arena_chunks.specs.Answers.Answer.{Placed}
@@ -25,7 +28,7 @@ use Rattle.arena_chunks.specs.declared.block.ArenaErr.{ArenaErr}
 use Rattle.arena_chunks.specs.declared.block.ArenaErr.TheVariants.{AllocErr, OutOfMemory}
 use Rattle.arena_chunks.specs.declared.block.Block.{Block}
 use Rattle.arena_chunks.proofs.FrameLemmas.{byte_moved, frame_new}
-use Rattle.arena_chunks.proofs.StoredLemmas.{IsCursor}
+use Rattle.arena_chunks.proofs.StoredLemmas.{view_of, moved_chunk, cursor_view, IsCursor}
 
 -- a cursor may move down to a place
 pub place_cursor : (state : State) (size align p : ℕ) → IsValid state → IsTrue (is_layout size align) → place state size align ≡ Some p → IsCursor state p
@@ -40,6 +43,13 @@ place_cursor state size align p valid layout found =
 -- a placed block at address p, and the arena with it
 abbrev pub with_block : Memory → ℕ → Memory
 with_block memory p = record { state = with_cursor p memory.state; statistics = one_allocation memory.statistics; bytes = memory.bytes }
+
+-- it is so with the cursor there, whatever is ready below it, and one more counted
+pub placed_view : (m : ℕ) (a : Inside m) (memory : Memory) (p low n : ℕ) → view_of m a ≡ memory → n ≡ counted a.allocations 1
+    → memory_of m a.is_growing a.generation n a.reallocations (moved_chunk m a p low) a.older.items ≡ with_block memory p
+placed_view m a memory p low n is one =
+    ap (λ (w : Memory). record w { statistics = record w.statistics { allocations = n } }) (cursor_view m a memory p low is)
+    ∙ rw one (ap (λ (w : Memory). record (with_block memory p) { statistics = record memory.statistics { allocations = counted w.statistics.allocations 1 } }) is)
 
 -- an allocation with its step, which changed no byte in use
 pub record IsPlacing (old new : Memory) (size align k p : ℕ) : Type 0 where
@@ -113,6 +123,13 @@ block_placed old new before after size align k p b valid layout placing asked is
             (λ still. alloc_allocated old.state size align k (record { answer = Some p; state = new.state }) still placing.step) placing.bytes;
       };
     })
+
+-- The block at the place that was answered is the one that was placed.
+pub placed_there : (old new : View) (size align k p : ℕ) (b : Block) → PlacesAfter old new size align k (Placed (record { generation = old.memory.state.generation; addr = p; size = size; align = align }))
+    → b ≡ record { generation = new.memory.state.generation; addr = p; size = size; align = align } → PlacesAfter old new size align k (Placed b)
+placed_there old new size align k p b places is =
+    subst (λ (b : Block). PlacesAfter old new size align k (Placed b))
+    (sym (is ∙ ap (λ (generation : ℕ). record { generation = generation; addr = p; size = size; align = align }) places.outcome.frame.generation)) places
 
 -- All that was asked for was refused, or memory was wanting for the table of chunks.
 pub all_refused : (old new : Memory) (before after : Source) (size align : ℕ) (e : ArenaErr) → IsValid old.state → place old.state size align ≡ None → new ≡ old

@@ -1,9 +1,10 @@
 -- How an arena begins.
-use Rattle.std.proofs.Common.{◌≡◌, ℕ, ◌+◌, max, sym, ap, refl, subst, ◌∙◌, arith, IsTrue, true, false, Option, Some, None, [], ◌∷◌, length, Vec, Global}
+use Rattle.std.proofs.Common.{◌≡◌, ℕ, ◌+◌, max, sym, ap, refl, subst, ◌∙◌, arith, IsTrue, true, false, Option, Some, None, [], ◌∷◌, length}
 use Rattle.std.specs.Prelude.{◌==◌, replicate}
 use Rattle.std.specs.Option.{option_map}
 use Rattle.std.proofs.lemmas.Bool.Decides.{nat_tests}
 use Rattle.std.proofs.lemmas.List.{length-replicate}
+use Rattle.std.proofs.lemmas.List.Elements.{All-nil}
 use Rattle.placement.specs.Rounding.{up, is_layout}
 use Rattle.placement.specs.State.{is_min_align, IsValid}
 use Rattle.placement.specs.Search.{possible, next_base, requests}
@@ -14,7 +15,8 @@ use Rattle.placement.proofs.RoundingLemmas.{min_align_le}
 use Rattle.placement.proofs.CauseLemmas.{counted_none}
 use Rattle.placement.proofs.CreationLemmas.{capacity_valid}
 use Rattle.arena_chunks.specs.Memory.{Memory}
-use Rattle.arena_chunks.specs.Stored.{memory_of, IsStored}
+use Rattle.arena_region.specs.Bytes.{Bytes}
+use Rattle.arena_chunks.specs.Stored.{memory_of, IsReady, IsStored}
 use Rattle.arena_chunks.specs.Source.{Source, IsAsked}
 use Rattle.arena_chunks.specs.Creating.{zeroed_memory, IsCreation}
 use Rattle.arena_chunks.specs.declared.chunks.chunk.StoredChunk.{StoredChunk}
@@ -70,18 +72,20 @@ module _ (m capacity size : ℕ) (before after : Source) (min_align : IsTrue (is
   created_refused refusals asked = created_at m capacity 1 None before after (Some (4096, size)) some chunk refl (record { refusals = refusals; requests = told asked })
 
   -- it was granted: zeros from 4096 on, with nothing used
-  pub created_first : (bytes : Vec ℕ Global) → bytes.items ≡ replicate size 0 → after.refusals ≡ before.refusals
+  pub created_first : (bytes : Bytes) → bytes.items ≡ replicate size 0 → after.refusals ≡ before.refusals
       → TellsRequests before.asked after.asked ((size, 16) ∷ [])
       → IsCreation m capacity 0 (Some (memory_of m true 0 0 0 (record { base = 4096; cursor = 4096 + length bytes.items; bytes = bytes }) [])) before after
   created_first bytes zeros refusals asked =
       created_at m capacity 0 _ before after (Some (4096, size)) some chunk (rw (zeros, length-replicate) refl) (record { refusals = refusals ∙ sym (counted_none before.refusals); requests = told asked })
 
   -- the arena over that chunk is valid
-  pub first_stored : (bytes : Vec ℕ Global) (newest : StoredChunk) → bytes.items ≡ replicate size 0 → newest ≡ record { base = 4096; cursor = 4096 + length bytes.items; bytes = bytes }
-      → IsStored (memory_of m true 0 0 0 newest []) newest []
-  first_stored bytes newest zeros is =
+  pub first_stored : (bytes : Bytes) (newest : StoredChunk) → bytes.items ≡ replicate size 0 → newest ≡ record { base = 4096; cursor = 4096 + length bytes.items; bytes = bytes }
+      → IsReady newest → IsStored (memory_of m true 0 0 0 newest []) newest []
+  first_stored bytes newest zeros is ready =
       let sized : length bytes.items ≡ size = ap length zeros ∙ length-replicate size 0 in
       rw is (record {
         valid = subst (λ (n : ℕ). IsValid (with_chunk (4096, n) (empty_state m))) (sym sized) (capacity_valid m capacity (4096, size) min_align (omega (arith, some)) (sym chunk));
         none = λ same. absurd (omega arith);
+        ready = rw is at ready;
+        older_ready = All-nil IsReady;
       })

@@ -1,9 +1,11 @@
 -- A granted chunk becomes the newest.
-use Rattle.std.proofs.Common.{◌≡◌, ℕ, ◌+◌, ◌-◌, ◌≤◌, ◌^◌, max, ap, sym, refl, subst, ◌∙◌, arith, IsTrue, Some, None, Option, List, [], ◌∷◌, ◌++◌, true, false, length, reverse, inl, inr, Vec, Global}
+use Rattle.std.proofs.Common.{◌≡◌, ℕ, ◌+◌, ◌-◌, ◌≤◌, ◌^◌, max, ap, sym, refl, subst, ◌∙◌, arith, IsTrue, Some, None, Option, List, [], ◌∷◌, ◌++◌, true, false, length, reverse, inl, inr}
 use Rattle.std.specs.Prelude.{◌==◌, if◌then◌else◌, slice_get}
 use Rattle.std.specs.Option.{option_map_or}
 use Rattle.std.proofs.lemmas.Bool.Decides.{nat_tests}
+use Rattle.std.specs.List.{All}
 use Rattle.std.proofs.lemmas.List.{reverse-append}
+use Rattle.std.proofs.lemmas.List.Elements.{All-push}
 use Rattle.placement.specs.Rounding.{is_layout}
 use Rattle.placement.specs.State.{State, Chunk, AreChunks, IsValid, floor_of}
 use Rattle.placement.specs.Search.{asked, asked_above, requests}
@@ -11,7 +13,8 @@ use Rattle.placement.specs.Moves.{with_chunk}
 use Rattle.placement.proofs.RoundingLemmas.{up_ge, power_positive, max_power, pow_power, layout_power}
 use Rattle.placement.proofs.AllocLemmas.{entry_of, valid_grown}
 use Rattle.arena_chunks.specs.Memory.{Memory}
-use Rattle.arena_chunks.specs.Stored.{all_chunks, IsStored}
+use Rattle.arena_region.specs.Bytes.{Bytes}
+use Rattle.arena_chunks.specs.Stored.{all_chunks, IsReady, IsStored}
 use Rattle.arena_chunks.specs.Source.{Source, view}
 use Rattle.arena_chunks.specs.Adding.{AddsChunk}
 use Rattle.arena_chunks.specs.declared.chunks.chunk.StoredChunk.{StoredChunk}
@@ -81,15 +84,21 @@ module _ (m : ℕ) (a : Inside m) where
     | inr some ↦ rw (is, some, reverse-append) refl
   ]
 
+  table_ready : (older : List StoredChunk) → Stands m a → older ≡ (if a.newest.base == 16 then a.older.items else a.older.items ++ a.newest ∷ []) → All IsReady older
+  table_ready older stands is = elim (kind m a stands) [
+    | inl none ↦ rw (is, none.0) stands.older_ready
+    | inr some ↦ rw (is, some) (All-push IsReady a.older.items a.newest stands.older_ready stands.ready)
+  ]
+
   pub record IsInstalled (memory : Memory) (base : ℕ) (bytes : List ℕ) (newest : StoredChunk) (older : List StoredChunk) : Type 0 where
     pub view : view_with m a newest older
         ≡ record { state = with_chunk (base, length bytes) memory.state; statistics = memory.statistics; bytes = bytes ∷ memory.bytes }
     pub stored : IsStored (view_with m a newest older) newest older
 
-  pub installed : (memory : Memory) (base : ℕ) (bytes : Vec ℕ Global) (newest : StoredChunk) (older : List StoredChunk) → Stands m a → view_of m a ≡ memory
-      → IsValid (with_chunk (base, length bytes.items) memory.state) → newest ≡ record { base = base; cursor = base + length bytes.items; bytes = bytes }
+  pub installed : (memory : Memory) (base : ℕ) (bytes : Bytes) (newest : StoredChunk) (older : List StoredChunk) → Stands m a → view_of m a ≡ memory
+      → IsValid (with_chunk (base, length bytes.items) memory.state) → newest ≡ record { base = base; cursor = base + length bytes.items; bytes = bytes } → IsReady newest
       → older ≡ (if a.newest.base == 16 then a.older.items else a.older.items ++ a.newest ∷ []) → IsInstalled memory base bytes.items newest older
-  installed memory base bytes newest older stands view valid is table =
+  installed memory base bytes newest older stands view valid is ready table =
       let high : 4096 ≤ base = omega (arith, valid.chunks.1, floor_large memory.state.min_align memory.state.chunks valid.chunks.2) in
       let test : (base == 16) ≡ false = grind (arith, nat_tests) in
       let all = table_all older stands table in
@@ -97,5 +106,10 @@ module _ (m : ℕ) (a : Inside m) where
       subst (λ (w : Memory). IsInstalled w base bytes.items newest older) view
       (subst (λ (c : StoredChunk). IsInstalled (view_of m a) base bytes.items c older) (sym is) (record {
         view = rw (test, all) refl;
-        stored = record { valid = rw (test, all) fine; none = λ same. absurd (omega (arith, same, high)) };
+        stored = record {
+          valid = rw (test, all) fine;
+          none = λ same. absurd (omega (arith, same, high));
+          ready = rw is at ready;
+          older_ready = table_ready older stands table;
+        };
       }))

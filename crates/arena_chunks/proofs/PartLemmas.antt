@@ -6,17 +6,17 @@ use Rattle.std.specs.List.Sorted.{IsNonDecreasingBy}
 use Rattle.std.proofs.lemmas.Bool.{cases_Bool, or_cases}
 use Rattle.std.proofs.lemmas.Bool.Decides.{nat_tests}
 use Rattle.std.proofs.lemmas.List.{reverse-append, reverse-reverse, set_at, length-append}
-use Rattle.std.proofs.lemmas.List.Elements.{All-nil, All-head, All-tail, All-push, All-from_recursion, recursion_from_All}
+use Rattle.std.proofs.lemmas.List.Elements.{All-cons, All-head, All-tail, All-from_recursion, recursion_from_All}
 use Rattle.std.proofs.Math.Seq.{get_or-append_seam}
 use Rattle.placement.specs.State.{State, Chunk, IsValid, AreChunks, floor_of, is_used_by, is_range_used, start_of}
 use Rattle.placement.proofs.UsedLemmas.{used_under, used_part}
 use Rattle.arena_chunks.specs.Memory.{Memory, image, is_readable, bytes_from, written, Writes}
-use Rattle.arena_chunks.specs.Stored.{stored_chunk, IsStored, IsSearchable, IsLastBelow, IsEdited, HasPart, CopiesPart, part_of}
+use Rattle.arena_chunks.specs.Stored.{stored_chunk, IsReady, IsStored, IsSearchable, IsLastBelow, IsEdited, HasPart, CopiesPart, part_of}
 use Rattle.arena_chunks.specs.declared.block.Block.{Block}
 use Rattle.arena_chunks.specs.declared.chunks.chunk.StoredChunk.{StoredChunk}
 use Rattle.arena_chunks.specs.declared.arena.Arena.TheInside.{Inside}
 use Rattle.arena_chunks.proofs.TableLemmas.{chunks_in, bytes_in, table_rises, some_below, range_held, range_bytes, IsSplice, same_chunk, same_chunks, range_written}
-use Rattle.arena_chunks.proofs.StoredLemmas.{view_with, view_of, Stands, differs, start_stored}
+use Rattle.arena_chunks.proofs.StoredLemmas.{view_with, view_of, Stands, differs, start_stored, all_reversed, all_straight}
 
 -- ---- A range of a readable block is in use
 
@@ -30,9 +30,14 @@ readable_part state block p n readable low high some =
 
 -- ---- Lists, and the element that was looked up
 
-pub all_reversed : {X : Type 0} (P : X → Type 0) → (xs : List X) → All P xs → All P (reverse xs)
-all_reversed P [] all = All-nil P
-all_reversed P (x ∷ xs) all = subst (All P) (sym (reverse-append (x ∷ []) xs)) (All-push P (reverse xs) x (all_reversed P xs (All-tail P x xs all)) (All-head P x xs all))
+-- what holds of all holds of one of them, and of all with another in its place
+all_among : {X : Type 0} (P : X → Type 0) → (xs : List X) (x : X) (ys : List X) → All P (xs ++ x ∷ ys) → P x
+all_among P [] x ys all = All-head P x ys all
+all_among P (y ∷ xs) x ys all = all_among P xs x ys (All-tail P y (xs ++ x ∷ ys) all)
+
+all_replaced : {X : Type 0} (P : X → Type 0) → (xs : List X) (x z : X) (ys : List X) → All P (xs ++ x ∷ ys) → P z → All P (xs ++ z ∷ ys)
+all_replaced P [] x z ys all holds = All-cons P z ys holds (All-tail P x ys all)
+all_replaced P (y ∷ xs) x z ys all holds = All-cons P y (xs ++ z ∷ ys) (All-head P y (xs ++ x ∷ ys) all) (all_replaced P xs x z ys (All-tail P y (xs ++ x ∷ ys) all) holds)
 
 reverse_split : (before : List StoredChunk) (chunk : StoredChunk) (after : List StoredChunk) → reverse (before ++ chunk ∷ after) ≡ reverse after ++ chunk ∷ reverse before
 reverse_split before chunk after = reverse-append before (chunk ∷ after) ∙ ap (λ (l : List StoredChunk). l ++ reverse before) (reverse-append (chunk ∷ []) after) ∙ append_assoc (reverse after) (chunk ∷ []) (reverse before)
@@ -83,9 +88,14 @@ module _ (m : ℕ) (a : Inside m) (memory : Memory) where
   pub record IsPart (addr n : ℕ) (newer : List StoredChunk) (chunk : StoredChunk) (rest : List StoredChunk) : Type 0 where
     pub range : IsRange addr n
     pub split : a.newest ∷ reverse a.older.items ≡ newer ++ chunk ∷ rest
+    pub ready : IsReady chunk
+    pub used : chunk.cursor ≤ addr
     pub low : chunk.base ≤ addr
     pub high : addr + n ≤ chunk.base + length chunk.bytes.items
     pub bytes : take n (drop (addr - chunk.base) chunk.bytes.items) ≡ bytes_from (image memory) addr n
+
+  all_ready : Stands m a → All IsReady (a.newest ∷ reverse a.older.items)
+  all_ready stands = All-cons IsReady a.newest (reverse a.older.items) stands.ready (all_reversed IsReady a.older.items stands.older_ready)
 
   by_image : (addr n : ℕ) → IsRange addr n → bytes_in (a.newest ∷ reverse a.older.items) ≡ image memory
   by_image addr n range = subst (λ (w : Memory). bytes_in (a.newest ∷ reverse a.older.items) ≡ image w) range.view (rw range.chunk refl)
@@ -95,13 +105,15 @@ module _ (m : ℕ) (a : Inside m) (memory : Memory) where
   is_part addr n newer chunk rest range split above low =
       let valid = subst (λ (l : List StoredChunk). AreChunks m (chunks_in l)) split range.valid in
       let used = subst (λ (l : List StoredChunk). IsTrue (is_range_used (chunks_in l) addr n)) split range.used in
-      let high = range_held m addr n newer chunk rest valid range.some above low used in
+      let held = range_held m addr n newer chunk rest valid range.some above low used in
       record {
         range = range;
         split = split;
+        ready = all_among IsReady newer chunk rest (subst (All IsReady) split (all_ready range.stands));
+        used = held.0;
         low = low;
-        high = high;
-        bytes = range_bytes m addr n newer chunk rest valid low high ∙ ap (λ (f : ℕ → ℕ). bytes_from f addr n) (ap bytes_in (sym split) ∙ by_image addr n range);
+        high = held.1;
+        bytes = range_bytes m addr n newer chunk rest valid low held.1 ∙ ap (λ (f : ℕ → ℕ). bytes_from f addr n) (ap bytes_in (sym split) ∙ by_image addr n range);
       }
 
   pub newest_part : (addr n : ℕ) → IsRange addr n → a.newest.base ≤ addr → IsPart addr n [] a.newest (reverse a.older.items)
@@ -175,12 +187,16 @@ module _ (m : ℕ) (a : Inside m) (memory : Memory) where
       let chunks : chunks_in (newest ∷ reverse older) ≡ chunks_in (a.newest ∷ reverse a.older.items) =
       ap chunks_in split ∙ same_chunks newer rest chunk new (same_chunk chunk new addr list is) ∙ sym (ap chunks_in part.split) in
       let valid = subst (λ (l : List StoredChunk). AreChunks m (chunks_in l)) part.split part.range.valid in
+      let ready = subst (All IsReady) (sym split) (all_replaced IsReady newer chunk new rest (subst (All IsReady) part.split (all_ready part.range.stands))
+      (omega (arith, part.ready, edited.base, edited.cursor, edited.low))) in
       let state : (view_with m a newest older).state ≡ memory.state =
       rw test (ap (λ (l : List Chunk). record { min_align = m; is_growing = a.is_growing; generation = a.generation; chunks = l }) chunks ∙ by_state addr n part.range) in
       record {
         stored = record {
           valid = subst IsValid (sym state) (subst (λ (w : Memory). IsValid w.state) part.range.view part.range.stands.valid);
           none = λ same. absurd (differs newest.base test same);
+          ready = All-head IsReady newest (reverse older) ready;
+          older_ready = all_straight IsReady older (All-tail IsReady newest (reverse older) ready);
         };
         state = state;
         image = λ p. rw test (ap (λ (l : List StoredChunk). bytes_in l p) split ∙ range_written m p addr list newer chunk new rest valid is
@@ -245,7 +261,8 @@ module _ (m : ℕ) (a : Inside m) (memory : Memory) where
       let part = (λ (c : StoredChunk) (is : c ≡ get_or a.older.items i c). (is_older addr n i a.older.items c range below refl last is).part) in
       subst (λ (l : List StoredChunk). HasPart l i addr n) (sym same_lent) (record {
         within = last_within a.older.items addr i last;
-        low = λ c is. (part c is).low;
+        ready = λ c is. (part c is).ready;
+        low = λ c is. (part c is).used;
         high = λ c is. (part c is).high;
       })
 

@@ -300,7 +300,7 @@ grown_used memory block size q p n is low high some =
 
 -- the cursor moved down, and then the bytes
 pub grown : (old mid new : Memory) (block : Block) (size q : ℕ) → IsGrown old block size q → block.size ≤ size
-    → mid ≡ record { state = with_cursor q old.state; statistics = one_reallocation old.statistics; bytes = old.bytes }
+    → mid ≡ record { state = with_cursor q old.state; statistics = old.statistics; bytes = old.bytes }
     → new.state ≡ mid.state → Writes mid new q (bytes_from (image mid) block.addr block.size) → MovesCursor old new block q size block.size
 grown old mid new block size q is longer moved same bytes = record {
   valid = is.valid;
@@ -329,6 +329,34 @@ shrunk_still memory block size align valid readable smaller way =
       statistics = refl;
       resizes = rw all (resized_still memory block size align size valid readable smaller);
     })
+
+-- down, with the cursor
+pub grown_down : (old mid new : Memory) (block : Block) (size align q : ℕ) → IsGrown old block size q → block.size ≤ size
+    → mid ≡ record { state = with_cursor q old.state; statistics = old.statistics; bytes = old.bytes }
+    → new.state ≡ mid.state → new.statistics ≡ one_reallocation mid.statistics → Writes mid new q (bytes_from (image mid) block.addr block.size)
+    → IsResizedUnasked (Moves q) old new block size align (block_in old.state q size align)
+grown_down old mid new block size align q is longer moved same statistics bytes =
+    let all : min block.size size ≡ block.size = omega arith in
+    let moves = grown old mid new block size q is longer moved same bytes in
+    record {
+      entry = is.valid;
+      step = rw moves.state refl;
+      unasked = refl;
+      statistics = statistics ∙ ap (λ (w : Memory). one_reallocation w.statistics) moved;
+      resizes = rw all (resized_at_cursor old new block q size align block.size moves);
+    }
+
+-- that is what the rule has of a block that grows there
+pub grown_answer : (old mid new : Memory) (source : Source) (block b : Block) (size align q : ℕ) → IsGrown old block size q → block.size ≤ size → IsTrue (is_layout size align)
+    → growing old.state block.addr block.size block.align size align ≡ Moves q → mid ≡ record { state = with_cursor q old.state; statistics = old.statistics; bytes = old.bytes }
+    → new.state ≡ mid.state → new.statistics ≡ one_reallocation mid.statistics → Writes mid new q (bytes_from (image mid) block.addr block.size) → b ≡ block_in mid.state q size align
+    → ResizesAfter (growing old.state block.addr block.size block.align size align) (view old source) (view new source) block size align 0 (Placed b)
+grown_answer old mid new source block b size align q down longer layout way moved same statistics bytes answer =
+    let block_is : b ≡ block_in old.state q size align = answer ∙ ap (λ (w : Memory). block_in w.state q size align) moved in
+    let is : IsResizedUnasked (growing old.state block.addr block.size block.align size align) old new block size align b =
+    rw (way, block_is) (grown_down old mid new block size align q down longer moved same statistics bytes) in
+    resized_unasked (growing old.state block.addr block.size block.align size align) old new source block size align b
+    (grown_aligned old.state new.state block size align b is.entry layout is.resizes.of_layout.of_align is.step) is
 
 -- up, with the cursor
 pub shrunk_up : (old new : Memory) (block : Block) (size align q : ℕ) → MovesCursor old new block q size size → size ≤ block.size → new.statistics ≡ one_reallocation old.statistics

@@ -6,6 +6,7 @@ use Rattle.std.proofs.lemmas.Grind.{common_steps, same_number_lists}
 use Rattle.std.proofs.lemmas.Simd.{put_chunk_is}
 use Rattle.std.specs.Simd.Lanes.{put_chunk, chunk}
 use Rattle.placement.specs.Machine.{splice}
+use Rattle.arena_region.specs.Bytes.{written_from}
 use Rattle.arena_chunks.proofs.BytesLemmas.{length-splice}
 
 -- a list after n of its bytes were moved
@@ -87,3 +88,21 @@ moved_back xs from to n m l k target up some part is =
 -- The same, where that part is all that was left.
 pub moved_first : (xs : List ℕ) (from to n m : ℕ) → to + n ≤ length xs → from ≤ to → m ≤ n → moved (moved xs (from + m) (to + m) (n - m)) from to m ≡ moved xs from to n
 moved_first xs from to n m target up some = simp unary_clauses at (moved_back xs from to n m 0 m target up some (omega arith) (omega arith))
+
+-- ---- A move in the last part of a list
+
+-- a list that is written over the last part stands there
+last_written : (xs new : List ℕ) (k : ℕ) → k + length new ≡ length xs → written_from xs k new ≡ splice xs k new
+last_written xs new k whole = grind (arith, common_steps)
+
+-- That is a move in the list.
+pub moved_in_last : (xs part new : List ℕ) (k from to n : ℕ) → part ≡ take (length xs - k) (drop k xs) → new ≡ moved part from to n
+    → k + from + n ≤ length xs → k + to + n ≤ length xs → written_from xs k new ≡ moved xs (k + from) (k + to) n
+moved_in_last xs part new k from to n is moves source target =
+    let sized : length part ≡ length xs - k = ap length is ∙ length-part xs k (length xs - k) (omega arith) in
+    let still : length new ≡ length part = ap length moves ∙ length-moved part from to n (omega (arith, sized)) (omega (arith, sized)) in
+    let whole = length-moved xs (k + from) (k + to) n (omega arith) (omega arith) in
+    let last = length-splice xs new k (omega (arith, still, sized)) in
+    last_written xs new k (omega (arith, still, sized))
+    ∙ same_number_lists (splice xs k new) (moved xs (k + from) (k + to) n) (last ∙ sym whole) (λ i below.
+    rw (moves, is) (grind (arith, cases_lt i k, cases_lt i (k + to), cases_lt i (k + to + n), by_index)))

@@ -1,18 +1,21 @@
 -- What the fields of an arena stand for.
-use Rattle.std.proofs.Common.{◌≡◌, ℕ, ◌+◌, ◌-◌, ◌<◌, ◌≤◌, ◌^◌, min, ap, sym, refl, subst, ◌∙◌, arith, List, [], ◌∷◌, false, Bool, length, eqb-true, map, reverse, inl, inr, ◌⊎◌, sum, sum_by, take, get_or, Option, true}
-use Rattle.std.specs.Prelude.{◌==◌, ◌||◌}
+use Rattle.std.proofs.Common.{◌≡◌, ℕ, ◌+◌, ◌-◌, ◌<◌, ◌≤◌, ◌^◌, min, max, ap, sym, refl, subst, ◌∙◌, arith, List, [], ◌∷◌, false, Bool, length, eqb-true, map, reverse, inl, inr, ◌⊎◌, sum, sum_by, take, get_or, Option, Some, true, leb-true}
+use Rattle.std.specs.Prelude.{◌==◌, ◌||◌, nat_le}
 use Rattle.std.specs.List.{All, list_any}
 use Rattle.std.proofs.lemmas.Bool.{cases_Bool}
 use Rattle.std.proofs.lemmas.Bool.Decides.{nat_tests}
 use Rattle.std.proofs.lemmas.List.Sums.{sum-map, sum_by-cons, sum_by_more_le}
 use Rattle.std.proofs.lemmas.List.{reverse-append, reverse-reverse}
-use Rattle.std.proofs.lemmas.List.Elements.{All-nil, All-push}
+use Rattle.std.proofs.lemmas.List.Elements.{All-nil, All-cons, All-head, All-tail, All-push}
+use Rattle.std.proofs.lemmas.Option.{cond_some}
 use Rattle.std.proofs.lemmas.List.Sorted.{sum_by-IsPermutation, list_any-IsPermutation, IsPermutation-reverse}
+use Rattle.placement.specs.Rounding.{down}
 use Rattle.placement.specs.State.{State, Chunk, AreChunks, IsChunk, IsValid, start_of, cursor_of, top_of, floor_of, with_cursor, used_length, is_used_by, is_range_used}
 use Rattle.placement.specs.Search.{place, place_below}
 use Rattle.placement.proofs.ResetLemmas.{reset_valid}
 use Rattle.arena_chunks.specs.Memory.{Memory}
-use Rattle.arena_chunks.specs.Stored.{stored_chunk, memory_of, IsNone, IsStored, IsOrdered}
+use Rattle.arena_region.specs.Bytes.{bytes}
+use Rattle.arena_chunks.specs.Stored.{stored_chunk, floor_in, memory_of, IsReady, IsNone, IsStored, IsOrdered}
 use Rattle.arena_chunks.specs.declared.chunks.chunk.StoredChunk.{StoredChunk}
 use Rattle.arena_chunks.specs.declared.arena.Arena.TheInside.{Inside}
 use Rattle.arena_chunks.proofs.TableLemmas.{chunks_in}
@@ -27,12 +30,19 @@ view_of m a = view_with m a a.newest a.older.items
 abbrev pub Stands : (m : ℕ) → Inside m → Type 0
 Stands m a = IsStored (view_of m a) a.newest a.older.items
 
-chunks_ordered : (m : ℕ) (chunks : List StoredChunk) → AreChunks m (chunks_in chunks) → floor_of (chunks_in chunks) < 2 ^ 64 → All IsOrdered (reverse chunks)
-chunks_ordered m [] valid below = All-nil IsOrdered
-chunks_ordered m (newest ∷ older) valid below =
-    subst (All IsOrdered) (sym (reverse-append (newest ∷ []) older))
-    (All-push IsOrdered (reverse older) newest (chunks_ordered m older valid.2 (omega (arith, valid.1, valid.0.cursor_low, valid.0.cursor_high)))
-    (record { low = valid.0.cursor_low; high = valid.0.cursor_high; fits = omega arith }))
+-- what holds of all holds of all in the other order
+pub all_reversed : {X : Type 0} (P : X → Type 0) → (xs : List X) → All P xs → All P (reverse xs)
+all_reversed P [] all = All-nil P
+all_reversed P (x ∷ xs) all = subst (All P) (sym (reverse-append (x ∷ []) xs)) (All-push P (reverse xs) x (all_reversed P xs (All-tail P x xs all)) (All-head P x xs all))
+
+pub all_straight : {X : Type 0} (P : X → Type 0) → (xs : List X) → All P (reverse xs) → All P xs
+all_straight P xs all = subst (All P) (reverse-reverse xs) (all_reversed P (reverse xs) all)
+
+chunks_ordered : (m : ℕ) (chunks : List StoredChunk) → AreChunks m (chunks_in chunks) → floor_of (chunks_in chunks) < 2 ^ 64 → All IsReady chunks → All IsOrdered chunks
+chunks_ordered m [] valid below ready = All-nil IsOrdered
+chunks_ordered m (newest ∷ older) valid below ready =
+    All-cons IsOrdered newest older (record { low = All-head IsReady newest older ready; high = valid.0.cursor_high; fits = omega arith })
+    (chunks_ordered m older valid.2 (omega (arith, valid.1, valid.0.cursor_low, valid.0.cursor_high)) (All-tail IsReady newest older ready))
 
 sum_mapped : (f : Chunk → ℕ) (chunks : List StoredChunk) → sum_by f (chunks_in chunks) ≡ sum_by (λ c. f (stored_chunk c)) chunks
 sum_mapped f [] = refl
@@ -57,6 +67,10 @@ pub record IsCursor (state : State) (q : ℕ) : Type 0 where
   pub high : q ≤ top_of state.chunks
   pub valid : IsValid (with_cursor q state)
 
+-- a valid state is valid in any generation
+at_generation : (state : State) (generation : ℕ) → generation ≤ 2 ^ 64 - 1 → IsValid state → IsValid (record state { generation = generation })
+at_generation state generation small valid = record { min_align = valid.min_align; chunks = valid.chunks; top = valid.top; kind = valid.kind; generation = small }
+
 pub differs : (n : ℕ) → (n == 16) ≡ false → n ≡ 16 → ⊥
 differs n test same = grind (arith, nat_tests)
 
@@ -74,10 +88,10 @@ module _ (m : ℕ) (a : Inside m) where
   newest_ordered stands = elim (kind stands) [
     | inl none ↦
         let size : length a.newest.bytes.items ≡ 0 = ap length none.2.bytes in
-        record { low = omega (arith, none.1, none.2.cursor); high = omega (arith, none.1, none.2.cursor); fits = omega (arith, none.1) }
+        record { low = stands.ready; high = omega (arith, none.1, none.2.cursor); fits = omega (arith, none.1) }
     | inr some ↦
         let valid = rw some at stands.valid in
-        record { low = valid.chunks.0.cursor_low; high = valid.chunks.0.cursor_high; fits = omega (arith, valid.top) }
+        record { low = stands.ready; high = valid.chunks.0.cursor_high; fits = omega (arith, valid.top) }
   ]
 
   pub older_ordered : Stands m a → All IsOrdered a.older.items
@@ -85,7 +99,8 @@ module _ (m : ℕ) (a : Inside m) where
     | inl none ↦ subst (All IsOrdered) (sym none.2.older) (All-nil IsOrdered)
     | inr some ↦
         let valid = rw some at stands.valid in
-        subst (All IsOrdered) (reverse-reverse a.older.items) (chunks_ordered m (reverse a.older.items) valid.chunks.2 (omega (arith, valid.top, valid.chunks.1, valid.chunks.0.cursor_low, valid.chunks.0.cursor_high)))
+        all_straight IsOrdered a.older.items (chunks_ordered m (reverse a.older.items) valid.chunks.2 (omega (arith, valid.top, valid.chunks.1, valid.chunks.0.cursor_low, valid.chunks.0.cursor_high))
+        (all_reversed IsReady a.older.items stands.older_ready))
   ]
 
   -- ---- Sums over all chunks
@@ -147,6 +162,16 @@ module _ (m : ℕ) (a : Inside m) where
         | inr some ↦ rw (is, some) refl
       ])
 
+  -- a place in the ready part is the state's, and ready
+  pub place_ready : (memory : Memory) (size align p : ℕ) → Stands m a → view_of m a ≡ memory
+      → Some p ≡ place_below (floor_in a.newest) a.newest.cursor size align m → (place memory.state size align ≡ Some p) × (floor_in a.newest ≤ p)
+  place_ready memory size align p stands view found =
+      let q : ℕ = down (a.newest.cursor - size) (max align m) in
+      let tested = cond_some (nat_le (floor_in a.newest) q) q p (sym found) in
+      let high : floor_in a.newest ≤ q = leb-true _ _ tested.0 in
+      let test : nat_le a.newest.base q ≡ true = grind (arith, nat_tests) in
+      (place_stored memory size align (Some p) stands view (rw test (ap Some (sym tested.1))), omega (arith, high, tested.1))
+
   pub cursor_stored : (memory : Memory) → Stands m a → view_of m a ≡ memory → a.newest.cursor ≡ cursor_of memory.state.chunks
   cursor_stored memory stands view = subst (λ (w : Memory). a.newest.cursor ≡ cursor_of w.state.chunks) view
       (elim (kind stands) [
@@ -161,21 +186,31 @@ module _ (m : ℕ) (a : Inside m) where
         | inr some ↦ rw some refl
       ])
 
-  -- the newest chunk with another cursor
-  pub cursor_moved : (memory : Memory) (q allocations reallocations : ℕ) → Stands m a → view_of m a ≡ memory → IsCursor memory.state q
-      → IsStored (memory_of m a.is_growing a.generation allocations reallocations (record a.newest { cursor = q }) a.older.items) (record a.newest { cursor = q }) a.older.items
-  cursor_moved memory q allocations reallocations stands view moved =
+  -- the newest chunk with another cursor, and ready from another index on
+  abbrev pub moved_chunk : ℕ → ℕ → StoredChunk
+  moved_chunk q low = record { base = a.newest.base; cursor = q; bytes = bytes a.newest.bytes.items low }
+
+  pub cursor_moved : (memory : Memory) (q low generation allocations reallocations : ℕ) → Stands m a → view_of m a ≡ memory → IsCursor memory.state q → generation ≤ 2 ^ 64 - 1 → a.newest.base + low ≤ q
+      → IsStored (memory_of m a.is_growing generation allocations reallocations (moved_chunk q low) a.older.items) (moved_chunk q low) a.older.items
+  cursor_moved memory q low generation allocations reallocations stands view moved small ready =
       let at = subst (λ (w : Memory). IsCursor w.state q) (sym view) moved in
       elim (kind stands) [
         | inl none ↦
             let here = rw none.0 at at in
-            record { valid = rw none.0 here.valid; none = λ same. record { cursor = omega (arith, here.low, here.high); bytes = none.2.bytes; older = none.2.older } }
-        | inr some ↦ let here = rw some at at in record { valid = rw some here.valid; none = λ same. absurd (differs a.newest.base some same) }
+            record {
+              valid = rw none.0 (at_generation _ generation small here.valid);
+              none = λ same. record { cursor = omega (arith, here.low, here.high); bytes = none.2.bytes; older = none.2.older };
+              ready = ready;
+              older_ready = stands.older_ready;
+            }
+        | inr some ↦
+            let here = rw some at at in
+            record { valid = rw some (at_generation _ generation small here.valid); none = λ same. absurd (differs a.newest.base some same); ready = ready; older_ready = stands.older_ready }
       ]
 
-  pub cursor_view : (memory : Memory) (q : ℕ) → view_of m a ≡ memory
-      → view_of m (record a { newest = record a.newest { cursor = q } }) ≡ record { state = with_cursor q memory.state; statistics = memory.statistics; bytes = memory.bytes }
-  cursor_view memory q view = subst (λ (w : Memory). view_of m (record a { newest = record a.newest { cursor = q } }) ≡ record { state = with_cursor q w.state; statistics = w.statistics; bytes = w.bytes }) view
+  pub cursor_view : (memory : Memory) (q low : ℕ) → view_of m a ≡ memory
+      → view_with m a (moved_chunk q low) a.older.items ≡ record { state = with_cursor q memory.state; statistics = memory.statistics; bytes = memory.bytes }
+  cursor_view memory q low view = subst (λ (w : Memory). view_with m a (moved_chunk q low) a.older.items ≡ record { state = with_cursor q w.state; statistics = w.statistics; bytes = w.bytes }) view
       (elim (cases_Bool (a.newest.base == 16)) [ inl none ↦ rw none refl | inr some ↦ rw some refl ])
 
   -- ---- All blocks given back
@@ -185,10 +220,13 @@ module _ (m : ℕ) (a : Inside m) where
       → IsStored (memory_of m a.is_growing generation 0 0 (record a.newest { cursor = a.newest.base + size }) older) (record a.newest { cursor = a.newest.base + size }) older
   emptied_stored generation size older stands next sized none =
       let valid = reset_valid (view_of m a).state stands.valid in
+      let ready : floor_in a.newest ≤ a.newest.base + length a.newest.bytes.items = omega (arith, stands.ready, (newest_ordered stands).high) in
       rw (next, sized, none) (elim (kind stands) [
         | inl empty ↦ record {
           valid = rw empty.0 (rw empty.0 at valid);
           none = λ same. record { cursor = omega (arith, same, ap length empty.2.bytes); bytes = empty.2.bytes; older = refl };
+          ready = ready;
+          older_ready = All-nil IsReady;
         }
-        | inr some ↦ record { valid = rw some (rw some at valid); none = λ same. absurd (differs a.newest.base some same) }
+        | inr some ↦ record { valid = rw some (rw some at valid); none = λ same. absurd (differs a.newest.base some same); ready = ready; older_ready = All-nil IsReady }
       ])

@@ -150,12 +150,12 @@ some_below m addr n chunks valid used = sym (list_any-IsPermutation (λ (c : Sto
 
 -- ---- A range in use
 
--- the last chunk that begins at or below a range in use has it
+-- the last chunk that begins at or below a range in use has it from its cursor on
 pub range_held : (m addr n : ℕ) (newer : List StoredChunk) (chunk : StoredChunk) (rest : List StoredChunk) → AreChunks m (chunks_in (newer ++ chunk ∷ rest)) → 0 < n
     → AllByRecursion (λ (c : StoredChunk). addr < c.base) newer → chunk.base ≤ addr → IsTrue (is_range_used (chunks_in (newer ++ chunk ∷ rest)) addr n)
-    → addr + n ≤ chunk.base + length chunk.bytes.items
+    → (chunk.cursor ≤ addr) × (addr + n ≤ chunk.base + length chunk.bytes.items)
 range_held m addr n [] chunk rest valid some above low used = elim (or_cases (is_used_by addr n (stored_chunk chunk)) (is_range_used (chunks_in rest) addr n) used) [
-  | inl here ↦ grind (arith, nat_tests)
+  | inl here ↦ (grind (arith, nat_tests), grind (arith, nat_tests))
   | inr there ↦ absurd (omega (arith, used_under m addr n (chunks_in rest) valid.2 some there, valid.1))
 ]
 range_held m addr n (x ∷ xs) chunk rest valid some above low used = elim (or_cases (is_used_by addr n (stored_chunk x)) (is_range_used (chunks_in (xs ++ chunk ∷ rest)) addr n) used) [

@@ -15,8 +15,7 @@ use Rattle.arena_chunks.specs.Walks.{used_part, used_range}
 use Rattle.arena_chunks.specs.declared.chunks.chunk.StoredChunk.{StoredChunk}
 use Rattle.arena_chunks.specs.declared.arena.Arena.TheInside.{Inside}
 use Rattle.arena_chunks.proofs.TableLemmas.{chunks_in, bytes_in, range_bytes}
-use Rattle.arena_chunks.proofs.StoredLemmas.{kind, view_of, Stands, newest_ordered, older_ordered}
-use Rattle.arena_chunks.proofs.PartLemmas.{all_reversed}
+use Rattle.arena_chunks.proofs.StoredLemmas.{kind, view_of, Stands, all_reversed, newest_ordered, older_ordered}
 
 -- ---- Each chunk that is left is in order
 
@@ -45,7 +44,7 @@ part_is : (m : ℕ) (newer : List StoredChunk) (c : StoredChunk) (rest : List St
 part_is m newer c rest valid ordered =
     let n : ℕ = used_length (stored_chunk c) in
     let whole : take n (used_part c) ≡ used_part c = take_all n (used_part c) (omega (arith, length-drop (c.cursor - c.base) c.bytes.items, ordered.low, ordered.high)) in
-    sym whole ∙ range_bytes m c.cursor n newer c rest valid ordered.low (omega (arith, ordered.high))
+    sym whole ∙ range_bytes m c.cursor n newer c rest valid (omega (arith, ordered.low)) (omega (arith, ordered.high))
 
 -- so are those of the last chunks of a list
 parts_in : (m : ℕ) (all newer rest : List StoredChunk) → AreChunks m (chunks_in all) → all ≡ newer ++ rest → All IsOrdered rest

@@ -30,3 +30,8 @@ abbrev pub OnCounted : Result (Block × ℕ) ArenaErr → (ℕ → Answer → Ty
 OnCounted (Ok placed) P = P placed.1 (Placed placed.0)
 OnCounted (Err (AllocErr refused)) P = P refused (Refused refused)
 OnCounted (Err OutOfMemory) P = P 0 Wanting
+
+-- a result that tells the address of a block of this generation and layout, and the refusals, as one that tells the block
+abbrev pub placed_at : ℕ → ℕ → ℕ → Result (ℕ × ℕ) ArenaErr → Result (Block × ℕ) ArenaErr
+placed_at generation size align (Ok found) = Ok (record { generation = generation; addr = found.0; size = size; align = align }, found.1)
+placed_at generation size align (Err e) = Err e

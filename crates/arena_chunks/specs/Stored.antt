@@ -1,10 +1,11 @@
 -- How an arena stores its chunks: the newest in a field of its own, the others in a table, oldest first.
 use Rattle.std.specs.Prelude.{◌≡◌, ℕ, ◌+◌, ◌-◌, ◌^◌, ◌<◌, ◌≤◌, ◌==◌, Bool, Option, Some, None, List, [], ◌∷◌, ◌++◌, length, map, reverse, IsTrue, nat_le, take, drop, get_or, slice_set, if◌then◌else◌}
 use Rattle.std.specs.Borrow.{Bor}
-use Rattle.std.specs.List.{AllByRecursion, list_any}
+use Rattle.std.specs.List.{All, AllByRecursion, list_any}
 use Rattle.std.specs.List.Sorted.{IsNonDecreasingBy}
 use Rattle.placement.specs.State.{Chunk, IsValid}
 use Rattle.placement.specs.Machine.{splice}
+use Rattle.arena_region.specs.Bytes.{bytes}
 use Rattle.arena_chunks.specs.Memory.{Memory}
 use Rattle.arena_chunks.specs.declared.chunks.chunk.StoredChunk.{StoredChunk}
 
@@ -13,6 +14,14 @@ stored_chunk c = record { base = c.base; size = length c.bytes.items; cursor = c
 
 abbrev pub stored_bytes : StoredChunk → List ℕ
 stored_bytes c = c.bytes.items
+
+-- the lowest address whose byte is ready
+abbrev pub floor_in : StoredChunk → ℕ
+floor_in c = c.base + c.bytes.low
+
+-- what is used is ready
+abbrev pub IsReady : StoredChunk → Type 0
+IsReady c = floor_in c ≤ c.cursor
 
 -- all chunks, newest first: none where the newest begins at 16, which stands for no chunk
 abbrev pub all_chunks : StoredChunk → List StoredChunk → List StoredChunk
@@ -36,14 +45,16 @@ pub record IsNone (newest : StoredChunk) (table : List StoredChunk) : Type 0 whe
   pub bytes : newest.bytes.items ≡ []
   pub older : table ≡ []
 
--- the fields stand for a valid state
+-- the fields stand for a valid state, and what is used in each chunk is ready
 pub record IsStored (memory : Memory) (newest : StoredChunk) (older : List StoredChunk) : Type 0 where
   pub valid : IsValid memory.state
   pub none : newest.base ≡ 16 → IsNone newest older
+  pub ready : IsReady newest
+  pub older_ready : All IsReady older
 
--- the cursor lies in the chunk, and the chunk below 2 ^ 64
+-- the cursor lies in the chunk's ready part, and the chunk below 2 ^ 64
 pub record IsOrdered (chunk : StoredChunk) : Type 0 where
-  pub low : chunk.base ≤ chunk.cursor
+  pub low : IsReady chunk
   pub high : chunk.cursor ≤ chunk.base + length chunk.bytes.items
   pub fits : chunk.base + length chunk.bytes.items < 2 ^ 64
 
@@ -62,10 +73,17 @@ pub record IsLastBelow (chunks : List StoredChunk) (addr i : ℕ) : Type 0 where
   pub low : chunk.base ≤ addr
   pub above : AllByRecursion (λ (c : StoredChunk). addr < c.base) after
 
+-- the chunk is ready from an address on, and otherwise as it was
+pub record IsMadeReady (old new : StoredChunk) (addr : ℕ) : Type 0 where
+  pub low : ℕ
+  pub chunk : new ≡ record old { bytes = bytes old.bytes.items low }
+  pub ready : old.base + low ≤ addr
+
 -- n bytes of the chunk from this address on are replaced by a list
 pub record IsEdited (old new : StoredChunk) (addr n : ℕ) (list : List ℕ) : Type 0 where
   pub base : new.base ≡ old.base
   pub cursor : new.cursor ≡ old.cursor
+  pub low : new.bytes.low ≡ old.bytes.low
   pub sized : length list ≡ n
   pub bytes : new.bytes.items ≡ splice old.bytes.items (addr - old.base) list
 
@@ -79,10 +97,11 @@ pub record EditsPart (old new : StoredChunk) (addr n : ℕ) (relates : List ℕ 
   pub related : relates (part_of old addr n) list
   pub edited : IsEdited old new addr n list
 
--- the chunk at this index has n bytes from an address on
+-- the chunk at this index is ready from its cursor on, and has n bytes from an address on that are used
 pub record HasPart (chunks : List StoredChunk) (i addr n : ℕ) : Type 0 where
   pub within : i < length chunks
-  pub low : (c : StoredChunk) → c ≡ get_or chunks i c → c.base ≤ addr
+  pub ready : (c : StoredChunk) → c ≡ get_or chunks i c → IsReady c
+  pub low : (c : StoredChunk) → c ≡ get_or chunks i c → c.cursor ≤ addr
   pub high : (c : StoredChunk) → c ≡ get_or chunks i c → addr + n ≤ c.base + length c.bytes.items
 
 -- The chunk at the index j holds, from the address `to` on, the n bytes that the one at i had from the address `from` on. The

@@ -21,6 +21,7 @@ use crate::block::{ArenaErr, Block};
 use crate::chunks::{ChunkSource, Edit};
 pub use alloc::Alloc;
 use arena_place::Layout;
+use arena_region::Region;
 pub use block_alloc::BlockAlloc;
 pub use over_arena::OverArena;
 use std::alloc::Global;
@@ -81,7 +82,7 @@ impl<C: ChunkSource> Allocator<C> {
     /// An allocator whose arena doesn't grow, with one chunk: the region but for its last 48 bytes. It is always made.
     pub fn from_raw_parts(
         alloc: Global,
-        region: Vec<u8>,
+        region: Region,
         chunks: C,
     ) -> Result<Allocator<C>, (RawErr, C)>
         requires units { length region.items % 16 ≡ 0 }

@@ -1,6 +1,6 @@
 //! A bump arena over chunks that a source grants, and runs of calls over it.
 //!
-//! Places are plain numbers: a chunk is a vector of bytes at a virtual address, a block is a value that names a
+//! Places are plain numbers: a chunk is a region of bytes at a virtual address, a block is a value that names a
 //! place, and calls take the arena. The rules are the definitions of the crate `placement`.
 #![tactic(auto)]
 

@@ -45,7 +45,8 @@ module _ {T A B : Type 0} (first : Kind A) (second : Kind B) (a : T → A) (b : 
           held = (subst (first.is_held new.memory) (sym left) stays.held, subst (second.is_held new.memory) (sym right) made.held);
           means = λ i. ((ap (first.whole new.memory) left ∙ stays.means) i, (ap (second.whole new.memory) right ∙ made.means) i);
           trim = (subst (first.is_trim new.memory) (sym left) stays.trim, subst (second.is_trim new.memory) (sym right) made.trim);
-          deep = subst (λ v'. IsPermutation (first.deep new.memory v' ++ second.deep new.memory (b w)) (makes.blocks ++ then.blocks)) (sym left)
+          deep = subst (λ v'. IsPermutation (first.deep new.memory v' ++ second.deep new.memory (b w)) (makes.blocks ++ then.blocks))
+              (sym left)
               (subst (λ u'. IsPermutation (first.deep new.memory v ++ second.deep new.memory u') (makes.blocks ++ then.blocks)) (sym right)
               (IsPermutation-append (first.deep new.memory v) makes.blocks (second.deep new.memory u) then.blocks stays.deep made.deep));
         };

@@ -30,7 +30,8 @@ module _ {T : Type 0} (item : Ghosts T) (kind : Kind T) (is : IsLawful kind) (me
   -- whose block comes after its blocks.
   placed_box : (w : T) (result : Result (Box T) AllocError) (makes : MakesNew kind meaning asks old mid (Ok w))
       → Boxes item mid new v result
-      → PlacesAll (asks ++ Room item.SIZE item.ALIGN ∷ []) old new (makes.blocks ++ block_of (λ (b : Box T). b.block) result) (refusal result)
+      → PlacesAll (asks ++ Room item.SIZE item.ALIGN ∷ []) old new (makes.blocks ++ block_of (λ (b : Box T). b.block) result)
+      (refusal result)
   placed_box w result makes boxes =
       places_then asks (Room item.SIZE item.ALIGN ∷ []) old mid new makes.blocks (block_of (λ (b : Box T). b.block) result)
       (refusal result) (made_readable kind is meaning mid.memory makes.blocks w makes.made) makes.placed

@@ -62,7 +62,8 @@ module _ {K V : Type 0} (content : K → List ℕ) where
       or_none (Some p) = refl
 
 -- where a content stands once in a list, those before it are others
-pub once_others : (cs ds : List (List ℕ)) (q : List ℕ) → IsDistinct bytes_eq (cs ++ q ∷ ds) → AllByRecursion (λ (c : List ℕ). bytes_eq c q ≡ false) cs
+pub once_others : (cs ds : List (List ℕ)) (q : List ℕ) → IsDistinct bytes_eq (cs ++ q ∷ ds) → AllByRecursion (λ (c : List ℕ). bytes_eq c
+    q ≡ false) cs
 unfolding IsDistinct
 once_others [] ds q once = tt
 once_others (c ∷ cs) ds q once = (before cs once.0, once_others cs ds q once.1)
@@ -82,7 +83,8 @@ module _ {K V : Type 0} (content : K → List ℕ) where
       → (ls rs : List (K × V)) × (ys ≡ ls ++ x ∷ rs)
   found_split q [] x found = absurd (cc found)
   found_split q (y ∷ ys) x found = elim (cases_Bool (bytes_eq (content y.0) q)) [
-    | inl here ↦ (let is : y ≡ x = same_Some y x (sym (cond-true (bytes_eq (content y.0) q) (Some y) (first_of content ys q) here) ∙ found) in
+    | inl here ↦ (let is : y ≡ x = same_Some y x (sym (cond-true (bytes_eq (content y.0) q) (Some y) (first_of content ys q) here) ∙
+        found) in
         ([], ys, ap (λ z. z ∷ ys) is))
     | inr there ↦ (
         let rest = found_split q ys x (sym (cond-false (bytes_eq (content y.0) q) (Some y) (first_of content ys q) there) ∙ found) in

@@ -11,7 +11,7 @@ use Rattle.arena_chunks.proofs.Layers.{length-bytes, take_bytes, wrote_first, wr
 use Rattle.arena_items.specs.Values.{bytes_of, elements}
 use Rattle.arena_items.proofs.Layers.{values_kept, wrote_same}
 use Rattle.arena_clone.specs.Kinds.{Kind, row_of}
-use Rattle.arena_clone.specs.Copies.{IsFlat}
+use Rattle.arena_clone.specs.Copies.{IsFlat, IsMade}
 use Rattle.arena_clone.specs.Rows.{CopiesRow}
 use Rattle.arena_clone.specs.declared.ids.CloneInSemanticIds.{CloneInSemanticIds}
 
@@ -21,7 +21,7 @@ everywhere P all [] = tt
 everywhere P all (x ∷ xs) = (all x, everywhere P all xs)
 
 -- lists of nothing are nothing together
-none_in_all : {A B : Type 0} (f : A → List B) → ((x : A) → f x ≡ []) → (xs : List A) → flat_map f xs ≡ []
+pub none_in_all : {A B : Type 0} (f : A → List B) → ((x : A) → f x ≡ []) → (xs : List A) → flat_map f xs ≡ []
 none_in_all f none [] = refl
 none_in_all f none (x ∷ xs) = rw (none x) (none_in_all f none xs)
 
@@ -32,7 +32,17 @@ module _ {T : Type 0} (kind : Kind T) (ids : CloneInSemanticIds) (flat : IsFlat 
   all_alike a c [] = refl
   all_alike a c (x ∷ xs) = λ i. flat.alike a c x i ∷ all_alike a c xs i
 
-  -- So a row of them is copied by a write that puts the same values there.
+  -- So a row of them elsewhere is a copy of the row.
+  pub row_made : (a c : Memory) (xs : List T)
+      → IsMade (row_of kind) ((row_of kind).by_ids ids ((row_of kind).whole a xs)) c [] xs
+  row_made a c xs = record {
+    held = everywhere (kind.is_held c) (flat.held c) xs;
+    means = all_alike a c xs;
+    trim = everywhere (kind.is_trim c) (flat.trim c) xs;
+    deep = subst (λ ds. IsPermutation ds []) (sym (none_in_all (kind.deep c) (flat.deep c) xs)) (IsPermutation-refl []);
+  }
+
+  -- It is copied by a write that puts the same values there.
   pub row_written : {X : Type 0} (source : Memory) (old new : View) (target : Block) (at : ℕ) (list : List ℕ) (xs ys : List T) (x : X)
       → WritesBlock old.memory new.memory target at list → new.source ≡ old.source → IsTrue (is_readable old.memory.state target)
       → ys ≡ xs → CopiesRow kind ids source old new target xs ys (Ok x)
@@ -42,12 +52,7 @@ module _ {T : Type 0} (kind : Kind T) (ids : CloneInSemanticIds) (flat : IsFlat 
     apart = (tt, tt);
     frame = writes.frame;
     readable = rw (wrote_readable old.memory new.memory target target at list writes) readable;
-    made = record {
-      held = everywhere (kind.is_held new.memory) (flat.held new.memory) xs;
-      means = all_alike source new.memory xs;
-      trim = everywhere (kind.is_trim new.memory) (flat.trim new.memory) xs;
-      deep = subst (λ ds. IsPermutation ds []) (sym (none_in_all (kind.deep new.memory) (flat.deep new.memory) xs)) (IsPermutation-refl []);
-    };
+    made = row_made source new.memory xs;
   })
 
 -- The first values of a block whose front was written with the front of another.

@@ -16,5 +16,6 @@ mod FiniteLemmas
 mod PutLemmas
 mod PutWithinLemmas
 mod MapLemmas
+mod TableLemmas
 mod BothLemmas
 pub mod Layers

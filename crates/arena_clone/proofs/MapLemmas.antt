@@ -127,7 +127,8 @@ module _ {K V S : Type 0} (k : MapTypes K V S) (keys : Kind K) (values : Kind V)
   -- What is found under a content among copies is a copy of what is found among the pairs.
   values_alike : (q : List ℕ) (xs ys : List (K × V))
       → map (λ (p : K × V). content_in k.key new p.0) ys ≡ map (λ (p : K × V). content_in k.key source p.0) xs
-      → (row_of (pair_of keys values)).whole new ys ≡ (row_of (pair_of keys values)).by_ids ids ((row_of (pair_of keys values)).whole source xs)
+      → (row_of (pair_of keys values)).whole new ys ≡ (row_of (pair_of keys values)).by_ids ids ((row_of (pair_of keys values)).whole
+      source xs)
       → of_some (λ (p : K × V). values.whole new p.1) (first_of (content_in k.key new) ys q)
       ≡ of_some (values.by_ids ids) (of_some (λ (p : K × V). values.whole source p.1) (first_of (content_in k.key source) xs q))
   values_alike q [] [] contents means = refl
@@ -144,7 +145,8 @@ module _ {K V S : Type 0} (k : MapTypes K V S) (keys : Kind K) (values : Kind V)
           → of_some (λ (p : K × V). values.whole new p.1) (first_of (content_in k.key new) ys q)
           ≡ of_some (values.by_ids ids) (of_some (λ (p : K × V). values.whole source p.1) (first_of (content_in k.key source) xs q))
           → of_some (λ (p : K × V). values.whole new p.1) (cond b (Some y) (first_of (content_in k.key new) ys q))
-          ≡ of_some (values.by_ids ids) (of_some (λ (p : K × V). values.whole source p.1) (cond b (Some x) (first_of (content_in k.key source) xs q)))
+          ≡ of_some (values.by_ids ids) (of_some (λ (p : K × V). values.whole source p.1) (cond b (Some x) (first_of (content_in k.key
+          source) xs q)))
       either true here rest = ap Some here
       either false here rest = rest
 

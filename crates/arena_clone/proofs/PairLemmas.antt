@@ -19,7 +19,8 @@ module _ {K V : Type 0} (keys : Kind K) (values : Kind V) (is : IsLawful keys) (
       → Copies (pair_of keys values) ids source old new p (Err e)
   first_refused new e copy =
       makes_refused keys (pair_of keys values) (keys.by_ids ids (keys.whole source p.0))
-      ((pair_of keys values).by_ids ids ((pair_of keys values).whole source p)) (keys.asks source p.0) (values.asks source p.1) old new e copy
+      ((pair_of keys values).by_ids ids ((pair_of keys values).whole source p)) (keys.asks source p.0) (values.asks source p.1) old new e
+      copy
 
   module _ (mid new : View) (k : K) (one : Copies keys ids source old mid p.0 (Ok k)) where
     -- or the second,
@@ -31,4 +32,5 @@ module _ {K V : Type 0} (keys : Kind K) (values : Kind V) (is : IsLawful keys) (
     -- or both are copied.
     pub both_copied : (v : V) → Copies values ids source mid new p.1 (Ok v) → Copies (pair_of keys values) ids source old new p (Ok (k, v))
     both_copied v two = makes_both keys values (λ p. p.0) (λ p. p.1) is (keys.by_ids ids (keys.whole source p.0))
-        (values.by_ids ids (values.whole source p.1)) (keys.asks source p.0) (values.asks source p.1) old mid new k one v (k, v) refl refl two
+        (values.by_ids ids (values.whole source p.1)) (keys.asks source p.0) (values.asks source p.1) old mid new k one v (k, v) refl
+        refl two

@@ -163,7 +163,8 @@ module _ {K V S : Type 0} (k : MapTypes K V S) (keys : Kind K) (values : Kind V)
 
 -- ---- The pairs in the first slots
 
-items_free : {X : Type 0} (slots : List (Option X)) (i : ℕ) → slice_get slots i ≡ Some None → items (take (i + 1) slots) ≡ items (take i slots)
+items_free : {X : Type 0} (slots : List (Option X)) (i : ℕ) → slice_get slots i ≡ Some None → items (take (i + 1) slots) ≡ items (take i
+    slots)
 items_free slots i free =
     ap items (take_more slots i None free) ∙ filter_map-append (λ x. x) (take i slots) (None ∷ []) ∙ append-nil (items (take i slots))
 
@@ -173,7 +174,8 @@ items_more slots i x taken = ap items (take_more slots i (Some x) taken) ∙ fil
 
 items_cut : {X : Type 0} (slots : List (Option X)) (i : ℕ) (x : X) → slice_get slots i ≡ Some (Some x)
     → items slots ≡ items (take i slots) ++ x ∷ items (drop (suc i) slots)
-items_cut slots i x taken = ap items (cut_at slots i (Some x) taken) ∙ filter_map-append (λ x. x) (take i slots) (Some x ∷ drop (suc i) slots)
+items_cut slots i x taken = ap items (cut_at slots i (Some x) taken) ∙ filter_map-append (λ x. x) (take i slots) (Some x ∷ drop (suc i)
+    slots)
 
 -- Copies of the pairs in the first i slots were put into an empty map.
 pub record PutsFirst {K V S : Type 0} (k : MapTypes K V S) (keys : Kind K) (values : Kind V) (ids : CloneInSemanticIds) (source : Memory)
@@ -274,7 +276,8 @@ module _ {K V S : Type 0} (k : MapTypes K V S) (keys : Kind K) (values : Kind V)
           (items (drop (suc i) slots)) copied.0 copied.1 once_cut less same_content holds_then new u before put in
           let made = made_between (pair_of keys values) pairs_are ids source old m.table.block mid between (items (take i slots)) puts.ys x
           copied tt puts.row copy in
-          let apart = apart_between (pair_of keys values) pairs_are ids source old m.table.block mid between (items (take i slots)) puts.ys x
+          let apart = apart_between (pair_of keys values) pairs_are ids source old m.table.block mid between (items (take i slots))
+          puts.ys x
           copied tt puts.row copy in
           let deep = (row_of (pair_of keys values)).deep between.memory (puts.ys ++ copied ∷ []) in
           let agree = deep_agree (row_of (pair_of keys values)) (row_lawful (pair_of keys values) pairs_are) between.memory new.memory
@@ -285,7 +288,8 @@ module _ {K V S : Type 0} (k : MapTypes K V S) (keys : Kind K) (values : Kind V)
             ys = puts.ys ++ copied ∷ [];
             row = rw (items_more slots i x taken) (row_added (pair_of keys values) pairs_are ids source old m.table.block mid between new
                 (items (take i slots)) puts.ys x copied tt tt puts.row copy frame places (rw block at put.held.handle.place.readable));
-            holds = rw (items_more slots i x taken) (put_holds k keys values keeps one two source m (items (take i slots)) puts.ys w between x
+            holds = rw (items_more slots i x taken) (put_holds k keys values keeps one two source m (items (take i slots)) puts.ys w
+                between x
                 (items (drop (suc i) slots)) copied.0 copied.1 once_cut less same_content holds_then new u before put agree);
           }
 

@@ -76,5 +76,6 @@ module _ {K V S : Type 0} (k : MapTypes K V S) (keys : Kind K) (values : Kind V)
           → Copies (pair_of keys values) ids old.memory mid between x r
       pair_before between r copy =
           copies_before (pair_of keys values) ids old.memory mid.memory mid between x r pair_stays.whole
-          ((pair_lawful keys values one two).asks old.memory mid.memory x (deep_agree (pair_of keys values) (pair_lawful keys values one two)
+          ((pair_lawful keys values one two).asks old.memory mid.memory x (deep_agree (pair_of keys values) (pair_lawful keys values one
+          two)
           old.memory mid.memory (m.table.block ∷ []) (m.table.block ∷ puts.row.blocks) puts.row.frame x pair_held pair_apart)) copy

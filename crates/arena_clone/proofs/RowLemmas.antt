@@ -99,7 +99,8 @@ module _ {T : Type 0} (kind : Kind T) (is : IsLawful kind) (ids : CloneInSemanti
       both_frame =
           frame_then old.memory mid.memory between.memory (target ∷ []) (target ∷ row.blocks) (target ∷ row.blocks ++ copy.blocks) row.frame
           (frame_weaken mid.memory between.memory [] (target ∷ row.blocks) copy.blocks (target ∷ row.blocks ++ copy.blocks)
-          (λ addr n some apart. tt) (λ addr n some apart rest. apart_both addr n (target ∷ row.blocks) copy.blocks apart rest) copy.placed.frame)
+          (λ addr n some apart. tt) (λ addr n some apart rest. apart_both addr n (target ∷ row.blocks) copy.blocks apart rest)
+          copy.placed.frame)
 
     -- The values of the block stay while the next one is copied.
     pub same_values : {X : Type 0} (mid between : View) (xs ys : List T) (x : T) (u : X) (r : Result T AllocError)
@@ -128,7 +129,8 @@ module _ {T : Type 0} (kind : Kind T) (is : IsLawful kind) (ids : CloneInSemanti
     -- Of one more there is one more, behind the others in the block.
     pub row_added : {X Y : Type 0} (mid between new : View) (xs ys : List T) (x w : T) (u : X) (y : Y)
         → CopiesRow kind ids source old mid target xs ys (Ok u) → Copies kind ids source mid between x (Ok w)
-        → Frame between.memory new.memory (target ∷ []) (target ∷ []) → SamePlaces between new → IsTrue (is_readable new.memory.state target)
+        → Frame between.memory new.memory (target ∷ []) (target ∷ []) → SamePlaces between new → IsTrue (is_readable new.memory.state
+        target)
         → CopiesRow kind ids source old new target (xs ++ x ∷ []) (ys ++ w ∷ []) (Ok y)
     row_added mid between new xs ys x w u y row copy frame places readable =
         let bs = row.blocks in
@@ -136,7 +138,8 @@ module _ {T : Type 0} (kind : Kind T) (is : IsLawful kind) (ids : CloneInSemanti
         record {
           blocks = bs ++ cs;
           asked = rw (← flat_map_more (kind.asks source) [] xs x)
-              (asked_same _ old between new (bs ++ cs) (asked_then _ (kind.asks source x) old mid between bs cs None row.asked copy.placed.asked)
+              (asked_same _ old between new (bs ++ cs) (asked_then _ (kind.asks source x) old mid between bs cs None row.asked
+              copy.placed.asked)
               places);
           apart = both_apart mid between xs ys x u (Ok w) row copy;
           frame = frame_then old.memory between.memory new.memory (target ∷ []) (target ∷ bs ++ cs) (target ∷ bs ++ cs)
@@ -194,7 +197,8 @@ module _ {T : Type 0} (item : Ghosts T) (kind : Kind T) (is : IsLawful kind) (id
       → CopiesFirst item kind ids source old new target xs (i + 1)
   first_more mid between new i at x w list found row copy writes source_same push =
       let same = same_values kind is ids source old target mid between (take i xs) _ x tt (Ok w) row copy in
-      rw (take_more xs i x found, push, same) (row_more kind is ids source old target mid between new (take i xs) _ x w tt tt at list row copy writes source_same)
+      rw (take_more xs i x found, push, same) (row_more kind is ids source old target mid between new (take i xs) _ x w tt tt at list row
+      copy writes source_same)
 
   pub first_refused : {Y : Type 0} (mid new : View) (i : ℕ) (x : T) (zs : List T) (e : AllocError) → slice_get xs i ≡ Some x
       → CopiesFirst item kind ids source old mid target xs i → Copies kind ids source mid new x (Err e)

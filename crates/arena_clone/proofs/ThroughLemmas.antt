@@ -99,7 +99,8 @@ module _ {T : Type 0} (item : Ghosts T) (kind : Kind T) (is : IsLawful kind) (ol
   none_before = apart_of_none ((row_of kind).deep old.memory (values_in old.memory))
 
   row_stays : StaysWhole (row_of kind) old.memory mid.memory (target ∷ []) (values_in old.memory)
-  row_stays = deep_stays (row_of kind) (row_lawful kind is) old.memory mid.memory [] (target ∷ []) frame (values_in old.memory) held none_before
+  row_stays = deep_stays (row_of kind) (row_lawful kind is) old.memory mid.memory [] (target ∷ []) frame (values_in old.memory) held
+      none_before
 
   pub row_held : (row_of kind).is_held mid.memory (values_in mid.memory)
   row_held = rw from_stays.bytes row_stays.held
@@ -115,7 +116,8 @@ module _ {T : Type 0} (item : Ghosts T) (kind : Kind T) (is : IsLawful kind) (ol
   row_before {X} ids new ys r row =
       let here : CopiesRow {X = X} kind ids mid.memory mid new target (values_in old.memory) ys r = rw from_stays.bytes at row in
       let asks = (row_lawful kind is).asks old.memory mid.memory (values_in old.memory)
-      (deep_agree (row_of kind) (row_lawful kind is) old.memory mid.memory [] (target ∷ []) frame (values_in old.memory) held none_before) in
+      (deep_agree (row_of kind) (row_lawful kind is) old.memory mid.memory [] (target ∷ []) frame (values_in old.memory) held
+      none_before) in
       record {
         blocks = here.blocks;
         asked = rw asks at here.asked;

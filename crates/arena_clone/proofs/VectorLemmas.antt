@@ -120,7 +120,8 @@ module _ {T : Type 0} (item : Ghosts T) (kind : Kind T) (ids : CloneInSemanticId
         (λ v. vector_ask item.SIZE item.ALIGN v.raw.len) ids source old v mid new made.raw.block storage_placed ys e row
 
     -- or all are copied.
-    pub vec_made : {X : Type 0} (new : View) (w : Vec T) (x : X) → w.raw.block ≡ made.raw.block → w.raw.cap ≡ made.raw.cap → w.raw.len ≡ v.raw.len
+    pub vec_made : {X : Type 0} (new : View) (w : Vec T) (x : X) → w.raw.block ≡ made.raw.block → w.raw.cap ≡ made.raw.cap → w.raw.len ≡
+        v.raw.len
         → CopiesRow kind ids source mid new made.raw.block (vec_list item source v) (vec_list item new.memory w) (Ok x)
         → Copies (vec_of item kind) ids source old new v (Ok w)
     vec_made new w x at room long row =

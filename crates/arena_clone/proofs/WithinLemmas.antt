@@ -48,7 +48,8 @@ module _ {T : Type 0} (kind : Kind T) (is : IsLawful kind) where
 module _ {T : Type 0} (item : Ghosts T) (kind : Kind T) (is : IsLawful kind) (ids : CloneInSemanticIds) (old : View)
     (from target : Block) (n : ℕ) (readable : IsTrue (is_readable old.memory.state from))
     (held : AllByRecursion (kind.is_held old.memory) (elements item.SIZE item.decoded n (bytes_of old.memory from)))
-    (apart : AreAllApart (from ∷ (row_of kind).deep old.memory (elements item.SIZE item.decoded n (bytes_of old.memory from))) (target ∷ []))
+    (apart : AreAllApart (from ∷ (row_of kind).deep old.memory (elements item.SIZE item.decoded n (bytes_of old.memory from))) (target ∷
+    []))
   where
     abbrev values : Memory → List T
     values m = elements item.SIZE item.decoded n (bytes_of m from)
@@ -96,7 +97,8 @@ module _ {T : Type 0} (item : Ghosts T) (kind : Kind T) (is : IsLawful kind) (id
         (found_before mid i x copied found) copied (value_copied mid between i x (Ok w) copied found copy)
 
     -- and one that is refused.
-    pub within_refused : {Y : Type 0} (mid new : View) (i : ℕ) (x : T) (zs : List T) (e : AllocError) → slice_get (values mid.memory) i ≡ Some x
+    pub within_refused : {Y : Type 0} (mid new : View) (i : ℕ) (x : T) (zs : List T) (e : AllocError) → slice_get (values mid.memory) i ≡
+        Some x
         → CopiesFirst item kind ids old.memory old mid target (values old.memory) i → Copies kind ids mid.memory mid new x (Err e)
         → CopiesRow {X = Y} kind ids old.memory old new target (values old.memory) zs (Err e)
     within_refused mid new i x zs e found copied copy =

@@ -188,7 +188,8 @@ module _ {T : Type 0} (kind : Kind T) (is : IsLawful kind) where
 module _ {T A B : Type 0} (first : Kind A) (second : Kind B) (a : T → A) (b : T → B) (is : IsLawful first) (other : IsLawful second) where
   pub both_lawful : IsLawful (both_of first second a b)
   both_lawful = record {
-    readable = λ m v held. readable_both m (first.deep m (a v)) (second.deep m (b v)) (is.readable m (a v) held.0) (other.readable m (b v) held.1);
+    readable = λ m v held.
+        readable_both m (first.deep m (a v)) (second.deep m (b v)) (is.readable m (a v) held.0) (other.readable m (b v) held.1);
     held = λ m n v held agree readable.
         let same = parts m n v agree in
         let read = readable_each n (first.deep m (a v)) (second.deep m (b v)) readable in

@@ -168,7 +168,8 @@ module _ {T : Type 0} (item : Ghosts T) (kind : Kind T) where
   }
 
   -- Values in a row are reached through their handle, which is held itself. Its block comes first, and it means its values.
-  abbrev pub row_in : {V : Type 0} → (V → Block) → (Memory → V → Type 0) → (Memory → V → List T) → (V → Type 0) → (V → Ask) → Kind V
+  abbrev pub row_in : {V : Type 0} → (V → Block) → (Memory → V → Type 0) → (Memory → V → List T) → (V → Type 0) → (V → Ask)
+      → Kind V
   row_in block is_in values is_trim ask = record {
     Whole = List kind.Whole;
     whole = λ m v. (row_of kind).whole m (values m v);

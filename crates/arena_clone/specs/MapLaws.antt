@@ -63,6 +63,10 @@ module _ {K V S : Type 0} (k : MapTypes K V S) (keys : Kind K) (values : Kind V)
       let both = readable_each c (keys.deep a p.0 ++ values.deep a p.1) ((row_of (pair_of keys values)).deep a ps) read in
       (text_readable a c p.0 (readable_each c (keys.deep a p.0) (values.deep a p.1) both.0).0, texts_readable a c ps both.1)
 
+  -- what the value of a pair means, if there is one
+  abbrev meant : Memory → Option (K × V) → Option values.Whole
+  meant m = of_some (λ (p : K × V). values.whole m p.1)
+
   module _ (a c : Memory) (h : HashMap K V S) (agree : Agree a c ((map_of k keys values).deep a h)) where
     pairs_same : pairs_in k a h ≡ pairs_in k c h
     pairs_same = ap (λ bytes. items (slots_of k.keys k.values h.table.slots bytes)) agree.0
@@ -72,7 +76,7 @@ module _ {K V S : Type 0} (k : MapTypes K V S) (keys : Kind K) (values : Kind V)
 
     -- What is found means the same.
     found_same : (f : K × V → Bool) (ps : List (K × V)) → Agree a c ((row_of (pair_of keys values)).deep a ps)
-        → of_some (λ (p : K × V). values.whole c p.1) (find f ps) ≡ of_some (λ (p : K × V). values.whole a p.1) (find f ps)
+        → meant c (find f ps) ≡ meant a (find f ps)
     found_same f [] agree = refl
     found_same f (p ∷ ps) agree =
         let same = agree_each a c (keys.deep a p.0 ++ values.deep a p.1) ((row_of (pair_of keys values)).deep a ps) agree in
@@ -80,14 +84,13 @@ module _ {K V S : Type 0} (k : MapTypes K V S) (keys : Kind K) (values : Kind V)
         (found_same f ps same.1)
       where
         cond_same : (b : Bool) (p : K × V) (o : Option (K × V)) → values.whole c p.1 ≡ values.whole a p.1
-            → of_some (λ (p : K × V). values.whole c p.1) o ≡ of_some (λ (p : K × V). values.whole a p.1) o
-            → of_some (λ (p : K × V). values.whole c p.1) (cond b (Some p) o) ≡ of_some (λ (p : K × V). values.whole a p.1) (cond b (Some p) o)
+            → meant c o ≡ meant a o → meant c (cond b (Some p) o) ≡ meant a (cond b (Some p) o)
         cond_same true p o here rest = ap Some here
         cond_same false p o here rest = rest
 
-    meanings : (q : List ℕ) → of_some (λ (p : K × V). values.whole c p.1) (map_in k c h q) ≡ of_some (λ (p : K × V). values.whole a p.1) (map_in k a h q)
+    meanings : (q : List ℕ) → meant c (map_in k c h q) ≡ meant a (map_in k a h q)
     meanings q =
-        sym (ap (λ (is : Finite K V). of_some (λ (p : K × V). values.whole c p.1) (is q)) (meaning-agree k a c h print_agree))
+        sym (ap (λ (is : Finite K V). meant c (is q)) (meaning-agree k a c h print_agree))
         ∙ found_same (λ p. bytes_eq (content_in k.key a p.0) q) (pairs_in k a h) agree.1
 
   pub map_lawful : IsLawful (map_of k keys values)

@@ -17,6 +17,7 @@ mod rows;
 mod semantic_id;
 mod sets;
 mod slices;
+mod tables;
 mod take_in;
 mod texts;
 mod vectors;

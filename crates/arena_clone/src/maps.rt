@@ -12,6 +12,7 @@ ghost use Rattle.arena_clone.specs.MapLaws.{map_lawful};
 use crate::clone_in::CloneIn;
 use crate::ids::CloneInSemanticIds;
 use crate::keys::CloneKey;
+use crate::tables::{copy_table, copy_table_within, is_copied_whole};
 use arena_chunks::{Allocator, ChunkSource};
 use arena_hash::{HashMap, KeyHasher};
 use arena_items::{Grown, Item};
@@ -62,7 +63,8 @@ fn put_pairs<
     to: &mut Allocator<D>,
 ) -> Grown<HashMap<K, V, S>>
     requires small { (map_of (kind K.Item K.key V.Item S.hash_of) K.kind V.kind).is_small }
-    requires held { (map_of (kind K.Item K.key V.Item S.hash_of) K.kind V.kind).is_held from.now.memory map.now }
+    requires held { (map_of (kind K.Item K.key V.Item S.hash_of) K.kind V.kind).is_held
+        from.now.memory map.now }
     requires empty { HoldsCopies (kind K.Item K.key V.Item S.hash_of)
         from.now.memory to.old.memory empty [] [] empty }
     requires room { map.now.len ≤ spare_of empty }
@@ -112,9 +114,21 @@ impl<K: CloneKey, V: CloneIn + Item, S: KeyHasher + Copy + Drop> CloneIn for Has
     ghost kind = { map_of (kind K.Item K.key V.Item S.hash_of) K.kind V.kind };
 
     ghost lawful = { map_lawful (kind
-        (record { is_value = K.is_value; encoded = K.encoded; decoded = K.decoded; SIZE = K.SIZE; ALIGN = K.ALIGN })
+        (record {
+          is_value = K.is_value;
+          encoded = K.encoded;
+          decoded = K.decoded;
+          SIZE = K.SIZE;
+          ALIGN = K.ALIGN;
+        })
         K.key
-        (record { is_value = V.is_value; encoded = V.encoded; decoded = V.decoded; SIZE = V.SIZE; ALIGN = V.ALIGN })
+        (record {
+          is_value = V.is_value;
+          encoded = V.encoded;
+          decoded = V.decoded;
+          SIZE = V.SIZE;
+          ALIGN = V.ALIGN;
+        })
         S.hash_of) K.kind V.kind K.keeps K.lawful V.lawful };
 
     fn is_flat(_ids: CloneInSemanticIds) -> bool {
@@ -127,6 +141,9 @@ impl<K: CloneKey, V: CloneIn + Item, S: KeyHasher + Copy + Drop> CloneIn for Has
         from: &Allocator<C>,
         to: &mut Allocator<D>,
     ) -> Grown<Self> {
+        if is_copied_whole(self, ids) {
+            return copy_table(self, from, to);
+        }
         let empty = HashMap::with_capacity_and_hasher_in(self.len as u64, self.hasher, to)?;
         let copy = put_pairs::<K, V, S, C, D>(self, empty, ids, from, to)?;
         Ok(copy)
@@ -137,6 +154,9 @@ impl<K: CloneKey, V: CloneIn + Item, S: KeyHasher + Copy + Drop> CloneIn for Has
         ids: CloneInSemanticIds,
         a: &mut Allocator<C>,
     ) -> Grown<Self> {
+        if is_copied_whole(self, ids) {
+            return copy_table_within(self, a);
+        }
         let empty = HashMap::with_capacity_and_hasher_in(self.len as u64, self.hasher, a)?;
         let copy = put_pairs_within::<K, V, S, C>(self, empty, ids, a)?;
         Ok(copy)

@@ -77,7 +77,8 @@ module _ {K V S : Type 0} (k : Kind K V S) (old new : Memory) (hasher : S) (t : 
       far-held =
           let low : d < t.slots = omega (arith, away.less) in
           let home : ℕ = home_of t.slots (pair_hash k old hasher x) in
-          let here : gap ≡ spot t.slots (home_of t.slots (pair_hash k old hasher x)) d = spot-before t.slots gap (spot t.slots home d) within
+          let here : gap ≡ spot t.slots (home_of t.slots (pair_hash k old hasher x)) d =
+          spot-before t.slots gap (spot t.slots home d) within
           (spot-less t.slots home d (homes x) low) (sym next-is ∙ (away.place ∙ sym (spot-next t.slots home d (homes x) low))) in
           let ordered = subst (λ q. IsOrdered (λ p. home_of t.slots (pair_hash k old hasher p)) t.slots q) sets.slots on.ordered in
           in-edited k old new hasher t held edits.writes.frame edits.writes.state

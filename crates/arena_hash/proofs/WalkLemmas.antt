@@ -1,6 +1,6 @@
 -- Walks over the pairs of a table.
-use Rattle.std.proofs.Common.{◌≡◌, ℕ, zero, suc, ◌+◌, ◌-◌, ◌%◌, ◌^◌, ◌<◌, ◌≤◌, ◌⊎◌, inl, inr, List, [], ◌∷◌, take, length, get_or, sym}
-use Rattle.std.proofs.Common.{ap, subst, ◌∙◌, arith, Some, None, pow-add}
+use Rattle.std.proofs.Common.{◌≡◌, ℕ, ◌+◌, ◌-◌, ◌%◌, ◌^◌, ◌<◌, ◌≤◌, ◌⊎◌, inl, inr, List, [], ◌∷◌, take, length, get_or, sym}
+use Rattle.std.proofs.Common.{ap, subst, ◌∙◌, arith, Some, None, pow-add, pow_mono}
 use Rattle.std.proofs.Math.Nat.{mul-mod_left}
 use Rattle.std.proofs.Math.Path.{ap₂}
 use Rattle.std.proofs.lemmas.Bool.{cases_lt}
@@ -14,7 +14,7 @@ use Rattle.arena_hash.specs.Finite.{AreOnce, first_of}
 use Rattle.arena_hash.specs.Maps.{IsMapIn, map_in, pairs_in}
 use Rattle.arena_hash.specs.Slots.{items}
 use Rattle.arena_hash.specs.Tables.{slots_of, IsRing, IsShape, IsTableHandle}
-use Rattle.arena_hash.specs.Walks.{front_of, left_in, AreFree, GoesOn, IsScan, IsWalk, Lists}
+use Rattle.arena_hash.specs.Walks.{front_of, left_in, AreFree, GoesOn, IsByGroups, IsScan, IsWalk, Lists}
 use Rattle.arena_hash.specs.declared.map.HashMap.{HashMap}
 use Rattle.arena_hash.specs.declared.table.Table.{Table}
 use Rattle.arena_hash.specs.declared.walk.Scan.{Scan}
@@ -22,25 +22,19 @@ use Rattle.arena_hash.proofs.HandleLemmas.{handle-shape}
 use Rattle.arena_hash.proofs.Scanning.{left-clear, left-end, left-goes}
 use Rattle.arena_hash.proofs.SlotLemmas.{slots-long, slot-free, slot-taken}
 
--- a ring's slots come by eights
-pub ring-eights : (n : ℕ) → IsRing n → n % 8 ≡ 0
-ring-eights n r = elim (cases_lt r.0.0 3) [
-  | inl l ↦ absurd (few r.0.0 l (subst (λ m. 8 ≤ m) r.0.1 r.1))
+-- a ring's slots come by sixty-fours, or are fewer
+pub ring-groups : (n : ℕ) → IsRing n → IsByGroups n
+ring-groups n r = elim (cases_lt r.0.0 6) [
+  | inl l ↦ let low : r.0.0 ≤ 5 = omega arith in let most : 2 ^ r.0.0 ≤ 2 ^ 5 = pow_mono low in inl (omega (arith, r.0.1, most))
   | inr l ↦
-      let split : r.0.0 ≡ r.0.0 - 3 + 3 = omega arith in
-      ap (λ m. m % 8) (r.0.1 ∙ (ap (λ k. 2 ^ k) split ∙ pow-add 2 (r.0.0 - 3) 3)) ∙ mul-mod_left (2 ^ (r.0.0 - 3)) 8
+      let split : r.0.0 ≡ r.0.0 - 6 + 6 = omega arith in
+      inr (ap (λ m. m % 64) (r.0.1 ∙ (ap (λ k. 2 ^ k) split ∙ pow-add 2 (r.0.0 - 6) 6)) ∙ mul-mod_left (2 ^ (r.0.0 - 6)) 64)
 ]
-  where
-    few : (k : ℕ) → k < 3 → 8 ≤ 2 ^ k → ⊥
-    few zero l h = absurd (omega arith)
-    few (suc zero) l h = absurd (omega arith)
-    few (suc (suc zero)) l h = absurd (omega arith)
-    few (suc (suc (suc k))) l h = absurd (omega arith)
 
 module _ {K V : Type 0} (keys : Ghosts K) (values : Ghosts V) (n : ℕ) (bytes : List ℕ) where
   -- what a walk needs of a table's shape
-  pub walk-eights : (n ≡ 0) ⊎ IsShape keys values n bytes → n % 8 ≡ 0
-  walk-eights shape = elim shape [ inl e ↦ omega arith | inr s ↦ ring-eights n s.ring ]
+  pub walk-groups : (n ≡ 0) ⊎ IsShape keys values n bytes → IsByGroups n
+  walk-groups shape = elim shape [ inl e ↦ inl (omega arith) | inr s ↦ ring-groups n s.ring ]
 
   pub walk-long : (n ≡ 0) ⊎ IsShape keys values n bytes → n ≤ length bytes
   walk-long shape = elim shape [ inl e ↦ omega arith | inr s ↦ omega (arith, s.long) ]
@@ -131,9 +125,9 @@ walk-shape keys values memory t bytes small few handle is = elim (cases_lt 0 t.s
 module _ {K V : Type 0} (keys : Ghosts K) (values : Ghosts V) (memory : Memory) (t : Table K V) (bytes : List ℕ)
     (small : keys.SIZE ≤ 2 ^ 24)
     (few : values.SIZE ≤ 2 ^ 24) (handle : IsTableHandle keys values memory t) (is : bytes ≡ bytes_of memory t.block) where
-  -- its marks come by eights
-  pub table-eights : t.slots % 8 ≡ 0
-  table-eights = walk-eights keys values t.slots bytes (walk-shape keys values memory t bytes small few handle is)
+  -- its marks come by sixty-fours, or are fewer
+  pub table-groups : IsByGroups t.slots
+  table-groups = walk-groups keys values t.slots bytes (walk-shape keys values memory t bytes small few handle is)
 
   -- and all are there
   pub table-long : t.slots ≤ length bytes

@@ -1,5 +1,5 @@
 -- Walks over a map, its equality, and maps of an iterator's pairs.
-use Rattle.std.specs.Prelude.{◌≡◌, ◌≢◌, ℕ, ◌+◌, ◌*◌, ◌/◌, ◌%◌, ◌<◌, ◌≤◌, ◌==◌, ◌⊎◌, Bool, List, length, take, drop, slice_get}
+use Rattle.std.specs.Prelude.{◌≡◌, ◌≢◌, ℕ, ◌+◌, ◌%◌, ◌<◌, ◌≤◌, ◌==◌, ◌⊎◌, Bool, List, length, take, drop, slice_get}
 use Rattle.std.specs.Prelude.{slice_index, Option, Some, None, IsTrue, ◌↔◌, if◌then◌else◌}
 use Rattle.std.specs.Int.{w64, bit_at, trailing_zeros}
 use Rattle.arena_items.specs.declared.item.Item.{Ghosts}
@@ -13,22 +13,23 @@ pub record Lists {K V : Type 0} (content : K → List ℕ) (is : Finite K V) (pa
   pub once : AreOnce content pairs
   pub map_is : first_of content pairs ≡ is
 
--- Where a walk stands: at the first taken slot of eight that it didn't give, or behind them.
+-- Where a walk stands: at the first taken slot of sixty-four that it didn't give, or behind them.
 abbrev pub front_of : Scan → ℕ
-front_of s = if s.rest == 0 then s.base + 8 else s.base + trailing_zeros w64 s.rest / 8
+front_of s = if s.rest == 0 then s.base + 64 else s.base + trailing_zeros w64 s.rest
 
--- The place of a walk over n marks: a high bit for each taken slot of eight from the front on.
+-- The place of a walk over n marks: a bit for each taken slot of sixty-four from the front on.
 pub record IsScan (n : ℕ) (marks : List ℕ) (s : Scan) : Type 0 where
-  pub aligned : s.base % 8 ≡ 0
+  pub aligned : s.base % 64 ≡ 0
   pub within : s.base ≤ n
-  pub lanes : (j : ℕ) → s.base + j < n → j < 8 → front_of s ≤ s.base + j
-      → (bit_at s.rest (8 * j + 7) ≡ 1) ↔ (slice_index marks (s.base + j) ≢ 0)
-  pub others : (j : ℕ) → j < 64 → bit_at s.rest j ≡ 1 → (j % 8 ≡ 7) × (s.base + j / 8 < n)
+  pub taken : (j : ℕ) → j < 64 → front_of s ≤ s.base + j → (bit_at s.rest j ≡ 1) ↔ (slice_index marks (s.base + j) ≢ 0)
 
--- a word of eight marks from a place on: the high bit of each that isn't 0
-pub record AreLanes (marks : List ℕ) (base rest : ℕ) : Type 0 where
-  pub lanes : (j : ℕ) → j < 8 → (bit_at rest (8 * j + 7) ≡ 1) ↔ (slice_index marks (base + j) ≢ 0)
-  pub others : (i : ℕ) → i < 64 → bit_at rest i ≡ 1 → i % 8 ≡ 7
+-- sixty-four marks from a place on: a bit for each that is set
+abbrev pub AreTaken : List ℕ → ℕ → ℕ → Type 0
+AreTaken marks base bits = (j : ℕ) → j < 64 → (bit_at bits j ≡ 1) ↔ (slice_index marks (base + j) ≢ 0)
+
+-- so many marks come by sixty-fours, or are fewer
+abbrev pub IsByGroups : ℕ → Type 0
+IsByGroups n = (n < 64) ⊎ (n % 64 ≡ 0)
 
 -- no mark from one place up to another is set
 abbrev pub AreFree : List ℕ → ℕ → ℕ → Type 0

@@ -1,14 +1,13 @@
 // The pairs of a map, in the order of its slots.
 ghost use Rattle.std.specs.Prelude.{◌≡◌, ◌≢◌, ℕ, ◌+◌, ◌*◌, ◌/◌, ◌%◌, ◌^◌, ◌<◌, ◌≤◌, ◌↔◌};
 ghost use Rattle.std.specs.Prelude.{List, Some, length, map, slice_get, take};
-ghost use Rattle.std.specs.Int.{bit_at};
 ghost use Rattle.std.specs.Option.{MatchOption};
 ghost use Rattle.std.specs.Iterator.{YieldsFirst, item_count};
 ghost use Rattle.arena_hash.specs.Contents.{kind, content_in};
 ghost use Rattle.arena_hash.specs.Maps.{IsMapIn, map_in};
 ghost use Rattle.arena_hash.specs.Sets.{ListsKeys};
 ghost use Rattle.arena_hash.specs.Tables.{slots_in, IsTableHandle};
-ghost use Rattle.arena_hash.specs.Walks.{front_of, AreFree, AreLanes, GoesOn, IsScan, Lists};
+ghost use Rattle.arena_hash.specs.Walks.{front_of, AreFree, AreTaken, IsByGroups, GoesOn, IsScan, Lists};
 
 use crate::hasher::KeyHasher;
 use crate::key::ArenaKey;
@@ -17,65 +16,60 @@ use crate::pairs::{key_at, value_at};
 use arena_chunks::{Allocator, ChunkSource};
 use arena_items::Item;
 use std::marker::{Model, PhantomData};
+use std::simd::prelude::*;
 
-// A place in a walk over marks: the first slot of eight, and a high bit for each of the eight that is taken
-// and was not given.
+// A place in a walk over marks: the first slot of sixty-four, and a bit for each of them that is taken and
+// was not given.
 #[derive(Clone, Copy)]
 pub(crate) struct Scan {
     pub(crate) base: u64,
     pub(crate) rest: u64,
 }
 
-const HIGH: u64 = 0x8080_8080_8080_8080;
-
-const LOW_SEVEN: u64 = 0x7f7f_7f7f_7f7f_7f7f;
-
-// The high bit of each byte that isn't 0.
-#[inline]
-fn taken_lanes(word: u64) -> u64
-    ensures lanes { (j : ℕ) → j < 8 → (bit_at result (8 * j + 7) ≡ 1) ↔ (word / 256 ^ j % 256 ≢ 0) }
-    ensures others { (i : ℕ) → i < 64 → bit_at result i ≡ 1 → i % 8 ≡ 7 }
+// The taken slots of sixty-four.
+#[inline(always)]
+fn taken_of_many(bytes: &[u8], base: u64) -> u64
+    requires { base + 64 ≤ length bytes.now }
+    ensures { AreTaken bytes.now base result }
 {
-    ((word & LOW_SEVEN) + LOW_SEVEN | word) & HIGH
+    u8x64::from_slice(&bytes[base as usize..])
+        .simd_ne(u8x64::splat(0))
+        .to_bitmask()
 }
 
-// The taken slots of eight.
-#[inline(always)]
-fn lanes_at(bytes: &[u8], base: u64) -> u64
-    requires { base + 8 ≤ length bytes.now }
-    ensures { AreLanes bytes.now base result }
+// The taken slots of a table that has fewer.
+fn taken_of_few(bytes: &[u8], slots: u64) -> u64
+    requires few { slots < 64 }
+    requires long { slots ≤ length bytes.now }
+    ensures { AreTaken (take slots bytes.now) 0 result }
 {
-    let at = base as usize;
-    taken_lanes(u64::from_le_bytes([
-        bytes[at],
-        bytes[at + 1],
-        bytes[at + 2],
-        bytes[at + 3],
-        bytes[at + 4],
-        bytes[at + 5],
-        bytes[at + 6],
-        bytes[at + 7],
-    ]))
+    let few = slots as usize;
+    let mut marks = [0u8; 64];
+    marks[..few].copy_from_slice(&bytes[..few]);
+    taken_of_many(&marks, 0)
 }
 
 // The place of a walk that gave nothing yet.
 #[inline(always)]
 pub(crate) fn start(bytes: &[u8], slots: u64) -> Scan
-    requires eights { slots % 8 ≡ 0 }
     requires long { slots ≤ length bytes.now }
     ensures scan { IsScan slots (take slots bytes.now) result }
     ensures free { AreFree (take slots bytes.now) 0 (front_of result) }
 {
     Scan {
         base: 0,
-        rest: if slots == 0 { 0 } else { lanes_at(bytes, 0) },
+        rest: if slots < 64 {
+            taken_of_few(bytes, slots)
+        } else {
+            taken_of_many(bytes, 0)
+        },
     }
 }
 
 // The next taken slot, and the place behind it.
 #[inline(always)]
 pub(crate) fn step(bytes: &[u8], slots: u64, scan: Scan) -> (Option<u64>, Scan)
-    requires eights { slots % 8 ≡ 0 }
+    requires groups { IsByGroups slots }
     requires long { slots ≤ length bytes.now }
     requires scan { IsScan slots (take slots bytes.now) scan }
     ensures scan { IsScan slots (take slots bytes.now) result.1 }
@@ -85,14 +79,14 @@ pub(crate) fn step(bytes: &[u8], slots: u64, scan: Scan) -> (Option<u64>, Scan)
 {
     let mut base = scan.base;
     let mut rest = scan.rest;
-    'words: while rest == 0 {
-        if base + 8 >= slots {
+    'groups: while rest == 0 {
+        if base + 64 >= slots {
             return (None, Scan { base, rest });
         }
-        base += 8;
-        rest = lanes_at(bytes, base);
+        base += 64;
+        rest = taken_of_many(bytes, base);
     }
-    let slot = base + rest.trailing_zeros() as u64 / 8;
+    let slot = base + rest.trailing_zeros() as u64;
     (
         Some(slot),
         Scan {

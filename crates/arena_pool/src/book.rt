@@ -7,6 +7,7 @@ ghost use Rattle.arena_pool.specs.declared.kind.PoolKind.TheVariants.{Standard, 
 use crate::kind::{PoolKind, emptied};
 use crate::maker::ChunkMaker;
 use arena_chunks::{Allocator, OutOfMemory};
+use arena_region::Region;
 use std::alloc::Global;
 use std::marker::Model;
 
@@ -84,7 +85,7 @@ fn new_arena<K: ChunkMaker>(
     match kind {
         PoolKind::Standard => Ok(Allocator::new(alloc, maker.make())),
         PoolKind::FixedSize { bytes } => {
-            let Ok(region) = vec![in alloc; 0; bytes as usize] else {
+            let Ok(region) = Region::zeros(alloc, bytes as usize) else {
                 return Err(OutOfMemory);
             };
             match Allocator::from_raw_parts(alloc, region, maker.make()) {

@@ -2,6 +2,7 @@
 mod arena;
 mod batches;
 mod bits;
+mod clones;
 mod items;
 mod maps;
 mod pool;
@@ -13,6 +14,7 @@ use arena_chunks::ArenaErr;
 use arena_items::ItemErr;
 use arena_vec::AllocError;
 pub use bits::{bitset_contains, bitset_ones, bitset_set, bitset_set_ascending, bitset_union};
+pub use clones::{map_clone, vec_clone};
 pub use items::{alloc_fixed, box_new, slice_copy, str_copy};
 pub use maps::{map_get, map_insert, map_iter, map_remove, map_small, map_walked};
 pub use pool::{claim, claim_threads, pool_get, pool_get_threads};

@@ -9,10 +9,10 @@ mod loops;
 use loops::{
     Failed, Timed, alloc_and_reset, alloc_fixed, alloc_warm, bitset_contains, bitset_ones,
     bitset_set, bitset_set_ascending, bitset_union, box_new, claim, claim_threads, grow_at_cursor,
-    map_get, map_insert, map_iter, map_remove, map_small, map_walked, pool_get, pool_get_threads,
-    read_older, reset_chunks, slice_copy, str_copy, string_push_byte, string_push_start,
-    string_push_str, vec_extend, vec_insert_front, vec_iter, vec_push, vec_push_reserved,
-    vec_retain, vec_small, vec_sum,
+    map_clone, map_get, map_insert, map_iter, map_remove, map_small, map_walked, pool_get,
+    pool_get_threads, read_older, reset_chunks, slice_copy, str_copy, string_push_byte,
+    string_push_start, string_push_str, vec_clone, vec_extend, vec_insert_front, vec_iter,
+    vec_push, vec_push_reserved, vec_retain, vec_small, vec_sum,
 };
 use std::process::ExitCode;
 use std::sync::Wait;
@@ -62,10 +62,12 @@ enum Loop {
     MapInsert,
     MapIter,
     MapWalked,
+    VecClone,
+    MapClone,
 }
 
 impl Loop {
-    const ALL: [Loop; 35] = [
+    const ALL: [Loop; 37] = [
         Loop::AllocWarm,
         Loop::GrowAtCursor,
         Loop::AllocAndReset,
@@ -101,6 +103,8 @@ impl Loop {
         Loop::MapInsert,
         Loop::MapIter,
         Loop::MapWalked,
+        Loop::VecClone,
+        Loop::MapClone,
     ];
 
     fn name(self) -> &'static str {
@@ -140,6 +144,8 @@ impl Loop {
             Loop::MapInsert => "map_insert",
             Loop::MapIter => "map_iter",
             Loop::MapWalked => "map_walked",
+            Loop::VecClone => "vec_clone",
+            Loop::MapClone => "map_clone",
         }
     }
 
@@ -150,8 +156,12 @@ impl Loop {
             Loop::ResetChunks => 100_000,
             Loop::SliceCopy | Loop::VecExtend => 50_000_000,
             Loop::BitsetUnion => 400_000_000,
-            Loop::MapInsert | Loop::MapGet | Loop::MapRemove | Loop::MapIter | Loop::MapWalked =>
-                1_000_000,
+            Loop::MapInsert
+            | Loop::MapGet
+            | Loop::MapRemove
+            | Loop::MapIter
+            | Loop::MapWalked
+            | Loop::MapClone => 1_000_000,
             _ => 10_000_000,
         }
     }
@@ -198,6 +208,8 @@ impl Loop {
             Loop::MapInsert => map_insert(rt, calls),
             Loop::MapIter => map_iter(rt, calls),
             Loop::MapWalked => map_walked(rt, calls),
+            Loop::VecClone => vec_clone(rt, calls),
+            Loop::MapClone => map_clone(rt, calls),
         }
     }
 

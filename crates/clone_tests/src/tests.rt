@@ -3,11 +3,14 @@ ghost use Rattle.std.specs.Prelude.{◌≡◌, ◌%◌, ◌≤◌};
 
 mod checked;
 mod exchange;
+mod kept;
 mod lists;
+mod maps;
 mod rust_cases;
 mod trees;
 
 use arena_chunks::{Allocator, MemoryChunks};
+use arena_region::Region;
 use std::alloc::Global;
 use std::process::Abort;
 
@@ -20,7 +23,7 @@ fn fixed(rt: &impl Abort, alloc: Global, size: usize) -> Allocator<MemoryChunks>
     requires few { size ≤ 4096 }
     requires whole { size % 16 ≡ 0 }
 {
-    let region = vec![in alloc; 0u8; size + 48].expect(rt, "a region");
+    let region = Region::zeros(alloc, size + 48).expect(rt, "a region");
     match Allocator::from_raw_parts(alloc, region, MemoryChunks::new(alloc, 0)) {
         Ok(a) => a,
         Err(_) => panic!(rt; "no arena"),

@@ -15,7 +15,8 @@ use Rattle.arena_clone.proofs.Layers.{deep_stays, apart_of_none, frame_more, cop
 use Rattle.example_clone.specs.Branches.{inside_of, branch_of}
 use Rattle.example_clone.specs.declared.branches.Branch.{Branch}
 
-module _ {L : Type 0} (leaves : Kind (Vec L)) (ids : CloneInSemanticIds) (source : Memory) (b : Branch L) (old first second new : View) where
+module _ {L : Type 0} (leaves : Kind (Vec L)) (ids : CloneInSemanticIds) (source : Memory) (b : Branch L)
+    (old first second new : View) where
   -- Where the name is refused, so is the branch,
   pub name_refused : (e : AllocError) → Copies text ids source old new b.name (Err e)
       → Copies (branch_of leaves) ids source old new b (Err e)

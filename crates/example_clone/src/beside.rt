@@ -1,6 +1,7 @@
 // A list that changes beside its copy.
-ghost use Rattle.std.specs.Prelude.{◌^◌, ◌≤◌, IfOk, List};
+ghost use Rattle.std.specs.Prelude.{◌≡◌, ◌^◌, ◌≤◌, ◌++◌, IfOk, OnOk, OnErr, List, [], ◌∷◌};
 ghost use Rattle.arena_chunks.specs.declared.block.Block.{Block};
+ghost use Rattle.arena_vec.specs.Vecs.{vec_list};
 ghost use Rattle.arena_clone.specs.Kinds.{vec_of};
 ghost use Rattle.arena_clone.specs.Copies.{IsMade};
 
@@ -8,6 +9,7 @@ use arena_chunks::{Allocator, ChunkSource};
 use arena_clone::laws::copy_law;
 use arena_clone::{CloneIn, CloneInSemanticIds, Grown};
 use arena_items::Item;
+use arena_items::laws::frame_law;
 use arena_vec::Vec;
 
 /// A copy of a list as it is, and then one more value at the end of the list. The copy doesn't have it.
@@ -22,11 +24,15 @@ pub fn copy_and_push<T: CloneIn + Item, C: ChunkSource>(
 ) -> Grown<Vec<T>>
     requires small { (vec_of T.Item T.kind).is_small }
     requires held { (vec_of T.Item T.kind).is_held a.old.memory list.old }
-    ensures { IfOk result (λ copy. (blocks : List Block) × IsMade (vec_of T.Item T.kind)
-        ((vec_of T.Item T.kind).by_ids CloneInSemanticIds.With ((vec_of T.Item T.kind).whole a.old.memory list.old))
-        a.new.memory blocks copy) }
+    ensures copy { IfOk result (λ copy. (blocks : List Block) × IsMade (vec_of T.Item T.kind)
+        ((vec_of T.Item T.kind).by_ids CloneInSemanticIds.With
+        ((vec_of T.Item T.kind).whole a.old.memory list.old)) a.new.memory blocks copy) }
+    ensures list { OnOk result (vec_list T.Item a.new.memory list.new
+        ≡ vec_list T.Item a.old.memory list.old ++ value ∷ []) }
+    ensures refused { OnErr result (list.new ≡ list.old) }
 {
     copy_law::<Vec<T>>();
+    frame_law::<Vec<T>>();
     let copy = list.clone_within(CloneInSemanticIds::With, a)?;
     list.push(a, value)?;
     Ok(copy)

@@ -1,5 +1,6 @@
 // An arena that two threads own.
-ghost use Rattle.std.specs.Prelude.{◌≡◌, IfOk, IfErr, IfSome};
+ghost use Rattle.std.specs.Prelude.{◌≡◌, IfOk, IfErr, IfSome, IfNone};
+ghost use Rattle.arena_pool.specs.Claiming.{times};
 ghost use Rattle.arena_pool.specs.GivingUp.{IsReturned};
 
 use arena_chunks::{Allocator, ChunkSource};
@@ -7,9 +8,10 @@ use arena_pool::{GaveUp, Owner, ShareErr, share};
 use std::alloc::Global;
 use std::thread::{Threads, join};
 
-/// Gives up. The arena, where the other owner gave up before.
+/// Gives up. The arena, where the other owner gave up before: none only to an owner that hasn't found so.
 pub fn freed<C: ChunkSource + Drop>(owner: Owner<C>) -> Option<Allocator<C>>
-    ensures { IfSome result (λ a. a ≡ owner.shared) }
+    ensures arena { IfSome result (λ a. a ≡ owner.shared) }
+    ensures none { IfNone result (times 0 owner.lists.taken ≡ 0) }
 {
     match owner.give_up() {
         GaveUp::Stays(_) => None,

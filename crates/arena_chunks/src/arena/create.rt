@@ -14,13 +14,24 @@ use crate::chunks::ChunkSource;
 use crate::chunks::chunk::StoredChunk;
 use crate::chunks::search::possible_size;
 use arena_place::{CHUNK_ALIGN, CHUNK_FOOTER_SIZE, Layout, TYPICAL_PAGE_SIZE};
+use arena_region::Region;
 use std::alloc::Global;
+use std::fmt;
 
 /// Why no arena was made over a region.
-#[derive(Drop, Debug)]
+#[derive(Drop)]
 pub enum RawErr {
     /// Memory is wanting. The region is handed back.
-    OutOfMemory { region: Vec<u8> },
+    OutOfMemory { region: Region },
+}
+
+impl fmt::Debug for RawErr {
+    fn fmt<W: fmt::Write>(&self, f: &mut fmt::Formatter<W>) -> fmt::Result {
+        let RawErr::OutOfMemory { region } = self;
+        f.debug_struct("OutOfMemory")
+            .field("len", &region.len())
+            .finish()
+    }
 }
 
 impl Arena<1> {
@@ -117,7 +128,7 @@ impl<const MIN_ALIGN: usize> Arena<MIN_ALIGN> {
 
     /// An arena that doesn't grow, with one chunk: the region but for its last 48 bytes. It never asks a source, and
     /// takes no memory, so that it is always made.
-    pub fn from_raw_parts(alloc: Global, region: Vec<u8>) -> Result<Arena<MIN_ALIGN>, RawErr>
+    pub fn from_raw_parts(alloc: Global, region: Region) -> Result<Arena<MIN_ALIGN>, RawErr>
         requires min_align { IsTrue (is_min_align MIN_ALIGN) }
         requires units { length region.items % 16 ≡ 0 }
         requires room { 48 ≤ length region.items }

@@ -79,7 +79,8 @@ impl<'a, const MIN_ALIGN: usize> Iterator for ChunkIter<'a, MIN_ALIGN> {
 
     fn next(&mut self) -> Option<&'a [u8]> {
         let chunk = self.left.next()?;
-        Some(&chunk.bytes[(chunk.cursor - chunk.base) as usize..])
+        let cursor = (chunk.cursor - chunk.base) as usize;
+        Some(chunk.bytes.part(cursor, chunk.bytes.len() - cursor))
     }
 
     fn size_hint(&self) -> (usize, Option<usize>)

@@ -14,7 +14,7 @@ impl<const MIN_ALIGN: usize> Arena<MIN_ALIGN> {
     ghost use Rattle.placement.specs.Statistics.{one_allocation};
     ghost use Rattle.arena_chunks.specs.Memory.{Memory, is_readable};
     ghost use Rattle.arena_chunks.specs.Source.{view};
-    ghost use Rattle.arena_chunks.specs.Answers.{answer_of, OnCounted};
+    ghost use Rattle.arena_chunks.specs.Answers.{answer_of, OnCounted, placed_at};
     ghost use Rattle.arena_chunks.specs.BlockCalls.{PlacesBlock, PlacesAfter, GivesBack};
     ghost use Rattle.arena_chunks.specs.Adding.{AddsChunk, OnFound};
 
@@ -69,49 +69,72 @@ impl<const MIN_ALIGN: usize> Arena<MIN_ALIGN> {
             layout.size layout.align) }
     {
         match place(
-            self.newest.base,
+            self.newest.floor(),
             self.newest.cursor,
             layout,
             MIN_ALIGN as u64,
         ) {
-            Some(addr) => Ok((self.place_at(addr, layout), 0)),
-            None => match self.add_chunk(chunks, layout) {
-                Ok((addr, refused)) => Ok((self.place_at(addr, layout), refused)),
+            Some(addr) => {
+                self.newest.cursor = addr;
+                self.allocations = self.allocations.saturating_add(1);
+                Ok((self.block_of(addr, layout), 0))
+            }
+            None => match self.alloc_below(chunks, layout) {
+                Ok((addr, refused)) => Ok((self.block_of(addr, layout), refused)),
                 Err(e) => Err(e),
             },
         }
     }
 
-    // The block at its place in the newest chunk.
-    #[inline]
-    fn place_at(&mut self, addr: u64, layout: Layout) -> Block
+    // Places a block for which the ready part of the newest chunk has no room: in bytes that are made ready for it, or in a new
+    // chunk. Answers the place, and how many requests were refused. It is kept out of the callers, so that an allocation in the
+    // ready part is small enough to be inlined.
+    #[cold]
+    #[inline(never)]
+    fn alloc_below<C: ChunkSource>(
+        &mut self,
+        chunks: &mut C,
+        layout: Layout,
+    ) -> Result<(u64, u32), ArenaErr>
+        ensures { OnCounted (placed_at self.old.state.generation layout.size layout.align result)
+            (PlacesAfter (view self.old (C.source chunks.old)) (view self.new (C.source chunks.new))
+            layout.size layout.align) }
+    {
+        match place(
+            self.newest.base,
+            self.newest.cursor,
+            layout,
+            MIN_ALIGN as u64,
+        ) {
+            Some(addr) => {
+                self.place_at(addr, layout);
+                Ok((addr, 0))
+            }
+            None => match self.add_chunk(chunks, layout) {
+                Ok((addr, refused)) => {
+                    self.place_at(addr, layout);
+                    Ok((addr, refused))
+                }
+                Err(e) => Err(e),
+            },
+        }
+    }
+
+    // Places a block in the newest chunk, where its bytes are made ready.
+    fn place_at(&mut self, addr: u64, layout: Layout)
         requires { place self.old.state layout.size layout.align ≡ Some addr }
-        ensures memory { self.new ≡ record {
+        ensures { self.new ≡ record {
           state = with_cursor addr self.old.state;
           statistics = one_allocation self.old.statistics;
           bytes = self.old.bytes;
         } }
-        ensures block { result ≡ record {
-          generation = self.old.state.generation;
-          addr = addr;
-          size = layout.size;
-          align = layout.align;
-        } }
     {
+        self.newest.make_ready(addr);
         self.newest.cursor = addr;
         self.allocations = self.allocations.saturating_add(1);
-        Block {
-            generation: self.generation,
-            addr,
-            size: layout.size,
-            align: layout.align,
-        }
     }
 
-    // A chunk for the block becomes the newest. Answers the block's place in it, and how many requests were refused. It is
-    // kept out of the callers, so that an allocation in the newest chunk is small enough to be inlined.
-    #[cold]
-    #[inline(never)]
+    // A chunk for the block becomes the newest. Answers the block's place in it, and how many requests were refused.
     fn add_chunk<C: ChunkSource>(
         &mut self,
         chunks: &mut C,

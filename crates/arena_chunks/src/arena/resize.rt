@@ -21,7 +21,7 @@ impl<const MIN_ALIGN: usize> Arena<MIN_ALIGN> {
     ghost use Rattle.placement.specs.State.{IsValid, start_of, cursor_of, top_of, with_cursor, is_range_used};
     ghost use Rattle.placement.specs.Search.{place};
     ghost use Rattle.placement.specs.Moves.{reset};
-    ghost use Rattle.placement.specs.Moves.Resizing.{Moves, Anew};
+    ghost use Rattle.placement.specs.Moves.Resizing.{Anew};
     ghost use Rattle.placement.specs.Statistics.{uncounted, one_reallocation};
     ghost use Rattle.arena_chunks.specs.Memory.{Memory, Writes, is_readable, image, bytes_from};
     ghost use Rattle.arena_chunks.specs.Source.{view};
@@ -118,7 +118,7 @@ impl<const MIN_ALIGN: usize> Arena<MIN_ALIGN> {
             return Ok((self.shrink_here(block, layout), 0));
         }
         if is_aligned_to(block.addr, layout.align) {
-            return Ok((self.resized(block.addr, layout), 0));
+            return Ok((self.block_of(block.addr, layout), 0));
         }
         self.copy_to_new(chunks, block, layout, layout.size)
     }
@@ -145,13 +145,55 @@ impl<const MIN_ALIGN: usize> Arena<MIN_ALIGN> {
             return Err(ArenaErr::AllocErr { refused: 0 });
         };
         match place(
+            self.newest.floor(),
+            self.newest.cursor,
+            below,
+            MIN_ALIGN as u64,
+        ) {
+            Some(addr) => {
+                self.newest.cursor = addr;
+                Ok((self.move_down(block, addr, layout), 0))
+            }
+            None => match self.grow_below(chunks, block, below, layout) {
+                Ok((b, refused)) => Ok((b, refused)),
+                Err(e) => Err(e),
+            },
+        }
+    }
+
+    // Grows a block at the cursor for which the ready part of the newest chunk has no room: down into bytes that are made ready
+    // for it, or anew.
+    #[cold]
+    #[inline(never)]
+    fn grow_below<C: ChunkSource>(
+        &mut self,
+        chunks: &mut C,
+        block: Block,
+        below: Layout,
+        layout: Layout,
+    ) -> Result<(Block, u32), ArenaErr>
+        requires readable { IsTrue (is_readable self.old.state block) }
+        requires size { block.size ≤ layout.size }
+        requires align { layout.align ≤ block.align }
+        requires last { block.addr ≡ cursor_of self.old.state.chunks }
+        requires below { below.size ≡ up layout.size self.old.state.min_align - block.size }
+        requires below_align { below.align ≡ block.align }
+        ensures { OnCounted result (ResizesAfter (growing_of self.old block layout.size layout.align)
+            (view self.old (C.source chunks.old)) (view self.new (C.source chunks.new))
+            block layout.size layout.align) }
+    {
+        match place(
             self.newest.base,
             self.newest.cursor,
             below,
             MIN_ALIGN as u64,
         ) {
-            Some(addr) => Ok((self.grow_to(block, addr, layout), 0)),
-            None => self.move_to_new(chunks, block, layout, block.size),
+            Some(addr) => {
+                self.newest.make_ready(addr);
+                self.newest.cursor = addr;
+                Ok((self.move_down(block, addr, layout), 0))
+            }
+            None => self.copy_to_new(chunks, block, layout, block.size),
         }
     }
 
@@ -164,35 +206,38 @@ impl<const MIN_ALIGN: usize> Arena<MIN_ALIGN> {
             block layout.size layout.align result }
     {
         if block.addr != self.newest.cursor {
-            return self.resized(block.addr, layout);
+            return self.block_of(block.addr, layout);
         }
         let delta = round_down_to(block.size - layout.size, layout.align.max(MIN_ALIGN as u64));
         if delta < block.size - delta {
-            return self.resized(block.addr, layout);
+            return self.block_of(block.addr, layout);
         }
         let addr = block.addr + delta;
-        let shrunk = self.resized(addr, layout);
+        let shrunk = self.block_of(addr, layout);
         self.move_bytes(block.addr, addr, layout.size);
         self.move_cursor(addr);
         shrunk
     }
 
-    // Grows a block at the cursor down to its new place.
+    // Moves a block's bytes to where a block of another layout begins in the newest chunk, and counts a reallocation.
     #[inline(always)]
-    fn grow_to(&mut self, block: Block, addr: u64, layout: Layout) -> Block
-        requires readable { IsTrue (is_readable self.old.state block) }
-        requires size { block.size ≤ layout.size }
-        requires last { block.addr ≡ cursor_of self.old.state.chunks }
-        requires align { let more = up layout.size self.old.state.min_align - block.size in
-            IsTrue (is_layout more block.align) }
-        requires place { let more = up layout.size self.old.state.min_align - block.size in
-            place self.old.state more block.align ≡ Some addr }
-        ensures { IsResizedUnasked (Moves addr) self.old self.new block layout.size layout.align result }
+    fn move_down(&mut self, block: Block, addr: u64, layout: Layout) -> Block
+        requires source { 0 < block.size → IsTrue (is_range_used self.old.state.chunks block.addr block.size) }
+        requires target { 0 < block.size → IsTrue (is_range_used self.old.state.chunks addr block.size) }
+        requires newest { (start_of self.old.state.chunks ≤ block.addr) × (start_of self.old.state.chunks ≤ addr) }
+        ensures state { self.new.state ≡ self.old.state }
+        ensures statistics { self.new.statistics ≡ one_reallocation self.old.statistics }
+        ensures bytes { Writes self.old self.new addr (bytes_from (image self.old) block.addr block.size) }
+        ensures block { result ≡ record {
+          generation = self.old.state.generation;
+          addr = addr;
+          size = layout.size;
+          align = layout.align;
+        } }
     {
-        let grown = self.resized(addr, layout);
-        self.move_cursor(addr);
+        self.reallocations = self.reallocations.saturating_add(1);
         self.move_in_newest(block.addr, addr, block.size);
-        grown
+        self.block_of(addr, layout)
     }
 
     // The same as `copy_to_new`, with an answer of its own, which may stay in registers.
@@ -243,7 +288,7 @@ impl<const MIN_ALIGN: usize> Arena<MIN_ALIGN> {
     }
 
     // The block at an address.
-    fn resized(&self, addr: u64, layout: Layout) -> Block
+    pub(crate) fn block_of(&self, addr: u64, layout: Layout) -> Block
         ensures block { result ≡ record {
           generation = self.now.state.generation;
           addr = addr;
@@ -260,9 +305,9 @@ impl<const MIN_ALIGN: usize> Arena<MIN_ALIGN> {
         }
     }
 
-    // Sets the cursor, and counts a reallocation.
+    // Moves the cursor up, and counts a reallocation.
     fn move_cursor(&mut self, addr: u64)
-        requires low { start_of self.old.state.chunks ≤ addr }
+        requires low { cursor_of self.old.state.chunks ≤ addr }
         requires high { addr ≤ top_of self.old.state.chunks }
         requires aligned { addr % self.old.state.min_align ≡ 0 }
         ensures { self.new ≡ record {

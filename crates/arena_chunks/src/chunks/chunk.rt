@@ -2,9 +2,11 @@
 ghost use Rattle.std.specs.Prelude.{◌≡◌, ◌<◌, ◌^◌, [], ◌∷◌, ◌++◌, ◌==◌, if◌then◌else◌, vec_len, vec_capacity, length, take, drop, ◌≤◌, ◌+◌, ◌-◌, Some, None, nat_le};
 ghost use Rattle.std.specs.List.{All, list_any, count_by};
 ghost use Rattle.placement.specs.State.{used_length, is_used_by};
-ghost use Rattle.arena_chunks.specs.Stored.{stored_chunk, IsOrdered, IsSearchable, IsLastBelow};
+ghost use Rattle.arena_region.specs.Bytes.{bytes};
+ghost use Rattle.arena_chunks.specs.Stored.{stored_chunk, floor_in, IsOrdered, IsMadeReady, IsSearchable, IsLastBelow};
 
 use crate::block::Block;
+use arena_region::Region;
 use std::alloc::Global;
 use std::mem;
 
@@ -14,13 +16,21 @@ pub(crate) const NOWHERE: u64 = 16;
 // How many older chunks are few.
 const FEW: usize = 32;
 
-// The bytes of a chunk stand from its base on; those from the cursor on are used. What begins at 16 stands for no chunk: no
-// chunk does, since the lowest base is 4096, and a cursor there has room for nothing.
+// As many bytes as are made ready at once: an eighth of those that are, but at least a page, so that this is rare, and no
+// more than stay in the fastest cache until they are written.
+const SHARE: usize = 8;
+
+const LEAST_STEP: usize = 4096;
+
+const LARGEST_STEP: usize = 16384;
+
+// The bytes of a chunk stand from its base on; those from the cursor on are used, and are ready. What begins at 16 stands for
+// no chunk: no chunk does, since the lowest base is 4096, and a cursor there has room for nothing.
 #[derive(Drop)]
 pub struct StoredChunk {
     pub(crate) base: u64,
     pub(crate) cursor: u64,
-    pub(crate) bytes: Vec<u8>,
+    pub(crate) bytes: Region,
 }
 
 impl StoredChunk {
@@ -28,20 +38,23 @@ impl StoredChunk {
     pub(crate) fn none(alloc: Global) -> StoredChunk
         ensures base { result.base ≡ 16 }
         ensures cursor { result.cursor ≡ 16 }
-        ensures bytes { result.bytes.items ≡ [] }
+        ensures bytes { result.bytes ≡ bytes [] 0 }
     {
         StoredChunk {
             base: NOWHERE,
             cursor: NOWHERE,
-            bytes: Vec::new(alloc),
+            bytes: Region::none(alloc),
         }
     }
 
     // A chunk with nothing used.
-    pub(crate) fn unused(base: u64, bytes: Vec<u8>) -> StoredChunk
+    pub(crate) fn unused(base: u64, bytes: Region) -> StoredChunk
         requires { base + length bytes.items < 2 ^ 64 }
-        ensures { result ≡ record { base = base; cursor = base + length bytes.items; bytes = bytes } }
+        ensures chunk { result ≡ record { base = base; cursor = base + length bytes.items; bytes = bytes } }
+        ensures ready { floor_in result ≤ result.cursor }
     {
+        // That what is ready of a region begins within it is known by this call.
+        let _ = bytes.low();
         let cursor = base + bytes.len() as u64;
         StoredChunk {
             base,
@@ -54,6 +67,29 @@ impl StoredChunk {
         ensures { result ≡ length self.now.bytes.items }
     {
         self.bytes.len() as u64
+    }
+
+    // The lowest address whose byte is ready.
+    pub(crate) fn floor(&self) -> u64
+        requires { floor_in self.now ≤ self.now.cursor }
+        ensures { result ≡ floor_in self.now }
+    {
+        self.base + self.bytes.low() as u64
+    }
+
+    // Makes the bytes from an address on ready, and some below it.
+    pub(crate) fn make_ready(&mut self, addr: u64)
+        requires { self.old.base ≤ addr }
+        ensures { IsMadeReady self.old self.new addr }
+    {
+        let from = (addr - self.base) as usize;
+        let low = self.bytes.low();
+        if from < low {
+            let step = ((self.bytes.len() - low) / SHARE)
+                .max(LEAST_STEP)
+                .min(LARGEST_STEP);
+            self.bytes.make_ready(from.min(low.saturating_sub(step)));
+        }
     }
 
     // The data end, if there is a chunk.
@@ -106,11 +142,12 @@ pub(crate) fn install(
     newest: &mut StoredChunk,
     older: &mut Vec<StoredChunk>,
     base: u64,
-    bytes: Vec<u8>,
+    bytes: Region,
 )
     requires room { vec_len older.old < vec_capacity older.old }
     requires fits { base + length bytes.items < 2 ^ 64 }
     ensures newest { newest.new ≡ record { base = base; cursor = base + length bytes.items; bytes = bytes } }
+    ensures ready { floor_in newest.new ≤ newest.new.cursor }
     ensures older { older.new.items
         ≡ (if newest.old.base == 16 then older.old.items else older.old.items ++ newest.old ∷ []) }
 {
@@ -158,12 +195,13 @@ pub(crate) fn find_chunk(older: &[StoredChunk], addr: u64) -> usize
     last_below(older, addr)
 }
 
-// The part of a chunk's bytes at these addresses.
+// The part of a chunk's bytes at these addresses, which are ready.
 pub(crate) fn part_at(chunk: &StoredChunk, addr: u64, size: u64) -> &[u8]
-    requires low { chunk.now.base ≤ addr }
+    requires low { floor_in chunk.now ≤ addr }
     requires high { addr - chunk.now.base + size ≤ length chunk.now.bytes.items }
     ensures { result.now ≡ take size (drop (addr - chunk.now.base) chunk.now.bytes.items) }
 {
-    let from = (addr - chunk.base) as usize;
-    &chunk.bytes[from..from + size as usize]
+    chunk
+        .bytes
+        .part((addr - chunk.base) as usize, size as usize)
 }

@@ -1,7 +1,7 @@
 // Changes of the bytes that stand in one place.
 ghost use Rattle.std.specs.Prelude.{◌≡◌, ℕ, ◌+◌, ◌-◌, ◌≤◌, List, length, take, drop, replicate};
 ghost use Rattle.placement.specs.Machine.{splice};
-ghost use Rattle.arena_chunks.specs.Stored.{IsEdited, EditsPart, part_of, HasPart, CopiesPart};
+ghost use Rattle.arena_chunks.specs.Stored.{floor_in, IsEdited, EditsPart, part_of, HasPart, CopiesPart};
 
 use crate::chunks::chunk::{StoredChunk, part_at};
 use crate::chunks::shift::shift;
@@ -21,15 +21,15 @@ pub trait Edit {
         ensures { relates self.now place.old place.new };
 }
 
-// Changes the part of a chunk's bytes at these addresses.
+// Changes the part of a chunk's bytes at these addresses, which are ready.
 pub(crate) fn edit_at<E: Edit>(chunk: &mut StoredChunk, addr: u64, size: u64, e: &E)
-    requires low { chunk.old.base ≤ addr }
+    requires low { floor_in chunk.old ≤ addr }
     requires high { addr - chunk.old.base + size ≤ length chunk.old.bytes.items }
     requires suits { E.suits e.now (part_of chunk.old addr size) }
     ensures { EditsPart chunk.old chunk.new addr size (E.relates e.now) }
 {
     let from = (addr - chunk.base) as usize;
-    e.edit(&mut chunk.bytes[from..from + size as usize]);
+    e.edit(chunk.bytes.part_mut(from, size as usize));
 }
 
 // Copies bytes of a chunk into another.
@@ -41,7 +41,7 @@ pub(crate) fn copy_across(
     to: u64,
     size: u64,
 )
-    requires low { (source.now.base ≤ from) × (target.old.base ≤ to) }
+    requires low { (floor_in source.now ≤ from) × (floor_in target.old ≤ to) }
     requires source { from - source.now.base + size ≤ length source.now.bytes.items }
     requires target { to - target.old.base + size ≤ length target.old.bytes.items }
     ensures { IsEdited target.old target.new to size (part_of source.now from size) }
@@ -53,14 +53,17 @@ pub(crate) fn copy_across(
 // Moves bytes of a chunk to another place in it. The two may overlap.
 #[inline(always)]
 pub(crate) fn move_within(chunk: &mut StoredChunk, from: u64, to: u64, size: u64)
-    requires low { (chunk.old.base ≤ from) × (chunk.old.base ≤ to) }
+    requires ready { floor_in chunk.old ≤ chunk.old.cursor }
+    requires low { (chunk.old.cursor ≤ from) × (chunk.old.cursor ≤ to) }
     requires source { from - chunk.old.base + size ≤ length chunk.old.bytes.items }
     requires target { to - chunk.old.base + size ≤ length chunk.old.bytes.items }
     ensures { IsEdited chunk.old chunk.new to size (part_of chunk.old from size) }
 {
-    let start = (from - chunk.base) as usize;
-    let target = (to - chunk.base) as usize;
-    shift(&mut chunk.bytes, start, target, size as usize);
+    let used = (chunk.cursor - chunk.base) as usize;
+    let place = chunk.bytes.part_mut(used, chunk.bytes.len() - used);
+    let start = (from - chunk.cursor) as usize;
+    let target = (to - chunk.cursor) as usize;
+    shift(place, start, target, size as usize);
 }
 
 // Copies bytes of one chunk of a table into another or the same. The two ranges may overlap.

@@ -4,6 +4,7 @@ ghost use Rattle.std.specs.List.{Contains};
 ghost use Rattle.placement.specs.Causes.{counted, TellsRequests};
 
 use crate::chunks::ChunkSource;
+use arena_region::Region;
 use std::alloc::Global;
 
 /// Chunks from memory, but for the requests whose numbers, from 1, are listed: these it refuses. It tells its
@@ -76,7 +77,7 @@ impl ChunkSource for RefusingChunks {
       asked = if c.is_telling then Some c.notes.items else None;
     } };
 
-    fn request(&mut self, size: u64, align: u64) -> Option<Vec<u8>>
+    fn request(&mut self, size: u64, align: u64) -> Option<Region>
         ensures zeros { IfSome result (λ chunk. chunk.items ≡ replicate size 0) }
         ensures granted { OnSome result (self.new.refused ≡ self.old.refused) }
         ensures refused { IfNone result (self.new.refused ≡ counted self.old.refused 1) }
@@ -90,7 +91,7 @@ impl ChunkSource for RefusingChunks {
         ensures refuse { self.new.refuse ≡ self.old.refuse }
     {
         if self.notes_and_serves(size, align)
-            && let Ok(chunk) = vec![in self.alloc; 0; size as usize]
+            && let Ok(chunk) = Region::zeros(self.alloc, size as usize)
         {
             return Some(chunk);
         }

@@ -10,6 +10,7 @@ use arena_place::{
     CHUNK_ALIGN, CHUNK_FOOTER_SIZE, DEFAULT_CHUNK_SIZE_WITHOUT_FOOTER, Layout, chunk_data_size,
     next_base,
 };
+use arena_region::Region;
 
 // The data size for a tried size, where such a chunk ends below the last address.
 pub(crate) fn possible_size(base: u64, tried: u64, layout: Layout) -> Option<u64>
@@ -27,7 +28,7 @@ pub(crate) fn possible_size(base: u64, tried: u64, layout: Layout) -> Option<u64
 #[derive(Drop)]
 pub(crate) struct Granted {
     pub(crate) base: u64,
-    pub(crate) chunk: Option<Vec<u8>>,
+    pub(crate) chunk: Option<Region>,
     pub(crate) refused: u32,
 }
 

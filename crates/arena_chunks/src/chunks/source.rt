@@ -4,6 +4,7 @@ ghost use Rattle.placement.specs.Rounding.{is_layout};
 ghost use Rattle.placement.specs.Causes.{counted, TellsRequests};
 ghost use Rattle.arena_chunks.specs.Source.{Source};
 
+use arena_region::Region;
 use std::alloc::Global;
 
 /// A source of chunks. It may refuse a request, and counts that: its count stands where it grants, and rises by exactly
@@ -14,7 +15,7 @@ pub trait ChunkSource {
 
     /// A chunk of `size` zeros for an address that is a multiple of `align`, or none, which is a refusal. With 48
     /// bytes more the two are still a layout.
-    fn request(&mut self, size: u64, align: u64) -> Option<Vec<u8>>
+    fn request(&mut self, size: u64, align: u64) -> Option<Region>
         requires { IsTrue (is_layout (size + 48) align) }
         ensures zeros { IfSome result (λ chunk. chunk.items ≡ replicate size 0) }
         ensures granted { OnSome result ((source self.new).refusals ≡ (source self.old).refusals) }
@@ -51,7 +52,7 @@ impl MemoryChunks {
 impl ChunkSource for MemoryChunks {
     ghost source = { λ c. record { refusals = c.refused; asked = None } };
 
-    fn request(&mut self, size: u64, align: u64) -> Option<Vec<u8>>
+    fn request(&mut self, size: u64, align: u64) -> Option<Region>
         ensures zeros { IfSome result (λ chunk. chunk.items ≡ replicate size 0) }
         ensures granted { OnSome result (self.new.refused ≡ self.old.refused) }
         ensures refused { IfNone result (self.new.refused ≡ counted self.old.refused 1) }
@@ -59,10 +60,10 @@ impl ChunkSource for MemoryChunks {
         ensures within { OnSome result (self.new.left + size ≡ self.old.left) }
         ensures kept { IfNone result (self.new.left ≡ self.old.left) }
     {
-        // The bytes are a vector, and addresses are numbers of the arena's own: any alignment can be had.
+        // The bytes are a region, and addresses are numbers of the arena's own: any alignment can be had.
         let _ = align;
         if size <= self.left
-            && let Ok(chunk) = vec![in self.alloc; 0; size as usize]
+            && let Ok(chunk) = Region::zeros(self.alloc, size as usize)
         {
             self.left -= size;
             return Some(chunk);

@@ -1,6 +1,7 @@
 // Allocators: arenas with their sources.
 use super::{ample, has, held, layout, placed, reads, refusing};
 use arena_chunks::{Allocator, Arena, ArenaErr, Edit, MemoryChunks, RefusingChunks};
+use arena_region::Region;
 use std::alloc::Global;
 use std::process::Abort;
 use std::test::Fail;
@@ -93,7 +94,7 @@ fn allocators_of_a_capacity(rt: HostRuntime) -> Result<(), Fail> {
 
 #[test]
 fn an_allocator_over_a_region(rt: HostRuntime) -> Result<(), Fail> {
-    let region = vec![in rt.alloc(); 0; 64]?;
+    let region = Region::zeros(rt.alloc(), 64)?;
     let chunks = MemoryChunks::new(rt.alloc(), 1 << 20);
     let Ok(mut a) = Allocator::from_raw_parts(rt.alloc(), region, chunks) else {
         return Err(Fail::from("an allocator"));

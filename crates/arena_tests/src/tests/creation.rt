@@ -2,6 +2,7 @@
 use super::refusing;
 use super::steps::{Stage, Step};
 use arena_chunks::{Arena, ArenaErr, MemoryChunks};
+use arena_region::Region;
 use std::alloc::Global;
 use std::process::Abort;
 use std::test::Fail;
@@ -174,8 +175,8 @@ const REGIONS: &[(usize, &[Step])] = &[
 // An arena over a region of so many bytes, all 7.
 fn over_region(rt: &impl Abort, alloc: Global, size: usize) -> Arena<16> {
     assert!(rt; size % 16 == 0 && size >= 48, "a region");
-    let region = vec![in alloc; 7; size];
-    let region = region.expect(rt, "memory");
+    let bytes = vec![in alloc; 7; size].expect(rt, "memory");
+    let region = Region::from_slice(alloc, &bytes).expect(rt, "memory");
     Arena::<16>::from_raw_parts(alloc, region).expect(rt, "an arena")
 }
 

@@ -3,6 +3,7 @@ use super::calls::{Call, Row, Wanted, asked, place, refuses, takes};
 use super::{ample, layout, refusing};
 use arena_chunks::{Allocator, MemoryChunks};
 use arena_items::{ArenaItems, ItemErr};
+use arena_region::Region;
 use std::alloc::Global;
 use std::process::Abort;
 use std::test::Fail;
@@ -153,7 +154,7 @@ fn ample_memory(rt: HostRuntime) {
 
 #[test]
 fn a_fixed_arena(rt: HostRuntime) -> Result<(), Fail> {
-    let region = vec![in rt.alloc(); 0; 64]?;
+    let region = Region::zeros(rt.alloc(), 64)?;
     let chunks = MemoryChunks::new(rt.alloc(), 1 << 20);
     let Ok(mut a) = Allocator::from_raw_parts(rt.alloc(), region, chunks) else {
         return Err(Fail::from("an allocator"));

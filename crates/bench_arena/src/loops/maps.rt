@@ -24,7 +24,7 @@ fn key(i: u32) -> u32 {
 }
 
 // A map of n keys to their numbers.
-fn filled(a: &mut Allocator<MemoryChunks>, n: u32) -> Result<HashMap<u32, u32>, Failed>
+pub(super) fn filled(a: &mut Allocator<MemoryChunks>, n: u32) -> Result<HashMap<u32, u32>, Failed>
     ensures { IfOk result (IsMapIn (kind ⟦<u32 as Item>⟧ ⟦<u32 as ArenaKey>⟧.key ⟦<u32 as Item>⟧
         ⟦<FxHasher as KeyHasher>⟧.hash_of) a.new.memory) }
 {

@@ -1,5 +1,5 @@
 // Loops over a pool of arenas, and over claims, by one thread and by several at once.
-ghost use Rattle.std.specs.Prelude.{◌≡◌, ◌≤◌, All, IfOk};
+ghost use Rattle.std.specs.Prelude.{◌≡◌, ◌≤◌};
 ghost use Rattle.arena_pool.specs.Kinds.{IsOfKind};
 ghost use Rattle.arena_pool.specs.Names.{IsBlankOf};
 ghost use Rattle.arena_pool.specs.declared.kind.PoolKind.{PoolKind};
@@ -10,9 +10,9 @@ use arena_chunks::{Allocator, MemoryChunks};
 use arena_items::Box;
 use arena_pool::laws::kinds_by_values;
 use arena_pool::{AllocatorPool, ClaimSeat, Claims, MOST_LENT, MemoryMaker, PoolName};
-use std::alloc::Global;
 use std::marker::Brand;
 use std::sync::Wait;
+use std::sync::atomic::{AtomicU64, Ordering};
 use std::sync::ledger::Blank;
 use std::thread;
 use std::thread::Threads;
@@ -132,23 +132,8 @@ pub fn claim(rt: &HostRuntime, calls: u64) -> Result<Timed, Failed> {
     Ok(Timed { time, number })
 }
 
-// A seat for each thread.
-fn seats(alloc: Global, claims: &Claims, seat: ClaimSeat) -> Result<Vec<ClaimSeat>, Failed>
-    requires { seat.table ≡ claims.now }
-    ensures { IfOk result (λ all. All (λ s. s.table ≡ claims.now) all.items) }
-{
-    let mut seat = seat;
-    let Ok(mut all) = Vec::with_capacity(alloc, THREADS) else {
-        return Err(Failed::NoPlace);
-    };
-    for _i in 0..THREADS {
-        all.push_reserved(claims.split(&mut seat));
-    }
-    Ok(all)
-}
-
 /// The same by several threads, each over all words.
-pub fn claim_threads<R: Threads + Sync>(
+pub fn claim_threads<R: Threads + Wait + Sync>(
     rt: &HostRuntime,
     threads: &R,
     calls: u64,
@@ -156,21 +141,36 @@ pub fn claim_threads<R: Threads + Sync>(
     let Ok((claims, seat)) = Claims::new(rt.alloc(), WORDS) else {
         return Err(Failed::NoPlace);
     };
-    let seats = seats(rt.alloc(), &claims, seat)?;
     let each = calls / THREADS as u64;
+    let free = AtomicU64::new(0);
+    let (claims, free) = (&claims, &free);
     let began = Instant::now(rt)?;
-    let parts = thread::map_vec(
+    // The thread that starts the others sleeps until they are done.
+    let started = thread::scope(
+        thread::scope_env(),
         threads,
-        seats,
-        &|seat: ClaimSeat| -> u64
-            requires { (seat.table ≡ claims) × (WORDS ≤ claims.words) }
-        { claim_in_turn(&claims, seat, each) },
+        move |scope| -> bool
+            requires { (seat.table ≡ claims.now) × (WORDS ≤ claims.now.words) }
+        {
+            let mut seat = seat;
+            for _i in 0..THREADS {
+                let theirs = claims.split(&mut seat);
+                let all = move || -> u64
+                    requires { (theirs.table ≡ claims.now) × (WORDS ≤ claims.now.words) }
+                { free.fetch_add(claim_in_turn(claims, theirs, each), Ordering::Relaxed) };
+                if scope.spawn(all).is_err() {
+                    return false;
+                }
+            }
+            true
+        },
     );
     let time = began.elapsed(rt)?;
-    let parts = parts.map_err(|_| Failed::NoPlace)?;
-    let mut number: u64 = 0;
-    for part in parts {
-        number = number.wrapping_add(part);
+    if !started {
+        return Err(Failed::NoPlace);
     }
-    Ok(Timed { time, number })
+    Ok(Timed {
+        time,
+        number: free.load(Ordering::Relaxed),
+    })
 }

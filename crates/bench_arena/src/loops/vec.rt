@@ -15,15 +15,15 @@ const INSERTED: u64 = 64;
 
 const SLICE: u64 = 256;
 
-fn new_allocator(rt: &HostRuntime) -> Allocator<MemoryChunks> {
+pub(super) fn new_allocator(rt: &HostRuntime) -> Allocator<MemoryChunks> {
     Allocator::new(rt.alloc(), MemoryChunks::new(rt.alloc(), BUDGET))
 }
 
-fn count(calls: u64) -> Result<u32, Failed> {
+pub(super) fn count(calls: u64) -> Result<u32, Failed> {
     u32::try_from(calls).map_err(|_| Failed::NoPlace)
 }
 
-fn sizes(vec: Vec<u32>) -> u64 {
+pub(super) fn sizes(vec: Vec<u32>) -> u64 {
     vec.len() as u64 + vec.capacity() as u64
 }
 

@@ -20,6 +20,26 @@ pub trait Checked: CloneIn {
         ensures { IsTrue result → Self.kind.is_held a.now.memory self.now };
 }
 
+impl Checked for u32 {
+    fn is_small() -> bool {
+        true
+    }
+
+    fn is_held<C: ChunkSource>(&self, _a: &Allocator<C>) -> bool {
+        true
+    }
+}
+
+impl Checked for u64 {
+    fn is_small() -> bool {
+        true
+    }
+
+    fn is_held<C: ChunkSource>(&self, _a: &Allocator<C>) -> bool {
+        true
+    }
+}
+
 impl Checked for SemanticId {
     fn is_small() -> bool {
         true

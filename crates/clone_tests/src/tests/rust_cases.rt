@@ -1,7 +1,9 @@
-// The Rust crate's own cases of copies and of `replace_with`, but for maps.
+// The Rust crate's own cases of copies and of `replace_with`.
 use super::ample;
 use super::checked::is_raw_held;
-use arena_chunks::{Allocator, ChunkSource};
+use super::kept::Kept;
+use arena_chunks::{Allocator, ChunkSource, Str};
+use arena_clone::CloneInSemanticIds::{With, Without};
 use arena_clone::{CloneIn, ReplaceWith};
 use arena_items::BoxSlice;
 use arena_vec::Vec;
@@ -99,6 +101,27 @@ fn copies_of_an_empty_list(rt: HostRuntime) {
         .expect(&rt, "a copy");
     for list in [copied, second] {
         assert!(rt; list.is_empty() && list.capacity() == 0);
+    }
+}
+
+#[test]
+fn copies_of_a_map(rt: HostRuntime) {
+    let mut original: Kept<Str, Str> = Kept::with_capacity(&rt, rt.alloc(), 8);
+    for (key, value) in [("x", "xx"), ("y", "yy"), ("z", "zz")] {
+        original.put_text(&rt, key, value);
+    }
+    let copied = original.copied(&rt, Without, rt.alloc());
+    let second = original.copied(&rt, With, rt.alloc());
+    original.put_text(&rt, "y", "changed");
+    assert!(rt; original.len() == 3 && original.has_text(&rt, "y", "changed"));
+    assert!(rt; original.has_text(&rt, "x", "xx") && original.has_text(&rt, "z", "zz"));
+    for copy in [copied, second] {
+        let mut copy = copy;
+        // The least table for three pairs.
+        assert!(rt; copy.len() == 3 && copy.slots() == 8);
+        for (key, value) in [("x", "xx"), ("y", "yy"), ("z", "zz")] {
+            assert!(rt; copy.has_text(&rt, key, value));
+        }
     }
 }
 

@@ -2,6 +2,7 @@
 use super::kept::{Fx, Kept};
 use arena_chunks::{Allocator, ChunkSource, MemoryChunks, RefusingChunks};
 use arena_items::AllocError;
+use arena_region::Region;
 use std::alloc::Global;
 use std::process::Abort;
 use std::test::Fail;
@@ -9,7 +10,7 @@ use std::test::Fail;
 // An allocator that has so many bytes, a multiple of 16, and asks for no chunk.
 fn fixed(rt: &impl Abort, alloc: Global, bytes: usize) -> Allocator<MemoryChunks> {
     assert!(rt; bytes < 1 << 20 && bytes % 16 == 0);
-    let region = vec![in alloc; 0; bytes + 48].expect(rt, "a region");
+    let region = Region::zeros(alloc, bytes + 48).expect(rt, "a region");
     match Allocator::from_raw_parts(alloc, region, MemoryChunks::new(alloc, 0)) {
         Ok(a) => a,
         Err(_) => panic!(rt; "an allocator"),

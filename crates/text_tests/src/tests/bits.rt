@@ -6,6 +6,7 @@ use super::ample;
 use arena_bits::BitSet;
 use arena_chunks::{Allocator, Block, ChunkSource, MemoryChunks};
 use arena_items::AllocError;
+use arena_region::Region;
 use std::alloc::Global;
 use std::process::Abort;
 
@@ -348,7 +349,7 @@ fn sets_of_some_capacities(rt: HostRuntime) {
 
 // An allocator over a region, where 32 bytes have a place.
 fn small(rt: &impl Abort, alloc: Global) -> Allocator<MemoryChunks> {
-    let region = vec![in alloc; 7; 48 + 32].expect(rt, "memory");
+    let region = Region::from_slice(alloc, &[7; 48 + 32]).expect(rt, "memory");
     let chunks = MemoryChunks::new(alloc, 0);
     let made = Allocator::from_raw_parts(alloc, region, chunks);
     made.ok().expect(rt, "an arena")

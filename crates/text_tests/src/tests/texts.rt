@@ -5,6 +5,7 @@ ghost use Rattle.arena_text.specs.Builders.{IsBuilderIn, builder_bytes};
 use super::ample;
 use arena_chunks::{Allocator, ChunkSource, MemoryChunks};
 use arena_items::{AllocError, Grown, InArena};
+use arena_region::Region;
 use arena_text::StringBuilder;
 use std::alloc::Global;
 use std::process::Abort;
@@ -315,7 +316,7 @@ fn refused(rt: HostRuntime) {
 
 // An allocator over a region, where 16 bytes have a place.
 fn small(rt: &impl Abort, alloc: Global) -> Allocator<MemoryChunks> {
-    let region = vec![in alloc; 7; 64].expect(rt, "memory");
+    let region = Region::from_slice(alloc, &[7; 64]).expect(rt, "memory");
     let chunks = MemoryChunks::new(alloc, 0);
     let made = Allocator::from_raw_parts(alloc, region, chunks);
     made.ok().expect(rt, "an arena")

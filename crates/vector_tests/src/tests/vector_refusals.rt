@@ -4,6 +4,7 @@ use super::numbers::Hints;
 use super::two_vectors::{self, Pair, both};
 use super::vectors::{Answer, Call, Row, holds, runs, vec_of};
 use arena_chunks::{Allocator, MemoryChunks};
+use arena_region::Region;
 use arena_vec::{AllocError, Grown, Vec};
 use std::alloc::Global;
 use std::process::Abort;
@@ -14,7 +15,7 @@ pub(super) const NONE_REFUSED: Grown<()> = Err(AllocError::AllocErr { refused: 0
 // An allocator that has so many bytes and asks for no chunk.
 pub(super) fn fixed(rt: &impl Abort, alloc: Global, bytes: usize) -> Allocator<MemoryChunks> {
     assert!(rt; bytes <= 1024);
-    let region = vec![in alloc; 0; bytes + 48].expect(rt, "memory");
+    let region = Region::zeros(alloc, bytes + 48).expect(rt, "memory");
     let size = region.len();
     assert!(rt; size % 16 == 0 && size >= 48);
     let chunks = MemoryChunks::new(alloc, 1 << 20);

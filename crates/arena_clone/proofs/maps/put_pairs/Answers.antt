@@ -6,14 +6,17 @@ use Rattle.arena_clone.proofs.PutLemmas.{at_slot, puts_none, puts_free, puts_ref
 use Rattle.arena_clone.proofs.maps.put_pairs.Goals as goal
 
 pub loop-slot-init : goal.loop-slot-init
-loop-slot-init g c = puts_none (kind g.K.Item g.K.ArenaKey.key g.V.Item g.S.KeyHasher.hash_of) g.K.CloneIn.kind g.V.CloneIn.kind g.met.K.CloneKey.keeps g.met.K.CloneIn.lawful
+loop-slot-init g c = puts_none (kind g.K.Item g.K.ArenaKey.key g.V.Item g.S.KeyHasher.hash_of) g.K.CloneIn.kind g.V.CloneIn.kind
+    g.met.K.CloneKey.keeps g.met.K.CloneIn.lawful
     g.met.V.CloneIn.lawful c.args.ids c.args.from.now.memory c.args.to.now c.args.empty
     (slots_in g.K.Item g.V.Item c.args.from.now.memory c.args.map.now.table) c.requires.empty.held.handle.place.readable c.requires.empty
 
 pub loop-slot-preserved-in_default : goal.loop-slot-preserved-in_default
-loop-slot-preserved-in_default g c = puts_free (kind g.K.Item g.K.ArenaKey.key g.V.Item g.S.KeyHasher.hash_of) g.K.CloneIn.kind g.V.CloneIn.kind g.met.K.CloneKey.keeps g.met.K.CloneIn.lawful
+loop-slot-preserved-in_default g c = puts_free (kind g.K.Item g.K.ArenaKey.key g.V.Item g.S.KeyHasher.hash_of) g.K.CloneIn.kind
+    g.V.CloneIn.kind g.met.K.CloneKey.keeps g.met.K.CloneIn.lawful
     g.met.V.CloneIn.lawful c.args.ids c.args.from.now.memory c.args.to.now c.args.empty
-    (slots_in g.K.Item g.V.Item c.args.from.now.memory c.args.map.now.table) c.loop-slot.to c.loop-slot.slot c.loop-slot.copy c.in_default.ensures c.loop-slot.invariant
+    (slots_in g.K.Item g.V.Item c.args.from.now.memory c.args.map.now.table) c.loop-slot.to c.loop-slot.slot c.loop-slot.copy
+    c.in_default.ensures c.loop-slot.invariant
 
 pub clone_pair-requires-clause-held : goal.clone_pair-requires-clause-held
 clone_pair-requires-clause-held g c =
@@ -23,45 +26,57 @@ clone_pair-requires-clause-held g c =
 pub returns-in_err-key : goal.returns-in_err-key
 returns-in_err-key g c =
     let p = err_from_is_err_and c.from_residual.result c.from_residual.ensures.1 in
-    rw (p.1, p.2) (puts_refused (kind g.K.Item g.K.ArenaKey.key g.V.Item g.S.KeyHasher.hash_of) g.K.CloneIn.kind g.V.CloneIn.kind g.met.K.CloneKey.keeps g.met.K.CloneIn.lawful
+    rw (p.1, p.2) (puts_refused (kind g.K.Item g.K.ArenaKey.key g.V.Item g.S.KeyHasher.hash_of) g.K.CloneIn.kind g.V.CloneIn.kind
+    g.met.K.CloneKey.keeps g.met.K.CloneIn.lawful
     g.met.V.CloneIn.lawful c.args.ids c.args.from.now.memory c.args.to.now c.args.empty
     (slots_in g.K.Item g.V.Item c.args.from.now.memory c.args.map.now.table) c.requires.held.0.once
-    (omega (arith, c.requires.room, c.requires.held.0.count)) c.loop-slot.to c.clone_pair.new.to c.loop-slot.slot c.loop-slot.copy c.in-Some.pair
+    (omega (arith, c.requires.room, c.requires.held.0.count)) c.loop-slot.to c.clone_pair.new.to c.loop-slot.slot c.loop-slot.copy
+    c.in-Some.pair
     c.in-Some.ensures c.loop-slot.invariant _ c.in_err-key.ensures)
 
 pub insert-requires-clause-held : goal.insert-requires-clause-held
-insert-requires-clause-held g c = put_map (kind g.K.Item g.K.ArenaKey.key g.V.Item g.S.KeyHasher.hash_of) g.K.CloneIn.kind g.V.CloneIn.kind g.met.K.CloneKey.keeps g.met.K.CloneIn.lawful
+insert-requires-clause-held g c = put_map (kind g.K.Item g.K.ArenaKey.key g.V.Item g.S.KeyHasher.hash_of) g.K.CloneIn.kind
+    g.V.CloneIn.kind g.met.K.CloneKey.keeps g.met.K.CloneIn.lawful
     g.met.V.CloneIn.lawful c.args.ids c.args.from.now.memory c.args.to.now c.args.empty
     (slots_in g.K.Item g.V.Item c.args.from.now.memory c.args.map.now.table) c.requires.held.0.once
-    (omega (arith, c.requires.room, c.requires.held.0.count)) c.loop-slot.to c.clone_pair.new.to c.loop-slot.slot c.loop-slot.copy c.in-Some.pair
+    (omega (arith, c.requires.room, c.requires.held.0.count)) c.loop-slot.to c.clone_pair.new.to c.loop-slot.slot c.loop-slot.copy
+    c.in-Some.pair
     c.in-Some.ensures c.loop-slot.invariant (c.in_ok-key.key, c.in_ok-key.value) c.in_ok-key.ensures
 
 pub insert-requires-clause-text : goal.insert-requires-clause-text
-insert-requires-clause-text g c = put_readable (kind g.K.Item g.K.ArenaKey.key g.V.Item g.S.KeyHasher.hash_of) g.K.CloneIn.kind g.V.CloneIn.kind g.met.K.CloneKey.keeps g.met.K.CloneIn.lawful
+insert-requires-clause-text g c = put_readable (kind g.K.Item g.K.ArenaKey.key g.V.Item g.S.KeyHasher.hash_of) g.K.CloneIn.kind
+    g.V.CloneIn.kind g.met.K.CloneKey.keeps g.met.K.CloneIn.lawful
     g.met.V.CloneIn.lawful c.args.ids c.args.from.now.memory c.args.to.now c.args.empty
     (slots_in g.K.Item g.V.Item c.args.from.now.memory c.args.map.now.table) c.requires.held.0.once
-    (omega (arith, c.requires.room, c.requires.held.0.count)) c.loop-slot.to c.clone_pair.new.to c.loop-slot.slot c.loop-slot.copy c.in-Some.pair
+    (omega (arith, c.requires.room, c.requires.held.0.count)) c.loop-slot.to c.clone_pair.new.to c.loop-slot.slot c.loop-slot.copy
+    c.in-Some.pair
     c.in-Some.ensures c.loop-slot.invariant (c.in_ok-key.key, c.in_ok-key.value) c.in_ok-key.ensures
 
 pub insert-requires-clause-apart : goal.insert-requires-clause-apart
-insert-requires-clause-apart g c = put_apart (kind g.K.Item g.K.ArenaKey.key g.V.Item g.S.KeyHasher.hash_of) g.K.CloneIn.kind g.V.CloneIn.kind g.met.K.CloneKey.keeps g.met.K.CloneIn.lawful
+insert-requires-clause-apart g c = put_apart (kind g.K.Item g.K.ArenaKey.key g.V.Item g.S.KeyHasher.hash_of) g.K.CloneIn.kind
+    g.V.CloneIn.kind g.met.K.CloneKey.keeps g.met.K.CloneIn.lawful
     g.met.V.CloneIn.lawful c.args.ids c.args.from.now.memory c.args.to.now c.args.empty
     (slots_in g.K.Item g.V.Item c.args.from.now.memory c.args.map.now.table) c.requires.held.0.once
-    (omega (arith, c.requires.room, c.requires.held.0.count)) c.loop-slot.to c.clone_pair.new.to c.loop-slot.slot c.loop-slot.copy c.in-Some.pair
+    (omega (arith, c.requires.room, c.requires.held.0.count)) c.loop-slot.to c.clone_pair.new.to c.loop-slot.slot c.loop-slot.copy
+    c.in-Some.pair
     c.in-Some.ensures c.loop-slot.invariant (c.in_ok-key.key, c.in_ok-key.value) c.in_ok-key.ensures
 
 pub returns-in_err-insert : goal.returns-in_err-insert
-returns-in_err-insert g c = absurd (puts_no_refusal (kind g.K.Item g.K.ArenaKey.key g.V.Item g.S.KeyHasher.hash_of) g.K.CloneIn.kind g.V.CloneIn.kind g.met.K.CloneKey.keeps g.met.K.CloneIn.lawful
+returns-in_err-insert g c = absurd (puts_no_refusal (kind g.K.Item g.K.ArenaKey.key g.V.Item g.S.KeyHasher.hash_of) g.K.CloneIn.kind
+    g.V.CloneIn.kind g.met.K.CloneKey.keeps g.met.K.CloneIn.lawful
     g.met.V.CloneIn.lawful c.args.ids c.args.from.now.memory c.args.to.now c.args.empty
     (slots_in g.K.Item g.V.Item c.args.from.now.memory c.args.map.now.table) c.requires.held.0.once
-    (omega (arith, c.requires.room, c.requires.held.0.count)) c.loop-slot.to c.clone_pair.new.to c.loop-slot.slot c.loop-slot.copy c.in-Some.pair
+    (omega (arith, c.requires.room, c.requires.held.0.count)) c.loop-slot.to c.clone_pair.new.to c.loop-slot.slot c.loop-slot.copy
+    c.in-Some.pair
     c.in-Some.ensures c.loop-slot.invariant (c.in_ok-key.key, c.in_ok-key.value) c.in_ok-key.ensures
     c.insert.new.a c.insert.new.self _ c.in_err-insert.ensures)
 
 pub loop-slot-preserved : goal.loop-slot-preserved
-loop-slot-preserved g c = puts_more (kind g.K.Item g.K.ArenaKey.key g.V.Item g.S.KeyHasher.hash_of) g.K.CloneIn.kind g.V.CloneIn.kind g.met.K.CloneKey.keeps g.met.K.CloneIn.lawful
+loop-slot-preserved g c = puts_more (kind g.K.Item g.K.ArenaKey.key g.V.Item g.S.KeyHasher.hash_of) g.K.CloneIn.kind g.V.CloneIn.kind
+    g.met.K.CloneKey.keeps g.met.K.CloneIn.lawful
     g.met.V.CloneIn.lawful c.args.ids c.args.from.now.memory c.args.to.now c.args.empty
     (slots_in g.K.Item g.V.Item c.args.from.now.memory c.args.map.now.table) c.requires.held.0.once
-    (omega (arith, c.requires.room, c.requires.held.0.count)) c.loop-slot.to c.clone_pair.new.to c.loop-slot.slot c.loop-slot.copy c.in-Some.pair
+    (omega (arith, c.requires.room, c.requires.held.0.count)) c.loop-slot.to c.clone_pair.new.to c.loop-slot.slot c.loop-slot.copy
+    c.in-Some.pair
     c.in-Some.ensures c.loop-slot.invariant (c.in_ok-key.key, c.in_ok-key.value) c.in_ok-key.ensures
     c.insert.new.a c.insert.new.self _ c.in_ok-insert.ensures

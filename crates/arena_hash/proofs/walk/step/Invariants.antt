@@ -2,11 +2,11 @@ use Rattle.std.proofs.Common.{◌≤◌, ◌-◌, take}
 use Rattle.arena_hash.specs.Walks.{front_of, AreFree, IsScan}
 use Rattle.arena_hash.proofs.walk.step.Given as goal
 
-abbrev pub invariant-words : goal.invariant-words
-invariant-words l =
+abbrev pub invariant-groups : goal.invariant-groups
+invariant-groups l =
     IsScan l.fn.slots (take l.fn.slots l.fn.bytes) (record { base = l.base; rest = l.rest })
     × (front_of l.fn.scan ≤ front_of (record { base = l.base; rest = l.rest }))
     × AreFree (take l.fn.slots l.fn.bytes) (front_of l.fn.scan) (front_of (record { base = l.base; rest = l.rest }))
 
-abbrev pub decreases-words : goal.decreases-words
-decreases-words l = l.fn.slots - l.base
+abbrev pub decreases-groups : goal.decreases-groups
+decreases-groups l = l.fn.slots - l.base

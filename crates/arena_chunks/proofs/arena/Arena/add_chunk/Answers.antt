@@ -42,7 +42,7 @@ room g c = room_stored g.row.MIN_ALIGN c.self.inside c.args.self.now c.args.layo
 whole : (g : Over) (c : goal.After-round_down_to-addr g) → IsInstalled g.row.MIN_ALIGN c.self.inside c.args.self.now c.ask_above-base.result.base c.in-Some.bytes.items c.install.new.newest c.install.new.older.items
 whole g c =
     installed g.row.MIN_ALIGN c.self.inside c.args.self.now c.ask_above-base.result.base c.in-Some.bytes c.install.new.newest c.install.new.older.items c.self.invariant c.self.view_is
-    (room g c).valid c.install.ensures.newest (rw (← c.reserve.ensures.items) c.install.ensures.older)
+    (room g c).valid c.install.ensures.newest c.install.ensures.ready (rw (← c.reserve.ensures.items) c.install.ensures.older)
 
 pub invariant_of-self-2 : goal.invariant_of-self-2
 invariant_of-self-2 g c = (whole g c).stored

@@ -1,39 +1,29 @@
-use Rattle.std.proofs.Common.{◌≡◌, subst, arith, refl, Some, None}
+use Rattle.std.proofs.Common.{◌∙◌, ap, subst, arith}
 use Rattle.placement.specs.State.{IsValid}
-use Rattle.placement.specs.Search.{place}
 use Rattle.arena_chunks.specs.Memory.{Memory}
 use Rattle.arena_chunks.proofs.AskedLemmas.{asked_none}
-use Rattle.arena_chunks.proofs.StoredLemmas.{place_stored}
-use Rattle.arena_chunks.proofs.AllocationLemmas.{placing_here, added_place, placing_in_new, block_placed, all_refused}
-use Rattle.arena_chunks.proofs.arena.Arena.alloc_counted.Given.{Over}
+use Rattle.arena_chunks.proofs.StoredLemmas.{place_ready, cursor_moved}
+use Rattle.arena_chunks.proofs.AllocationLemmas.{place_cursor, placed_view, placing_here, block_placed, placed_there}
 use Rattle.arena_chunks.proofs.arena.Arena.alloc_counted.Goals as goal
 
--- ---- In the newest chunk
+-- ---- In the ready part of the newest chunk
 
-found : (g : Over) (c : goal.After-place_at g) → place c.args.self.now.state c.args.layout.size c.args.layout.align ≡ Some c.in-Some.addr
-found g c = place_stored g.row.MIN_ALIGN c.self.inside c.args.self.now c.args.layout.size c.args.layout.align (Some c.in-Some.addr) c.self.invariant c.self.view_is c.in-Some.ensures
+pub invariant_of-self : goal.invariant_of-self
+invariant_of-self g c =
+    let found = place_ready g.row.MIN_ALIGN c.self.inside c.args.self.now c.args.layout.size c.args.layout.align c.in-Some.addr c.self.invariant c.self.view_is (rw c.floor.ensures at c.in-Some.ensures) in
+    let valid = subst (λ (w : Memory). IsValid w.state) c.self.view_is c.self.invariant.valid in
+    cursor_moved g.row.MIN_ALIGN c.self.inside c.args.self.now c.in-Some.addr c.self.inside.newest.bytes.low c.self.inside.generation c.saturating_add-self-inside.result c.self.inside.reallocations c.self.invariant c.self.view_is
+    (place_cursor c.args.self.now.state c.args.layout.size c.args.layout.align c.in-Some.addr valid c.args.layout.valid found.0) c.self.invariant.valid.generation found.1
 
 pub returns-in-Some : goal.returns-in-Some
 returns-in-Some g c =
-    block_placed c.args.self.now c.place_at.new.self _ _ c.args.layout.size c.args.layout.align 0 c.in-Some.addr c.place_at.result (subst (λ (w : Memory). IsValid w.state) c.self.view_is c.self.invariant.valid) c.args.layout.valid
-    (rw c.place_at.ensures.memory (placing_here c.args.self.now c.args.layout.size c.args.layout.align c.in-Some.addr (found g c))) (rw (found g c) (asked_none _)) c.place_at.ensures.block
+    let found = place_ready g.row.MIN_ALIGN c.self.inside c.args.self.now c.args.layout.size c.args.layout.align c.in-Some.addr c.self.invariant c.self.view_is (rw c.floor.ensures at c.in-Some.ensures) in
+    let view = placed_view g.row.MIN_ALIGN c.self.inside c.args.self.now c.in-Some.addr c.self.inside.newest.bytes.low c.saturating_add-self-inside.result c.self.view_is (omega arith) in
+    block_placed c.args.self.now _ _ _ c.args.layout.size c.args.layout.align 0 c.in-Some.addr c.block_of.result (subst (λ (w : Memory). IsValid w.state) c.self.view_is c.self.invariant.valid) c.args.layout.valid
+    (rw view (placing_here c.args.self.now c.args.layout.size c.args.layout.align c.in-Some.addr found.0)) (rw found.0 (asked_none _))
+    (c.block_of.ensures.block ∙ ap (λ (w : Memory). record { generation = w.state.generation; addr = c.in-Some.addr; size = c.args.layout.size; align = c.args.layout.align }) c.self.view_is)
 
--- ---- In a new chunk
-
-pub place_at-requires-in-Ok : goal.place_at-requires-in-Ok
-place_at-requires-in-Ok g c =
-    let none = place_stored g.row.MIN_ALIGN c.self.inside c.args.self.now c.args.layout.size c.args.layout.align None c.self.invariant c.self.view_is c.in-None.ensures in
-    (omega arith, added_place c.args.self.now c.add_chunk.new.self c.args.layout.size c.args.layout.align c.in-Ok.refused c.in-Ok.addr c.args.layout.valid none c.in-Ok.ensures.added.added)
+-- ---- Elsewhere
 
 pub returns-in-Ok : goal.returns-in-Ok
-returns-in-Ok g c =
-    let none = place_stored g.row.MIN_ALIGN c.self.inside c.args.self.now c.args.layout.size c.args.layout.align None c.self.invariant c.self.view_is c.in-None.ensures in
-    let added = c.in-Ok.ensures.added.added in
-    block_placed c.args.self.now c.place_at-in-Ok.new.self _ _ c.args.layout.size c.args.layout.align c.in-Ok.refused c.in-Ok.addr c.place_at-in-Ok.result added.valid c.args.layout.valid
-    (rw c.place_at-in-Ok.ensures.memory (placing_in_new c.args.self.now c.add_chunk.new.self c.args.layout.size c.args.layout.align c.in-Ok.refused c.in-Ok.addr c.args.layout.valid none added))
-    (rw none c.in-Ok.ensures.added.asked) (rw c.place_at-in-Ok.ensures.block (rw added.memory refl))
-
-pub returns-in-Err : goal.returns-in-Err
-returns-in-Err g c =
-    let none = place_stored g.row.MIN_ALIGN c.self.inside c.args.self.now c.args.layout.size c.args.layout.align None c.self.invariant c.self.view_is c.in-None.ensures in
-    all_refused c.args.self.now c.add_chunk.new.self _ _ c.args.layout.size c.args.layout.align c.in-Err.e (subst (λ (w : Memory). IsValid w.state) c.self.view_is c.self.invariant.valid) none c.in-Err.ensures.err c.in-Err.ensures.added
+returns-in-Ok g c = placed_there _ _ c.args.layout.size c.args.layout.align c.in-Ok.refused c.in-Ok.addr c.block_of-in-Ok.result c.in-Ok.ensures c.block_of-in-Ok.ensures.block

@@ -1,6 +1,6 @@
-use Rattle.std.proofs.Common.{◌∙◌, sym, ap, subst, arith}
+use Rattle.std.proofs.Common.{◌+◌, ◌∙◌, sym, ap, subst, arith}
 use Rattle.placement.specs.State.{State, IsValid}
-use Rattle.placement.proofs.RoundingLemmas.{min_align_power}
+use Rattle.placement.proofs.RoundingLemmas.{min_align_power, min_align_positive, up_ge}
 use Rattle.placement.proofs.ReturnLemmas.{IsReturn, dealloc_elsewhere}
 use Rattle.arena_chunks.specs.Memory.{Memory}
 use Rattle.arena_chunks.proofs.StoredLemmas.{cursor_stored, cursor_moved, cursor_view}
@@ -28,12 +28,13 @@ back g c = last_returned g.row.MIN_ALIGN c.args.self.now c.args.block c.round_up
 
 pub invariant_of-self : goal.invariant_of-self
 invariant_of-self g c =
-    cursor_moved g.row.MIN_ALIGN c.self.inside c.args.self.now c.round_up_to_unchecked-self-inside.result c.self.inside.allocations c.self.inside.reallocations c.self.invariant c.self.view_is
-    (record { low = (back g c).low; high = (back g c).high; valid = (back g c).valid })
+    cursor_moved g.row.MIN_ALIGN c.self.inside c.args.self.now c.round_up_to_unchecked-self-inside.result c.self.inside.newest.bytes.low c.self.inside.generation c.self.inside.allocations c.self.inside.reallocations c.self.invariant c.self.view_is
+    (record { low = (back g c).low; high = (back g c).high; valid = (back g c).valid }) c.self.invariant.valid.generation
+    (omega (arith, c.self.invariant.ready, c.if-block-self.true, c.round_up_to_unchecked-self-inside.ensures, up_ge (c.args.block.addr + c.args.block.size) g.row.MIN_ALIGN (min_align_positive g.row.MIN_ALIGN c.self.invariant.valid.min_align)))
 
 pub returns-then-block-self : goal.returns-then-block-self
 returns-then-block-self g c =
-    let view = cursor_view g.row.MIN_ALIGN c.self.inside c.args.self.now c.round_up_to_unchecked-self-inside.result c.self.view_is in
+    let view = cursor_view g.row.MIN_ALIGN c.self.inside c.args.self.now c.round_up_to_unchecked-self-inside.result c.self.inside.newest.bytes.low c.self.view_is in
     gives_back c.args.self.now _ c.args.block (last g c).valid c.requires (view ∙ ap (λ (s : State). record c.args.self.now { state = s }) (sym (back g c).step))
 
 pub returns-else-block-self : goal.returns-else-block-self

@@ -27,6 +27,12 @@ overflow_add-addr g c =
 
 -- ---- In the newest chunk
 
+pub edit_at-requires-clause-low : goal.edit_at-requires-clause-low
+edit_at-requires-clause-low g c =
+    let range = block_range g.row.MIN_ALIGN c.self.inside c.args.self.now c.args.block (c.args.block.addr + c.args.at) c.args.size c.self.invariant c.self.view_is c.requires.readable (omega arith) (omega (arith, c.requires.range)) c.if-size-eq0.false in
+    let part = newest_part _ _ _ _ _ range c.if-addr-newest.true in
+    omega (arith, part.ready, part.used)
+
 pub edit_at-requires-clause-high : goal.edit_at-requires-clause-high
 edit_at-requires-clause-high g c =
     let range = block_range g.row.MIN_ALIGN c.self.inside c.args.self.now c.args.block (c.args.block.addr + c.args.at) c.args.size c.self.invariant c.self.view_is c.requires.readable (omega arith) (omega (arith, c.requires.range)) c.if-size-eq0.false in
@@ -62,6 +68,12 @@ pub find_chunk-i-requires : goal.find_chunk-i-requires
 find_chunk-i-requires g c =
     let range = block_range g.row.MIN_ALIGN c.self.inside c.args.self.now c.args.block (c.args.block.addr + c.args.at) c.args.size c.self.invariant c.self.view_is c.requires.readable (omega arith) (omega (arith, c.requires.range)) c.if-size-eq0.false in
     rw c.deref.ensures.value (searchable _ _ _ _ _ range c.if-addr-newest.false)
+
+pub edit_at-requires-else-addr-newest-clause-low : goal.edit_at-requires-else-addr-newest-clause-low
+edit_at-requires-else-addr-newest-clause-low g c =
+    let range = block_range g.row.MIN_ALIGN c.self.inside c.args.self.now c.args.block (c.args.block.addr + c.args.at) c.args.size c.self.invariant c.self.view_is c.requires.readable (omega arith) (omega (arith, c.requires.range)) c.if-size-eq0.false in
+    let older = is_older _ _ _ _ _ c.find_chunk-i.result c.deref.result.now c.index_mut.result.now range c.if-addr-newest.false c.deref.ensures.value c.find_chunk-i.ensures c.index_mut.ensures.value in
+    omega (arith, older.part.ready, older.part.used)
 
 pub edit_at-requires-else-addr-newest-clause-high : goal.edit_at-requires-else-addr-newest-clause-high
 edit_at-requires-else-addr-newest-clause-high g c =

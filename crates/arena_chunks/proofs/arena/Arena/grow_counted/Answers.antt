@@ -1,13 +1,14 @@
-use Rattle.std.proofs.Common.{◌≡◌, ◌<◌, ◌⊎◌, ◌∙◌, inl, inr, ap, sym, subst, arith, Some, None}
-use Rattle.placement.specs.Rounding.{up}
+use Rattle.std.proofs.Common.{◌≡◌, ℕ, ◌-◌, ◌<◌, ◌⊎◌, ◌∙◌, inl, inr, ap, sym, subst, arith, IsTrue, Some}
+use Rattle.placement.specs.Rounding.{up, is_layout}
 use Rattle.placement.specs.State.{cursor_of, IsValid}
-use Rattle.placement.specs.Moves.{Resizing}
+use Rattle.placement.specs.Search.{place}
 use Rattle.placement.proofs.RoundingLemmas.{min_align_power, min_align_positive, min_align_le, layout_small, up_ge}
 use Rattle.arena_chunks.specs.Memory.{Memory}
-use Rattle.arena_chunks.specs.Resizes.{IsResizedUnasked}
-use Rattle.arena_chunks.proofs.StoredLemmas.{cursor_stored, place_stored}
-use Rattle.arena_chunks.proofs.ResizeSteps.{grows_anew, IsHere, grows_full, grows_down, grows_not}
-use Rattle.arena_chunks.proofs.ResizedLemmas.{resized_unasked, resized_not, grown_aligned}
+use Rattle.placement.proofs.CursorLemmas.{start_set}
+use Rattle.arena_chunks.proofs.StoredLemmas.{cursor_stored, place_ready, cursor_moved, cursor_view}
+use Rattle.arena_chunks.proofs.AllocationLemmas.{place_cursor}
+use Rattle.arena_chunks.proofs.ResizeSteps.{grows_anew, IsHere, grows_down, grows_not}
+use Rattle.arena_chunks.proofs.ResizedLemmas.{resized_not, is_grown, grown_used, grown_answer}
 use Rattle.arena_chunks.proofs.arena.Arena.grow_counted.Goals as goal
 use Rattle.arena_chunks.proofs.arena.Arena.grow_counted.Goals.{then-block-layout-via-then-block-layout, then-block-layout-via-else-block-layout+then-block-self}
 
@@ -39,23 +40,50 @@ returns-in_default g c =
     let way = grows_not c.args.self.now.state c.args.block.addr c.args.block.size c.args.block.align c.args.layout.size c.args.layout.align here (rw (← more) (sym c.in_default.ensures.valid)) in
     rw way (resized_not c.args.self.now _ c.args.block c.args.layout.size c.args.layout.align (subst (λ (w : Memory). IsValid w.state) c.self.view_is c.self.invariant.valid))
 
+-- ---- Down into bytes that are ready
+
+pub invariant_of-self : goal.invariant_of-self
+invariant_of-self g c =
+    let valid = subst (λ (w : Memory). IsValid w.state) c.self-2.view_is c.self-2.invariant.valid in
+    let found = place_ready g.row.MIN_ALIGN c.self-2.inside c.args.self.now c.in-Some.below.size c.in-Some.below.align c.in-Some-place.addr c.self-2.invariant c.self-2.view_is (rw c.floor.ensures at c.in-Some-place.ensures) in
+    cursor_moved g.row.MIN_ALIGN c.self-2.inside c.args.self.now c.in-Some-place.addr c.self-2.inside.newest.bytes.low c.self-2.inside.generation c.self-2.inside.allocations c.self-2.inside.reallocations c.self-2.invariant c.self-2.view_is
+    (place_cursor c.args.self.now.state c.in-Some.below.size c.in-Some.below.align c.in-Some-place.addr valid c.in-Some.below.valid found.0) c.self-2.invariant.valid.generation found.1
+
+pub move_down-requires : goal.move_down-requires
+move_down-requires g c =
+    let valid = subst (λ (w : Memory). IsValid w.state) c.self-2.view_is c.self-2.invariant.valid in
+    let found = place_ready g.row.MIN_ALIGN c.self-2.inside c.args.self.now c.in-Some.below.size c.in-Some.below.align c.in-Some-place.addr c.self-2.invariant c.self-2.view_is (rw c.floor.ensures at c.in-Some-place.ensures) in
+    let at = c.if-block-self.false ∙ cursor_stored g.row.MIN_ALIGN c.self.inside c.args.self.now c.self.invariant c.self.view_is in
+    let more : ℕ = up c.args.layout.size c.args.self.now.state.min_align - c.args.block.size in
+    let size : c.in-Some.below.size ≡ more = c.in-Some.ensures.value.0 ∙ ap (λ (n : ℕ). n - c.args.block.size) (c.round_up_to_unchecked.ensures ∙ ap (λ (w : Memory). up c.args.layout.size w.state.min_align) c.self.view_is) in
+    let fine : IsTrue (is_layout more c.args.block.align) = rw (← size, ← c.in-Some.ensures.value.1) c.in-Some.below.valid in
+    let spot : place c.args.self.now.state more c.args.block.align ≡ Some c.in-Some-place.addr = rw (← size, ← c.in-Some.ensures.value.1) found.0 in
+    let down = is_grown c.args.self.now c.args.block c.args.layout.size c.in-Some-place.addr valid c.requires.readable at fine spot in
+    let used = grown_used c.args.self.now c.args.block c.args.layout.size c.in-Some-place.addr in
+    let start = start_set c.in-Some-place.addr c.args.self.now.state.chunks in
+    rw (ap (λ (w : Memory). w.state.chunks) (cursor_view g.row.MIN_ALIGN c.self-2.inside c.args.self.now c.in-Some-place.addr c.self-2.inside.newest.bytes.low c.self-2.view_is))
+    (omega arith, (λ some. used _ _ down down.below (omega arith) some, (λ some. used _ _ down (omega arith) (omega (arith, down.below)) some, (omega (arith, start, down.low, down.below), omega (arith, start, down.low)))))
+
 pub returns-in-Some-place : goal.returns-in-Some-place
 returns-in-Some-place g c =
-    let here : IsHere c.args.self.now.state c.args.block.addr c.args.block.size c.args.block.align c.args.layout.size c.args.layout.align =
-    record { low = c.if-block-layout.false; at = c.if-block-self.false ∙ cursor_stored g.row.MIN_ALIGN c.self.inside c.args.self.now c.self.invariant c.self.view_is } in
-    let more : c.round_up_to_unchecked.result ≡ up c.args.layout.size c.args.self.now.state.min_align = c.round_up_to_unchecked.ensures ∙ ap (λ (w : Memory). up c.args.layout.size w.state.min_align) c.self.view_is in
-    let found = place_stored g.row.MIN_ALIGN c.self-2.inside c.args.self.now c.in-Some.below.size c.in-Some.below.align (Some c.in-Some-place.addr) c.self-2.invariant c.self-2.view_is c.in-Some-place.ensures in
-    let way = grows_down c.args.self.now.state c.args.block.addr c.args.block.size c.args.block.align c.args.layout.size c.args.layout.align c.in-Some-place.addr here (rw (← more) (sym c.in-Some.ensures.valid)) (rw (← more, ← c.in-Some.ensures.value.0, ← c.in-Some.ensures.value.1) found) in
-    let is = subst (λ (w : Resizing). IsResizedUnasked w c.args.self.now c.grow_to.new.self c.args.block c.args.layout.size c.args.layout.align c.grow_to.result) (sym way) c.grow_to.ensures in
-    resized_unasked _ c.args.self.now c.grow_to.new.self _ c.args.block c.args.layout.size c.args.layout.align c.grow_to.result
-    (grown_aligned _ _ c.args.block c.args.layout.size c.args.layout.align c.grow_to.result is.entry c.args.layout.valid is.resizes.of_layout.of_align is.step) is
+    let valid = subst (λ (w : Memory). IsValid w.state) c.self-2.view_is c.self-2.invariant.valid in
+    let found = place_ready g.row.MIN_ALIGN c.self-2.inside c.args.self.now c.in-Some.below.size c.in-Some.below.align c.in-Some-place.addr c.self-2.invariant c.self-2.view_is (rw c.floor.ensures at c.in-Some-place.ensures) in
+    let at = c.if-block-self.false ∙ cursor_stored g.row.MIN_ALIGN c.self.inside c.args.self.now c.self.invariant c.self.view_is in
+    let more : ℕ = up c.args.layout.size c.args.self.now.state.min_align - c.args.block.size in
+    let size : c.in-Some.below.size ≡ more = c.in-Some.ensures.value.0 ∙ ap (λ (n : ℕ). n - c.args.block.size) (c.round_up_to_unchecked.ensures ∙ ap (λ (w : Memory). up c.args.layout.size w.state.min_align) c.self.view_is) in
+    let fine : IsTrue (is_layout more c.args.block.align) = rw (← size, ← c.in-Some.ensures.value.1) c.in-Some.below.valid in
+    let spot : place c.args.self.now.state more c.args.block.align ≡ Some c.in-Some-place.addr = rw (← size, ← c.in-Some.ensures.value.1) found.0 in
+    let down = is_grown c.args.self.now c.args.block c.args.layout.size c.in-Some-place.addr valid c.requires.readable at fine spot in
+    let way = grows_down c.args.self.now.state c.args.block.addr c.args.block.size c.args.block.align c.args.layout.size c.args.layout.align c.in-Some-place.addr (record { low = c.if-block-layout.false; at = at }) fine spot in
+    grown_answer c.args.self.now _ c.move_down.new.self _ c.args.block c.move_down.result c.args.layout.size c.args.layout.align c.in-Some-place.addr down c.requires.size c.args.layout.valid way
+    (cursor_view g.row.MIN_ALIGN c.self-2.inside c.args.self.now c.in-Some-place.addr c.self-2.inside.newest.bytes.low c.self-2.view_is)
+    c.move_down.ensures.state c.move_down.ensures.statistics c.move_down.ensures.bytes c.move_down.ensures.block
 
--- There is no room for what is wanted more.
-pub returns-in-None : goal.returns-in-None
-returns-in-None g c =
-    let here : IsHere c.args.self.now.state c.args.block.addr c.args.block.size c.args.block.align c.args.layout.size c.args.layout.align =
-    record { low = c.if-block-layout.false; at = c.if-block-self.false ∙ cursor_stored g.row.MIN_ALIGN c.self.inside c.args.self.now c.self.invariant c.self.view_is } in
-    let more : c.round_up_to_unchecked.result ≡ up c.args.layout.size c.args.self.now.state.min_align = c.round_up_to_unchecked.ensures ∙ ap (λ (w : Memory). up c.args.layout.size w.state.min_align) c.self.view_is in
-    let none = place_stored g.row.MIN_ALIGN c.self-2.inside c.args.self.now c.in-Some.below.size c.in-Some.below.align None c.self-2.invariant c.self-2.view_is c.in-None.ensures in
-    let way = grows_full c.args.self.now.state c.args.block.addr c.args.block.size c.args.block.align c.args.layout.size c.args.layout.align here (rw (← more) (sym c.in-Some.ensures.valid)) (rw (← more, ← c.in-Some.ensures.value.0, ← c.in-Some.ensures.value.1) none) in
-    rw way c.move_to_new-in-None.ensures
+-- ---- Further down, or anew
+
+pub grow_below-requires : goal.grow_below-requires
+grow_below-requires g c =
+    let at = c.if-block-self.false ∙ cursor_stored g.row.MIN_ALIGN c.self.inside c.args.self.now c.self.invariant c.self.view_is in
+    let size : c.in-Some.below.size ≡ up c.args.layout.size c.args.self.now.state.min_align - c.args.block.size =
+    c.in-Some.ensures.value.0 ∙ ap (λ (n : ℕ). n - c.args.block.size) (c.round_up_to_unchecked.ensures ∙ ap (λ (w : Memory). up c.args.layout.size w.state.min_align) c.self.view_is) in
+    (omega arith, (c.requires.readable, (c.requires.size, (c.if-block-layout.false, (at, (size, c.in-Some.ensures.value.1))))))

@@ -14,6 +14,13 @@ find_chunk-i-requires g c =
     let move = is_move g.row.MIN_ALIGN c.self.inside c.args.self.now c.args.from c.args.to c.args.n c.self.invariant c.self.view_is c.requires.source c.requires.target c.requires.newest c.if-n-eq0.false in
     rw c.deref.ensures.value (searchable _ _ _ _ _ move.source c.if-from-self.false)
 
+pub copy_across-requires-clause-low : goal.copy_across-requires-clause-low
+copy_across-requires-clause-low g c =
+    let move = is_move g.row.MIN_ALIGN c.self.inside c.args.self.now c.args.from c.args.to c.args.n c.self.invariant c.self.view_is c.requires.source c.requires.target c.requires.newest c.if-n-eq0.false in
+    let older = is_older _ _ _ _ _ c.find_chunk-i.result c.deref.result.now c.index.result.now move.source c.if-from-self.false c.deref.ensures.value c.find_chunk-i.ensures c.index.ensures in
+    let target = newest_part _ _ _ _ _ move.target move.above in
+    (omega (arith, older.part.ready, older.part.used), omega (arith, target.ready, target.used))
+
 pub copy_across-requires-clause-source : goal.copy_across-requires-clause-source
 copy_across-requires-clause-source g c =
     let move = is_move g.row.MIN_ALIGN c.self.inside c.args.self.now c.args.from c.args.to c.args.n c.self.invariant c.self.view_is c.requires.source c.requires.target c.requires.newest c.if-n-eq0.false in

@@ -10,6 +10,12 @@ pub returns-then-n-eq0-clause-bytes : goal.returns-then-n-eq0-clause-bytes
 returns-then-n-eq0-clause-bytes g c =
     λ p. sym (written_none (image c.args.self.now) c.args.to p _ (ap length (no_bytes (image c.args.self.now) c.args.from c.args.n c.if-n-eq0.true)))
 
+pub move_within-requires-clause-low : goal.move_within-requires-clause-low
+move_within-requires-clause-low g c =
+    let move = is_move g.row.MIN_ALIGN c.self.inside c.args.self.now c.args.from c.args.to c.args.n c.self.invariant c.self.view_is c.requires.source c.requires.target c.requires.newest.1 c.if-n-eq0.false in
+    let low : c.self.inside.newest.base ≤ c.args.from = omega (arith, start_stored g.row.MIN_ALIGN c.self.inside c.args.self.now c.self.invariant c.self.view_is, c.requires.newest.0) in
+    ((newest_part _ _ _ _ _ move.source low).used, (newest_part _ _ _ _ _ move.target move.above).used)
+
 pub move_within-requires-clause-source : goal.move_within-requires-clause-source
 move_within-requires-clause-source g c =
     let move = is_move g.row.MIN_ALIGN c.self.inside c.args.self.now c.args.from c.args.to c.args.n c.self.invariant c.self.view_is c.requires.source c.requires.target c.requires.newest.1 c.if-n-eq0.false in

@@ -14,6 +14,13 @@ find_chunk-j-requires g c =
 
 -- ---- From the newest chunk
 
+pub copy_across-requires-clause-low : goal.copy_across-requires-clause-low
+copy_across-requires-clause-low g c =
+    let copy = is_copy g.row.MIN_ALIGN c.self.inside c.args.self.now c.args.from c.args.to c.args.n c.self.invariant c.self.view_is c.requires.some c.requires.source c.requires.target c.requires.older in
+    let older = is_older _ _ _ _ _ c.find_chunk-j.result c.deref.result.now c.index_mut.result.now copy.target copy.below c.deref.ensures.value c.find_chunk-j.ensures c.index_mut.ensures.value in
+    let part = newest_part _ _ _ _ _ copy.source c.if-from-newest.true in
+    (omega (arith, part.ready, part.used), omega (arith, older.part.ready, older.part.used))
+
 pub copy_across-requires-clause-source : goal.copy_across-requires-clause-source
 copy_across-requires-clause-source g c =
     let copy = is_copy g.row.MIN_ALIGN c.self.inside c.args.self.now c.args.from c.args.to c.args.n c.self.invariant c.self.view_is c.requires.some c.requires.source c.requires.target c.requires.older in

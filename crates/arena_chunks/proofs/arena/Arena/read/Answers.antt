@@ -7,6 +7,12 @@ use Rattle.arena_chunks.proofs.arena.Arena.read.Goals as goal
 pub returns-then-block-eq0 : goal.returns-then-block-eq0
 returns-then-block-eq0 g c = sym (no_bytes (image c.args.self.now) c.args.block.addr c.args.block.size c.if-block-eq0.true)
 
+pub part_at-requires-clause-low : goal.part_at-requires-clause-low
+part_at-requires-clause-low g c =
+    let range = block_range g.row.MIN_ALIGN c.self.inside c.args.self.now c.args.block c.args.block.addr c.args.block.size c.self.invariant c.self.view_is c.requires (omega arith) (omega arith) c.if-block-eq0.false in
+    let part = newest_part _ _ _ _ _ range c.if-block-self.true in
+    omega (arith, part.ready, part.used)
+
 pub part_at-requires-clause-high : goal.part_at-requires-clause-high
 part_at-requires-clause-high g c =
     let range = block_range g.row.MIN_ALIGN c.self.inside c.args.self.now c.args.block c.args.block.addr c.args.block.size c.self.invariant c.self.view_is c.requires (omega arith) (omega arith) c.if-block-eq0.false in
@@ -29,7 +35,7 @@ pub part_at-requires-2 : goal.part_at-requires-2
 part_at-requires-2 g c =
     let range = block_range g.row.MIN_ALIGN c.self.inside c.args.self.now c.args.block c.args.block.addr c.args.block.size c.self.invariant c.self.view_is c.requires (omega arith) (omega arith) c.if-block-eq0.false in
     let older = is_older _ _ _ _ _ c.last_below.result c.deref.result.now c.index-chunk.result.now range c.if-block-self.false c.deref.ensures.value c.last_below.ensures c.index-chunk.ensures in
-    record { low = older.part.low; high = omega (arith, older.part.low, older.part.high) }
+    record { low = omega (arith, older.part.ready, older.part.used); high = omega (arith, older.part.low, older.part.high) }
 
 pub returns : goal.returns
 returns g c =

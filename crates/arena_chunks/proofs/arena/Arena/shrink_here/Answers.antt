@@ -12,7 +12,7 @@ use Rattle.arena_chunks.proofs.arena.Arena.shrink_here.Goals as goal
 
 pub returns-then-block-self : goal.returns-then-block-self
 returns-then-block-self g c =
-    rw c.resized.ensures.block (shrunk_still c.args.self.now c.args.block c.args.layout.size c.args.layout.align c.resized.ensures.valid c.requires.readable c.requires.size
+    rw c.block_of.ensures.block (shrunk_still c.args.self.now c.args.block c.args.layout.size c.args.layout.align c.block_of.ensures.valid c.requires.readable c.requires.size
     (shrinks_still c.args.self.now.state c.args.block.addr c.args.block.size c.args.block.align c.args.layout.size c.args.layout.align c.requires.align
     (inl (λ same. c.if-block-self.true (same ∙ sym (cursor_stored g.row.MIN_ALIGN c.self.inside c.args.self.now c.self.invariant c.self.view_is))))))
 
@@ -29,7 +29,7 @@ pub returns-then-delta-block : goal.returns-then-delta-block
 returns-then-delta-block g c =
     let up = is_shrunk g.row.MIN_ALIGN c.self.inside c.args.self.now c.args.block c.args.layout.size c.args.layout.align c.max.result c.round_down_to-delta.result
     c.self.invariant c.self.view_is c.requires.readable c.if-block-self.false c.requires.size c.args.layout.valid c.max.ensures c.round_down_to-delta.ensures in
-    rw c.resized-then-delta-block.ensures.block (shrunk_still c.args.self.now c.args.block c.args.layout.size c.args.layout.align c.resized-then-delta-block.ensures.valid c.requires.readable c.requires.size
+    rw c.block_of-then-delta-block.ensures.block (shrunk_still c.args.self.now c.args.block c.args.layout.size c.args.layout.align c.block_of-then-delta-block.ensures.valid c.requires.readable c.requires.size
     (shrinks_still c.args.self.now.state c.args.block.addr c.args.block.size c.args.block.align c.args.layout.size c.args.layout.align c.requires.align (inr (omega (arith, up.step, c.if-delta-block.true)))))
 
 -- ---- Up
@@ -51,7 +51,7 @@ pub move_cursor-requires : goal.move_cursor-requires
 move_cursor-requires g c =
     let up = is_shrunk g.row.MIN_ALIGN c.self.inside c.args.self.now c.args.block c.args.layout.size c.args.layout.align c.max.result c.round_down_to-delta.result
     c.self.invariant c.self.view_is c.requires.readable c.if-block-self.false c.requires.size c.args.layout.valid c.max.ensures c.round_down_to-delta.ensures in
-    rw c.move_bytes.ensures.state (omega arith, (up.low, (omega (arith, up.fits, up.last.ends), up.aligned)))
+    rw c.move_bytes.ensures.state (omega arith, (omega (arith, up.last.at), (omega (arith, up.fits, up.last.ends), up.aligned)))
 
 pub returns : goal.returns
 returns g c =
@@ -60,5 +60,5 @@ returns g c =
     let moves = shrunk g.row.MIN_ALIGN c.args.self.now c.move_bytes.new.self c.move_cursor.new.self c.args.block c.args.layout.size c.args.layout.align c.round_down_to-delta.result up
     c.move_bytes.ensures.state c.move_bytes.ensures.bytes c.move_cursor.ensures in
     let way = shrinks_up c.args.self.now.state c.args.block.addr c.args.block.size c.args.block.align c.args.layout.size c.args.layout.align c.requires.align up.last.at (omega (arith, up.step, up.fits, c.if-delta-block.false)) in
-    rw (c.resized-shrunk.ensures.block, way, ← up.step)
+    rw (c.block_of-shrunk.ensures.block, way, ← up.step)
     (shrunk_up _ _ c.args.block c.args.layout.size c.args.layout.align _ moves c.requires.size (ap (λ (w : Memory). w.statistics) c.move_cursor.ensures ∙ ap one_reallocation c.move_bytes.ensures.statistics))

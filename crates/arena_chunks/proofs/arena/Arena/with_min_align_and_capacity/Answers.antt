@@ -14,12 +14,12 @@ pub over-requires : goal.over-requires
 over-requires g c = (
   omega arith,
   first_stored g.row.MIN_ALIGN c.args.capacity c.in-Some.size (g.C.ChunkSource.source c.args.chunks.now) (g.C.ChunkSource.source c.request.new.self) c.requires c.if-capacity-eq0.false
-      c.in-Some.ensures.value c.in-Some-request.bytes c.unused-first.result c.in-Some-request.ensures.zeros c.unused-first.ensures,
+      c.in-Some.ensures.value c.in-Some-request.bytes c.unused-first.result c.in-Some-request.ensures.zeros c.unused-first.ensures.chunk c.unused-first.ensures.ready,
 )
 
 pub returns-in-Some-request : goal.returns-in-Some-request
 returns-in-Some-request g c =
-    rw (c.over.ensures, c.unused-first.ensures) (created_first g.row.MIN_ALIGN c.args.capacity c.in-Some.size (g.C.ChunkSource.source c.args.chunks.now) (g.C.ChunkSource.source c.request.new.self)
+    rw (c.over.ensures, c.unused-first.ensures.chunk) (created_first g.row.MIN_ALIGN c.args.capacity c.in-Some.size (g.C.ChunkSource.source c.args.chunks.now) (g.C.ChunkSource.source c.request.new.self)
     c.requires c.if-capacity-eq0.false c.in-Some.ensures.value c.in-Some-request.bytes c.in-Some-request.ensures.zeros c.in-Some-request.ensures.granted c.in-Some-request.ensures.told)
 
 pub returns-in-None : goal.returns-in-None

@@ -14,5 +14,6 @@ returns-in_err-value g c =
 
 pub returns : goal.returns
 returns g c =
-    rw (← c.get.ensures) (makes_box g.T.Item g.T.CloneIn.kind g.met.T.CloneIn.lawful _ _ c.args.to.now c.clone_in_impl.new.to c.place_box.new.a
+    rw (← c.get.ensures) (makes_box g.T.Item g.T.CloneIn.kind g.met.T.CloneIn.lawful _ _ c.args.to.now c.clone_in_impl.new.to
+    c.place_box.new.a
     c.in_ok-value.value c.place_box.result c.in_ok-value.ensures c.place_box.ensures)

@@ -7,7 +7,8 @@ use Rattle.arena_clone.proofs.maps.HashMapCloneIn.clone_in_impl.Goals as goal
 pub returns-in_err-empty : goal.returns-in_err-empty
 returns-in_err-empty g c =
     let p = err_from_is_err_and c.from_residual.result c.from_residual.ensures.1 in
-    rw (p.1, p.2) (map_refused (kind g.K.Item g.K.ArenaKey.key g.V.Item g.S.KeyHasher.hash_of) g.K.CloneIn.kind g.V.CloneIn.kind c.args.ids c.args.from.now.memory c.args.to.now
+    rw (p.1, p.2) (map_refused (kind g.K.Item g.K.ArenaKey.key g.V.Item g.S.KeyHasher.hash_of) g.K.CloneIn.kind g.V.CloneIn.kind
+    c.args.ids c.args.from.now.memory c.args.to.now
     c.args.self.now (omega (arith, c.requires.held.0.within))
     c.with_capacity_and_hasher_in.new.a _ c.in_err-empty.ensures.placed)
 
@@ -22,13 +23,15 @@ put_pairs-requires-clause-room g c = c.in_ok-empty.ensures.placed.spare
 pub returns-in_err-copy : goal.returns-in_err-copy
 returns-in_err-copy g c =
     let p = err_from_is_err_and c.from_residual-in_err-copy.result c.from_residual-in_err-copy.ensures.1 in
-    rw (p.1, p.2) (map_pair_refused (kind g.K.Item g.K.ArenaKey.key g.V.Item g.S.KeyHasher.hash_of) g.K.CloneIn.kind g.V.CloneIn.kind c.args.ids c.args.from.now.memory c.args.to.now
+    rw (p.1, p.2) (map_pair_refused (kind g.K.Item g.K.ArenaKey.key g.V.Item g.S.KeyHasher.hash_of) g.K.CloneIn.kind g.V.CloneIn.kind
+    c.args.ids c.args.from.now.memory c.args.to.now
     c.args.self.now (omega (arith, c.requires.held.0.within))
     c.with_capacity_and_hasher_in.new.a c.put_pairs.new.to c.in_ok-empty.empty c.in_ok-empty.ensures.placed _ c.in_err-copy.ensures)
 
 pub returns : goal.returns
 returns g c =
-    map_made (kind g.K.Item g.K.ArenaKey.key g.V.Item g.S.KeyHasher.hash_of) g.K.CloneIn.kind g.V.CloneIn.kind c.args.ids c.args.from.now.memory c.args.to.now
+    map_made (kind g.K.Item g.K.ArenaKey.key g.V.Item g.S.KeyHasher.hash_of) g.K.CloneIn.kind g.V.CloneIn.kind c.args.ids
+    c.args.from.now.memory c.args.to.now
     c.args.self.now (omega (arith, c.requires.held.0.within))
     c.with_capacity_and_hasher_in.new.a c.put_pairs.new.to c.in_ok-empty.empty c.in_ok-empty.ensures.placed c.in_ok-copy.copy
     c.requires.held.0 c.in_ok-copy.ensures

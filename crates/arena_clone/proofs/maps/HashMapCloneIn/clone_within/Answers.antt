@@ -11,7 +11,8 @@ use Rattle.arena_clone.proofs.maps.HashMapCloneIn.clone_within.Goals as goal
 pub returns-in_err-empty : goal.returns-in_err-empty
 returns-in_err-empty g c =
     let p = err_from_is_err_and c.from_residual.result c.from_residual.ensures.1 in
-    rw (p.1, p.2) (map_refused (kind g.K.Item g.K.ArenaKey.key g.V.Item g.S.KeyHasher.hash_of) g.K.CloneIn.kind g.V.CloneIn.kind c.args.ids c.args.a.now.memory c.args.a.now
+    rw (p.1, p.2) (map_refused (kind g.K.Item g.K.ArenaKey.key g.V.Item g.S.KeyHasher.hash_of) g.K.CloneIn.kind g.V.CloneIn.kind
+    c.args.ids c.args.a.now.memory c.args.a.now
     c.args.self.now (omega (arith, c.requires.held.0.within))
     c.with_capacity_and_hasher_in.new.a _ c.in_err-empty.ensures.placed)
 
@@ -19,7 +20,8 @@ pub put_pairs_within-requires-clause-held : goal.put_pairs_within-requires-claus
 put_pairs_within-requires-clause-held g c =
     (placed_stays (map_of (kind g.K.Item g.K.ArenaKey.key g.V.Item g.S.KeyHasher.hash_of) g.K.CloneIn.kind g.V.CloneIn.kind)
     (map_lawful (kind g.K.Item g.K.ArenaKey.key g.V.Item g.S.KeyHasher.hash_of)
-    g.K.CloneIn.kind g.V.CloneIn.kind g.met.K.CloneKey.keeps g.met.K.CloneIn.lawful g.met.V.CloneIn.lawful) c.args.a.now c.with_capacity_and_hasher_in.new.a
+    g.K.CloneIn.kind g.V.CloneIn.kind g.met.K.CloneKey.keeps g.met.K.CloneIn.lawful g.met.V.CloneIn.lawful) c.args.a.now
+    c.with_capacity_and_hasher_in.new.a
     (c.in_ok-empty.empty.table.block ∷ []) c.args.self.now c.in_ok-empty.ensures.placed.frame c.requires.held).held
 
 pub put_pairs_within-requires-clause-empty : goal.put_pairs_within-requires-clause-empty
@@ -34,7 +36,8 @@ pub put_pairs_within-requires-clause-apart : goal.put_pairs_within-requires-clau
 put_pairs_within-requires-clause-apart g c =
     (placed_stays (map_of (kind g.K.Item g.K.ArenaKey.key g.V.Item g.S.KeyHasher.hash_of) g.K.CloneIn.kind g.V.CloneIn.kind)
     (map_lawful (kind g.K.Item g.K.ArenaKey.key g.V.Item g.S.KeyHasher.hash_of)
-    g.K.CloneIn.kind g.V.CloneIn.kind g.met.K.CloneKey.keeps g.met.K.CloneIn.lawful g.met.V.CloneIn.lawful) c.args.a.now c.with_capacity_and_hasher_in.new.a
+    g.K.CloneIn.kind g.V.CloneIn.kind g.met.K.CloneKey.keeps g.met.K.CloneIn.lawful g.met.V.CloneIn.lawful) c.args.a.now
+    c.with_capacity_and_hasher_in.new.a
     (c.in_ok-empty.empty.table.block ∷ []) c.args.self.now c.in_ok-empty.ensures.placed.frame c.requires.held).apart
 
 pub returns-in_err-copy : goal.returns-in_err-copy
@@ -43,7 +46,8 @@ returns-in_err-copy g c =
     rw (p.1, p.2) (copies_earlier (map_of (kind g.K.Item g.K.ArenaKey.key g.V.Item g.S.KeyHasher.hash_of) g.K.CloneIn.kind g.V.CloneIn.kind)
     (map_lawful (kind g.K.Item g.K.ArenaKey.key g.V.Item g.S.KeyHasher.hash_of)
     g.K.CloneIn.kind g.V.CloneIn.kind g.met.K.CloneKey.keeps g.met.K.CloneIn.lawful g.met.V.CloneIn.lawful) c.args.ids c.args.a.now.memory
-    c.with_capacity_and_hasher_in.new.a.memory c.args.a.now c.put_pairs_within.new.a (c.in_ok-empty.empty.table.block ∷ []) c.args.self.now _ c.in_ok-empty.ensures.placed.frame
+    c.with_capacity_and_hasher_in.new.a.memory c.args.a.now c.put_pairs_within.new.a (c.in_ok-empty.empty.table.block ∷ [])
+    c.args.self.now _ c.in_ok-empty.ensures.placed.frame
     c.requires.held
     (map_pair_refused (kind g.K.Item g.K.ArenaKey.key g.V.Item g.S.KeyHasher.hash_of) g.K.CloneIn.kind g.V.CloneIn.kind c.args.ids
     c.with_capacity_and_hasher_in.new.a.memory c.args.a.now c.args.self.now (omega (arith, c.requires.held.0.within))
@@ -53,12 +57,14 @@ pub returns : goal.returns
 returns g c =
     let stays = placed_stays (map_of (kind g.K.Item g.K.ArenaKey.key g.V.Item g.S.KeyHasher.hash_of) g.K.CloneIn.kind g.V.CloneIn.kind)
     (map_lawful (kind g.K.Item g.K.ArenaKey.key g.V.Item g.S.KeyHasher.hash_of)
-    g.K.CloneIn.kind g.V.CloneIn.kind g.met.K.CloneKey.keeps g.met.K.CloneIn.lawful g.met.V.CloneIn.lawful) c.args.a.now c.with_capacity_and_hasher_in.new.a
+    g.K.CloneIn.kind g.V.CloneIn.kind g.met.K.CloneKey.keeps g.met.K.CloneIn.lawful g.met.V.CloneIn.lawful) c.args.a.now
+    c.with_capacity_and_hasher_in.new.a
     (c.in_ok-empty.empty.table.block ∷ []) c.args.self.now c.in_ok-empty.ensures.placed.frame c.requires.held in
     copies_earlier (map_of (kind g.K.Item g.K.ArenaKey.key g.V.Item g.S.KeyHasher.hash_of) g.K.CloneIn.kind g.V.CloneIn.kind)
     (map_lawful (kind g.K.Item g.K.ArenaKey.key g.V.Item g.S.KeyHasher.hash_of)
     g.K.CloneIn.kind g.V.CloneIn.kind g.met.K.CloneKey.keeps g.met.K.CloneIn.lawful g.met.V.CloneIn.lawful) c.args.ids c.args.a.now.memory
-    c.with_capacity_and_hasher_in.new.a.memory c.args.a.now c.put_pairs_within.new.a (c.in_ok-empty.empty.table.block ∷ []) c.args.self.now _ c.in_ok-empty.ensures.placed.frame
+    c.with_capacity_and_hasher_in.new.a.memory c.args.a.now c.put_pairs_within.new.a (c.in_ok-empty.empty.table.block ∷ [])
+    c.args.self.now _ c.in_ok-empty.ensures.placed.frame
     c.requires.held
     (map_made (kind g.K.Item g.K.ArenaKey.key g.V.Item g.S.KeyHasher.hash_of) g.K.CloneIn.kind g.V.CloneIn.kind c.args.ids
     c.with_capacity_and_hasher_in.new.a.memory c.args.a.now c.args.self.now (omega (arith, c.requires.held.0.within))

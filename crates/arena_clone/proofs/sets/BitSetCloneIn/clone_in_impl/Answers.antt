@@ -9,12 +9,14 @@ use Rattle.arena_clone.proofs.sets.BitSetCloneIn.clone_in_impl.Goals as goal
 
 pub place_copy-requires-clause-fits : goal.place_copy-requires-clause-fits
 place_copy-requires-clause-fits g c =
-    readable_layout c.args.from.now.memory.state c.args.self.now.words.block 8 c.min_align.ensures.valid eight c.requires.held.place.readable
+    readable_layout c.args.from.now.memory.state c.args.self.now.words.block 8 c.min_align.ensures.valid eight
+    c.requires.held.place.readable
 
 pub returns-in_err-block : goal.returns-in_err-block
 returns-in_err-block g c =
     let p = err_from_is_err_and c.from_residual.result c.from_residual.ensures.1 in
     let size : c.args.self.now.words.block.size ≡ words_for c.args.self.now.capacity * 8 =
     c.requires.held.place.of_size ∙ ap (λ n. n * 8) c.requires.held.count in
-    rw (p.1, p.2, ← size) (one_refused bit_set (bit_set.whole c.args.from.now.memory c.args.self.now) (λ b. b) c.args.self.now.words.block.size 8 c.args.to.now c.place_copy.new.to _
+    rw (p.1, p.2, ← size) (one_refused bit_set (bit_set.whole c.args.from.now.memory c.args.self.now)
+    (λ b. b) c.args.self.now.words.block.size 8 c.args.to.now c.place_copy.new.to _
     c.in_err-block.ensures.placed)

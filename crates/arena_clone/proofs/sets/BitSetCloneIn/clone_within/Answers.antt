@@ -16,5 +16,6 @@ returns-in_err-block g c =
     let p = err_from_is_err_and c.from_residual.result c.from_residual.ensures.1 in
     let size : c.args.self.now.words.block.size ≡ words_for c.args.self.now.capacity * 8 =
     c.requires.held.place.of_size ∙ ap (λ n. n * 8) c.requires.held.count in
-    rw (p.1, p.2, ← size) (one_refused bit_set (bit_set.whole c.args.a.now.memory c.args.self.now) (λ b. b) c.args.self.now.words.block.size 8 c.args.a.now c.place_copy_within.new.a _
+    rw (p.1, p.2, ← size) (one_refused bit_set (bit_set.whole c.args.a.now.memory c.args.self.now)
+    (λ b. b) c.args.self.now.words.block.size 8 c.args.a.now c.place_copy_within.new.a _
     c.in_err-block.ensures.placed)

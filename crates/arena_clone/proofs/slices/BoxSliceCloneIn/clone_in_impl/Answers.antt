@@ -12,7 +12,8 @@ overflow_mul-self g c =
 pub place-requires : goal.place-requires
 place-requires g c =
     rw (c.SIZE.ensures, c.ALIGN.ensures, ← c.requires.held.0.of_size)
-    (readable_layout c.args.from.now.memory.state c.args.self.now.block g.T.Item.ALIGN c.min_align.ensures.valid g.met.T.Item.layout.is_align
+    (readable_layout c.args.from.now.memory.state c.args.self.now.block g.T.Item.ALIGN c.min_align.ensures.valid
+    g.met.T.Item.layout.is_align
     c.requires.held.0.readable)
 
 pub returns-in_err-target : goal.returns-in_err-target

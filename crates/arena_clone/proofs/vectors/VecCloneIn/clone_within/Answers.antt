@@ -13,7 +13,8 @@ returns-in_err-copy g c =
 pub copy_row_within-requires-clause-source : goal.copy_row_within-requires-clause-source
 copy_row_within-requires-clause-source g c =
     (from_stays g.T.Item g.T.CloneIn.kind g.met.T.CloneIn.lawful c.args.a.now c.with_capacity_in.new.a c.in_ok-copy.copy.raw.block
-    c.args.self.now.raw.block c.args.self.now.raw.len c.in_ok-copy.ensures.frame c.requires.held.0.place.readable c.requires.held.1).readable
+    c.args.self.now.raw.block c.args.self.now.raw.len c.in_ok-copy.ensures.frame c.requires.held.0.place.readable
+    c.requires.held.1).readable
 
 pub copy_row_within-requires-clause-values : goal.copy_row_within-requires-clause-values
 copy_row_within-requires-clause-values g c =

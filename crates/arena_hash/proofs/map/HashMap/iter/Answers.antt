@@ -1,18 +1,14 @@
 use Rattle.arena_hash.specs.Contents.{kind}
-use Rattle.arena_hash.proofs.WalkLemmas.{map-lists, map-walk, table-eights, table-long}
+use Rattle.arena_hash.proofs.WalkLemmas.{map-lists, map-walk, table-long}
 use Rattle.arena_hash.proofs.map.HashMap.iter.Goals as goal
 
-pub start-requires-clause-eights : goal.start-requires-clause-eights
-start-requires-clause-eights g c =
-    table-eights g.K.Item g.V.Item c.args.a.now.memory c.args.self.now.table c.read-bytes.result.now c.requires.keys_small
-    c.requires.values_small
-    c.requires.held.handle c.read-bytes.ensures
-
-pub start-requires-clause-long : goal.start-requires-clause-long
-start-requires-clause-long g c =
-    table-long g.K.Item g.V.Item c.args.a.now.memory c.args.self.now.table c.read-bytes.result.now c.requires.keys_small
-    c.requires.values_small
-    c.requires.held.handle c.read-bytes.ensures
+pub start-requires : goal.start-requires
+start-requires g c =
+    record {
+      long = table-long g.K.Item g.V.Item c.args.a.now.memory c.args.self.now.table c.read-bytes.result.now c.requires.keys_small
+          c.requires.values_small
+          c.requires.held.handle c.read-bytes.ensures;
+    }
 
 pub invariant_of-result : goal.invariant_of-result
 invariant_of-result g c =

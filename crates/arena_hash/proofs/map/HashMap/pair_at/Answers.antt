@@ -1,7 +1,5 @@
-use Rattle.std.proofs.Common.{◌≡◌, ℕ, ◌<◌, ◌∙◌, sym, ap, subst, arith, Some}
-use Rattle.std.specs.Prelude.{slice_get}
+use Rattle.std.proofs.Common.{◌≡◌, ℕ, ◌<◌, ◌∙◌, sym, ap, arith, Some}
 use Rattle.arena_items.specs.Values.{bytes_of}
-use Rattle.arena_hash.specs.Tables.{slots_in}
 use Rattle.arena_hash.proofs.HandleLemmas.{handle-shape}
 use Rattle.arena_hash.proofs.SlotLemmas.{slot-free, slot-taken}
 use Rattle.arena_hash.proofs.map.HashMap.pair_at.Goals as goal

@@ -5,12 +5,12 @@ use Rattle.arena_items.specs.Values.{bytes_of}
 use Rattle.arena_hash.specs.Slots.{Settled}
 use Rattle.arena_hash.specs.Tables.{slots_in, IsTextBeside}
 use Rattle.arena_hash.proofs.HandleLemmas.{handle-shape}
-use Rattle.arena_hash.proofs.WalkLemmas.{table-eights, table-long, walk-goes}
+use Rattle.arena_hash.proofs.WalkLemmas.{table-groups, table-long, walk-goes}
 use Rattle.arena_hash.proofs.table.Table.carry.Goals as goal
 
-pub step-slot-requires-clause-eights : goal.step-slot-requires-clause-eights
-step-slot-requires-clause-eights g c =
-    table-eights g.K.Item g.V.Item c.args.a.now.memory c.args.from c.read-bytes.result.now c.requires.keys_small c.requires.values_small
+pub step-slot-requires-clause-groups : goal.step-slot-requires-clause-groups
+step-slot-requires-clause-groups g c =
+    table-groups g.K.Item g.V.Item c.args.a.now.memory c.args.from c.read-bytes.result.now c.requires.keys_small c.requires.values_small
     c.requires.from.handle c.read-bytes.ensures
 
 pub step-slot-requires-clause-long : goal.step-slot-requires-clause-long

@@ -7,18 +7,15 @@ use Rattle.arena_hash.specs.Tables.{slots_in, slots_of}
 use Rattle.arena_hash.specs.Walks.{front_of, AreFree, CarriesNext}
 use Rattle.arena_hash.proofs.Fill.{Filled, filled-start, filled-room, filled-goes, filled-whole}
 use Rattle.arena_hash.proofs.GrowLemmas.{read-bytes, read-stays}
-use Rattle.arena_hash.proofs.WalkLemmas.{table-eights, table-long, walk-free, walk-goes, walk-shape, walk-slots}
+use Rattle.arena_hash.proofs.WalkLemmas.{table-long, walk-free, walk-goes, walk-shape, walk-slots}
 use Rattle.arena_hash.proofs.table.Table.carry_all.Goals as goal
 
-pub start-scan-requires-clause-eights : goal.start-scan-requires-clause-eights
-start-scan-requires-clause-eights g c =
-    table-eights g.K.Item g.V.Item c.args.a.now.memory c.args.from c.read.result.now c.requires.keys_small c.requires.values_small
-    c.requires.from.handle c.read.ensures
-
-pub start-scan-requires-clause-long : goal.start-scan-requires-clause-long
-start-scan-requires-clause-long g c =
-    table-long g.K.Item g.V.Item c.args.a.now.memory c.args.from c.read.result.now c.requires.keys_small c.requires.values_small
-    c.requires.from.handle c.read.ensures
+pub start-scan-requires : goal.start-scan-requires
+start-scan-requires g c =
+    record {
+      long = table-long g.K.Item g.V.Item c.args.a.now.memory c.args.from c.read.result.now c.requires.keys_small c.requires.values_small
+          c.requires.from.handle c.read.ensures;
+    }
 
 pub pairs-init : goal.pairs-init
 pairs-init g c =

@@ -1,10 +1,10 @@
 use Rattle.std.proofs.Common.{sym, ap, ◌∙◌, length, arith}
 use Rattle.std.proofs.lemmas.Option.{MatchOption-at_some, MatchOption-at_none}
-use Rattle.arena_hash.proofs.WalkLemmas.{walk-eights, walk-ended, walk-less, walk-read, walk-some}
+use Rattle.arena_hash.proofs.WalkLemmas.{walk-groups, walk-ended, walk-less, walk-read, walk-some}
 use Rattle.arena_hash.proofs.walk.IterIterator.next.Goals as goal
 
-pub step-slot-requires-clause-eights : goal.step-slot-requires-clause-eights
-step-slot-requires-clause-eights g c = walk-eights g.K.Item g.V.Item c.self.inside.slots c.self.inside.bytes.now c.self.invariant.shape
+pub step-slot-requires-clause-groups : goal.step-slot-requires-clause-groups
+step-slot-requires-clause-groups g c = walk-groups g.K.Item g.V.Item c.self.inside.slots c.self.inside.bytes.now c.self.invariant.shape
 
 pub overflow_sub-self : goal.overflow_sub-self
 overflow_sub-self g c =

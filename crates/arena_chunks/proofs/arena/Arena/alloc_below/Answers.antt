@@ -1,0 +1,39 @@
+use Rattle.std.proofs.Common.{◌≡◌, subst, arith, refl, Some, None}
+use Rattle.placement.specs.State.{IsValid}
+use Rattle.placement.specs.Search.{place}
+use Rattle.arena_chunks.specs.Memory.{Memory}
+use Rattle.arena_chunks.proofs.AskedLemmas.{asked_none}
+use Rattle.arena_chunks.proofs.StoredLemmas.{place_stored}
+use Rattle.arena_chunks.proofs.AllocationLemmas.{placing_here, added_place, placing_in_new, block_placed, all_refused}
+use Rattle.arena_chunks.proofs.arena.Arena.alloc_below.Given.{Over}
+use Rattle.arena_chunks.proofs.arena.Arena.alloc_below.Goals as goal
+
+-- ---- In the newest chunk
+
+found : (g : Over) (c : goal.After-place_at g) → place c.args.self.now.state c.args.layout.size c.args.layout.align ≡ Some c.in-Some.addr
+found g c = place_stored g.row.MIN_ALIGN c.self.inside c.args.self.now c.args.layout.size c.args.layout.align (Some c.in-Some.addr) c.self.invariant c.self.view_is c.in-Some.ensures
+
+pub returns-in-Some : goal.returns-in-Some
+returns-in-Some g c =
+    block_placed c.args.self.now c.place_at.new.self _ _ c.args.layout.size c.args.layout.align 0 c.in-Some.addr _ (subst (λ (w : Memory). IsValid w.state) c.self.view_is c.self.invariant.valid) c.args.layout.valid
+    (rw c.place_at.ensures (placing_here c.args.self.now c.args.layout.size c.args.layout.align c.in-Some.addr (found g c))) (rw (found g c) (asked_none _)) refl
+
+-- ---- In a new chunk
+
+pub place_at-requires-in-Ok : goal.place_at-requires-in-Ok
+place_at-requires-in-Ok g c =
+    let none = place_stored g.row.MIN_ALIGN c.self.inside c.args.self.now c.args.layout.size c.args.layout.align None c.self.invariant c.self.view_is c.in-None.ensures in
+    (omega arith, added_place c.args.self.now c.add_chunk.new.self c.args.layout.size c.args.layout.align c.in-Ok.refused c.in-Ok.addr c.args.layout.valid none c.in-Ok.ensures.added.added)
+
+pub returns-in-Ok : goal.returns-in-Ok
+returns-in-Ok g c =
+    let none = place_stored g.row.MIN_ALIGN c.self.inside c.args.self.now c.args.layout.size c.args.layout.align None c.self.invariant c.self.view_is c.in-None.ensures in
+    let added = c.in-Ok.ensures.added.added in
+    block_placed c.args.self.now c.place_at-in-Ok.new.self _ _ c.args.layout.size c.args.layout.align c.in-Ok.refused c.in-Ok.addr _ added.valid c.args.layout.valid
+    (rw c.place_at-in-Ok.ensures (placing_in_new c.args.self.now c.add_chunk.new.self c.args.layout.size c.args.layout.align c.in-Ok.refused c.in-Ok.addr c.args.layout.valid none added))
+    (rw none c.in-Ok.ensures.added.asked) refl
+
+pub returns-in-Err : goal.returns-in-Err
+returns-in-Err g c =
+    let none = place_stored g.row.MIN_ALIGN c.self.inside c.args.self.now c.args.layout.size c.args.layout.align None c.self.invariant c.self.view_is c.in-None.ensures in
+    all_refused c.args.self.now c.add_chunk.new.self _ _ c.args.layout.size c.args.layout.align c.in-Err.e (subst (λ (w : Memory). IsValid w.state) c.self.view_is c.self.invariant.valid) none c.in-Err.ensures.err c.in-Err.ensures.added

@@ -1,0 +1,177 @@
+-- Copies of maps whose keys and values hold nothing: the bytes of a table, copied elsewhere, are the table of a copy.
+use Rattle.std.proofs.Common.{◌≡◌, ℕ, zero, suc, inl, inr, ◌+◌, ◌-◌, ◌*◌, ◌<◌, ◌≤◌, refl, sym, ap, subst, ◌∙◌, arith, List, [], ◌∷◌, Option, Some, None, Ok, Err, length}
+use Rattle.std.proofs.Math.Path.{fun_ext}
+use Rattle.std.proofs.Math.Nat.{mul-le-mul_left, mul-le-mul_right}
+use Rattle.std.proofs.lemmas.Bool.{eq-eqb, or_left}
+use Rattle.std.proofs.lemmas.List.Sorted.{IsPermutation-cons}
+use Rattle.std.specs.Prelude.{Result, map}
+use Rattle.arena_chunks.specs.Memory.{Memory}
+use Rattle.arena_chunks.specs.Source.{View}
+use Rattle.arena_chunks.specs.Frame.{AreAllApart}
+use Rattle.arena_chunks.specs.BlockCalls.{PlacesBlock}
+use Rattle.arena_chunks.specs.declared.block.Block.{Block}
+use Rattle.arena_items.specs.Footprint.{AreReadable}
+use Rattle.arena_items.specs.Layout.{IsAlign, IsItemLayout}
+use Rattle.arena_items.specs.LayoutLaws.{plain_8, pair_layout}
+use Rattle.arena_items.specs.Room.{RoomAnswer}
+use Rattle.arena_items.specs.Values.{bytes_of, IsHeld}
+use Rattle.arena_items.specs.declared.room.AllocError.{AllocError}
+use Rattle.arena_hash.specs.Accounts.{unit_of}
+use Rattle.arena_hash.specs.Contents.{content_in}
+use Rattle.arena_hash.specs.Contents.{Kind as MapTypes}
+use Rattle.arena_hash.specs.Finite.{AreOnce, first_of}
+use Rattle.arena_hash.specs.Maps.{IsMapIn, map_in, pairs_in}
+use Rattle.arena_hash.specs.Policy.{slot_size, table_align, unit}
+use Rattle.arena_hash.specs.Slots.{items}
+use Rattle.arena_hash.specs.Tables.{slots_of, IsTable}
+use Rattle.arena_hash.specs.declared.map.HashMap.{HashMap}
+use Rattle.arena_clone.specs.Asks.{PlacesAll, refusal}
+use Rattle.arena_clone.specs.Kinds.{Kind, of_some, row_of}
+use Rattle.arena_clone.specs.MapKind.{KeepsContent, pair_of, map_of, table_ask}
+use Rattle.arena_clone.specs.Copies.{IsFlat, IsMade, Copies}
+use Rattle.arena_clone.specs.declared.ids.CloneInSemanticIds.{CloneInSemanticIds}
+use Rattle.arena_clone.proofs.AsksLemmas.{block_of}
+use Rattle.arena_clone.proofs.CopyLemmas.{places_one}
+use Rattle.arena_clone.proofs.FlatLemmas.{none_in_all, row_made}
+
+-- ---- The block of a table
+
+-- the alignment of a table is one that a type may have
+pub table_is_align : (k v ka va : ℕ) → IsItemLayout k ka → IsItemLayout v va → IsAlign (table_align ka va)
+table_is_align k v ka va keys values = (pair_layout 8 8 _ _ plain_8 (pair_layout k ka v va keys values)).is_align
+
+-- A table of which more than a quarter is taken costs at most a unit for each pair, with its padding.
+table_within : (k v ka va slots len : ℕ) → slots < 4 * len
+    → slots * slot_size k v + (table_align ka va - 1) ≤ unit k v ka va * len
+table_within k v ka va slots len full =
+    let a : slots * slot_size k v ≤ 4 * len * slot_size k v =
+    mul-le-mul_right (slot_size k v) (let le : slots ≤ 4 * len = omega (arith, full) in le) in
+    let b : table_align ka va * 1 ≤ table_align ka va * len =
+    mul-le-mul_left (table_align ka va) (let le : 1 ≤ len = omega (arith, full) in le) in
+    let c : 8 * len ≤ table_align ka va * len = mul-le-mul_right len (let le : 8 ≤ table_align ka va = omega arith in le) in
+    omega (arith, a, b, c)
+
+module _ {K V S : Type 0} (k : MapTypes K V S) (old new : View) where
+  -- Such a table's block is what a copy for so many pairs asks for.
+  table_asked : {X : Type 0} (f : X → Block) (result : Result X AllocError) (slots len : ℕ) → slots < 4 * len
+      → RoomAnswer f result (PlacesBlock old new (slots * slot_size k.keys.SIZE k.values.SIZE) (table_align k.keys.ALIGN k.values.ALIGN))
+      → PlacesAll (table_ask k len ∷ []) old new (block_of f result) (refusal result)
+  table_asked f result slots zero full placed = absurd (omega (arith, full))
+  table_asked f result slots (suc n) full placed =
+      let size = slots * slot_size k.keys.SIZE k.values.SIZE in
+      let one = places_one f result size (table_align k.keys.ALIGN k.values.ALIGN) old new placed in
+      let within = table_within k.keys.SIZE k.values.SIZE k.keys.ALIGN k.values.ALIGN slots (suc n) full in
+      record { asked = (size, within, one.asked); apart = one.apart; frame = one.frame }
+
+-- ---- What stands in it
+
+-- the map with another block for its table
+abbrev pub in_block : {K V S : Type 0} → HashMap K V S → Block → HashMap K V S
+in_block h b = record { table = record { block = b; slots = h.table.slots; of = h.table.of }; len = h.len; hasher = h.hasher }
+
+module _ {K V S : Type 0} (k : MapTypes K V S) (keys : Kind K) (values : Kind V) (keeps : KeepsContent k.key keys)
+    (ids : CloneInSemanticIds) (flat : IsFlat keys ids) (other : IsFlat values ids) where
+  pairs_flat : IsFlat (pair_of keys values) ids
+  pairs_flat = record {
+    held = λ m p. (flat.held m p.0, other.held m p.1);
+    trim = λ m p. (flat.trim m p.0, other.trim m p.1);
+    deep = λ m p. rw (flat.deep m p.0, other.deep m p.1) refl;
+    asks = λ m p. rw (flat.asks m p.0, other.asks m p.1) refl;
+    alike = λ a c p i. (flat.alike a c p.0 i, other.alike a c p.1 i);
+  }
+
+  -- A key that names no block has no text,
+  no_text : (m : Memory) (key : K) → (k.key.text key).size ≡ 0
+  no_text m key = elim (keeps.text m key) [
+    | inl none ↦ none
+    | inr found ↦ (let none : length (keys.deep m key) ≡ 0 = ap length (flat.deep m key) in absurd (omega (arith, none, found.1)))
+  ]
+
+  texts_read : (m : Memory) (ps : List (K × V)) → AreReadable m.state (map (λ (p : K × V). k.key.text p.0) ps)
+  texts_read m [] = tt
+  texts_read m (p ∷ ps) = (or_left _ _ (eq-eqb _ _ (no_text m p.0)), texts_read m ps)
+
+  texts_apart : (m : Memory) (b : Block) (ps : List (K × V)) → AreAllApart (map (λ (p : K × V). k.key.text p.0) ps) (b ∷ [])
+  texts_apart m b [] = tt
+  texts_apart m b (p ∷ ps) = ((λ some filled. absurd (omega (arith, no_text m p.0, some)), tt), texts_apart m b ps)
+
+  -- and the same content everywhere.
+  contents_same : (a c : Memory) → content_in k.key a ≡ content_in k.key c
+  contents_same a c = fun_ext (λ key. sym (keeps.same ids a c key key (flat.alike a c key)))
+
+  module _ (a c : Memory) (h : HashMap K V S) (b : Block) (same : bytes_of a h.table.block ≡ bytes_of c b) where
+    pairs_same : pairs_in k a h ≡ pairs_in k c (in_block h b)
+    pairs_same = ap (λ bytes. items (slots_of k.keys k.values h.table.slots bytes)) same
+
+    -- The bytes of the table elsewhere are a map,
+    block_held : IsMapIn k a h
+        → IsHeld (h.table.slots * slot_size k.keys.SIZE k.values.SIZE) (table_align k.keys.ALIGN k.values.ALIGN) c.state b
+        → IsMapIn k c (in_block h b)
+    block_held is place = record {
+      handle = record { place = place; ring = is.handle.ring };
+      table = subst (IsTable k.keys k.values (λ p. k.hash h.hasher (content_in k.key c p.0)) h.table.slots) same
+          (subst (λ (f : K → List ℕ). IsTable k.keys k.values (λ p. k.hash h.hasher (f p.0)) h.table.slots (bytes_of a h.table.block))
+          (contents_same a c) is.table);
+      texts = texts_read c (pairs_in k c (in_block h b));
+      apart = texts_apart c b (pairs_in k c (in_block h b));
+      once = subst (AreOnce (content_in k.key c)) pairs_same
+          (subst (λ (f : K → List ℕ). AreOnce f (pairs_in k a h)) (contents_same a c) is.once);
+      count = is.count ∙ ap length pairs_same;
+      within = is.within;
+    }
+
+    -- the same one,
+    map_same : map_in k a h ≡ map_in k c (in_block h b)
+    map_same = λ i. first_of (contents_same a c i) (pairs_same i)
+
+    -- and a copy.
+    block_made : IsMapIn k a h
+        → IsHeld (h.table.slots * slot_size k.keys.SIZE k.values.SIZE) (table_align k.keys.ALIGN k.values.ALIGN) c.state b
+        → IsMade (map_of k keys values) ((map_of k keys values).by_ids ids ((map_of k keys values).whole a h)) c (b ∷ []) (in_block h b)
+    block_made is place =
+        let row = row_made (pair_of keys values) ids pairs_flat a c (pairs_in k c (in_block h b)) in
+        record {
+          held = (block_held is place, row.held);
+          means = fun_ext (λ q. ap (λ (f : List ℕ → Option (K × V)). of_some (λ (p : K × V). values.whole c p.1) (f q)) (sym map_same)
+              ∙ alike (map_in k a h q));
+          trim = (mul-le-mul_left (unit_of k) (omega arith), row.trim);
+          deep = IsPermutation-cons b ((row_of (pair_of keys values)).deep c (pairs_in k c (in_block h b))) [] row.deep;
+        }
+      where
+        alike : (o : Option (K × V)) → of_some (λ (p : K × V). values.whole c p.1) o
+            ≡ of_some (values.by_ids ids) (of_some (λ (p : K × V). values.whole a p.1) o)
+        alike None = refl
+        alike (Some p) = ap Some (other.alike a c p.1)
+
+  module _ (source : Memory) (old new : View) (h : HashMap K V S) (full : h.table.slots < 4 * h.len) where
+    asks_one : (map_of k keys values).asks source h ≡ table_ask k h.len ∷ []
+    asks_one = ap (λ xs. table_ask k h.len ∷ xs)
+        (none_in_all ((pair_of keys values).asks source) (pairs_flat.asks source) (pairs_in k source h))
+
+    -- Its block is refused,
+    pub table_copy_refused : (e : AllocError)
+        → RoomAnswer {X = Block} (λ b. b) (Err e)
+        (PlacesBlock old new (h.table.slots * slot_size k.keys.SIZE k.values.SIZE) (table_align k.keys.ALIGN k.values.ALIGN))
+        → Copies (map_of k keys values) ids source old new h (Err e)
+    table_copy_refused e placed = record {
+      blocks = [];
+      placed = subst (λ asks. PlacesAll asks old new [] (Some e)) (sym asks_one)
+          (table_asked k old new (λ b. b) (Err e) h.table.slots h.len full placed);
+      made = tt;
+    }
+
+    -- or placed, and has the table's bytes.
+    pub table_copied : (b : Block) → IsMapIn k source h
+        → RoomAnswer {X = Block} (λ b. b) (Ok b)
+        (PlacesBlock old new (h.table.slots * slot_size k.keys.SIZE k.values.SIZE) (table_align k.keys.ALIGN k.values.ALIGN))
+        → bytes_of source h.table.block ≡ bytes_of new.memory b
+        → Copies (map_of k keys values) ids source old new h (Ok (in_block h b))
+    table_copied b is placed same =
+        let made = placed.1.outcome.of_layout in
+        record {
+          blocks = b ∷ [];
+          placed = subst (λ asks. PlacesAll asks old new (b ∷ []) None) (sym asks_one)
+              (table_asked k old new (λ b. b) (Ok b) h.table.slots h.len full placed);
+          made = block_made source new.memory h b same is
+              (record { readable = made.readable; of_size = made.of_size; of_align = made.of_align });
+        }

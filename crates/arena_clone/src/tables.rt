@@ -1,0 +1,75 @@
+// Copies of maps whose keys and values hold nothing: a table's bytes, copied elsewhere, are the table of a
+// copy.
+ghost use Rattle.std.specs.Prelude.{◌*◌, ◌<◌, IsTrue};
+ghost use Rattle.arena_hash.specs.Contents.{kind};
+ghost use Rattle.arena_clone.specs.Copies.{IsFlat, Copies};
+ghost use Rattle.arena_clone.specs.MapKind.{map_of};
+ghost use Rattle.arena_clone.specs.declared.ids.CloneInSemanticIds.{CloneInSemanticIds};
+
+use crate::blocks::{place_copy, place_copy_within};
+use crate::clone_in::CloneIn;
+use crate::ids::CloneInSemanticIds;
+use crate::keys::CloneKey;
+use arena_chunks::{Allocator, ChunkSource};
+use arena_hash::{HashMap, KeyHasher, Table};
+use arena_items::{Grown, Item};
+
+// Whether the bytes of a map's table are that of a copy: keys and values hold nothing, and more than a
+// quarter of the slots are taken, as in a new table for as many pairs.
+#[inline]
+pub(crate) fn is_copied_whole<K: CloneKey, V: CloneIn + Item, S: KeyHasher>(
+    map: &HashMap<K, V, S>,
+    ids: CloneInSemanticIds,
+) -> bool
+    ensures keys { IsTrue result → IsFlat K.kind ids }
+    ensures values { IsTrue result → IsFlat V.kind ids }
+    ensures full { IsTrue result → map.now.table.slots < 4 * map.now.len }
+{
+    K::is_flat(ids) && V::is_flat(ids) && map.table.slots < 4 * map.len as u64
+}
+
+// A copy of a map with the bytes of its table.
+pub(crate) fn copy_table<
+    K: CloneKey,
+    V: CloneIn + Item,
+    S: KeyHasher + Copy,
+    C: ChunkSource,
+    D: ChunkSource,
+>(map: &HashMap<K, V, S>, from: &Allocator<C>, to: &mut Allocator<D>) -> Grown<HashMap<K, V, S>>
+    requires held { (map_of (kind K.Item K.key V.Item S.hash_of) K.kind V.kind).is_held from.now.memory map.now }
+    requires full { map.now.table.slots < 4 * map.now.len }
+    ensures { (ids : CloneInSemanticIds) → IsFlat K.kind ids → IsFlat V.kind ids
+        → Copies (map_of (kind K.Item K.key V.Item S.hash_of) K.kind V.kind) ids
+        from.now.memory to.old to.new map.now result }
+{
+    // So the arena's state is known to be valid, and the table small enough for a layout.
+    let _ = from.min_align();
+    let table = map.table.block;
+    let block = place_copy(from, table, to, table.size, table.align)?;
+    Ok(HashMap {
+        table: Table { block, ..map.table },
+        ..*map
+    })
+}
+
+// A copy of a map of the same arena with the bytes of its table.
+pub(crate) fn copy_table_within<
+    K: CloneKey,
+    V: CloneIn + Item,
+    S: KeyHasher + Copy,
+    C: ChunkSource,
+>(map: &HashMap<K, V, S>, a: &mut Allocator<C>) -> Grown<HashMap<K, V, S>>
+    requires held { (map_of (kind K.Item K.key V.Item S.hash_of) K.kind V.kind).is_held a.old.memory map.now }
+    requires full { map.now.table.slots < 4 * map.now.len }
+    ensures { (ids : CloneInSemanticIds) → IsFlat K.kind ids → IsFlat V.kind ids
+        → Copies (map_of (kind K.Item K.key V.Item S.hash_of) K.kind V.kind) ids
+        a.old.memory a.old a.new map.now result }
+{
+    let _ = a.min_align();
+    let table = map.table.block;
+    let block = place_copy_within(a, table, table.size, table.align)?;
+    Ok(HashMap {
+        table: Table { block, ..map.table },
+        ..*map
+    })
+}

@@ -1,0 +1,63 @@
+-- The bytes of a region, before and after a change of its memory.
+use Rattle.std.proofs.Common.{◌≡◌, ℕ, zero, suc, ◌+◌, ◌-◌, ◌≤◌, List, [], ◌∷◌, ◌++◌, length, take, drop, replicate, refl, sym, ap, ◌∙◌, subst, arith, length-append, length-take-le, append_assoc}
+use Rattle.std.proofs.lemmas.List.{replicate-append-replicate, length-replicate}
+use Rattle.arena_region.specs.Bytes.{written_from}
+
+-- zeros that are written below the others
+pub cleared : (low from : ℕ) (xs : List ℕ) → from ≤ low → replicate from 0 ++ (replicate (low - from) 0 ++ xs) ≡ replicate low 0 ++ xs
+cleared low from xs le =
+    let all : from + (low - from) ≡ low = omega arith in
+    sym (append_assoc (replicate from 0) (replicate (low - from) 0) xs)
+    ∙ ap (λ l. l ++ xs) (replicate-append-replicate from (low - from) 0 ∙ ap (λ n. replicate n 0) all)
+
+take_less : (n m : ℕ) (xs : List ℕ) → n ≤ m → take n (take m xs) ≡ take n xs
+take_less zero m xs le = refl
+take_less (suc n) zero xs le = absurd (omega arith)
+take_less (suc n) (suc m) [] le = refl
+take_less (suc n) (suc m) (x ∷ xs) le = ap (λ l. x ∷ l) (take_less n m xs (omega arith))
+
+-- of a list under another one, only the first bytes count
+refilled : (n : ℕ) (ws xs : List ℕ) → take n (ws ++ drop (length ws) xs) ≡ take n (ws ++ drop (length ws) (take n xs))
+refilled n [] xs = sym (take_less n n xs (omega arith))
+refilled zero (w ∷ ws) xs = refl
+refilled (suc n) (w ∷ ws) [] = refl
+refilled (suc n) (w ∷ ws) (x ∷ xs) = ap (λ l. w ∷ l) (refilled n ws xs)
+
+-- what is written in the first n bytes
+written_first : (n i : ℕ) (xs ws : List ℕ) → i ≤ n → n ≤ length xs → take n (written_from xs i ws) ≡ written_from (take n xs) i ws
+written_first n zero xs ws le fits =
+    take_less n (length xs) (ws ++ drop (length ws) xs) fits ∙ refilled n ws xs
+    ∙ ap (λ k. take k (ws ++ drop (length ws) (take n xs))) (sym (length-take-le n xs fits))
+written_first zero (suc i) xs ws le fits = absurd (omega arith)
+written_first (suc n) (suc i) [] ws le fits = absurd (omega arith)
+written_first (suc n) (suc i) (x ∷ xs) ws le fits = ap (λ l. x ∷ l) (written_first n i xs ws (omega arith) (omega arith))
+
+-- what is written behind zeros
+written_behind : (low k from : ℕ) (xs ws : List ℕ) → from ≡ low + k → replicate low 0 ++ written_from xs k ws ≡ written_from (replicate low 0 ++ xs) from ws
+written_behind zero k from xs ws e = let same : k ≡ from = omega arith in ap (λ i. written_from xs i ws) same
+written_behind (suc low) k zero xs ws e = absurd (omega arith)
+written_behind (suc low) k (suc from) xs ws e = ap (λ l. 0 ∷ l) (written_behind low k from xs ws (omega arith))
+
+-- a region ends as it was, with what was written
+pub written_shown : (low n from : ℕ) (xs ws : List ℕ) → low ≤ from → from ≤ n → n ≤ low + length xs
+    → take n (replicate low 0 ++ written_from xs (from - low) ws) ≡ written_from (take n (replicate low 0 ++ xs)) from ws
+written_shown low n from xs ws above within fits =
+    ap (take n) (written_behind low (from - low) from xs ws (omega arith))
+    ∙ written_first n from (replicate low 0 ++ xs) ws within (omega (arith, length-append (replicate low 0) xs, length-replicate {A = ℕ} low 0))
+
+behind : (low k from : ℕ) (xs : List ℕ) → from ≡ low + k → drop from (replicate low 0 ++ xs) ≡ drop k xs
+behind zero k from xs e = let same : from ≡ k = omega arith in ap (λ i. drop i xs) same
+behind (suc low) k zero xs e = absurd (omega arith)
+behind (suc low) k (suc from) xs e = behind low k from xs (omega arith)
+
+within_first : (n i size : ℕ) (xs : List ℕ) → i + size ≤ n → take size (drop i (take n xs)) ≡ take size (drop i xs)
+within_first n zero size xs le = take_less size n xs (omega arith)
+within_first zero (suc i) size xs le = absurd (omega arith)
+within_first (suc n) (suc i) size [] le = refl
+within_first (suc n) (suc i) size (x ∷ xs) le = within_first n i size xs (omega arith)
+
+-- a part of what is ready is that part of the region
+pub part_shown : (low n from size : ℕ) (xs : List ℕ) → low ≤ from → from + size ≤ n
+    → take size (drop (from - low) xs) ≡ take size (drop from (take n (replicate low 0 ++ xs)))
+part_shown low n from size xs above le =
+    sym (within_first n from size (replicate low 0 ++ xs) le ∙ ap (take size) (behind low (from - low) from xs (omega arith)))

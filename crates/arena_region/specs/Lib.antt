@@ -1,0 +1,4 @@
+pub mod Bytes
+pub mod Lends
+pub mod Ownership
+pub mod Laid

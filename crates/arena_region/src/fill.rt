@@ -1,0 +1,35 @@
+// How room is made ready. The loops write nothing else, so that they become one move of memory.
+ghost use Rattle.std.specs.Prelude.{◌≡◌, ◌-◌, ◌≤◌, ◌++◌, length, replicate};
+
+use crate::store::{Base, Store};
+
+// Writes zeros down to an index.
+pub(crate) fn clear(store: &mut Store, base: Base, room: usize, from: usize)
+    requires place { base.ptr ≡ store.old.at }
+    requires room { store.old.room ≡ room }
+    requires from { from ≤ room }
+    ensures place { store.new.at ≡ store.old.at }
+    ensures room { store.new.room ≡ from }
+    ensures ready { store.new.ready ≡ replicate (room - from) 0 ++ store.old.ready }
+{
+    let mut at = room;
+    while at > from {
+        at -= 1;
+        store.put(base, at, 0);
+    }
+}
+
+// Writes these bytes into all the room.
+pub(crate) fn copy(store: &mut Store, base: Base, list: &[u8])
+    requires place { base.ptr ≡ store.old.at }
+    requires room { store.old.room ≡ length list.now }
+    ensures place { store.new.at ≡ store.old.at }
+    ensures room { store.new.room ≡ 0 }
+    ensures ready { store.new.ready ≡ list.now ++ store.old.ready }
+{
+    let mut at = list.len();
+    while at > 0 {
+        at -= 1;
+        store.put(base, at, list[at]);
+    }
+}

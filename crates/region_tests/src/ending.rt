@@ -1,0 +1,16 @@
+// Bytes at the end of a region.
+ghost use Rattle.std.specs.Prelude.{◌≡◌, ◌-◌, ◌≤◌, ◌++◌, length, take, min};
+
+use arena_region::Region;
+
+/// Writes these bytes at the end of a region, which is made ready as far as they need.
+pub fn put_last(region: &mut Region, list: &[u8])
+    requires { length list.now ≤ length region.old.items }
+    ensures items { let kept = length region.old.items - length list.now in
+        region.new.items ≡ take kept region.old.items ++ list.now }
+    ensures low { region.new.low ≡ min region.old.low (length region.old.items - length list.now) }
+{
+    let from = region.len() - list.len();
+    region.make_ready(from);
+    region.part_mut(from, list.len()).copy_from_slice(list);
+}
