@@ -1,53 +1,87 @@
 #!/bin/bash
-# Measures `arena_run calls` on a million lines: the best wall time of five runs, lines a second, and peak memory; beside
-# `cat` of the same file, and beside the program of the words in BASELINE, if set, as in
-#     BASELINE="/tmp/native-out/target/release/native calls" bench/calls.sh [SEED] [LINES]
+# Measures `arena_run calls`, beside the driver over the Rust crate whose program is in NATIVE, if set, as in
+#     NATIVE=/tmp/native-out/target/release/native bench/calls.sh [SEED] [LINES..]
+# For each number of lines (a million if none is given) it prints the least wall time of ROUNDS runs (5 if not set) by turns,
+# with the start of the process, and the peak memory. Both programs must print the same text.
 # The lines are a seeded mix of all calls, with sizes to 511 and 256 names, and a reset in each 65,536th line.
 set -euo pipefail
+export LC_ALL=C
 here=$(dirname "$(readlink -f "$0")")
+[ -x /usr/bin/time ] || { echo "peak memory is measured with GNU time, /usr/bin/time" >&2; exit 1; }
+program=$("$here/program.sh" arena_run --version)
 seed=${1:-1}
-lines=${2:-1000000}
-input=$(mktemp) times=$(mktemp)
-trap 'rm -f "$input" "$times"' EXIT
+[ $# -eq 0 ] || shift
+[ $# -gt 0 ] || set -- 1000000
+folder=$(mktemp -d)
+trap 'rm -rf "$folder"' EXIT
+input=$folder/input
 
-awk -v x="$seed" -v lines="$lines" '
-    function draw(n) { x = (x * 16807) % 2147483647; return int(x / 7) % n }
-    BEGIN {
-        split("1 2 4 8 16", aligns, " ")
-        for (i = 0; i < lines; i++) {
-            kind = draw(16); name = draw(256)
-            if (i % 65536 == 65535) print "reset"
-            else if (kind < 4) print "alloc", name, draw(512), aligns[1 + draw(5)], draw(256)
-            else if (kind < 6) print "grow", name, draw(512), aligns[1 + draw(5)], draw(256)
-            else if (kind < 8) print "shrink", name, draw(512), aligns[1 + draw(5)]
-            else if (kind < 10) print "dealloc", name
-            else if (kind < 12) printf "write %d %d %02x\n", name, draw(512), draw(256)
-            else if (kind < 15) print "read", name
-            else print (draw(2) ? "used" : "allocated")
-        }
-    }' > "$input"
-size=$(stat -c %s "$input")
-[ "$size" -le 16777216 ] || { echo "the input has $size bytes, past the limit" >&2; exit 1; }
-echo "input: $lines lines, $size bytes, seed $seed"
-
-# measure NAME COMMAND..
-measure() {
-    local name=$1 best= memory=
-    shift
-    : > "$times"
-    for _ in 1 2 3 4 5; do
-        /usr/bin/time -a -o "$times" -f '%e %M' "$@" < "$input" > /dev/null
-    done
-    read -r best memory < <(sort -n "$times" | head -n 1)
-    awk -v name="$name" -v t="$best" -v m="$memory" -v lines="$lines" 'BEGIN {
-        printf "%-10s %6.2f s %12.0f lines/s %9.1f MiB\n", name, t, (t > 0 ? lines / t : 0), m / 1024
-    }'
+# mix LINES: prints so many lines.
+mix() {
+    awk -v x="$seed" -v lines="$1" '
+        function draw(n) { x = (x * 16807) % 2147483647; return int(x / 7) % n }
+        BEGIN {
+            split("1 2 4 8 16", aligns, " ")
+            for (i = 0; i < lines; i++) {
+                kind = draw(16); name = draw(256)
+                if (i % 65536 == 65535) print "reset"
+                else if (kind < 4) print "alloc", name, draw(512), aligns[1 + draw(5)], draw(256)
+                else if (kind < 6) print "grow", name, draw(512), aligns[1 + draw(5)], draw(256)
+                else if (kind < 8) print "shrink", name, draw(512), aligns[1 + draw(5)]
+                else if (kind < 10) print "dealloc", name
+                else if (kind < 12) printf "write %d %d %02x\n", name, draw(512), draw(256)
+                else if (kind < 15) print "read", name
+                else print (draw(2) ? "used" : "allocated")
+            }
+        }'
 }
 
-"$here/../arena_run" --version > /dev/null
-measure arena_run "$here/../crates/arena_run/out/arena_run" calls
-measure cat cat
-if [ -n "${BASELINE:-}" ]; then
-    # shellcheck disable=SC2086
-    measure baseline $BASELINE
-fi
+# weigh WHO COMMAND..: notes the peak memory in KiB, and the sum of the text.
+weigh() {
+    /usr/bin/time -f %M -o "$folder/$1.memory" "${@:2}" < "$input" | cksum > "$folder/$1.text"
+    : > "$folder/$1.times"
+}
+
+# clock WHO COMMAND..: notes the wall time in microseconds.
+clock() {
+    local began=$EPOCHREALTIME
+    "${@:2}" < "$input" > /dev/null
+    local ended=$EPOCHREALTIME
+    echo $((${ended/./} - ${began/./})) >> "$folder/$1.times"
+}
+
+# tell WHO..: prints a line of the table, of these programs.
+tell() {
+    {
+        echo "$lines"
+        for who; do
+            sort -n "$folder/$who.times" | head -n 1
+            tail -n 1 "$folder/$who.memory"
+        done
+    } | paste -sd ' ' | awk '
+        function ratio(a, b) { return sprintf("%7.2f", b > 0 ? a / b : 0) }
+        NF == 3 { printf "%9d %10.2f %10.0f %28.1f\n", $1, $2 / 1000, $2 * 1000 / $1, $3 / 1024 }
+        NF == 5 {
+            printf "%9d %10.2f %10.0f %10.2f %s", $1, $2 / 1000, $2 * 1000 / $1, $4 / 1000, ratio($2, $4)
+            printf " %10.1f %10.1f %s\n", $3 / 1024, $5 / 1024, ratio($3, $5)
+        }'
+}
+
+printf '%9s %10s %10s %10s %7s %10s %10s %7s\n' lines 'here, ms' 'ns a line' 'Rust, ms' ratio 'here, MiB' 'Rust, MiB' ratio
+for lines; do
+    mix "$lines" > "$input"
+    size=$(stat -c %s "$input")
+    [ "$size" -le 16777216 ] || { echo "the input has $size bytes, past the limit" >&2; exit 1; }
+    weigh here "$program" calls
+    [ -z "${NATIVE:-}" ] || weigh Rust "$NATIVE" calls
+    for _ in $(seq "${ROUNDS:-5}"); do
+        clock here "$program" calls
+        [ -z "${NATIVE:-}" ] || clock Rust "$NATIVE" calls
+    done
+    if [ -n "${NATIVE:-}" ]; then
+        tell here Rust
+        cmp "$folder/here.text" "$folder/Rust.text" || { echo "the texts differ" >&2; exit 1; }
+    else
+        tell here
+    fi
+done

@@ -1,6 +1,5 @@
 #!/bin/bash
-# Times copies into another arena, in nanoseconds a number of a vector and a pair of a map: the best of five runs each. Beside it
-# the same loops of the program of the words in BASELINE, as arena.sh says.
+# Times copies into another arena, in nanoseconds a number of a vector and a pair of a map, as loops.sh says.
 set -euo pipefail
 here=$(dirname "$(readlink -f "$0")")
 "$here/loops.sh" vec_clone map_clone

@@ -1,17 +1,52 @@
 #!/bin/bash
-# Times the loops of these names, in nanoseconds a call: the best of five runs each. Beside each the same loop of the program
-# of the words in BASELINE, if set, which prints a line for a name, as in
-#     BASELINE="/tmp/native-out/target/release/native bench" bench/items.sh
-# The number at the end of a line depends on the calls alone: both programs must print the same.
+# Times loops, and prints a line for each: the least nanoseconds a call, and beside it those of the driver over the Rust crate
+# whose program is in NATIVE, if that has such a loop, with the ratio of the two, as in
+#     NATIVE=/tmp/native-out/target/release/native bench/loops.sh vec_push "vec_push 1000"
+# Behind a loop's name may stand how many calls it makes, and further words. ROUNDS rounds (5 if not set) run the two programs
+# one after the other, each the best of its own five runs, so that a noisy minute hits both. A loop's number depends on the
+# calls alone: both programs must print the same.
 set -euo pipefail
 here=$(dirname "$(readlink -f "$0")")
-program=$here/../crates/bench_arena/out/bench_arena
-[ -x "$program" ] || (cd "$here/../crates/bench_arena" && rt run -- check) >&2
+program=$("$here/program.sh" bench_arena check)
+lines=$(mktemp)
+trap 'rm -f "$lines"' EXIT
 
-for name; do
-    "$program" "$name"
-    if [ -n "${BASELINE:-}" ] && [ "$name" != read_older ] && [ "$name" != map_walked ]; then
+# note WHO LOOP: notes the lines that are read behind these two.
+note() {
+    sed "s/^/$1\t$2\t/" >> "$lines"
+}
+
+for _ in $(seq "${ROUNDS:-5}"); do
+    for loop; do
         # shellcheck disable=SC2086
-        $BASELINE "$name" | sed 's/total.*ops/ops/; s/  (.*//; s/^/baseline /'
-    fi
+        "$program" $loop | note here "$loop"
+        if [ -n "${NATIVE:-}" ]; then
+            # Of a loop that it doesn't have the driver says so, and fails.
+            # shellcheck disable=SC2086
+            { "$NATIVE" bench $loop 2> /dev/null || true; } | note rust "$loop"
+        fi
+    done
 done
+
+# The third field of a line is what a program printed: the loop's name, its nanoseconds, and a number behind the word `number`.
+awk -F '\t' '
+    BEGIN { for (i = 1; i < ARGC - 1; i++) { names[i] = ARGV[i]; delete ARGV[i] } }
+    {
+        n = split($3, words, " ")
+        for (i = 1; i < n; i++) if (words[i] == "number") number[$1, $2] = words[i + 1]
+        if (!(($1, $2) in least) || words[2] + 0 < least[$1, $2]) least[$1, $2] = words[2] + 0
+    }
+    END {
+        printf "%-24s %10s %10s %7s\n", "loop", "here", "Rust", "ratio"
+        for (i = 1; i < ARGC - 1; i++) {
+            loop = names[i]
+            if (!(("here", loop) in least)) { print loop ": no such loop"; failed = 1; continue }
+            here = least["here", loop]
+            if (!(("rust", loop) in least)) { printf "%-24s %10.3f\n", loop, here; continue }
+            rust = least["rust", loop]
+            other = number["here", loop] != number["rust", loop]
+            if (other) failed = 1
+            printf "%-24s %10.3f %10.3f %7.2f%s\n", loop, here, rust, (rust > 0 ? here / rust : 0), (other ? "  OTHER NUMBERS" : "")
+        }
+        exit failed
+    }' "$@" "$lines"

@@ -11,57 +11,63 @@ use Rattle.std.specs.Option.{MatchOption}
 use Rattle.arena_bits.specs.Bits.{Set, bits_of, members}
 use Rattle.arena_bits.specs.Walks.{IsScan}
 use Rattle.arena_bits.specs.declared.ones.Scan.{Scan}
-use Rattle.arena_bits.proofs.MemberLemmas.{members_skip, members_first, members_end}
+use Rattle.arena_bits.proofs.MemberLemmas.{members_skip, members_first, members_none}
 
 module _ (words : List ℕ) (capacity : ℕ) where
   -- a word as it stands
-  pub scan_word : (base : ℕ) → base % 64 ≡ 0 → base ≤ capacity
-      → IsScan words capacity (record { base = base; rest = get_or words (base / 64) 0; front = base })
+  pub scan_word : (base word : ℕ) → word ≡ get_or words (base / 64) 0 → base % 64 ≡ 0 → base ≤ capacity
+      → IsScan words capacity (record { base = base; rest = word; front = base })
   unfolding bits_of
-  scan_word base aligned bounded = record {
+  scan_word base word is aligned bounded = record {
     aligned = aligned;
     order = omega arith;
     within = omega arith;
     bounded = bounded;
     passed = λ j low. absurd (omega arith);
     rest = λ j small low.
-        let word : (base + j) / 64 ≡ base / 64 = omega arith in
+        let at : (base + j) / 64 ≡ base / 64 = omega arith in
         let bit : (base + j) % 64 ≡ j = omega arith in
-        rw (word, bit) refl;
+        rw (at, bit, is) refl;
   }
 
   module _ (s : Scan) (scan : IsScan words capacity s) where
-    -- a number of the word whose bit is 0 isn't in the set
-    not_here : (n : ℕ) → s.front ≤ n → n < s.base + 64 → bit_at s.rest (n - s.base) ≡ 0 → bits_of words n ≡ false
-    not_here n low high zero =
+    -- Numbers of the word whose bits are 0 aren't in the set.
+    not_here : (to : ℕ) → to ≤ s.base + 64 → ((j : ℕ) → s.base + j < to → bit_at s.rest j ≡ 0)
+        → (n : ℕ) → s.front ≤ n → n < to → bits_of words n ≡ false
+    not_here to within clear n low high =
         let at : s.base + (n - s.base) ≡ n = omega (arith, scan.order) in
-        sym (ap (bits_of words) at)
-        ∙ sym (scan.rest (n - s.base) (omega (arith, scan.order)) (omega (arith, scan.order))) ∙ ap (λ b. eqb b 1) zero
+        rw at at (sym (scan.rest (n - s.base) (omega (arith, scan.order)) (omega (arith, scan.order)))
+        ∙ ap (λ b. eqb b 1) (clear (n - s.base) (omega (arith, scan.order))))
 
     -- Nothing is left in the word.
-    pub scan_skip : s.rest ≡ 0 → members (bits_of words) (s.base + 64) capacity ≡ members (bits_of words) s.front capacity
-    scan_skip none =
-        sym (members_skip (bits_of words) s.front (s.base + 64) capacity scan.within
-        (λ n low high. not_here n low high (ap (λ r. bit_at r (n - s.base)) none ∙ bit_at-zero (n - s.base))))
+    pub scan_skip : s.rest ≡ 0 → s.base + 64 ≤ capacity
+        → members (bits_of words) (s.base + 64) capacity ≡ members (bits_of words) s.front capacity
+    scan_skip none more =
+        sym (members_skip (bits_of words) s.front (s.base + 64) capacity scan.within more
+        (not_here (s.base + 64) (omega arith) (λ j low. rw none (bit_at-zero j))))
 
     module _ (fits : s.rest < 2 ^ 64) (last : s.rest ≡ 0 → capacity ≤ s.base + 64) where
       abbrev place : ℕ
       place = trailing_zeros w64 s.rest
 
-      -- below its lowest bit a word has none
-      clear_below : (i : ℕ) → i < place → bit_at s.rest i ≡ 0
-      clear_below i below = elim (cases_lt 0 s.rest) [
-        | inl some ↦ (bit_at-trailing_zeros w64 s.rest some fits).2 i below
-        | inr none ↦ (let zero : s.rest ≡ 0 = omega arith in ap (λ r. bit_at r i) zero ∙ bit_at-zero i)
+      -- Below its lowest bit a word has none; a lowest bit below the capacity is one of the word.
+      lowest : ((j : ℕ) → j < place → bit_at s.rest j ≡ 0) × (place < capacity - s.base → (place < 64) × (bit_at s.rest place ≡ 1))
+      unfolding count_trailing_zeros
+      lowest = elim (cases_lt 0 s.rest) [
+        | inl some ↦ (let low = bit_at-trailing_zeros w64 s.rest some fits in (low.2, λ below. (low.0, low.1)))
+        | inr none ↦ (
+            let zero : s.rest ≡ 0 = omega arith in
+            let all : place ≡ 64 = ap (trailing_zeros w64) zero in
+            (λ j low. rw zero (bit_at-zero j), λ below. absurd (omega (arith, last zero)))
+            )
       ]
 
       -- The lowest bit lies past the capacity, or there is none: no number is left.
       module _ (late : capacity - s.base ≤ trailing_zeros w64 s.rest) where
         pub scan_ended : members (bits_of words) s.front capacity ≡ []
         scan_ended =
-            members_skip (bits_of words) s.front capacity capacity scan.bounded
-            (λ n low high. not_here n low (omega (arith, trailing_le 64 s.rest)) (clear_below (n - s.base) (omega (arith, scan.order))))
-            ∙ members_end (bits_of words) capacity capacity (omega arith)
+            members_none (bits_of words) s.front capacity
+            (not_here capacity (omega (arith, trailing_le 64 s.rest)) (λ j low. lowest.0 j (omega arith)))
 
         pub scan_over : IsScan words capacity (record { base = s.base; rest = s.rest; front = capacity })
         scan_over = record {
@@ -69,36 +75,25 @@ module _ (words : List ℕ) (capacity : ℕ) where
           order = omega (arith, scan.order, scan.bounded);
           within = omega (arith, trailing_le 64 s.rest);
           bounded = omega arith;
-          passed = λ j low. clear_below j (omega arith);
+          passed = λ j low. lowest.0 j (omega arith);
           rest = λ j small low. scan.rest j small (omega (arith, scan.bounded));
         }
 
       -- The lowest bit lies below: it is the next number.
       module _ (below : trailing_zeros w64 s.rest < capacity - s.base) where
-        lowest : (place < 64) × (bit_at s.rest place ≡ 1)
-        unfolding count_trailing_zeros
-        lowest = elim (cases_lt 0 s.rest) [
-          | inl some ↦ (let low = bit_at-trailing_zeros w64 s.rest some fits in (low.0, low.1))
-          | inr none ↦ (let zero : s.rest ≡ 0 = omega arith in
-              let all : place ≡ 64 = ap (trailing_zeros w64) zero in absurd (omega (arith, last zero)))
-        ]
-
         pub place_fits : trailing_zeros w64 s.rest < 64
-        place_fits = lowest.0
+        place_fits = (lowest.1 below).0
 
         not_passed : s.front ≤ s.base + place
-        not_passed = elim (cases_lt (s.base + place) s.front) [
-          | inl before ↦ absurd (omega (arith, scan.passed place before, lowest.1))
-          | inr h ↦ h
-        ]
+        not_passed = grind (arith, scan.passed place, (lowest.1 below).1)
 
         pub scan_first : members (bits_of words) s.front capacity
             ≡ (s.base + trailing_zeros w64 s.rest) ∷ members (bits_of words) (s.base + trailing_zeros w64 s.rest + 1) capacity
         scan_first =
-            members_skip (bits_of words) s.front (s.base + place) capacity not_passed
-            (λ n low high. not_here n low (omega (arith, lowest.0)) (clear_below (n - s.base) (omega (arith, scan.order))))
+            members_skip (bits_of words) s.front (s.base + place) capacity not_passed (omega arith)
+            (not_here (s.base + place) (omega (arith, place_fits)) (λ j low. lowest.0 j (omega arith)))
             ∙ members_first (bits_of words) (s.base + place) capacity (omega arith)
-            (sym (scan.rest place lowest.0 not_passed) ∙ ap (λ b. eqb b 1) lowest.1)
+            (sym (scan.rest place place_fits not_passed) ∙ ap (λ b. eqb b 1) (lowest.1 below).1)
 
         pub scan_next : IsScan words capacity (record {
           base = s.base;
@@ -108,14 +103,14 @@ module _ (words : List ℕ) (capacity : ℕ) where
         scan_next = record {
           aligned = scan.aligned;
           order = omega arith;
-          within = omega (arith, lowest.0);
+          within = omega (arith, place_fits);
           bounded = omega arith;
           passed = λ j low. elim (cases_eq j place) [
-            | inl same ↦ rw same (bit_at_clear_same w64 s.rest place lowest.0)
-            | inr other ↦ bit_at_clear_other w64 s.rest place lowest.0 j (omega (arith, lowest.0)) other ∙ clear_below j (omega arith)
+            | inl same ↦ rw same (bit_at_clear_same w64 s.rest place place_fits)
+            | inr other ↦ bit_at_clear_other w64 s.rest place place_fits j (omega (arith, place_fits)) other ∙ lowest.0 j (omega arith)
           ];
           rest = λ j small low.
-              ap (λ b. eqb b 1) (bit_at_clear_other w64 s.rest place lowest.0 j small (λ e. omega arith))
+              ap (λ b. eqb b 1) (bit_at_clear_other w64 s.rest place place_fits j small (omega arith))
               ∙ scan.rest j small (omega (arith, not_passed));
         }
 
@@ -123,5 +118,8 @@ module _ (words : List ℕ) (capacity : ℕ) where
 pub walk_yields : (set : Set) (front to : ℕ) (r : Option ℕ) (after : ℕ) → MatchOption r (after ≡ to) (λ n. after ≡ n + 1)
     → MatchOption r (members set front to ≡ []) (λ n. members set front to ≡ n ∷ members set (n + 1) to)
     → YieldsFirst (λ (xs : List ℕ). xs) (members set front to) r (members set after to)
-walk_yields set front to None after at first = (first, ap (λ m. members set m to) at ∙ members_end set to to (omega arith))
+walk_yields set front to None after at first = (first, rw at (members_none set to to (λ n low high. absurd (omega arith))))
 walk_yields set front to (Some n) after at first = first ∙ ap (λ m. n ∷ members set m to) (sym at)
+
+-- for automatic proof
+pub ruleset step_laws = (scan_ended, place_fits, scan_first)

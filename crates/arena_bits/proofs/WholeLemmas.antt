@@ -1,6 +1,6 @@
 -- Sets as wholes: new ones, and those without a number.
-use Rattle.std.proofs.Common.{◌≡◌, ℕ, ◌+◌, ◌-◌, ◌*◌, ◌/◌, ◌%◌, ◌^◌, ◌<◌, ◌≤◌, List, length, take, replicate, get_or, ap, ◌∙◌, sym, subst, arith, refl, false, eqb, inl, inr, IsTrue, Ok, w64}
-use Rattle.std.specs.Int.{from_le_bytes, trailing_zeros}
+use Rattle.std.proofs.Common.{◌≡◌, ℕ, ◌+◌, ◌-◌, ◌*◌, ◌/◌, ◌%◌, ◌^◌, ◌<◌, ◌≤◌, List, length, replicate, get_or, ap, ◌∙◌, sym, subst, arith, refl, false, eqb, inl, inr, IsTrue, Ok, w64}
+use Rattle.std.specs.Int.{trailing_zeros}
 use Rattle.std.proofs.lemmas.Bool.{cases_lt}
 use Rattle.std.proofs.lemmas.Bool.Decides.{nat_tests}
 use Rattle.std.proofs.lemmas.List.{get_or_past, take-replicate, drop-replicate, length-replicate}
@@ -13,18 +13,15 @@ use Rattle.arena_chunks.specs.BlockCalls.{PlacesBlock, EditsBlock}
 use Rattle.arena_chunks.specs.declared.block.Block.{Block}
 use Rattle.arena_chunks.proofs.Layers.{length-bytes, wrote_whole, places_written}
 use Rattle.arena_items.specs.Values.{bytes_of}
-use Rattle.arena_items.proofs.Layers.{length-elements, placed_held, written_held}
+use Rattle.arena_items.proofs.Layers.{placed_held, written_held}
 use Rattle.arena_bits.specs.Bits.{bits_of, nothing, words_for}
-use Rattle.arena_bits.specs.Sets.{IsSetIn, words_of, PlacesSet}
+use Rattle.arena_bits.specs.Sets.{IsSetIn, words_of, BecomesSet, PlacesSet}
 use Rattle.arena_bits.specs.Walks.{words_in}
 use Rattle.arena_bits.specs.declared.set.BitSet.{BitSet}
-use Rattle.arena_bits.proofs.WordLemmas.{words, word-is}
+use Rattle.arena_bits.proofs.WordLemmas.{words, length-words, word-is}
+use Rattle.arena_bits.proofs.SetLemmas.{becomes_set}
 
 -- ---- No number
-
--- how many words bytes have
-pub words_length : (bytes : List ℕ) → length (words_in bytes) ≡ length bytes / 8
-words_length bytes = length-elements 8 (from_le_bytes w64) (length bytes / 8) bytes
 
 -- Words that are 0 have no bit.
 pub bits_none : (ws : List ℕ) → ((i : ℕ) → i < length ws → get_or ws i 0 ≡ 0) → bits_of ws ≡ nothing
@@ -42,7 +39,7 @@ bits_past ws n past =
 
 -- Of no words the first is 0.
 pub no_words : (bytes : List ℕ) → length bytes < 8 → 0 ≡ get_or (words_in bytes) 0 0
-no_words bytes few = sym (get_or_past (words_in bytes) 0 0 (omega (arith, words_length bytes)))
+no_words bytes few = sym (get_or_past (words_in bytes) 0 0 (omega (arith, length-words (length bytes / 8) bytes)))
 
 -- A word that isn't 0 has one: its lowest.
 pub some_bit : (ws : List ℕ) (i x : ℕ) → x ≡ get_or ws i 0 → 0 < x → x < 2 ^ 64 → (n : ℕ) × IsTrue (bits_of ws n)
@@ -56,36 +53,40 @@ some_bit ws i x is some fits =
 -- Bytes that are 0 are words that are.
 zero_words : (n i : ℕ) → i < length (words n (replicate (n * 8) 0)) → get_or (words n (replicate (n * 8) 0)) i 0 ≡ 0
 zero_words n i within =
-    let below : i < n = let long : length (words n (replicate (n * 8) 0)) ≡ n = length-elements 8 (from_le_bytes w64) n _ in omega arith in
+    let below : i < n = omega (arith, length-words n (replicate (n * 8) 0)) in
     word-is n (replicate (n * 8) 0) i below
-    ∙ ap (λ bytes. from_le_bytes w64 (take 8 bytes)) (drop-replicate (i * 8) (n * 8) 0)
-    ∙ ap (from_le_bytes w64) (take-replicate 8 (n * 8 - i * 8) 0 (omega arith))
+    ∙ rw (drop-replicate {X = ℕ} (i * 8) (n * 8) 0, take-replicate {X = ℕ} 8 (n * 8 - i * 8) 0 (omega arith)) refl
 
-module _ (m : Memory) (s : BitSet) (held : IsSetIn m s) where
-  -- A handle's words are those of its block's bytes.
-  pub words_count : length (bytes_of m s.words.block) ≡ 8 * s.words.length
-  words_count = omega (arith, length-bytes (image m) s.words.block.addr s.words.block.size, held.place.of_size)
+-- ---- Words that are read
 
-  pub words_read : words_in (bytes_of m s.words.block) ≡ words_of m s
-  words_read =
-      let all : length (bytes_of m s.words.block) / 8 ≡ s.words.length = omega (arith, words_count) in
-      ap (λ n. words n (bytes_of m s.words.block)) all
+-- There are eight bytes for each word of a handle,
+pub bytes_count : (m : Memory) (s : BitSet) → IsSetIn m s → length (bytes_of m s.words.block) ≡ 8 * s.words.length
+bytes_count m s held = omega (arith, length-bytes (image m) s.words.block.addr s.words.block.size, held.place.of_size)
 
-  -- They have a bit for each number below the capacity.
-  pub enough_words : s.capacity ≤ 64 * (length (bytes_of m s.words.block) / 8)
-  enough_words = omega (arith, words_count, held.count)
+-- which are the words of its block's bytes.
+pub words_read : (m : Memory) (s : BitSet) → IsSetIn m s → words_in (bytes_of m s.words.block) ≡ words_of m s
+words_read m s held =
+    let all : length (bytes_of m s.words.block) / 8 ≡ s.words.length = omega (arith, bytes_count m s held) in
+    ap (λ n. words n (bytes_of m s.words.block)) all
 
-module _ (old new : Memory) (b : Block) (n : ℕ) (sized : b.size ≡ n * 8) where
-  -- A block that is cleared has no bit.
-  pub cleared : (size : ℕ) → size ≡ b.size → EditsBlock old new b 0 size (λ before after. after ≡ replicate (length before) 0)
-      → bits_of (words n (bytes_of new b)) ≡ nothing
-  cleared size all edits = rw zeros (bits_none (words n (replicate (n * 8) 0)) (zero_words n))
-    where
-      zeros : bytes_of new b ≡ replicate (n * 8) 0
-      zeros =
-          let is : edits.list ≡ replicate (n * 8) 0 =
-          edits.related ∙ ap (λ k. replicate k 0) (length-bytes (image old) (b.addr + 0) size ∙ all ∙ sized) in
-          wrote_whole old new b edits.list edits.writes (ap length is ∙ length-replicate (n * 8) 0 ∙ sym sized) ∙ is
+-- ---- Blocks that are cleared
+
+-- One has no bit.
+pub cleared : (old new : Memory) (b : Block) (n size : ℕ) → b.size ≡ n * 8 → size ≡ b.size
+    → EditsBlock old new b 0 size (λ before after. after ≡ replicate (length before) 0) → bits_of (words n (bytes_of new b)) ≡ nothing
+cleared old new b n size sized all edits =
+    let zeros : edits.list ≡ replicate (n * 8) 0 =
+    edits.related ∙ ap (λ k. replicate k 0) (length-bytes (image old) (b.addr + 0) size ∙ all ∙ sized) in
+    rw (wrote_whole old new b edits.list edits.writes (ap length zeros ∙ length-replicate (n * 8) 0 ∙ sym sized), zeros)
+    (bits_none (words n (replicate (n * 8) 0)) (zero_words n))
+
+-- So a set becomes empty.
+pub becomes_empty : (old new : View) (s : BitSet) → IsSetIn old.memory s → new.source ≡ old.source
+    → EditsBlock old.memory new.memory s.words.block 0 s.words.block.size (λ before after. after ≡ replicate (length before) 0)
+    → BecomesSet old new s nothing
+becomes_empty old new s held source edits =
+    becomes_set old new s nothing 0 edits.list edits.writes source held
+    (cleared old.memory new.memory s.words.block s.words.length _ held.place.of_size refl edits)
 
 -- ---- New sets
 
@@ -94,17 +95,19 @@ pub words_layout : (n : ℕ) → n ≤ 2 ^ 58 → IsTrue (is_layout (n * 8) 8)
 unfolding is_power_among up
 words_layout n few = grind (arith, nat_tests)
 
-module _ (old mid new : View) (bits n : ℕ) (b : Block) (enough : n ≡ words_for bits) (places : PlacesBlock old mid (n * 8) 8 (Placed b))
-    (edits : EditsBlock mid.memory new.memory b 0 (n * 8) (λ before after. after ≡ replicate (length before) 0))
-    (source : new.source ≡ mid.source) where
-  -- A block that was placed and cleared is a new set.
-  pub new_set : PlacesSet old new bits nothing (Ok (record { words = record { block = b; length = n; of = record {} }; capacity = bits }))
-  new_set =
-      let held = placed_held old mid (n * 8) 8 b places in
-      let written = places_written old.memory mid.memory new.memory old.source mid.source (n * 8) 8 b 0 edits.list places edits.writes in
-      record {
-        placed = rw (← enough) (subst (λ (s : Source). PlacesBlock old (view new.memory s) (n * 8) 8 (Placed b)) (sym source) written);
-        held = record { place = written_held mid.memory new.memory _ 8 0 b b edits.list edits.writes held; count = enough };
-        capacity = refl;
-        set_is = cleared mid.memory new.memory b n held.of_size (n * 8) (sym held.of_size) edits;
-      }
+-- A block that was placed and cleared is a new set.
+pub new_set : (old mid new : View) (bits n : ℕ) (b : Block) → n ≡ words_for bits → PlacesBlock old mid (n * 8) 8 (Placed b)
+    → EditsBlock mid.memory new.memory b 0 (n * 8) (λ before after. after ≡ replicate (length before) 0) → new.source ≡ mid.source
+    → PlacesSet old new bits nothing (Ok (record { words = record { block = b; length = n; of = record {} }; capacity = bits }))
+new_set old mid new bits n b enough places edits source =
+    let held = placed_held old mid (n * 8) 8 b places in
+    let written = places_written old.memory mid.memory new.memory old.source mid.source (n * 8) 8 b 0 edits.list places edits.writes in
+    record {
+      placed = rw (← enough) (subst (λ (s : Source). PlacesBlock old (view new.memory s) (n * 8) 8 (Placed b)) (sym source) written);
+      held = record { place = written_held mid.memory new.memory _ 8 0 b b edits.list edits.writes held; count = enough };
+      capacity = refl;
+      set_is = cleared mid.memory new.memory b n (n * 8) held.of_size (sym held.of_size) edits;
+    }
+
+-- for automatic proof
+pub ruleset read_words = (bytes_count, words_read)

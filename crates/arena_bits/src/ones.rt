@@ -64,6 +64,7 @@ fn load(bytes: &[u8], capacity: u64, start: Scan) -> Scan
 }
 
 // The next number, and the place behind it.
+#[tactic(auto, using(crate::proofs::ScanLemmas::step_laws))]
 fn step(bytes: &[u8], capacity: u64, start: Scan) -> (Option<u64>, Scan)
     requires words { capacity ≤ 64 * (length bytes.now / 8) }
     requires scan { IsScan (words_in bytes.now) capacity start }
@@ -94,6 +95,7 @@ fn step(bytes: &[u8], capacity: u64, start: Scan) -> (Option<u64>, Scan)
 }
 
 // A walk from the first word on.
+#[tactic(auto, using(crate::proofs::MemberLemmas::member_laws))]
 fn walk<C: ChunkSource>(bytes: &[u8], capacity: u64) -> Ones<'_, C>
     requires { capacity ≤ 64 * (length bytes.now / 8) }
     ensures walk { let set = bits_of (words_in bytes.now) in
@@ -121,7 +123,7 @@ impl BitSet {
             ≡ record { left = members (set_of a.now.memory self.now) 0 bits; front = 0; capacity = bits } }
         ensures few { length result.left < 2 ^ 64 }
     {
-        walk(a.read(self.words.block), self.capacity)
+        walk(self.bytes(a), self.capacity)
     }
 }
 
@@ -139,6 +141,7 @@ impl<'a, C: ChunkSource> Ones<'a, C> {
 
     /// None at least, and at most as many as there are numbers from the place after the last one given to the
     /// capacity.
+    #[tactic(auto, using(crate::proofs::MemberLemmas::member_laws))]
     #[inline]
     pub fn size_hint(&self) -> (usize, Option<usize>)
         ensures hint { result ≡ (0, Some (self.now.capacity - self.now.front)) }

@@ -47,6 +47,7 @@ fn highest(bytes: &[u8]) -> usize
 }
 
 // Puts the text of the words of some bytes at the end.
+#[tactic(auto, unfolding(crate::specs::Printed::printed))]
 fn push_words(text: &mut Bytes, bytes: &[u8]) -> Result<(), OutOfMemory>
     requires { length bytes.now % 8 ≡ 0 }
     ensures { OnOk result (text.new
@@ -123,7 +124,7 @@ impl BitSet {
         ensures { OnOk result (text.new
             ≡ text.old ++ printed self.now.words.length (set_of a.now.memory self.now)) }
     {
-        push_words(text, a.read(self.words.block))?;
+        push_words(text, self.bytes(a))?;
         Ok(())
     }
 }

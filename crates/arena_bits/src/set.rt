@@ -1,7 +1,8 @@
 // Bit sets: their handles, and calls on one number.
-ghost use Rattle.std.specs.Prelude.{◌≡◌, ◌*◌, ◌<◌, ◌&&◌, nat_lt};
+ghost use Rattle.std.specs.Prelude.{◌≡◌, ◌*◌, ◌<◌, ◌&&◌, nat_lt, length};
 ghost use Rattle.arena_bits.specs.Bits.{with_bit, without_bit};
-ghost use Rattle.arena_bits.specs.Sets.{IsSetIn, set_of, BecomesSet};
+ghost use Rattle.arena_bits.specs.Sets.{IsSetIn, words_of, set_of, BecomesSet};
+ghost use Rattle.arena_bits.specs.Walks.{words_in};
 
 use crate::edits::{Lower, Raise};
 use crate::words::word_at;
@@ -19,7 +20,7 @@ pub struct BitSet {
     pub capacity: u64,
 }
 
-#[tactic(auto, using(arena_chunks::proofs::Layers::layer_laws))]
+#[tactic(auto, using(arena_chunks::proofs::Layers::layer_laws, crate::proofs::BitLemmas::bit_tested))]
 impl BitSet {
     /// How many bits the set was made for.
     #[inline]
@@ -45,7 +46,7 @@ impl BitSet {
         requires within { bit < 64 * self.now.words.length }
         ensures { result ≡ set_of a.now.memory self.now bit }
     {
-        let word = word_at(a.read(self.words.block), bit / 64);
+        let word = word_at(self.bytes(a), bit / 64);
         word >> (bit % 64) & 1 == 1
     }
 
@@ -71,5 +72,18 @@ impl BitSet {
     {
         let mask = 1 << (bit % 64);
         a.write_with(self.words.block, bit / 64 * 8, 8, &Lower { mask });
+    }
+}
+
+#[tactic(auto, using(crate::proofs::WholeLemmas::read_words))]
+impl BitSet {
+    // The bytes of the words.
+    #[inline]
+    pub(crate) fn bytes<'a, C: ChunkSource>(&self, a: &'a Allocator<C>) -> &'a [u8]
+        requires { IsSetIn a.now.memory self.now }
+        ensures words { words_in result.now ≡ words_of a.now.memory self.now }
+        ensures length { length result.now ≡ 8 * self.now.words.length }
+    {
+        a.read(self.words.block)
     }
 }

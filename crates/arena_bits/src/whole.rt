@@ -30,6 +30,7 @@ fn place_words<C: ChunkSource>(a: &mut Allocator<C>, count: u64) -> Grown<Block>
     }
 }
 
+#[tactic(auto, using(arena_chunks::proofs::Layers::layer_laws, crate::proofs::JoinLemmas::joining_none))]
 impl BitSet {
     /// An empty set for so many bits, in one block of whole words.
     ///
@@ -59,7 +60,7 @@ impl BitSet {
         requires held { IsSetIn a.now.memory self.now }
         ensures { TellsEmpty result (set_of a.now.memory self.now) }
     {
-        are_zero(a.read(self.words.block))
+        are_zero(self.bytes(a))
     }
 
     /// Takes all numbers out, in one pass.
@@ -83,14 +84,14 @@ impl BitSet {
         ensures handle { self.new ≡ self.old }
     {
         let count = self.words.length.min(other.words.length);
-        let (block, source) = (self.words.block, other.words.block);
+        let block = self.words.block;
         // Each block is looked up once for eight words, and the rest are taken one by one.
         'rows: for i in 0..count / 8 {
-            let row = row_at(a.read(source), i * 8);
+            let row = row_at(other.bytes(a), i * 8);
             a.write_with(block, i * 8 * 8, 64, &JoinRow { row });
         }
         'words: for i in count / 8 * 8..count {
-            let mask = word_at(a.read(source), i);
+            let mask = word_at(other.bytes(a), i);
             a.write_with(block, i * 8, 8, &Raise { mask });
         }
     }

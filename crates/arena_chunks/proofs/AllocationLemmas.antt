@@ -11,7 +11,7 @@ use Rattle.placement.proofs.RoundingLemmas.{layout_power}
 use Rattle.placement.proofs.PlaceLemmas.{IsPlace, is_place}
 use Rattle.placement.proofs.CursorLemmas.{start_positive, cursor_within, valid_moved}
 use Rattle.placement.proofs.UsedLemmas.{used_under}
-use Rattle.placement.proofs.AllocLemmas.{alloc_placed, alloc_refused, IsGranted, is_granted}
+use Rattle.placement.proofs.AllocLemmas.{alloc_placed, alloc_refused, alloc_newest, IsGranted, is_granted}
 use Rattle.placement.proofs.NewBlockLemmas.{is_new_block, alloc_valid}
 use Rattle.placement.specs.Causes.{counted}
 use Rattle.placement.specs.Statistics.{one_allocation}
@@ -19,7 +19,7 @@ use Rattle.placement.proofs.AllocatedLemmas.{alloc_allocated}
 use Rattle.arena_chunks.specs.Memory.{Memory, image}
 use Rattle.arena_chunks.specs.Stored.{memory_of}
 use Rattle.arena_chunks.specs.declared.arena.Arena.TheInside.{Inside}
-use Rattle.arena_chunks.specs.Source.{Source, View, view, IsAsked}
+use Rattle.arena_chunks.specs.Source.{Source, view, IsAsked}
 use Rattle.arena_chunks.specs.Adding.{IsAdded, AddsChunk, OnFound}
 use Rattle.arena_chunks.specs.Answers.{OnCounted}
 use Rattle.arena_chunks.specs.Answers.Answer.{Placed}
@@ -124,12 +124,15 @@ block_placed old new before after size align k p b valid layout placing asked is
       };
     })
 
--- The block at the place that was answered is the one that was placed.
-pub placed_there : (old new : View) (size align k p : ℕ) (b : Block) → PlacesAfter old new size align k (Placed (record { generation = old.memory.state.generation; addr = p; size = size; align = align }))
-    → b ≡ record { generation = new.memory.state.generation; addr = p; size = size; align = align } → PlacesAfter old new size align k (Placed b)
-placed_there old new size align k p b places is =
-    subst (λ (b : Block). PlacesAfter old new size align k (Placed b))
-    (sym (is ∙ ap (λ (generation : ℕ). record { generation = generation; addr = p; size = size; align = align }) places.outcome.frame.generation)) places
+-- The same of a block that lies at the cursor, where an allocation leaves it.
+pub placed_at_cursor : (old new : Memory) (before after : Source) (size align k p : ℕ) → IsValid old.state → IsTrue (is_layout size align) → IsPlacing old new size align k p
+    → IsAsked before after k (alloc_requests old.state size align k)
+    → PlacesAfter (view old before) (view new after) size align k (Placed (record { generation = new.state.generation; addr = cursor_of new.state.chunks; size = size; align = align }))
+placed_at_cursor old new before after size align k p valid layout placing asked =
+    let at = (alloc_newest old.state size align k _ placing.step).1 in
+    let fresh = is_new_block old.state size align k p new.state valid (layout_power size align layout) placing.step in
+    block_placed old new before after size align k p _ valid layout placing asked
+    (rw (at, fresh.generation) refl)
 
 -- All that was asked for was refused, or memory was wanting for the table of chunks.
 pub all_refused : (old new : Memory) (before after : Source) (size align : ℕ) (e : ArenaErr) → IsValid old.state → place old.state size align ≡ None → new ≡ old

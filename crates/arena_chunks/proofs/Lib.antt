@@ -15,6 +15,7 @@ mod AllocationLemmas
 mod GrowthLemmas
 mod LastLemmas
 mod PartLemmas
+mod LentLemmas
 mod ResizedLemmas
 mod ResizeSteps
 mod FrameRules

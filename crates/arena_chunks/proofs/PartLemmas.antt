@@ -92,6 +92,7 @@ module _ (m : ℕ) (a : Inside m) (memory : Memory) where
     pub used : chunk.cursor ≤ addr
     pub low : chunk.base ≤ addr
     pub high : addr + n ≤ chunk.base + length chunk.bytes.items
+    pub above : AllByRecursion (λ (c : StoredChunk). addr < c.base) newer
     pub bytes : take n (drop (addr - chunk.base) chunk.bytes.items) ≡ bytes_from (image memory) addr n
 
   all_ready : Stands m a → All IsReady (a.newest ∷ reverse a.older.items)
@@ -113,6 +114,7 @@ module _ (m : ℕ) (a : Inside m) (memory : Memory) where
         used = held.0;
         low = low;
         high = held.1;
+        above = above;
         bytes = range_bytes m addr n newer chunk rest valid low held.1 ∙ ap (λ (f : ℕ → ℕ). bytes_from f addr n) (ap bytes_in (sym split) ∙ by_image addr n range);
       }
 
@@ -170,17 +172,17 @@ module _ (m : ℕ) (a : Inside m) (memory : Memory) where
   by_state addr n range =
       subst (λ (w : Memory). record { min_align = m; is_growing = a.is_growing; generation = a.generation; chunks = chunks_in (a.newest ∷ reverse a.older.items) } ≡ w.state) range.view (rw range.chunk refl)
 
-  -- the chunk is replaced by another, in which the range is edited
-  part_written : (addr n : ℕ) (newer : List StoredChunk) (chunk : StoredChunk) (rest : List StoredChunk) (list : List ℕ) (new newest : StoredChunk) (older : List StoredChunk)
-      → IsPart addr n newer chunk rest → newest ∷ reverse older ≡ newer ++ new ∷ rest → newest.base ≡ a.newest.base → IsEdited chunk new addr n list
-      → IsWritten addr n list newest older
-  part_written addr n newer chunk rest list new newest older part split base edited =
-      let sized : length list ≡ n = edited.sized in
+  -- The chunk is replaced by another, in which k bytes from the address on are edited.
+  pub part_written : (addr n k : ℕ) (newer : List StoredChunk) (chunk : StoredChunk) (rest : List StoredChunk) (list : List ℕ) (new newest : StoredChunk) (older : List StoredChunk)
+      → IsPart addr n newer chunk rest → addr + k ≤ chunk.base + length chunk.bytes.items → newest ∷ reverse older ≡ newer ++ new ∷ rest
+      → newest.base ≡ a.newest.base → IsEdited chunk new addr k list → IsWritten addr k list newest older
+  part_written addr n k newer chunk rest list new newest older part high split base edited =
+      let sized : length list ≡ k = edited.sized in
       let is : IsSplice chunk new addr list = record {
         base = edited.base;
         cursor = edited.cursor;
         low = part.low;
-        high = omega (arith, part.high, sized);
+        high = omega (arith, high, sized);
         bytes = edited.bytes;
       } in
       let test : (newest.base == 16) ≡ false = ap (λ (b : ℕ). b == 16) base ∙ part.range.chunk in
@@ -207,14 +209,21 @@ module _ (m : ℕ) (a : Inside m) (memory : Memory) where
   pub newest_written : (addr n : ℕ) (list : List ℕ) (new : StoredChunk) → IsRange addr n → a.newest.base ≤ addr → IsEdited a.newest new addr n list
       → IsWritten addr n list new a.older.items
   newest_written addr n list new range above edited =
-      part_written addr n [] a.newest (reverse a.older.items) list new new a.older.items (newest_part addr n range above) refl edited.base edited
+      let part = newest_part addr n range above in
+      part_written addr n n [] a.newest (reverse a.older.items) list new new a.older.items part part.high refl edited.base edited
+
+  -- all chunks with another one in the place of an older one
+  pub older_split : (addr n i : ℕ) (chunk new : StoredChunk) → (old : IsOlder addr n i chunk)
+      → a.newest ∷ reverse (slice_set a.older.items i new) ≡ (a.newest ∷ reverse old.after) ++ new ∷ reverse old.before
+  older_split addr n i chunk new old =
+      let table : slice_set a.older.items i new ≡ old.before ++ new ∷ old.after = ap (λ (l : List StoredChunk). slice_set l i new) old.table ∙ set_at old.before chunk old.after new i old.at in
+      ap (λ (l : List StoredChunk). a.newest ∷ l) (ap reverse table ∙ reverse_split old.before new old.after)
 
   pub older_written : (addr n i : ℕ) (chunk : StoredChunk) (list : List ℕ) (new : StoredChunk) → IsOlder addr n i chunk → IsEdited chunk new addr n list
       → IsWritten addr n list a.newest (slice_set a.older.items i new)
   older_written addr n i chunk list new old edited =
-      let table : slice_set a.older.items i new ≡ old.before ++ new ∷ old.after = ap (λ (l : List StoredChunk). slice_set l i new) old.table ∙ set_at old.before chunk old.after new i old.at in
-      part_written addr n (a.newest ∷ reverse old.after) chunk (reverse old.before) list new a.newest (slice_set a.older.items i new) old.part
-      (ap (λ (l : List StoredChunk). a.newest ∷ l) (ap reverse table ∙ reverse_split old.before new old.after)) refl edited
+      part_written addr n n (a.newest ∷ reverse old.after) chunk (reverse old.before) list new a.newest (slice_set a.older.items i new) old.part old.part.high
+      (older_split addr n i chunk new old) refl edited
 
   -- ---- Bytes moved into a range of the newest chunk
 

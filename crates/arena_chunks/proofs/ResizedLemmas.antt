@@ -15,6 +15,7 @@ use Rattle.placement.proofs.RoundingLemmas.{down_le, up_ge, layout_power, min_al
 use Rattle.placement.proofs.PlaceLemmas.{is_place}
 use Rattle.placement.proofs.CursorLemmas.{start_positive, cursor_within, valid_set}
 use Rattle.placement.proofs.UsedLemmas.{used_set, used_from, used_beside, used_part}
+use Rattle.placement.proofs.AllocLemmas.{alloc_newest}
 use Rattle.placement.proofs.ReturnLemmas.{allocated_moved}
 use Rattle.placement.proofs.MoveLemmas.{step_aligned, grow_moved, shrink_moved}
 use Rattle.arena_chunks.specs.Memory.{Memory, image, is_readable, bytes_from, written, Writes}
@@ -199,10 +200,10 @@ replaced_move s = elim (cases_lt (counted s.allocations 1) (2 ^ 64 - 1)) [
   | inr last ↦ let test : nat_lt (counted s.allocations 1) (2 ^ 64 - 1) ≡ false = grind (arith, nat_tests) in rw test refl
 ]
 
--- a block was placed anew, and its first bytes were copied
+-- a block was placed anew, and its first bytes were copied: it lies at the cursor
 pub resized_anew : (old mid new : Memory) (before after : Source) (block b : Block) (size align k : ℕ) → PlacesAfter (view old before) (view mid after) size align k (Placed b)
     → IsTrue (is_readable old.state block) → new.state ≡ mid.state → new.statistics ≡ replaced mid.statistics → Writes mid new b.addr (bytes_from (image mid) block.addr (min block.size size))
-    → ResizesAfter Anew (view old before) (view new after) block size align k (Placed b)
+    → ResizesAfter Anew (view old before) (view new after) block size align k (Placed (block_in new.state (cursor_of new.state.chunks) size align))
 resized_anew old mid new before after block b size align k places readable state statistics bytes =
     let placed = places.outcome in
     let resizes = resized_copied old mid new block b size align (min block.size size) (record {
@@ -215,7 +216,10 @@ resized_anew old mid new before after block b size align k places readable state
       state = state;
       bytes = bytes;
     }) in
-    record {
+    let newest = (alloc_newest old.state size align k _ placed.step).1 in
+    let is : b ≡ block_in new.state (cursor_of new.state.chunks) size align =
+    rw (state, newest) (λ i. record { generation = placed.of_layout.generation i; addr = b.addr; size = placed.of_layout.of_size i; align = placed.of_layout.of_align i }) in
+    subst (λ (b : Block). ResizesAfter Anew (view old before) (view new after) block size align k (Placed b)) is (record {
       valid = record { entry = places.valid.entry; exit = resizes.valid };
       outcome = record {
         step = rw state placed.step;
@@ -226,7 +230,7 @@ resized_anew old mid new before after block b size align k places readable state
         bytes = resizes.bytes;
         frame = resizes.frame;
       };
-    }
+    })
 
 -- ---- Where a block at the cursor moves
 

@@ -1,8 +1,11 @@
 -- What a call that places a block answers, in whatever type it tells it.
 use Rattle.std.specs.Prelude.{ℕ, Result, Ok, Err}
+use Rattle.placement.specs.State.{State, cursor_of}
 use Rattle.arena_chunks.specs.declared.block.Block.{Block}
 use Rattle.arena_chunks.specs.declared.block.ArenaErr.{ArenaErr}
 use Rattle.arena_chunks.specs.declared.block.ArenaErr.TheVariants.{AllocErr, OutOfMemory}
+use Rattle.arena_chunks.specs.declared.arena.moves.SlowAnswer.{SlowAnswer}
+use Rattle.arena_chunks.specs.declared.arena.moves.SlowAnswer.TheVariants.{AtCursor, NoChunk, NoMemory}
 
 -- A block; none, after so many requests that were refused; or none for want of memory beside the source's.
 pub data Answer : Type 0 where
@@ -31,7 +34,9 @@ OnCounted (Ok placed) P = P placed.1 (Placed placed.0)
 OnCounted (Err (AllocErr refused)) P = P refused (Refused refused)
 OnCounted (Err OutOfMemory) P = P 0 Wanting
 
--- a result that tells the address of a block of this generation and layout, and the refusals, as one that tells the block
-abbrev pub placed_at : ℕ → ℕ → ℕ → Result (ℕ × ℕ) ArenaErr → Result (Block × ℕ) ArenaErr
-placed_at generation size align (Ok found) = Ok (record { generation = generation; addr = found.0; size = size; align = align }, found.1)
-placed_at generation size align (Err e) = Err e
+-- what a slow way answers, as a result that tells the block: it is of this layout, at the state's cursor
+abbrev pub at_cursor : State → ℕ → ℕ → SlowAnswer → Result (Block × ℕ) ArenaErr
+at_cursor state size align (AtCursor refused) =
+    Ok (record { generation = state.generation; addr = cursor_of state.chunks; size = size; align = align }, refused)
+at_cursor state size align (NoChunk refused) = Err (AllocErr refused)
+at_cursor state size align NoMemory = Err OutOfMemory

@@ -13,3 +13,4 @@ pub mod Serving
 pub mod Creating
 pub mod Walks
 pub mod Messages
+pub mod Lends

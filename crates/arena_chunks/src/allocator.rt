@@ -1,5 +1,6 @@
 // An arena with its source of chunks.
-ghost use Rattle.std.specs.Prelude.{◌≡◌, ◌+◌, ◌-◌, ◌%◌, ◌≤◌, [], ◌∷◌, Some, Ok, Err, IfOk, IfErr, IsOk, IsTrue, length, take};
+ghost use Rattle.std.specs.Prelude.{◌≡◌, ◌+◌, ◌-◌, ◌%◌, ◌≤◌, [], ◌∷◌, Some, Ok, Err, IfOk, IfErr, IsOk, ℕ, List, IsTrue, length, take};
+ghost use Rattle.std.specs.Borrow.{sem};
 ghost use Rattle.placement.specs.State.{IsValid, used_bytes, allocated_bytes, top_of};
 ghost use Rattle.placement.specs.Moves.{reset};
 ghost use Rattle.placement.specs.Creation.{empty_state, fixed_state};
@@ -45,6 +46,8 @@ impl<C: ChunkSource> Model for Allocator<C> {
 }
 
 impl<C: ChunkSource> Allocator<C> {
+    ghost use Rattle.arena_chunks.specs.Lends.{LendsBlockOf, with_block};
+
     /// An allocator over an empty arena that grows. Takes no memory.
     pub fn new(alloc: Global, chunks: C) -> Allocator<C>
         ensures { result ≡ view (uncounted_memory (empty_state 1) []) (C.source chunks) }
@@ -192,6 +195,17 @@ impl<C: ChunkSource> Allocator<C> {
         self.arena.read(block)
     }
 
+    /// The bytes of a block, to be written, as the arena's `read_mut` lends them.
+    pub fn read_mut(&mut self, block: Block) -> &mut [u8]
+        requires { IsTrue (is_readable self.old.memory.state block) }
+        ensures* writes_back { sem 𝓛 (LendsBlockOf C.row C.ChunkSource self.entry block result) }
+        ensures value { result.now ≡ bytes_from (image self.old.memory) block.addr block.size }
+        ensures writes { (list : List ℕ) → length list ≡ block.size
+            → WritesBlock self.old.memory (with_block self.old.memory block list) block 0 list }
+    {
+        self.arena.read_mut(block)
+    }
+
     /// Replaces a range of a block's bytes.
     pub fn write(&mut self, block: Block, at: u64, bytes: &[u8])
         requires readable { IsTrue (is_readable self.old.memory.state block) }
@@ -215,6 +229,7 @@ impl<C: ChunkSource> Allocator<C> {
     }
 
     /// Moves a range of a block's bytes to another place in the block, in one move of memory. The two may overlap.
+    #[inline(always)]
     pub fn move_within(&mut self, block: Block, from: u64, to: u64, size: u64)
         requires readable { IsTrue (is_readable self.old.memory.state block) }
         requires source_range { from + size ≤ block.size }

@@ -1,5 +1,5 @@
 // The place of a block, and the size and base of a chunk.
-ghost use Rattle.std.specs.Prelude.{◌≡◌, ◌≢◌, ◌+◌, ◌-◌, ◌%◌, ◌^◌, ◌<◌, ◌≤◌, ◌↔◌, IsTrue, IfSome};
+ghost use Rattle.std.specs.Prelude.{◌≡◌, ◌≢◌, ◌+◌, ◌-◌, ◌%◌, ◌^◌, ◌<◌, ◌≤◌, ◌↔◌, IsTrue, IfSome, max};
 ghost use Rattle.std.specs.Option.{SomeIff, option_map_or};
 ghost use Rattle.placement.specs.Rounding.{is_power};
 ghost use Rattle.placement.specs.State.{is_min_align};
@@ -8,6 +8,18 @@ ghost use Rattle.placement.specs.Search.{place_below, rounded_size, size_for, ne
 use crate::layout::Layout;
 use crate::rounding::{round_down_to, round_up_to, round_up_to_unchecked};
 use crate::{CHUNK_ALIGN, CHUNK_FOOTER_SIZE, OVERHEAD, TYPICAL_PAGE_SIZE};
+
+// The alignment of a block where none is below the least. No alignment is below 1, which the compiler doesn't know.
+#[inline(always)]
+fn align_with(layout: Layout, min_align: u64) -> u64
+    ensures { result ≡ max layout.align min_align }
+{
+    if min_align == 1 {
+        layout.align
+    } else {
+        layout.align.max(min_align)
+    }
+}
 
 /// Where a block is placed below the cursor, or none where that would be below the start.
 #[inline(always)]
@@ -21,7 +33,7 @@ pub fn place(start: u64, cursor: u64, layout: Layout, min_align: u64) -> Option<
     // A size past the cursor wraps to an address far above it, which the distance test refuses.
     let p = round_down_to(
         cursor.wrapping_sub(layout.size),
-        layout.align.max(min_align),
+        align_with(layout, min_align),
     );
     if cursor.wrapping_sub(p) <= cursor - start {
         Some(p)

@@ -1,5 +1,5 @@
 -- What an owner that gave up leaves.
-use Rattle.std.specs.Prelude.{◌≡◌, ℕ}
+use Rattle.std.specs.Prelude.{◌≡◌}
 use Rattle.arena_chunks.specs.declared.allocator.Allocator.{Allocator}
 use Rattle.arena_pool.specs.Claiming.{times, with_claimed, with_taken}
 use Rattle.arena_pool.specs.Sharing.{Owning}

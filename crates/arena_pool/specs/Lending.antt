@@ -16,7 +16,7 @@ with_arena p arena = (arena, p.1)
 
 module _ (K L C : RattleType) (s : SourceGhosts C.Denot) (n : NameGhosts L.Denot) (l : LedgerGhosts L.Denot) where
   abbrev pub guard_row : RattleType
-  guard_row = the_row (record { mir = named 1; lft = [] }) K L C s n l
+  guard_row = the_row (record { mir = named 1; lft = [] }) K L C n s l
 
   -- the guard's arena ends as what was last written through r
   abbrev pub lends_arena : MutBor guard_row.Denot → MutBor View → Fml

@@ -6,7 +6,7 @@ use lib.ListN.{get_elem?}
 use Rattle.atomic_table.specs.Table.{State, Me, Step}
 use Rattle.atomic_table.specs.Seated.{TableId}
 use Rattle.arena_pool.specs.declared.claims.rule.ClaimView.{ClaimView}
-use Rattle.arena_pool.specs.Claiming.{times, IsKept, ClaimedOnce, Swapped, Loaded, new_view, with_claimed, with_taken, with_free}
+use Rattle.arena_pool.specs.Claiming.{times, IsKept, ClaimedOnce, new_view, with_claimed, with_taken, with_free}
 use Rattle.arena_pool.specs.declared.owners.rule.OwnerView.{OwnerView}
 
 -- what contracts see of an owner: at which table it is, what it knows, and what it owns

@@ -4,10 +4,13 @@ ghost use Rattle.arena_pool.specs.Kinds.{is_fixed, IsOfKind, IsUnused};
 ghost use Rattle.arena_pool.specs.Names.{IsBlankOf};
 ghost use Rattle.arena_pool.specs.declared.kind.PoolKind.TheVariants.{FixedSize};
 
-use crate::held::Loan;
+use crate::holder::Bare;
+use crate::kind::{PoolKind, empty};
+use crate::lending::Loan;
 use crate::maker::ChunkMaker;
 use crate::name::PoolName;
-use crate::pool::AllocatorPool;
+use crate::shared::Shared;
+use crate::stock::Stock;
 use arena_chunks::{Allocator, OutOfMemory};
 use std::alloc::Global;
 use std::sync::Wait;
@@ -16,7 +19,7 @@ use std::sync::ledger::Blank;
 /// Arenas over regions of one size, which threads borrow and give back, each with its loan.
 #[derive(Drop)]
 pub struct FixedSizeAllocatorPool<K: ChunkMaker, L: PoolName> {
-    pool: AllocatorPool<K, L>,
+    pool: Shared<K, L, Bare>,
     ghost fixed: { is_fixed L.kind ≡ true },
 }
 
@@ -40,7 +43,8 @@ impl<K: ChunkMaker, L: PoolName> FixedSizeAllocatorPool<K, L> {
         requires units { bytes % 16 ≡ 0 }
         requires room { 48 ≤ bytes }
     {
-        let pool = AllocatorPool::new_fixed_size(alloc, thread_count, bytes, maker, blank)?;
+        let stock = Stock::of_kind(alloc, PoolKind::FixedSize { bytes }, thread_count, maker)?;
+        let pool = Shared::over(stock, blank);
         Ok(FixedSizeAllocatorPool { pool })
     }
 
@@ -60,6 +64,8 @@ impl<K: ChunkMaker, L: PoolName> FixedSizeAllocatorPool<K, L> {
     pub fn add<R: Wait>(&self, rt: &R, a: Allocator<K::Chunks>, loan: Loan<L>)
         requires { IsOfKind L.kind a.memory.state }
     {
+        let mut a = a;
+        empty(&mut a);
         self.pool.add(rt, a, loan);
     }
 

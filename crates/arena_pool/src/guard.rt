@@ -3,12 +3,14 @@ ghost use Rattle.std.specs.Prelude.{◌≡◌, is_some, refl};
 ghost use Rattle.std.specs.Option.{option_map};
 ghost use Rattle.arena_pool.specs.Kinds.{is_fixed, IsOfKind, IsUnused};
 
-use crate::held::Loan;
+use crate::kind::empty;
+use crate::lending::Loan;
 use crate::maker::ChunkMaker;
 use crate::name::PoolName;
 use crate::pool::AllocatorPool;
 use arena_chunks::Allocator;
 use arena_items::GetAllocator;
+use std::alloc::Global;
 use std::marker::Model;
 use std::sync::Wait;
 
@@ -23,7 +25,7 @@ pub struct FixedSizeAllocatorMetadata {
 /// dropped.
 pub struct AllocatorGuard<'a, K: ChunkMaker, L: PoolName> {
     pool: &'a AllocatorPool<K, L>,
-    arena: Allocator<K::Chunks>,
+    arena: Box<Allocator<K::Chunks>, Global>,
     loan: Loan<L>,
 }
 
@@ -32,7 +34,7 @@ impl<'a, K: ChunkMaker, L: PoolName> Model for AllocatorGuard<'a, K, L> {
 
     ghost Value = { Pooled };
 
-    ghost view = { λ g. (g.arena, g.loan.id) };
+    ghost view = { λ g. (g.arena.value, g.loan.id) };
 }
 
 impl<'a, K: ChunkMaker, L: PoolName> AllocatorGuard<'a, K, L> {
@@ -41,10 +43,10 @@ impl<'a, K: ChunkMaker, L: PoolName> AllocatorGuard<'a, K, L> {
 
     pub(crate) fn new(
         pool: &'a AllocatorPool<K, L>,
-        arena: Allocator<K::Chunks>,
+        arena: Box<Allocator<K::Chunks>, Global>,
         loan: Loan<L>,
     ) -> AllocatorGuard<'a, K, L>
-        ensures { result ≡ (arena, loan.id) }
+        ensures { result ≡ (arena.value, loan.id) }
     {
         AllocatorGuard { pool, arena, loan }
     }
@@ -70,8 +72,13 @@ impl<'a, K: ChunkMaker, L: PoolName> AllocatorGuard<'a, K, L> {
     pub fn put_back<R: Wait>(self, rt: &R)
         requires { IsOfKind L.kind self.0.memory.state }
     {
-        let AllocatorGuard { pool, arena, loan } = self;
-        pool.add(rt, arena, loan);
+        let AllocatorGuard {
+            pool,
+            mut arena,
+            loan,
+        } = self;
+        empty(&mut arena);
+        pool.shared.add(rt, arena, loan);
     }
 
     /// Keeps the arena, as it stands. It doesn't come back to the pool.
@@ -79,8 +86,8 @@ impl<'a, K: ChunkMaker, L: PoolName> AllocatorGuard<'a, K, L> {
         ensures { result ≡ self.entry.0 }
     {
         let AllocatorGuard { pool, arena, loan } = self;
-        pool.forget(rt, loan);
-        arena
+        pool.shared.forget(rt, loan);
+        Box::into_inner(arena)
     }
 }
 

@@ -36,15 +36,13 @@ impl PoolKind {
     }
 }
 
-// The arena, reset. It is of the kind that it was of, and nothing of it is used.
+// Resets an arena. It is of the kind that it was of, and nothing of it is used.
 #[tactic(auto, using(crate::proofs::KindLemmas::reset_is_unused))]
-pub(crate) fn emptied<C: ChunkSource>(a: Allocator<C>) -> Allocator<C>
-    ensures reset { result ≡ reset_view a }
-    ensures unused { (kind : PoolKind) → IsOfKind kind a.memory.state → IsUnused kind result }
+pub(crate) fn empty<C: ChunkSource>(a: &mut Allocator<C>)
+    ensures reset { a.new ≡ reset_view a.old }
+    ensures unused { (kind : PoolKind) → IsOfKind kind a.old.memory.state → IsUnused kind a.new }
 {
-    let mut a = a;
     // This tells that the state is valid.
     let _ = a.min_align();
     a.reset();
-    a
 }

@@ -4,10 +4,13 @@ ghost use Rattle.arena_pool.specs.Kinds.{IsOfKind, IsUnused};
 ghost use Rattle.arena_pool.specs.Names.{IsBlankOf};
 ghost use Rattle.arena_pool.specs.declared.kind.PoolKind.TheVariants.{Standard};
 
-use crate::held::Loan;
+use crate::holder::Bare;
+use crate::kind::{PoolKind, empty};
+use crate::lending::Loan;
 use crate::maker::ChunkMaker;
 use crate::name::PoolName;
-use crate::pool::AllocatorPool;
+use crate::shared::Shared;
+use crate::stock::Stock;
 use arena_chunks::{Allocator, OutOfMemory};
 use std::alloc::Global;
 use std::sync::Wait;
@@ -16,7 +19,7 @@ use std::sync::ledger::Blank;
 /// Arenas that grow, which threads borrow and give back, each with its loan.
 #[derive(Drop)]
 pub struct StandardAllocatorPool<K: ChunkMaker, L: PoolName> {
-    pool: AllocatorPool<K, L>,
+    pool: Shared<K, L, Bare>,
     ghost kind: { L.kind ≡ Standard },
 }
 
@@ -37,7 +40,8 @@ impl<K: ChunkMaker, L: PoolName> StandardAllocatorPool<K, L> {
         requires blank { IsBlankOf L.name L.parts blank }
         requires kind { L.kind ≡ Standard }
     {
-        let pool = AllocatorPool::new(alloc, thread_count, maker, blank)?;
+        let stock = Stock::of_kind(alloc, PoolKind::Standard, thread_count, maker)?;
+        let pool = Shared::over(stock, blank);
         Ok(StandardAllocatorPool { pool })
     }
 
@@ -56,6 +60,8 @@ impl<K: ChunkMaker, L: PoolName> StandardAllocatorPool<K, L> {
     pub fn add<R: Wait>(&self, rt: &R, a: Allocator<K::Chunks>, loan: Loan<L>)
         requires { IsOfKind Standard a.memory.state }
     {
+        let mut a = a;
+        empty(&mut a);
         self.pool.add(rt, a, loan);
     }
 

@@ -6,6 +6,7 @@ mod ExtendLemmas
 mod Windows
 mod FilterLemmas
 mod Walks
+mod SiftLemmas
 mod DedupLemmas
 mod CompareLemmas
 mod FedLemmas

@@ -62,7 +62,7 @@ pub record IsWalking {T S : Type 0} (item : Ghosts T) (old now : View) (block : 
 
 module _ {T S : Type 0} {item : Ghosts T} {old : View} {block : Block} {n : ℕ} {Leaves : S → List T → List T → Type 0}
     {IsWhole : List T → Type 0} where
-  -- A walk starts at a value, with some in front of it,
+  -- A walk starts at a value, with some in front of it.
   pub walk_starts : {s : S} (kept k : ℕ) → kept ≤ k
       → ((zs : List T) → Leaves s (values_from item old block n k) zs → IsWhole (front_of item old block kept ++ zs))
       → IsWalking item old old block n Leaves IsWhole s kept k
@@ -72,12 +72,6 @@ module _ {T S : Type 0} {item : Ghosts T} {old : View} {block : Block} {n : ℕ}
     places = record { state = refl; statistics = refl; source = refl };
     frame = frame_reflexive old.memory (block ∷ []);
   }
-
-  -- or at the first of all.
-  pub walk_starts_whole : {s : S} → ((zs : List T) → Leaves s (front_of item old block n) zs → IsWhole zs)
-      → IsWalking item old old block n Leaves IsWhole s 0 0
-  walk_starts_whole {s} onward = walk_starts {s = s} 0 0 (omega arith)
-      (λ zs left. rw (front_none item old block) (onward zs (rw (values_whole item old block n) at left)))
 
   module _ {now : View} {s t : S} {kept k : ℕ} {x : T} (walk : IsWalking item old now block n Leaves IsWhole s kept k) (more : k < n)
       (got : slice_get (front_of item now block n) k ≡ Some x) where
@@ -120,12 +114,10 @@ module _ {T S : Type 0} {item : Ghosts T} {old : View} {block : Block} {n : ℕ}
 -- ---- Steps
 
 -- One that picks the values that stay,
-module _ {S X : Type 0} (R : S → X → Bool → S → Type 0) {s t : S} {x : X} where
-  pub filtered_keeps : R s x true t → (ys zs : List X) → IsFiltered R t ys zs → IsFiltered R s (x ∷ ys) (x ∷ zs)
-  filtered_keeps told ys zs rest = (true ∷ rest.0, rest.1, ap suc rest.2, (t, told, rest.3), ap (λ l. x ∷ l) rest.4)
-
-  pub filtered_drops : R s x false t → (ys zs : List X) → IsFiltered R t ys zs → IsFiltered R s (x ∷ ys) zs
-  filtered_drops told ys zs rest = (false ∷ rest.0, rest.1, ap suc rest.2, (t, told, rest.3), rest.4)
+pub filtered : {S X : Type 0} (R : S → X → Bool → S → Type 0) {s t : S} {x : X} (b : Bool) → R s x b t
+    → (ys zs : List X) → IsFiltered R t ys zs → IsFiltered R s (x ∷ ys) (cond b (x ∷ zs) zs)
+filtered R {t = t} {x = x} true told ys zs rest = (true ∷ rest.0, rest.1, ap suc rest.2, (t, told, rest.3), ap (λ l. x ∷ l) rest.4)
+filtered R {t = t} false told ys zs rest = (false ∷ rest.0, rest.1, ap suc rest.2, (t, told, rest.3), rest.4)
 
 -- and one that changes them too.
 pub retained : {S X : Type 0} (R : S → X → Bool → S → X → Type 0) {s t : S} {x y : X} (b : Bool) → R s x b t y

@@ -13,6 +13,7 @@ mod handle;
 mod hashing;
 mod into_iter;
 pub mod laws;
+mod lent;
 mod raw;
 mod retain;
 mod room;

@@ -18,12 +18,12 @@ use std::marker::PhantomData;
 /// same block.
 #[derive(Clone, Copy)]
 pub struct RawVec<T> {
-    /// The block of the values' bytes.
-    pub block: Block,
-    /// How many values there are.
-    pub len: u32,
     /// For how many values there is room.
     pub cap: u32,
+    /// How many values there are.
+    pub len: u32,
+    /// The block of the values' bytes.
+    pub block: Block,
     /// The type of the values, which takes no place in the handle.
     pub of: PhantomData<T>,
 }
@@ -45,7 +45,7 @@ fn layout_of<T: Item>(n: u64) -> Layout
 
 // The same block, whose layout the compiler knows then.
 #[inline(always)]
-fn known_block<T: Item>(block: Block, cap: u64) -> Block
+pub(crate) fn known_block<T: Item>(block: Block, cap: u64) -> Block
     requires small { T.SIZE ≤ 2 ^ 24 }
     requires few { cap < 2 ^ 32 }
     requires size { block.size ≡ cap * T.SIZE }

@@ -1,5 +1,5 @@
 // Values that a test picks.
-ghost use Rattle.std.specs.Prelude.{List, ◌*◌, ◌^◌, ◌≤◌, [], ◌∷◌, IsTrue};
+ghost use Rattle.std.specs.Prelude.{List, ◌*◌, ◌^◌, ◌≤◌, [], ◌∷◌, IsTrue, length};
 ghost use Rattle.std.specs.Fn.{CalledAt, CalledAtMut};
 ghost use Rattle.std.specs.List.Retain.{IsFiltered, RetainsInTurn};
 ghost use Rattle.arena_chunks.specs.Memory.{is_readable};
@@ -9,11 +9,59 @@ ghost use Rattle.arena_vec.specs.Vecs.{IsVecIn, vec_list};
 ghost use Rattle.arena_items.specs.Room.{SamePlaces};
 ghost use Rattle.arena_vec.specs.Changes.{Becomes};
 
+use crate::lent::{put_in, value_in};
 use crate::vec::Vec;
 use arena_chunks::{Allocator, Block, ChunkSource};
-use arena_items::{Item, item_at, put_item};
+use arena_items::Item;
+
+// Moves the values that a test picks to the front of their bytes, and tells how many they are. A value that it
+// doesn't pick is written as well, where the next one that it picks will stand, so that no jump hangs on the test.
+#[inline]
+fn sift<T: Item, F: FnMut(&T) -> bool>(bytes: &mut [u8], len: u32, f: F) -> u32
+where
+    F: Drop,
+    requires small { T.SIZE ≤ 2 ^ 24 }
+    requires room { len * T.SIZE ≤ length bytes.old }
+    requires callable { F.IsAlwaysCallable f }
+    ensures fewer { result ≤ len }
+    ensures list { IsFiltered (CalledAt F.FnMut) f
+        (elements T.SIZE T.decoded len bytes.old) (elements T.SIZE T.decoded result bytes.new) }
+{
+    let mut f = f;
+    let mut kept = 0u32;
+    for k in 0..len {
+        let item: T = value_in(bytes, k as usize);
+        put_in(bytes, kept as usize, item);
+        kept += f(&item) as u32;
+    }
+    kept
+}
+
+// The same with a test that changes the values that it sees.
+#[inline]
+fn sift_mut<T: Item, F: FnMut(&mut T) -> bool>(bytes: &mut [u8], len: u32, f: F) -> u32
+where
+    F: Drop,
+    requires small { T.SIZE ≤ 2 ^ 24 }
+    requires room { len * T.SIZE ≤ length bytes.old }
+    requires callable { F.IsAlwaysCallable f }
+    ensures fewer { result ≤ len }
+    ensures list { RetainsInTurn (CalledAtMut F.FnMut) f
+        (elements T.SIZE T.decoded len bytes.old) (elements T.SIZE T.decoded result bytes.new) }
+{
+    let mut f = f;
+    let mut kept = 0u32;
+    for k in 0..len {
+        let mut item: T = value_in(bytes, k as usize);
+        let picked = f(&mut item);
+        put_in(bytes, kept as usize, item);
+        kept += picked as u32;
+    }
+    kept
+}
 
 // Moves the values that a test picks to the front, and tells how many they are.
+#[tactic(auto, using(arena_chunks::proofs::Layers::layer_laws))]
 #[inline]
 fn keep<T: Item, C: ChunkSource, F: FnMut(&T) -> bool>(
     a: &mut Allocator<C>,
@@ -34,19 +82,11 @@ where
     ensures places { SamePlaces a.old a.new }
     ensures frame { Frame a.old.memory a.new.memory (block ∷ []) (block ∷ []) }
 {
-    let mut f = f;
-    let mut kept = 0u32;
-    for k in 0..len {
-        let item: T = item_at(a, block, k as u64);
-        if f(&item) {
-            put_item(a, block, kept as u64, item);
-            kept += 1;
-        }
-    }
-    kept
+    sift(a.read_mut(block), len, f)
 }
 
 // The same with a test that changes the values that it sees.
+#[tactic(auto, using(arena_chunks::proofs::Layers::layer_laws))]
 #[inline]
 fn keep_mut<T: Item, C: ChunkSource, F: FnMut(&mut T) -> bool>(
     a: &mut Allocator<C>,
@@ -67,16 +107,7 @@ where
     ensures places { SamePlaces a.old a.new }
     ensures frame { Frame a.old.memory a.new.memory (block ∷ []) (block ∷ []) }
 {
-    let mut f = f;
-    let mut kept = 0u32;
-    for k in 0..len {
-        let mut item: T = item_at(a, block, k as u64);
-        if f(&mut item) {
-            put_item(a, block, kept as u64, item);
-            kept += 1;
-        }
-    }
-    kept
+    sift_mut(a.read_mut(block), len, f)
 }
 
 #[tactic(auto, using(crate::proofs::VecLemmas::vec_laws, crate::proofs::VecLemmas::becomes))]

@@ -29,9 +29,6 @@ pub(crate) fn roomy<T: Item, C: ChunkSource>(
     ensures enough { IfOk result (λ r. raw.len + additional ≤ r.cap) }
     ensures err { OnErr result (a.new.memory ≡ a.old.memory) }
 {
-    if additional <= (raw.cap - raw.len) as u64 {
-        return Ok(raw);
-    }
     reserved(a, raw, raw.len, additional, false)
 }
 

@@ -5,11 +5,12 @@ mod bits;
 mod clones;
 mod items;
 mod maps;
+mod older;
 mod pool;
 mod texts;
 mod vec;
 
-pub use arena::{alloc_and_reset, alloc_warm, grow_at_cursor, read_older, reset_chunks};
+pub use arena::{alloc_and_reset, alloc_warm, grow_at_cursor, reset_chunks};
 use arena_chunks::ArenaErr;
 use arena_items::ItemErr;
 use arena_vec::AllocError;
@@ -17,6 +18,7 @@ pub use bits::{bitset_contains, bitset_ones, bitset_set, bitset_set_ascending, b
 pub use clones::{map_clone, vec_clone};
 pub use items::{alloc_fixed, box_new, slice_copy, str_copy};
 pub use maps::{map_get, map_insert, map_iter, map_remove, map_small, map_walked};
+pub use older::{read_older, write_older};
 pub use pool::{claim, claim_threads, pool_get, pool_get_threads};
 use std::io;
 use std::time::Duration;

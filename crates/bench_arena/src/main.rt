@@ -1,5 +1,6 @@
-//! Times small loops of calls on an arena, in nanoseconds a call: the loop of the name that is given, or all. With the word
-//! `check` it prints the number of each loop alone, for few calls.
+//! Times small loops of calls on an arena, in nanoseconds a call: the loop of the name that is given, or all. A second word
+//! tells how many calls are made, a third how many chunks the arena of a loop over older chunks has. With the word `check` it
+//! prints the number of each loop alone, for few calls.
 #![tactic(auto)]
 
 ghost use Rattle.std.specs.Prelude.{◌<◌};
@@ -12,7 +13,7 @@ use loops::{
     map_clone, map_get, map_insert, map_iter, map_remove, map_small, map_walked, pool_get,
     pool_get_threads, read_older, reset_chunks, slice_copy, str_copy, string_push_byte,
     string_push_start, string_push_str, vec_clone, vec_extend, vec_insert_front, vec_iter,
-    vec_push, vec_push_reserved, vec_retain, vec_small, vec_sum,
+    vec_push, vec_push_reserved, vec_retain, vec_small, vec_sum, write_older,
 };
 use std::process::ExitCode;
 use std::sync::Wait;
@@ -25,6 +26,9 @@ const RUNS: u32 = 5;
 // How many calls each loop makes where only its number is printed.
 const CHECKED: u64 = 2048;
 
+// How many chunks the arena of a loop over older chunks has.
+const CHUNKS: u64 = 9;
+
 #[derive(Clone, Copy, PartialEq, Eq)]
 enum Loop {
     AllocWarm,
@@ -32,6 +36,7 @@ enum Loop {
     AllocAndReset,
     ResetChunks,
     ReadOlder,
+    WriteOlder,
     BoxNew,
     SliceCopy,
     StrCopy,
@@ -67,12 +72,13 @@ enum Loop {
 }
 
 impl Loop {
-    const ALL: [Loop; 37] = [
+    const ALL: [Loop; 38] = [
         Loop::AllocWarm,
         Loop::GrowAtCursor,
         Loop::AllocAndReset,
         Loop::ResetChunks,
         Loop::ReadOlder,
+        Loop::WriteOlder,
         Loop::BoxNew,
         Loop::SliceCopy,
         Loop::StrCopy,
@@ -114,6 +120,7 @@ impl Loop {
             Loop::AllocAndReset => "reset_empty",
             Loop::ResetChunks => "reset_chunks",
             Loop::ReadOlder => "read_older",
+            Loop::WriteOlder => "write_older",
             Loop::BoxNew => "box_new",
             Loop::SliceCopy => "slice_copy",
             Loop::StrCopy => "str_copy",
@@ -171,13 +178,15 @@ impl Loop {
         rt: &HostRuntime,
         threads: &R,
         calls: u64,
+        chunks: u64,
     ) -> Result<Timed, Failed> {
         match self {
             Loop::AllocWarm => alloc_warm(rt, calls),
             Loop::GrowAtCursor => grow_at_cursor(rt, calls),
             Loop::AllocAndReset => alloc_and_reset(rt, calls),
             Loop::ResetChunks => reset_chunks(rt, calls),
-            Loop::ReadOlder => read_older(rt, calls),
+            Loop::ReadOlder => read_older(rt, calls, chunks),
+            Loop::WriteOlder => write_older(rt, calls, chunks),
             Loop::BoxNew => box_new(rt, calls),
             Loop::SliceCopy => slice_copy(rt, calls),
             Loop::StrCopy => str_copy(rt, calls),
@@ -219,10 +228,11 @@ impl Loop {
         rt: &HostRuntime,
         threads: &R,
         calls: u64,
+        chunks: u64,
     ) -> Result<Timed, Failed> {
-        let mut best = self.run(rt, threads, calls)?;
+        let mut best = self.run(rt, threads, calls, chunks)?;
         for _ in 1..RUNS {
-            let next = self.run(rt, threads, calls)?;
+            let next = self.run(rt, threads, calls, chunks)?;
             if next.time < best.time {
                 best = next;
             }
@@ -234,7 +244,7 @@ impl Loop {
 // Prints each loop's number alone, for few calls.
 fn check<R: Threads + Wait + Sync>(rt: &HostRuntime, threads: &R) -> Result<(), Failed> {
     for each in Loop::ALL {
-        let number = each.run(rt, threads, CHECKED)?.number;
+        let number = each.run(rt, threads, CHECKED, CHUNKS)?.number;
         let name = each.name();
         println!(rt; "{name} {number}")?;
     }
@@ -246,8 +256,9 @@ fn measure<R: Threads + Wait + Sync>(
     threads: &R,
     each: Loop,
 ) -> Result<(), Failed> {
-    let calls = asked(rt, each.calls())?.max(1);
-    let best = each.best(rt, threads, calls)?;
+    let calls = asked(rt, 2, each.calls())?.max(1);
+    let chunks = asked(rt, 3, CHUNKS)?;
+    let best = each.best(rt, threads, calls, chunks)?;
     let name = each.name();
     let picoseconds = best.time.as_nanos() * 1000 / calls as u128;
     let whole = picoseconds / 1000;
@@ -257,10 +268,15 @@ fn measure<R: Threads + Wait + Sync>(
     Ok(())
 }
 
-// The number of calls that the second word tells, or this one.
-fn asked(rt: &HostRuntime, calls: u64) -> io::Result<u64> {
-    let mut words = env::args(rt)?.skip(2);
-    Ok(words.next().map_or(calls, |word| word.as_str().parse::<u64>().unwrap_or(calls)))
+// The number that the word at this index tells, or this one.
+fn asked(rt: &HostRuntime, at: usize, number: u64) -> io::Result<u64> {
+    let mut words = env::args(rt)?.skip(at);
+    Ok(
+        words.next().map_or(
+            number,
+            |word| word.as_str().parse::<u64>().unwrap_or(number),
+        ),
+    )
 }
 
 // Whether this is the one word, or there is none and any will do.

@@ -8,9 +8,9 @@ use Rattle.placement.specs.Rounding.{down, is_power}
 use Rattle.placement.specs.State.{State, Chunk, FitsKind, IsValid, start_of, cursor_of, floor_of, newest_size, with_cursor}
 use Rattle.placement.specs.Search.{place, place_below, chunk_align, next_base, asked, asked_above, least_size}
 use Rattle.placement.specs.Moves.{Outcome, alloc, alloc_at, alloc_in_new, placed, fails, with_chunk}
-use Rattle.placement.proofs.RoundingLemmas.{up_ge, up_mod, power_positive, power_multiple, max_power, pow_power, min_align_power, min_align_le, min_align_multiple}
+use Rattle.placement.proofs.RoundingLemmas.{down_le, up_ge, up_mod, power_positive, power_multiple, max_power, pow_power, min_align_power, min_align_le, min_align_multiple}
 use Rattle.placement.proofs.PlaceLemmas.{IsPlace, is_place, place_found}
-use Rattle.placement.proofs.CursorLemmas.{start_positive, start_set}
+use Rattle.placement.proofs.CursorLemmas.{start_positive, start_set, cursor_set}
 use Rattle.placement.proofs.EntryLemmas.{IsEntry, is_entry}
 
 -- there is a place
@@ -97,28 +97,30 @@ is_granted state size align k e p valid growing power none at is =
       place = is_place e.0 (e.0 + e.1) size align m p (start_positive (with_chunk e state) grown) power valid.min_align found;
     }
 
--- ---- A block lies in the newest chunk
+-- ---- A block lies at the cursor, in the newest chunk
 
-abbrev pub IsAboveStart : Outcome → Type 0
-IsAboveStart outcome = MatchOption outcome.answer (Unit {0}) (λ p. start_of outcome.state.chunks ≤ p)
+abbrev pub IsNewest : Outcome → Type 0
+IsNewest outcome = MatchOption outcome.answer (Unit {0}) (λ p. (start_of outcome.state.chunks ≤ p) × (cursor_of outcome.state.chunks ≡ p))
 
-placed_above : (state : State) (size align p : ℕ) → place state size align ≡ Some p → start_of (with_cursor p state).chunks ≤ p
-placed_above state size align p found =
-    let tested = cond_some (nat_le (start_of state.chunks) (down (cursor_of state.chunks - size) (max align state.min_align))) (down (cursor_of state.chunks - size) (max align state.min_align)) p found in
-    omega (arith, start_set p state.chunks, leb-true _ _ tested.0, tested.1)
+placed_newest : (state : State) (size align p : ℕ) → place state size align ≡ Some p → IsNewest (placed state p)
+placed_newest state size align p found =
+    let n = cursor_of state.chunks - size in
+    let tested = cond_some (nat_le (start_of state.chunks) (down n (max align state.min_align))) (down n (max align state.min_align)) p found in
+    let low : start_of state.chunks ≤ p = omega (arith, leb-true _ _ tested.0, tested.1) in
+    (omega (arith, start_set p state.chunks, low), cursor_set p state.chunks low (omega (arith, down_le n (max align state.min_align), tested.1)))
 
-pub alloc_above : (state : State) (size align k : ℕ) (outcome : Outcome) → alloc state size align k ≡ Some outcome → IsAboveStart outcome
+pub alloc_newest : (state : State) (size align k : ℕ) (outcome : Outcome) → alloc state size align k ≡ Some outcome → IsNewest outcome
 unfolding alloc
-alloc_above state size align k outcome step = by_place (place state size align) refl step
+alloc_newest state size align k outcome step = by_place (place state size align) refl step
   where
-    in_chunk : (e : ℕ × ℕ) (o : Option ℕ) → place (with_chunk e state) size align ≡ o → option_map (placed (with_chunk e state)) o ≡ Some outcome → IsAboveStart outcome
-    in_chunk e (Some p) found at = subst IsAboveStart (same_Some (placed (with_chunk e state) p) outcome at) (placed_above (with_chunk e state) size align p found)
+    in_chunk : (e : ℕ × ℕ) (o : Option ℕ) → place (with_chunk e state) size align ≡ o → option_map (placed (with_chunk e state)) o ≡ Some outcome → IsNewest outcome
+    in_chunk e (Some p) found at = subst IsNewest (same_Some (placed (with_chunk e state) p) outcome at) (placed_newest (with_chunk e state) size align p found)
     in_chunk e None none at = absurd (none-some outcome at)
 
-    by_chunk : (o : Option (ℕ × ℕ)) → alloc_in_new o state size align k ≡ Some outcome → IsAboveStart outcome
+    by_chunk : (o : Option (ℕ × ℕ)) → alloc_in_new o state size align k ≡ Some outcome → IsNewest outcome
     by_chunk (Some e) at = in_chunk e (place (with_chunk e state) size align) refl at
-    by_chunk None at = subst IsAboveStart (cond_some (k == length (asked state size align)) (fails state) outcome at).1 tt
+    by_chunk None at = subst IsNewest (cond_some (k == length (asked state size align)) (fails state) outcome at).1 tt
 
-    by_place : (o : Option ℕ) → place state size align ≡ o → alloc_at o state size align k ≡ Some outcome → IsAboveStart outcome
-    by_place (Some p) found at = subst IsAboveStart (cond_some (k == 0) (placed state p) outcome at).1 (placed_above state size align p found)
+    by_place : (o : Option ℕ) → place state size align ≡ o → alloc_at o state size align k ≡ Some outcome → IsNewest outcome
+    by_place (Some p) found at = subst IsNewest (cond_some (k == 0) (placed state p) outcome at).1 (placed_newest state size align p found)
     by_place None none at = by_chunk (slice_get (asked state size align) k) at

@@ -103,6 +103,11 @@ pub top_set : (p : ℕ) → (chunks : List Chunk) → top_of (with_newest_cursor
 top_set p [] = refl
 top_set p (newest ∷ older) = refl
 
+-- a cursor that moved down is where it moved to; without a chunk none moves
+pub cursor_set : (p : ℕ) → (chunks : List Chunk) → start_of chunks ≤ p → p ≤ cursor_of chunks → cursor_of (with_newest_cursor p chunks) ≡ p
+cursor_set p [] low high = omega (arith, low, high)
+cursor_set p (newest ∷ older) low high = refl
+
 pub top_floor : (chunks : List Chunk) → top_of chunks ≤ floor_of chunks
 top_floor [] = omega arith
 top_floor (newest ∷ older) = omega arith

@@ -1,15 +1,17 @@
 // How the bytes of blocks are read and written.
-ghost use Rattle.std.specs.Prelude.{◌≡◌, ◌+◌, ◌-◌, ◌≤◌, ◌<◌, IsTrue, length, replicate};
+ghost use Rattle.std.specs.Prelude.{◌≡◌, ◌+◌, ◌-◌, ◌≤◌, ◌<◌, ℕ, List, IsTrue, length, replicate};
+ghost use Rattle.std.specs.Borrow.{sem};
 
 use crate::arena::Arena;
 use crate::block::Block;
-use crate::chunks::chunk::{find_chunk, last_below, part_at, some_has};
+use crate::chunks::chunk::{find_chunk, last_below, part_at, part_at_mut, some_has};
 use crate::chunks::edit::{Edit, Fill, Put, Shift, copy_across, copy_in_table, edit_at};
 
 impl<const MIN_ALIGN: usize> Arena<MIN_ALIGN> {
     ghost use Rattle.placement.specs.State.{is_range_used, start_of};
     ghost use Rattle.arena_chunks.specs.Memory.{Memory, Writes, is_readable, image, bytes_from};
     ghost use Rattle.arena_chunks.specs.BlockCalls.{WritesBlock, EditsBlock};
+    ghost use Rattle.arena_chunks.specs.Lends.{LendsBlock, with_block};
 
     /// Whether a block is readable: it is empty, or of the arena's generation with its bytes in one chunk's used part.
     /// Of a block that was placed in this arena this tells whether a reset ended it.
@@ -36,6 +38,26 @@ impl<const MIN_ALIGN: usize> Arena<MIN_ALIGN> {
         part_at(chunk, block.addr, block.size)
     }
 
+    /// The bytes of a block, to be written. The block then has what was written there.
+    pub fn read_mut(&mut self, block: Block) -> &mut [u8]
+        requires { IsTrue (is_readable self.old.state block) }
+        ensures* writes_back { sem 𝓛 (LendsBlock MIN_ALIGN.row self.entry block result) }
+        ensures value { result.now ≡ bytes_from (image self.old) block.addr block.size }
+        ensures writes { (list : List ℕ) → length list ≡ block.size
+            → WritesBlock self.old (with_block self.old block list) block 0 list }
+    {
+        if block.size == 0 {
+            // Its address may lie anywhere.
+            let end = self.newest.base + self.newest.size();
+            return part_at_mut(&mut self.newest, end, 0);
+        }
+        if block.addr >= self.newest.base {
+            return part_at_mut(&mut self.newest, block.addr, block.size);
+        }
+        let i = last_below(&self.older, block.addr);
+        part_at_mut(&mut self.older[i], block.addr, block.size)
+    }
+
     /// Replaces bytes of a block, from the index `at` on.
     pub fn write(&mut self, block: Block, at: u64, bytes: &[u8])
         requires readable { IsTrue (is_readable self.old.state block) }
@@ -58,6 +80,7 @@ impl<const MIN_ALIGN: usize> Arena<MIN_ALIGN> {
 
     /// Moves `size` bytes of a block from the index `from` to the index `to`, in one move of memory. The two ranges may
     /// overlap.
+    #[inline(always)]
     pub fn move_within(&mut self, block: Block, from: u64, to: u64, size: u64)
         requires readable { IsTrue (is_readable self.old.state block) }
         requires source { from + size ≤ block.size }

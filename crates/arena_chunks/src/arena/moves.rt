@@ -8,13 +8,22 @@ use crate::chunks::chunk::install;
 use crate::chunks::search::{Granted, ask_above};
 use arena_place::{Layout, place, round_down_to, round_up_to_unchecked};
 
+// How a slow way went, which is kept out of its callers: the block lies at the cursor, after so many requests that were refused;
+// or there is none. This comes in registers. A block would come in memory, which the callers clear on the fast way too.
+#[derive(Clone, Copy)]
+pub(crate) enum SlowAnswer {
+    AtCursor { refused: u32 },
+    NoChunk { refused: u32 },
+    NoMemory,
+}
+
 impl<const MIN_ALIGN: usize> Arena<MIN_ALIGN> {
-    ghost use Rattle.placement.specs.State.{with_cursor};
+    ghost use Rattle.placement.specs.State.{cursor_of, with_cursor};
     ghost use Rattle.placement.specs.Search.{place};
     ghost use Rattle.placement.specs.Statistics.{one_allocation};
     ghost use Rattle.arena_chunks.specs.Memory.{Memory, is_readable};
     ghost use Rattle.arena_chunks.specs.Source.{view};
-    ghost use Rattle.arena_chunks.specs.Answers.{answer_of, OnCounted, placed_at};
+    ghost use Rattle.arena_chunks.specs.Answers.{answer_of, OnCounted, at_cursor};
     ghost use Rattle.arena_chunks.specs.BlockCalls.{PlacesBlock, PlacesAfter, GivesBack};
     ghost use Rattle.arena_chunks.specs.Adding.{AddsChunk, OnFound};
 
@@ -79,24 +88,35 @@ impl<const MIN_ALIGN: usize> Arena<MIN_ALIGN> {
                 self.allocations = self.allocations.saturating_add(1);
                 Ok((self.block_of(addr, layout), 0))
             }
-            None => match self.alloc_below(chunks, layout) {
-                Ok((addr, refused)) => Ok((self.block_of(addr, layout), refused)),
-                Err(e) => Err(e),
-            },
+            None => {
+                let slow = self.alloc_below(chunks, layout);
+                self.slow_block(slow, layout)
+            }
+        }
+    }
+
+    // The block that a slow way placed, or why there is none.
+    #[inline(always)]
+    pub(crate) fn slow_block(
+        &self,
+        slow: SlowAnswer,
+        layout: Layout,
+    ) -> Result<(Block, u32), ArenaErr>
+        ensures { result ≡ at_cursor self.now.state layout.size layout.align slow }
+    {
+        match slow {
+            SlowAnswer::AtCursor { refused } => Ok((self.block_of(self.cursor(), layout), refused)),
+            SlowAnswer::NoChunk { refused } => Err(ArenaErr::AllocErr { refused }),
+            SlowAnswer::NoMemory => Err(ArenaErr::OutOfMemory),
         }
     }
 
     // Places a block for which the ready part of the newest chunk has no room: in bytes that are made ready for it, or in a new
-    // chunk. Answers the place, and how many requests were refused. It is kept out of the callers, so that an allocation in the
-    // ready part is small enough to be inlined.
+    // chunk. It is kept out of the callers, so that an allocation in the ready part is small enough to be inlined.
     #[cold]
     #[inline(never)]
-    fn alloc_below<C: ChunkSource>(
-        &mut self,
-        chunks: &mut C,
-        layout: Layout,
-    ) -> Result<(u64, u32), ArenaErr>
-        ensures { OnCounted (placed_at self.old.state.generation layout.size layout.align result)
+    fn alloc_below<C: ChunkSource>(&mut self, chunks: &mut C, layout: Layout) -> SlowAnswer
+        ensures { OnCounted (at_cursor self.new.state layout.size layout.align result)
             (PlacesAfter (view self.old (C.source chunks.old)) (view self.new (C.source chunks.new))
             layout.size layout.align) }
     {
@@ -108,14 +128,15 @@ impl<const MIN_ALIGN: usize> Arena<MIN_ALIGN> {
         ) {
             Some(addr) => {
                 self.place_at(addr, layout);
-                Ok((addr, 0))
+                SlowAnswer::AtCursor { refused: 0 }
             }
             None => match self.add_chunk(chunks, layout) {
                 Ok((addr, refused)) => {
                     self.place_at(addr, layout);
-                    Ok((addr, refused))
+                    SlowAnswer::AtCursor { refused }
                 }
-                Err(e) => Err(e),
+                Err(ArenaErr::AllocErr { refused }) => SlowAnswer::NoChunk { refused },
+                Err(ArenaErr::OutOfMemory) => SlowAnswer::NoMemory,
             },
         }
     }

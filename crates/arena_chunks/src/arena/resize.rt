@@ -2,6 +2,7 @@
 ghost use Rattle.std.specs.Prelude.{◌≡◌, ℕ, ◌+◌, ◌-◌, ◌^◌, ◌%◌, nat_lt, ◌≤◌, ◌<◌, if◌then◌else◌, IsOk, IsTrue, Some, min, take};
 
 use crate::arena::Arena;
+use crate::arena::moves::SlowAnswer;
 use crate::block::{ArenaErr, Block};
 use crate::chunks::ChunkSource;
 use crate::chunks::chunk::find_chunk;
@@ -25,7 +26,7 @@ impl<const MIN_ALIGN: usize> Arena<MIN_ALIGN> {
     ghost use Rattle.placement.specs.Statistics.{uncounted, one_reallocation};
     ghost use Rattle.arena_chunks.specs.Memory.{Memory, Writes, is_readable, image, bytes_from};
     ghost use Rattle.arena_chunks.specs.Source.{view};
-    ghost use Rattle.arena_chunks.specs.Answers.{answer_of, OnCounted};
+    ghost use Rattle.arena_chunks.specs.Answers.{answer_of, OnCounted, at_cursor};
     ghost use Rattle.arena_chunks.specs.BlockCalls.{GrowsBlock, ShrinksBlock, ResizesAfter, growing_of, shrinking_of};
     ghost use Rattle.arena_chunks.specs.Resizes.{IsResizedUnasked, replaced, NoneReadable};
 
@@ -120,7 +121,8 @@ impl<const MIN_ALIGN: usize> Arena<MIN_ALIGN> {
         if is_aligned_to(block.addr, layout.align) {
             return Ok((self.block_of(block.addr, layout), 0));
         }
-        self.copy_to_new(chunks, block, layout, layout.size)
+        let slow = self.copy_to_new(chunks, block, layout, layout.size);
+        self.slow_block(slow, layout)
     }
 
     // Grows a block, and counts the requests that were refused.
@@ -138,7 +140,9 @@ impl<const MIN_ALIGN: usize> Arena<MIN_ALIGN> {
             block layout.size layout.align) }
     {
         if block.align < layout.align || block.addr != self.newest.cursor {
-            return self.move_to_new(chunks, block, layout, block.size);
+            let old = block;
+            let slow = self.copy_to_new(chunks, old, layout, block.size);
+            return self.slow_block(slow, layout);
         }
         let more = round_up_to_unchecked(layout.size, MIN_ALIGN as u64) - block.size;
         let Some(below) = Layout::new(more, block.align) else {
@@ -154,10 +158,12 @@ impl<const MIN_ALIGN: usize> Arena<MIN_ALIGN> {
                 self.newest.cursor = addr;
                 Ok((self.move_down(block, addr, layout), 0))
             }
-            None => match self.grow_below(chunks, block, below, layout) {
-                Ok((b, refused)) => Ok((b, refused)),
-                Err(e) => Err(e),
-            },
+            None => {
+                // A copy for the call out of line, so that the block itself stays in registers.
+                let old = block;
+                let slow = self.grow_below(chunks, old, below, layout);
+                self.slow_block(slow, layout)
+            }
         }
     }
 
@@ -171,14 +177,15 @@ impl<const MIN_ALIGN: usize> Arena<MIN_ALIGN> {
         block: Block,
         below: Layout,
         layout: Layout,
-    ) -> Result<(Block, u32), ArenaErr>
+    ) -> SlowAnswer
         requires readable { IsTrue (is_readable self.old.state block) }
         requires size { block.size ≤ layout.size }
         requires align { layout.align ≤ block.align }
         requires last { block.addr ≡ cursor_of self.old.state.chunks }
         requires below { below.size ≡ up layout.size self.old.state.min_align - block.size }
         requires below_align { below.align ≡ block.align }
-        ensures { OnCounted result (ResizesAfter (growing_of self.old block layout.size layout.align)
+        ensures { OnCounted (at_cursor self.new.state layout.size layout.align result)
+            (ResizesAfter (growing_of self.old block layout.size layout.align)
             (view self.old (C.source chunks.old)) (view self.new (C.source chunks.new))
             block layout.size layout.align) }
     {
@@ -191,7 +198,8 @@ impl<const MIN_ALIGN: usize> Arena<MIN_ALIGN> {
             Some(addr) => {
                 self.newest.make_ready(addr);
                 self.newest.cursor = addr;
-                Ok((self.move_down(block, addr, layout), 0))
+                let _ = self.move_down(block, addr, layout);
+                SlowAnswer::AtCursor { refused: 0 }
             }
             None => self.copy_to_new(chunks, block, layout, block.size),
         }
@@ -240,27 +248,6 @@ impl<const MIN_ALIGN: usize> Arena<MIN_ALIGN> {
         self.block_of(addr, layout)
     }
 
-    // The same as `copy_to_new`, with an answer of its own, which may stay in registers.
-    #[inline(always)]
-    fn move_to_new<C: ChunkSource>(
-        &mut self,
-        chunks: &mut C,
-        block: Block,
-        layout: Layout,
-        n: u64,
-    ) -> Result<(Block, u32), ArenaErr>
-        requires readable { IsTrue (is_readable self.old.state block) }
-        requires n { n ≡ min block.size layout.size }
-        ensures { OnCounted result (ResizesAfter Anew
-            (view self.old (C.source chunks.old)) (view self.new (C.source chunks.new))
-            block layout.size layout.align) }
-    {
-        match self.copy_to_new(chunks, block, layout, n) {
-            Ok((b, refused)) => Ok((b, refused)),
-            Err(e) => Err(e),
-        }
-    }
-
     // Places a block anew, with the first n bytes of the old one.
     #[cold]
     #[inline(never)]
@@ -270,10 +257,11 @@ impl<const MIN_ALIGN: usize> Arena<MIN_ALIGN> {
         block: Block,
         layout: Layout,
         n: u64,
-    ) -> Result<(Block, u32), ArenaErr>
+    ) -> SlowAnswer
         requires readable { IsTrue (is_readable self.old.state block) }
         requires n { n ≡ min block.size layout.size }
-        ensures { OnCounted result (ResizesAfter Anew
+        ensures { OnCounted (at_cursor self.new.state layout.size layout.align result)
+            (ResizesAfter Anew
             (view self.old (C.source chunks.old)) (view self.new (C.source chunks.new))
             block layout.size layout.align) }
     {
@@ -281,9 +269,10 @@ impl<const MIN_ALIGN: usize> Arena<MIN_ALIGN> {
             Ok((new, refused)) => {
                 self.move_bytes(block.addr, new.addr, n);
                 self.count_move();
-                Ok((new, refused))
+                SlowAnswer::AtCursor { refused }
             }
-            Err(e) => Err(e),
+            Err(ArenaErr::AllocErr { refused }) => SlowAnswer::NoChunk { refused },
+            Err(ArenaErr::OutOfMemory) => SlowAnswer::NoMemory,
         }
     }
 

@@ -1,9 +1,11 @@
 // A chunk with its bytes.
 ghost use Rattle.std.specs.Prelude.{◌≡◌, ◌<◌, ◌^◌, [], ◌∷◌, ◌++◌, ◌==◌, if◌then◌else◌, vec_len, vec_capacity, length, take, drop, ◌≤◌, ◌+◌, ◌-◌, Some, None, nat_le};
+ghost use Rattle.std.specs.Borrow.{sem};
 ghost use Rattle.std.specs.List.{All, list_any, count_by};
 ghost use Rattle.placement.specs.State.{used_length, is_used_by};
 ghost use Rattle.arena_region.specs.Bytes.{bytes};
-ghost use Rattle.arena_chunks.specs.Stored.{stored_chunk, floor_in, IsOrdered, IsMadeReady, IsSearchable, IsLastBelow};
+ghost use Rattle.arena_chunks.specs.Lends.{LendsPart};
+ghost use Rattle.arena_chunks.specs.Stored.{stored_chunk, floor_in, part_of, IsOrdered, IsMadeReady, IsSearchable, IsLastBelow};
 
 use crate::block::Block;
 use arena_region::Region;
@@ -14,7 +16,7 @@ use std::mem;
 pub(crate) const NOWHERE: u64 = 16;
 
 // How many older chunks are few.
-const FEW: usize = 32;
+const FEW: usize = 64;
 
 // As many bytes as are made ready at once: an eighth of those that are, but at least a page, so that this is rare, and no
 // more than stay in the fastest cache until they are written.
@@ -204,4 +206,15 @@ pub(crate) fn part_at(chunk: &StoredChunk, addr: u64, size: u64) -> &[u8]
     chunk
         .bytes
         .part((addr - chunk.base) as usize, size as usize)
+}
+
+// The same, to be written. The chunk then has what was written there.
+pub(crate) fn part_at_mut(chunk: &mut StoredChunk, addr: u64, size: u64) -> &mut [u8]
+    requires low { floor_in chunk.old ≤ addr }
+    requires high { addr - chunk.old.base + size ≤ length chunk.old.bytes.items }
+    ensures* writes_back { sem 𝓛 (LendsPart chunk.entry addr result) }
+    ensures value { result.now ≡ part_of chunk.old addr size }
+{
+    let from = (addr - chunk.base) as usize;
+    chunk.bytes.part_mut(from, size as usize)
 }

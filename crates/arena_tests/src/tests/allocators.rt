@@ -49,6 +49,9 @@ fn bytes_that_change_in_their_place(rt: HostRuntime) {
     let block = held(&rt, &a, block);
     a.move_within(block, 2, 0, 3);
     reads(&rt, "the block", &a, block, &[2, 3, 9, 3, 9, 9]);
+    let block = held(&rt, &a, block);
+    a.read_mut(block).fill(7);
+    reads(&rt, "the lent block", &a, block, &[7, 7, 7, 7, 7, 7]);
 }
 
 // Why there is no allocator of this capacity, and the source, handed back.

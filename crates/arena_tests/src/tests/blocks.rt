@@ -41,6 +41,21 @@ const BYTES: &[Case] = &[
         ],
     },
     Case {
+        name: "bytes that are lent, of an older chunk and of the newest",
+        refuse: &[],
+        steps: &[
+            Step::Alloc(5, 1, Ok(20411)),
+            Step::Alloc(16315, 1, Ok(4096)),
+            Step::Alloc(5, 1, Ok(53163)),
+            Step::Write(0, 0, b"hello"),
+            Step::Lend(0, b"hello", b"jelly"),
+            Step::Lend(2, &[0, 0, 0, 0, 0], b"world"),
+            Step::Read(0, b"jelly"),
+            Step::Read(2, b"world"),
+            Step::Begins(1, &[0]),
+        ],
+    },
+    Case {
         name: "bytes that move within a block",
         refuse: &[],
         steps: &[
@@ -207,6 +222,7 @@ fn an_empty_block_is_held_in_every_arena(rt: HostRuntime) {
     arena.reset();
     assert!(rt; arena.is_held_place(none));
     assert_eq!(rt; arena.read(none), [].as_slice());
+    assert_eq!(rt; arena.read_mut(none).len(), 0);
     arena.dealloc(none);
     assert_eq!(rt; arena.used_bytes(), 0);
 }

@@ -30,6 +30,8 @@ pub(super) enum Step {
     Write(usize, u64, &'static [u8]),
     // A block, the index of its first byte that changes, how many change, and to which value.
     Set(usize, u64, u64, u8),
+    // A block, the bytes of it that are lent, and those that are written there.
+    Lend(usize, &'static [u8], &'static [u8]),
     // A block, from which index, to which, and how many bytes.
     Move(usize, u64, u64, u64),
     // A block, from which index, to which block and index, and how many bytes.
@@ -132,6 +134,7 @@ impl<const M: usize> Stage<M> {
             Step::Reset => self.arena.reset(),
             Step::Write(n, from, bytes) => self.write(rt, at, n, from, bytes),
             Step::Set(n, from, size, value) => self.set(rt, at, n, from, size, value),
+            Step::Lend(n, lent, written) => self.lend(rt, at, n, lent, written),
             Step::Move(n, from, to, size) => self.move_within(rt, at, n, from, to, size),
             Step::Copy(n, from, m, to, size) => self.copy_between(rt, at, (n, from), (m, to), size),
             Step::Read(n, wanted) => self.read(rt, at, n, wanted),
@@ -260,6 +263,13 @@ impl<const M: usize> Stage<M> {
         let block = self.held(rt, at, n);
         assert!(rt; fits(block, from, size), "{at}: a range");
         self.arena.write_with(block, from, size, &Set { value });
+    }
+
+    fn lend(&mut self, rt: &impl Abort, at: At, n: usize, lent: &[u8], written: &[u8]) {
+        let block = self.held(rt, at, n);
+        let place = self.arena.read_mut(block);
+        assert!(rt; *place == *lent && place.len() == written.len(), "{at}");
+        place.copy_from_slice(written);
     }
 
     fn move_within(&mut self, rt: &impl Abort, at: At, n: usize, from: u64, to: u64, size: u64) {

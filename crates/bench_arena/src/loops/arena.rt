@@ -1,10 +1,8 @@
 // Loops over blocks.
-ghost use Rattle.std.specs.Prelude.{◌≡◌, ◌≤◌, IfOk, IsTrue, length};
-ghost use Rattle.std.specs.List.{All};
-ghost use Rattle.arena_chunks.specs.Memory.{is_readable};
+ghost use Rattle.std.specs.Prelude.{◌≡◌, IfOk};
 
 use super::{BUDGET, Failed, Timed};
-use arena_chunks::{Alloc, Allocator, Arena, Block, MemoryChunks};
+use arena_chunks::{Alloc, Allocator, MemoryChunks};
 use arena_place::Layout;
 use std::time::Instant;
 
@@ -16,13 +14,7 @@ const PLACED: u64 = 16384;
 
 const GROWN: u64 = 63;
 
-// How many blocks are read in an order that can't be foreseen, and how many reads are made in that order before it begins
-// again.
-const SCATTERED: u64 = 1024;
-
-const ORDER: u64 = 65536;
-
-fn layout(size: u64, align: u64) -> Result<Layout, Failed>
+pub(super) fn layout(size: u64, align: u64) -> Result<Layout, Failed>
     ensures { IfOk result (λ l. l.size ≡ size) }
 {
     Layout::new(size, align).ok_or(Failed::NoPlace)
@@ -129,87 +121,4 @@ pub fn reset_chunks(rt: &HostRuntime, calls: u64) -> Result<Timed, Failed> {
     }
     let time = began.elapsed(rt)?;
     Ok(Timed { time, number })
-}
-
-// Places blocks of eight bytes, as many in each of so many older chunks, or all in the newest if there is to be no older
-// one.
-fn place_scattered(
-    arena: &mut Arena<1>,
-    chunks: &mut MemoryChunks,
-    older: u64,
-) -> Result<[Block; SCATTERED as usize], Failed> {
-    let eight = layout(8, 8)?;
-    let mut blocks = [Block::empty(8); SCATTERED as usize];
-    for i in 0..SCATTERED {
-        let block = arena.try_alloc_layout(chunks, eight)?;
-        arena.write(block, 0, &i.to_le_bytes());
-        blocks[i as usize] = block;
-        if older > 0 && (i + 1) % (SCATTERED / older).max(1) == 0 {
-            let rest = layout(arena.chunk_capacity(), 1)?;
-            arena.try_alloc_layout(chunks, rest)?;
-        }
-    }
-    arena.try_alloc_layout(chunks, eight)?;
-    Ok(blocks)
-}
-
-// Numbers below 65536 in no order that can be foreseen.
-fn scattered_order(rt: &HostRuntime) -> Result<Vec<u16>, Failed> {
-    let mut order = Vec::new(rt.alloc());
-    let mut x: u64 = 1;
-    for _ in 0..ORDER {
-        x = x
-            .wrapping_mul(6364136223846793005)
-            .wrapping_add(1442695040888963407);
-        if order.push((x >> 48) as u16).is_err() {
-            return Err(Failed::NoPlace);
-        }
-    }
-    Ok(order)
-}
-
-// Whether all of these blocks may be read.
-fn all_held(arena: &Arena<1>, blocks: &[Block]) -> bool
-    ensures { IsTrue result → All (λ b. IsTrue (is_readable arena.now.state b)) blocks.now }
-{
-    blocks.iter().all(|block| arena.is_held_place(*block))
-}
-
-// Reads the blocks in this order, and adds up their first bytes.
-fn read_round(arena: &Arena<1>, blocks: &[Block; SCATTERED as usize], order: &[u16]) -> u64
-    requires { All (λ b. IsTrue (is_readable arena.now.state b)) blocks.now }
-{
-    let mut number: u64 = 0;
-    for n in order {
-        let block = blocks[*n as usize % SCATTERED as usize];
-        if let Some(byte) = arena.read(block).first() {
-            number = number.wrapping_add(*byte as u64);
-        }
-    }
-    number
-}
-
-// Reads blocks that lie in so many older chunks, or in the newest.
-fn read_scattered(rt: &HostRuntime, older: u64, calls: u64) -> Result<Timed, Failed> {
-    let mut arena = Arena::<1>::new(rt.alloc());
-    let mut chunks = MemoryChunks::new(rt.alloc(), BUDGET);
-    let blocks = place_scattered(&mut arena, &mut chunks, older)?;
-    let order = scattered_order(rt)?;
-    if !all_held(&arena, &blocks) {
-        return Err(Failed::NoPlace);
-    }
-    let began = Instant::now(rt)?;
-    let mut number: u64 = 0;
-    for _ in 0..calls / ORDER {
-        number = number.wrapping_add(read_round(&arena, &blocks, &order));
-    }
-    let left = &order[..order.len().min((calls % ORDER) as usize)];
-    number = number.wrapping_add(read_round(&arena, &blocks, left));
-    let time = began.elapsed(rt)?;
-    Ok(Timed { time, number })
-}
-
-/// Blocks of eight bytes in eight older chunks, read in an order that can't be foreseen.
-pub fn read_older(rt: &HostRuntime, calls: u64) -> Result<Timed, Failed> {
-    read_scattered(rt, 8, calls)
 }

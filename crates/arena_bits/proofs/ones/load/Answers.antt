@@ -7,6 +7,6 @@ pub words-preserved : goal.words-preserved
 words-preserved c =
     let words = words_in c.args.bytes.now in
     let scan = c.words.invariant.0 in (
-      rw c.word_at.ensures (scan_word words c.args.capacity (c.words.scan.base + 64) (omega (arith, scan.aligned)) (omega arith)),
-      scan_skip words c.args.capacity c.words.scan scan (search rules) ∙ c.words.invariant.1,
+      scan_word words c.args.capacity (c.words.scan.base + 64) _ c.word_at.ensures (omega (arith, scan.aligned)) (omega arith),
+      scan_skip words c.args.capacity c.words.scan scan (search rules) (omega arith) ∙ c.words.invariant.1,
     )

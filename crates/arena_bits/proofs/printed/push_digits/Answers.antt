@@ -1,6 +1,6 @@
-use Rattle.std.proofs.Common.{◌-◌, ◌∙◌, sym, arith}
-use Rattle.arena_bits.specs.Printed.{bits_in}
-use Rattle.arena_bits.proofs.PrintLemmas.{digit_more, digits_done}
+use Rattle.std.proofs.Common.{◌≡◌, ◌-◌, ◌∙◌, sym, arith, append-nil}
+use Rattle.arena_bits.specs.Printed.{digits}
+use Rattle.arena_bits.proofs.PrintLemmas.{digit_more}
 use Rattle.arena_bits.proofs.printed.push_digits.Goals as goal
 
 pub loop-place-preserved : goal.loop-place-preserved
@@ -9,5 +9,5 @@ loop-place-preserved c =
     (digit_more c.loop-place.text c.args.byte (c.loop-place.place - 1) c.loop-place.place (omega arith) ∙ c.loop-place.invariant)
 
 pub returns : goal.returns
-returns c =
-    sym (digits_done c.loop-place.text (bits_in c.args.byte) 0 c.loop-place.place (omega arith)) ∙ c.loop-place.invariant
+unfolding digits
+returns c = let none : c.loop-place.place ≡ 0 = omega arith in sym (append-nil c.loop-place.text) ∙ rw none at c.loop-place.invariant

@@ -3,7 +3,7 @@ use Rattle.placement.specs.State.{IsValid}
 use Rattle.arena_chunks.specs.Memory.{Memory}
 use Rattle.arena_chunks.proofs.AskedLemmas.{asked_none}
 use Rattle.arena_chunks.proofs.StoredLemmas.{place_ready, cursor_moved}
-use Rattle.arena_chunks.proofs.AllocationLemmas.{place_cursor, placed_view, placing_here, block_placed, placed_there}
+use Rattle.arena_chunks.proofs.AllocationLemmas.{place_cursor, placed_view, placing_here, block_placed}
 use Rattle.arena_chunks.proofs.arena.Arena.alloc_counted.Goals as goal
 
 -- ---- In the ready part of the newest chunk
@@ -22,8 +22,3 @@ returns-in-Some g c =
     block_placed c.args.self.now _ _ _ c.args.layout.size c.args.layout.align 0 c.in-Some.addr c.block_of.result (subst (λ (w : Memory). IsValid w.state) c.self.view_is c.self.invariant.valid) c.args.layout.valid
     (rw view (placing_here c.args.self.now c.args.layout.size c.args.layout.align c.in-Some.addr found.0)) (rw found.0 (asked_none _))
     (c.block_of.ensures.block ∙ ap (λ (w : Memory). record { generation = w.state.generation; addr = c.in-Some.addr; size = c.args.layout.size; align = c.args.layout.align }) c.self.view_is)
-
--- ---- Elsewhere
-
-pub returns-in-Ok : goal.returns-in-Ok
-returns-in-Ok g c = placed_there _ _ c.args.layout.size c.args.layout.align c.in-Ok.refused c.in-Ok.addr c.block_of-in-Ok.result c.in-Ok.ensures c.block_of-in-Ok.ensures.block

@@ -1,13 +1,13 @@
-use Rattle.std.proofs.Common.{◌≡◌, ℕ, ◌-◌, ap, subst, arith, IsTrue, Some, None}
+use Rattle.std.proofs.Common.{◌≡◌, ◌∙◌, ℕ, ◌-◌, ap, subst, arith, IsTrue, Some, None}
 use Rattle.placement.specs.Rounding.{up, is_layout}
-use Rattle.placement.specs.State.{IsValid, with_cursor}
+use Rattle.placement.specs.State.{IsValid, cursor_of, with_cursor}
 use Rattle.placement.specs.Search.{place}
-use Rattle.placement.proofs.CursorLemmas.{start_set}
+use Rattle.placement.proofs.CursorLemmas.{start_set, cursor_set}
 use Rattle.arena_chunks.specs.Memory.{Memory}
 use Rattle.arena_chunks.proofs.StoredLemmas.{view_with, place_stored, cursor_moved, cursor_view}
 use Rattle.arena_chunks.proofs.AllocationLemmas.{place_cursor}
 use Rattle.arena_chunks.proofs.ResizeSteps.{IsHere, grows_full, grows_down}
-use Rattle.arena_chunks.proofs.ResizedLemmas.{is_grown, grown_used, grown_answer}
+use Rattle.arena_chunks.proofs.ResizedLemmas.{block_in, is_grown, grown_used, grown_answer}
 use Rattle.arena_chunks.proofs.arena.Arena.grow_below.Goals as goal
 
 pub invariant_of-self : goal.invariant_of-self
@@ -42,8 +42,11 @@ returns-in-Some g c =
     let mid : Memory = view_with g.row.MIN_ALIGN c.self.inside (record c.make_ready.new.self { cursor = c.in-Some.addr }) c.self.inside.older.items in
     let view : mid ≡ record { state = with_cursor c.in-Some.addr c.args.self.now.state; statistics = c.args.self.now.statistics; bytes = c.args.self.now.bytes } =
     rw c.make_ready.ensures.chunk (cursor_view g.row.MIN_ALIGN c.self.inside c.args.self.now c.in-Some.addr c.make_ready.ensures.low c.self.view_is) in
-    grown_answer c.args.self.now mid c.move_down.new.self _ c.args.block c.move_down.result c.args.layout.size c.args.layout.align c.in-Some.addr down c.requires.size c.args.layout.valid way view
-    c.move_down.ensures.state c.move_down.ensures.statistics c.move_down.ensures.bytes c.move_down.ensures.block
+    let at : cursor_of mid.state.chunks ≡ c.in-Some.addr =
+    ap (λ (w : Memory). cursor_of w.state.chunks) view ∙ cursor_set c.in-Some.addr c.args.self.now.state.chunks down.low (omega (arith, down.below, down.at)) in
+    grown_answer c.args.self.now mid c.move_down.new.self _ c.args.block _ c.args.layout.size c.args.layout.align c.in-Some.addr down c.requires.size c.args.layout.valid way view
+    c.move_down.ensures.state c.move_down.ensures.statistics c.move_down.ensures.bytes
+    (rw c.move_down.ensures.state (ap (λ (p : ℕ). block_in mid.state p c.args.layout.size c.args.layout.align) at))
 
 -- There is no room for what is wanted more.
 pub returns-in-None : goal.returns-in-None

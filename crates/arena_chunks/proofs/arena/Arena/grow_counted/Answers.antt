@@ -19,7 +19,7 @@ returns-then-block-layout g c =
       | then-block-layout-via-else-block-layout+then-block-self w ↦ inr (λ same. w.if-block-self.true (same ∙ sym (cursor_stored g.row.MIN_ALIGN c.self.inside c.args.self.now c.self.invariant c.self.view_is)))
     ] in
     let way = grows_anew c.args.self.now.state c.args.block.addr c.args.block.size c.args.block.align c.args.layout.size c.args.layout.align away in
-    rw way c.move_to_new.ensures
+    rw (c.slow_block.ensures, way) c.copy_to_new-slow.ensures
 
 pub round_up_to_unchecked-requires-clause-power : goal.round_up_to_unchecked-requires-clause-power
 round_up_to_unchecked-requires-clause-power g c = min_align_power g.row.MIN_ALIGN c.self.invariant.valid.min_align
@@ -81,8 +81,8 @@ returns-in-Some-place g c =
 
 -- ---- Further down, or anew
 
-pub grow_below-requires : goal.grow_below-requires
-grow_below-requires g c =
+pub grow_below-slow-requires : goal.grow_below-slow-requires
+grow_below-slow-requires g c =
     let at = c.if-block-self.false ∙ cursor_stored g.row.MIN_ALIGN c.self.inside c.args.self.now c.self.invariant c.self.view_is in
     let size : c.in-Some.below.size ≡ up c.args.layout.size c.args.self.now.state.min_align - c.args.block.size =
     c.in-Some.ensures.value.0 ∙ ap (λ (n : ℕ). n - c.args.block.size) (c.round_up_to_unchecked.ensures ∙ ap (λ (w : Memory). up c.args.layout.size w.state.min_align) c.self.view_is) in

@@ -18,4 +18,4 @@ returns-then-is_aligned_to-clause-shrunk g c =
 pub returns-clause-shrunk : goal.returns-clause-shrunk
 returns-clause-shrunk g c =
     let way = shrinks_anew c.args.self.now.state c.args.block.addr c.args.block.size c.args.block.align c.args.layout.size c.args.layout.align c.if-layout-block.false (λ aligned. let never = c.if-is_aligned_to.ensures.1 aligned in cc) in
-    rw way c.copy_to_new.ensures
+    rw (c.slow_block.ensures, way) c.copy_to_new-slow.ensures

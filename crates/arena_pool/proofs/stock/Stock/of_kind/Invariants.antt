@@ -1,6 +1,6 @@
 use Rattle.std.proofs.Common.{◌≡◌, ◌≤◌, vec_len, vec_capacity}
 use Rattle.arena_pool.proofs.StackLemmas.{AreFirst}
-use Rattle.arena_pool.proofs.book.Book.of_kind.Given as goal
+use Rattle.arena_pool.proofs.stock.Stock.of_kind.Given as goal
 
 abbrev pub invariant-loop-i : goal.invariant-loop-i
 invariant-loop-i g l = record {

@@ -1,6 +1,6 @@
 use Rattle.std.proofs.Common.{arith}
 use Rattle.arena_pool.proofs.StackLemmas.{one_more}
-use Rattle.arena_pool.proofs.book.Book.of_kind.Goals as goal
+use Rattle.arena_pool.proofs.stock.Stock.of_kind.Goals as goal
 
 pub loop-i-preserved : goal.loop-i-preserved
 loop-i-preserved g c =

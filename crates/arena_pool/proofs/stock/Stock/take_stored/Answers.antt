@@ -2,7 +2,7 @@ use Rattle.std.proofs.Common.{Some, ap, subst, arith}
 use Rattle.std.proofs.lemmas.List.Elements.{All-pop}
 use Rattle.arena_pool.specs.declared.kind.PoolKind.{PoolKind}
 use Rattle.arena_pool.specs.Pool.{Pool, IsPooled}
-use Rattle.arena_pool.proofs.book.Book.take_stored.Goals as goal
+use Rattle.arena_pool.proofs.stock.Stock.take_stored.Goals as goal
 
 pub invariant_of-self : goal.invariant_of-self
 invariant_of-self g c =

@@ -2,7 +2,7 @@ use Rattle.std.proofs.Common.{ap, subst}
 use Rattle.arena_region.specs.Bytes.{Bytes}
 use Rattle.arena_pool.specs.Kinds.{HasRegions}
 use Rattle.arena_pool.proofs.KindLemmas.{region_is_new}
-use Rattle.arena_pool.proofs.book.new_arena.Goals as goal
+use Rattle.arena_pool.proofs.stock.new_arena.Goals as goal
 
 pub returns-in-Ok-from_raw_parts-clause-new : goal.returns-in-Ok-from_raw_parts-clause-new
 returns-in-Ok-from_raw_parts-clause-new g c =

@@ -1,0 +1,87 @@
+// The loans of a pool, by its ledger: a share of 1 for each arena that is lent.
+ghost use Rattle.std.specs.Prelude.{◌≡◌, ◌+◌, ◌<◌};
+ghost use Rattle.arena_pool.specs.Kinds.{HasId};
+ghost use Rattle.arena_pool.specs.Names.{IsBlankOf};
+
+use crate::name::{MOST_LENT, PoolName};
+use std::marker::Model;
+use std::sync::ledger;
+use std::sync::ledger::{Blank, Share};
+
+/// What a lent arena leaves with its borrower: its id, and one part of the pool's ledger. It is spent where the arena is
+/// given back or given up, to a pool of the same name, and can't be dropped.
+pub struct Loan<L: PoolName> {
+    id: Option<u32>,
+    share: Share<L>,
+    ghost part: { share.parts ≡ 1 },
+    ghost one: { share.amount ≡ 1 },
+    ghost has_id: { HasId L.kind id },
+}
+
+impl<L: PoolName> Loan<L> {
+    // The id of the arena.
+    pub(crate) fn id(&self) -> Option<u32>
+        ensures id { result ≡ self.now.id }
+        ensures kind { HasId L.kind result }
+    {
+        self.id
+    }
+}
+
+// How many arenas are lent: as many as loans are about. Contracts see the number.
+#[derive(Drop)]
+pub(crate) struct Lending<L: PoolName> {
+    book: ledger::Book<L>,
+    spare: Share<L>,
+}
+
+impl<L: PoolName> Model for Lending<L> {
+    ghost use Rattle.std.specs.Prelude.{ℕ, ◌≡◌, ◌+◌};
+    ghost use Rattle.arena_pool.specs.Pool.{most_lent};
+
+    ghost Value = { ℕ };
+
+    ghost view = { λ l. l.book.total };
+
+    ghost invariant = { λ l. (l.spare.amount ≡ 0) × (l.spare.parts + l.book.total ≡ most_lent) };
+}
+
+impl<L: PoolName> Lending<L> {
+    // Nothing is lent yet.
+    pub(crate) fn open(blank: Blank) -> Lending<L>
+        requires { IsBlankOf L.name L.parts blank }
+        ensures { result ≡ 0 }
+    {
+        let (book, spare) = blank.open::<L>();
+        Lending { book, spare }
+    }
+
+    // A loan for an arena with this id.
+    #[inline]
+    pub(crate) fn lend(&mut self, id: Option<u32>) -> Loan<L>
+        requires room { self.old < MOST_LENT }
+        requires id { HasId L.kind id }
+        ensures counted { self.new ≡ self.old + 1 }
+        ensures id { result.id ≡ id }
+    {
+        self.book.add(&mut self.spare, 1);
+        Loan {
+            id,
+            share: self.spare.split_off(1, 1),
+        }
+    }
+
+    // A loan is spent, so at least one arena was lent. The id of its arena.
+    #[inline]
+    pub(crate) fn settle(&mut self, loan: Loan<L>) -> Option<u32>
+        ensures counted { self.new + 1 ≡ self.old }
+        ensures id { result ≡ loan.id }
+        ensures kind { HasId L.kind result }
+    {
+        let Loan { id, mut share } = loan;
+        self.book.audit(&mut share);
+        self.book.sub(&mut share, 1);
+        self.spare.merge(share);
+        id
+    }
+}

@@ -1,0 +1,87 @@
+-- Walks over a list in which the values that a test picks are moved to the front, and the others are written as well.
+use Rattle.std.proofs.Common.{◌≡◌, ℕ, suc, ◌+◌, ◌-◌, ◌*◌, ◌<◌, ◌≤◌, refl, sym, ap, subst, ◌∙◌, arith, Some, Bool, true, false, cond}
+use Rattle.std.proofs.Common.{List, [], ◌∷◌, ◌++◌, length, take, drop, set, drop-cons, append_assoc, append-nil}
+use Rattle.std.proofs.lemmas.Grind.{common_steps}
+use Rattle.std.proofs.lemmas.List.{drop_all}
+use Rattle.std.proofs.lemmas.Option.{slice_get_within, get_or_from_slice_get}
+use Rattle.std.specs.Prelude.{slice_get}
+use Rattle.placement.specs.Machine.{splice}
+use Rattle.arena_items.specs.Values.{elements}
+use mir.Val.{bool_byte}
+use borrow.Rule.Slice.PartMut.{put_mid}
+use Rattle.arena_items.proofs.Layers.{rows_before, length-elements, elements-get, elements-set, elements-empty}
+
+-- for automatic proof: the values of bytes
+pub ruleset list_laws = (rows_before, elements-get, length-elements, elements-empty)
+
+-- ---- A list with a value set
+
+module _ {X : Type 0} (xs : List X) (i : ℕ) (y : X) where
+  front_of_set : take i (set xs i y) ≡ take i xs
+  front_of_set = grind (arith, common_steps)
+
+  more_of_set : i < length xs → take (i + 1) (set xs i y) ≡ take i xs ++ y ∷ []
+  more_of_set h = grind (arith, common_steps)
+
+  rest_of_set : (k : ℕ) → i < k → drop k (set xs i y) ≡ drop k xs
+  rest_of_set k h = grind (arith, common_steps)
+
+-- the value at an index, and those behind it
+rest_at : {X : Type 0} (xs : List X) (k : ℕ) (x : X) → slice_get xs k ≡ Some x → drop k xs ≡ x ∷ drop (k + 1) xs
+rest_at xs k x got =
+    let next : suc k ≡ k + 1 = omega arith in
+    drop-cons xs k x (slice_get_within xs k x got) ∙ rw (get_or_from_slice_get xs k x x got, next) refl
+
+-- ---- The walk
+
+-- A walk over the list has come to the value k, and the first `kept` stay. With what it leaves of the rest they are the whole.
+pub record IsSifting {S X : Type 0} (Leaves : S → List X → List X → Type 0) (IsWhole : List X → Type 0) (s : S) (kept k : ℕ)
+    (xs : List X) : Type 0 where
+  pub onward : (zs : List X) → Leaves s (drop k xs) zs → IsWhole (take kept xs ++ zs)
+  pub order : kept ≤ k
+
+module _ {S X : Type 0} {Leaves : S → List X → List X → Type 0} {IsWhole : List X → Type 0} where
+  -- It starts at the first,
+  pub sift_starts : {s : S} (xs : List X) → ((zs : List X) → Leaves s xs zs → IsWhole zs) → IsSifting Leaves IsWhole s 0 0 xs
+  sift_starts xs whole = record { onward = whole; order = omega arith }
+
+  -- goes on past a value that is put behind those that stay, and is one of them or is put there for nothing,
+  pub sift_goes_on : {s t : S} {kept k : ℕ} {x : X} {xs : List X} (b : Bool) (y : X) → IsSifting Leaves IsWhole s kept k xs
+      → slice_get xs k ≡ Some x → ((ys zs : List X) → Leaves t ys zs → Leaves s (x ∷ ys) (cond b (y ∷ zs) zs))
+      → IsSifting Leaves IsWhole t (kept + bool_byte b) (k + 1) (set xs kept y)
+  sift_goes_on {s} {t} {kept} {k} {x} {xs} b y sifts got step = record { onward = go b step; order = omega (arith, at_most b, sifts.order) }
+    where
+      at_most : (b : Bool) → bool_byte b ≤ 1
+      at_most true = omega arith
+      at_most false = omega arith
+
+      here : (zs : List X) → Leaves s (x ∷ drop (k + 1) xs) zs → IsWhole (take kept xs ++ zs)
+      here zs left = sifts.onward zs (subst (λ l. Leaves s l zs) (sym (rest_at xs k x got)) left)
+
+      rest : drop (k + 1) (set xs kept y) ≡ drop (k + 1) xs
+      rest = rest_of_set xs kept y (k + 1) (omega (arith, sifts.order))
+
+      go : (b : Bool) → ((ys zs : List X) → Leaves t ys zs → Leaves s (x ∷ ys) (cond b (y ∷ zs) zs))
+          → (zs : List X) → Leaves t (drop (k + 1) (set xs kept y)) zs → IsWhole (take (kept + bool_byte b) (set xs kept y) ++ zs)
+      go true step zs left =
+          let front = more_of_set xs kept y (omega (arith, sifts.order, slice_get_within xs k x got)) in
+          rw front (rw (append_assoc (take kept xs) (y ∷ []) zs) (here (y ∷ zs) (step _ zs (subst (λ l. Leaves t l zs) rest left))))
+      go false step zs left =
+          let same : kept + 0 ≡ kept = omega arith in
+          rw (same, front_of_set xs kept y) (here zs (step _ zs (subst (λ l. Leaves t l zs) rest left)))
+
+  -- and ends past the last.
+  pub sift_ends : {s : S} {kept k : ℕ} {xs : List X} → IsSifting Leaves IsWhole s kept k xs → length xs ≤ k → Leaves s [] []
+      → IsWhole (take kept xs)
+  sift_ends {s} {kept} {k} {xs} sifts ended left =
+      rw (append-nil (take kept xs)) at (sifts.onward [] (subst (λ l. Leaves s l []) (sym (drop_all k xs ended)) left))
+
+-- ---- A value put in bytes
+
+pub put_sets : {T : Type 0} (size : ℕ) (dec : List ℕ → T) (n i : ℕ) (bs ys : List ℕ) (v : T) → length ys ≡ size → dec ys ≡ v
+    → i < n → n * size ≤ length bs
+    → elements size dec n (put_mid (i * size) (i * size + size - i * size) bs ys) ≡ set (elements size dec n bs) i v
+put_sets size dec n i bs ys v long back less room =
+    let inner = rows_before i n size less in
+    let spliced : put_mid (i * size) (i * size + size - i * size) bs ys ≡ splice bs (i * size) ys = grind (arith, common_steps) in
+    ap (elements size dec n) spliced ∙ elements-set size dec n bs i ys less room long ∙ ap (set (elements size dec n bs) i) back

@@ -1,0 +1,14 @@
+use Rattle.std.specs.Fn.{CalledAtMut}
+use Rattle.std.specs.List.Retain.{RetainsInTurn}
+use Rattle.arena_items.specs.Values.{elements}
+use Rattle.arena_vec.proofs.SiftLemmas.{IsSifting}
+use Rattle.arena_vec.proofs.retain.sift_mut.Given as goal
+
+abbrev pub invariant-loop-k : goal.invariant-loop-k
+invariant-loop-k g l =
+    let Leaves = RetainsInTurn (CalledAtMut g.F.FnMut) in
+    let all = elements g.T.Item.SIZE g.T.Item.decoded l.len in
+    record {
+      callable : goal.F-IsAlwaysCallable g l.f;
+      sifting : IsSifting Leaves (Leaves l.fn.f (all l.initial.bytes)) l.f l.kept l.k (all l.bytes);
+    }

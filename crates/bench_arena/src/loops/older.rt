@@ -1,0 +1,152 @@
+// Loops over blocks that lie in older chunks.
+ghost use Rattle.std.specs.Prelude.{◌≡◌, ◌≤◌, ◌<◌, IfOk, IsTrue};
+ghost use Rattle.std.specs.List.{All};
+ghost use Rattle.arena_chunks.specs.Memory.{is_readable};
+
+use super::arena::layout;
+use super::{Failed, Timed};
+use arena_chunks::{Arena, Block, MemoryChunks};
+use std::time::Instant;
+
+// How many blocks there are, and how many calls are made in an order that can't be foreseen before it begins again.
+const BLOCKS: u64 = 1024;
+
+const ORDER: u64 = 65536;
+
+// The source has so many bytes left for each chunk: room for the smallest, so that none is twice as large as the one before.
+const SMALLEST: u64 = 1 << 14;
+
+// An arena with blocks of eight bytes, and numbers below 65536 in an order that can't be foreseen. A number stands for the
+// block whose index is its remainder.
+#[derive(Drop)]
+struct Scattered {
+    arena: Arena<1>,
+    blocks: [Block; BLOCKS as usize],
+    order: Vec<u16>,
+}
+
+// Places blocks of eight bytes, as many in each of so many older chunks, or all in the newest if there is to be no older
+// one.
+fn place_scattered(
+    arena: &mut Arena<1>,
+    chunks: &mut MemoryChunks,
+    older: u64,
+) -> Result<[Block; BLOCKS as usize], Failed>
+    requires { older < 1024 }
+{
+    let eight = layout(8, 8)?;
+    let mut blocks = [Block::empty(8); BLOCKS as usize];
+    for i in 0..BLOCKS {
+        chunks.left = SMALLEST;
+        let block = arena.try_alloc_layout(chunks, eight)?;
+        arena.write(block, 0, &i.to_le_bytes());
+        blocks[i as usize] = block;
+        if i * older / BLOCKS < (i + 1) * older / BLOCKS {
+            let rest = layout(arena.chunk_capacity(), 1)?;
+            arena.try_alloc_layout(chunks, rest)?;
+        }
+    }
+    chunks.left = SMALLEST;
+    arena.try_alloc_layout(chunks, eight)?;
+    Ok(blocks)
+}
+
+fn scattered_order(rt: &HostRuntime) -> Result<Vec<u16>, Failed> {
+    let mut order = Vec::new(rt.alloc());
+    let mut x: u64 = 1;
+    for _ in 0..ORDER {
+        x = x
+            .wrapping_mul(6364136223846793005)
+            .wrapping_add(1442695040888963407);
+        if order.push((x >> 48) as u16).is_err() {
+            return Err(Failed::NoPlace);
+        }
+    }
+    Ok(order)
+}
+
+// Whether all of these blocks may be read, and have eight bytes.
+fn all_held(arena: &Arena<1>, blocks: &[Block]) -> bool
+    ensures { IsTrue result → All (λ b. IsTrue (is_readable arena.now.state b) × (8 ≤ b.size)) blocks.now }
+{
+    blocks
+        .iter()
+        .all(|block| arena.is_held_place(*block) && block.size >= 8)
+}
+
+impl Scattered {
+    // Blocks in an arena of so many chunks: all in the newest if it is the only one, otherwise in the older ones.
+    fn new(rt: &HostRuntime, chunks: u64) -> Result<Scattered, Failed>
+        ensures { IfOk result (λ s. All (λ b. IsTrue (is_readable s.arena.state b) × (8 ≤ b.size)) s.blocks) }
+    {
+        let mut arena = Arena::<1>::new(rt.alloc());
+        let mut source = MemoryChunks::new(rt.alloc(), SMALLEST);
+        let blocks = place_scattered(&mut arena, &mut source, chunks.clamp(1, BLOCKS) - 1)?;
+        let order = scattered_order(rt)?;
+        if !all_held(&arena, &blocks) {
+            return Err(Failed::NoPlace);
+        }
+        Ok(Scattered {
+            arena,
+            blocks,
+            order,
+        })
+    }
+}
+
+// Reads the blocks in this order, and adds up their first bytes.
+fn read_round(arena: &Arena<1>, blocks: &[Block; BLOCKS as usize], order: &[u16]) -> u64
+    requires { All (λ b. IsTrue (is_readable arena.now.state b) × (8 ≤ b.size)) blocks.now }
+{
+    let mut number: u64 = 0;
+    for n in order {
+        let block = blocks[*n as usize % BLOCKS as usize];
+        if let Some(byte) = arena.read(block).first() {
+            number = number.wrapping_add(*byte as u64);
+        }
+    }
+    number
+}
+
+// Writes eight bytes to the blocks in this order.
+fn write_round(arena: &mut Arena<1>, blocks: &[Block; BLOCKS as usize], order: &[u16])
+    requires { All (λ b. IsTrue (is_readable arena.old.state b) × (8 ≤ b.size)) blocks.now }
+    ensures { arena.new.state ≡ arena.old.state }
+{
+    for n in order {
+        let block = blocks[*n as usize % BLOCKS as usize];
+        arena.write(block, 0, &(*n as u64 + 1).to_le_bytes());
+    }
+}
+
+/// Blocks in the older of so many chunks, read in an order that can't be foreseen.
+pub fn read_older(rt: &HostRuntime, calls: u64, chunks: u64) -> Result<Timed, Failed> {
+    let s = Scattered::new(rt, chunks)?;
+    let left = &s.order[..s.order.len().min((calls % ORDER) as usize)];
+    let began = Instant::now(rt)?;
+    let mut number: u64 = 0;
+    for _ in 0..calls / ORDER {
+        number = number.wrapping_add(read_round(&s.arena, &s.blocks, &s.order));
+    }
+    number = number.wrapping_add(read_round(&s.arena, &s.blocks, left));
+    let time = began.elapsed(rt)?;
+    Ok(Timed { time, number })
+}
+
+/// Eight bytes written to blocks in the older of so many chunks, in an order that can't be foreseen.
+pub fn write_older(rt: &HostRuntime, calls: u64, chunks: u64) -> Result<Timed, Failed> {
+    let Scattered {
+        mut arena,
+        blocks,
+        order,
+    } = Scattered::new(rt, chunks)?;
+    let left = &order[..order.len().min((calls % ORDER) as usize)];
+    let began = Instant::now(rt)?;
+    for _ in 0..calls / ORDER {
+        write_round(&mut arena, &blocks, &order);
+    }
+    write_round(&mut arena, &blocks, left);
+    let time = began.elapsed(rt)?;
+    let number = read_round(&arena, &blocks, &order);
+    Ok(Timed { time, number })
+}
