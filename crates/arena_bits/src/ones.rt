@@ -1,7 +1,8 @@
 // The numbers of a bit set in order.
-ghost use Rattle.std.specs.Prelude.{◌≡◌, ◌+◌, ◌-◌, ◌*◌, ◌/◌, ◌^◌, ◌<◌, ◌≤◌, [], ◌∷◌, Some, length};
+ghost use Rattle.std.specs.Prelude.{◌≡◌, ◌+◌, ◌-◌, ◌*◌, ◌/◌, ◌^◌, ◌<◌, ◌≤◌, [], ◌∷◌, Some, IfSome, length};
 ghost use Rattle.std.specs.Option.{MatchOption};
-ghost use Rattle.std.specs.Iterator.{YieldsFirst, item_count};
+ghost use Rattle.std.specs.Iterator.{YieldsFirst, UpTo, at_most, item_count};
+ghost use Rattle.std.specs.Iterator.SizeHint.{IsWithinCount};
 ghost use Rattle.arena_bits.specs.Bits.{bits_of, members};
 ghost use Rattle.arena_bits.specs.Sets.{IsSetIn, set_of};
 ghost use Rattle.arena_bits.specs.Walks.{IsScan, Moves, words_in};
@@ -164,7 +165,11 @@ impl<'a, C: ChunkSource> Iterator for Ones<'a, C> {
     }
 
     #[inline]
-    fn size_hint(&self) -> (usize, Option<usize>) {
+    fn size_hint(&self) -> (usize, Option<usize>)
+        ensures lower { IsWithinCount result.0 (at_most (length self.now.left)) }
+        ensures upper { IfSome result.1 (UpTo (at_most (length self.now.left))) }
+        ensures exact { result ≡ (0, Some (self.now.capacity - self.now.front)) }
+    {
         Ones::size_hint(self)
     }
 }

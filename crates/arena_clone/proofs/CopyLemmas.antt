@@ -1,9 +1,9 @@
 -- Values at every depth: what calls leave of them, and calls that make new ones.
-use Rattle.std.proofs.Common.{◌≡◌, ℕ, ap, sym, refl, subst, ◌∙◌, Option, Some, None, List, [], ◌∷◌, ◌++◌, Ok, Err, IsTrue}
+use Rattle.std.proofs.Common.{ℕ, sym, refl, subst, ◌∙◌, Option, Some, None, List, [], ◌∷◌, ◌++◌, Ok, Err, IsTrue}
 use Rattle.std.specs.Prelude.{Result, IfOk, IsPermutation}
-use Rattle.std.specs.List.{All, AllByRecursion}
-use Rattle.std.proofs.lemmas.List.Elements.{All-nil, All-cons, All-head, All-tail}
-use Rattle.std.proofs.lemmas.List.Sorted.{IsPermutation-refl, IsPermutation-sym, All-permutation}
+use Rattle.std.specs.List.{AllByRecursion}
+use Rattle.std.proofs.lemmas.List.Elements.{All-from_recursion, recursion_from_All}
+use Rattle.std.proofs.lemmas.List.Sorted.{IsPermutation-sym, All-permutation}
 use Rattle.arena_chunks.specs.Memory.{Memory, is_readable}
 use Rattle.arena_chunks.specs.Source.{View}
 use Rattle.arena_chunks.specs.BlockCalls.{PlacesBlock}
@@ -13,35 +13,21 @@ use Rattle.arena_chunks.proofs.Layers.{empty_after, apart_both, pairwise_both, f
 use Rattle.arena_items.specs.Footprint.{AreReadable, Agree}
 use Rattle.arena_items.specs.Room.{RoomAnswer}
 use Rattle.arena_items.specs.declared.room.AllocError.{AllocError}
-use Rattle.arena_items.specs.declared.room.AllocError.TheVariants.{AllocErr, CapacityOverflow, OutOfMemory}
 use Rattle.arena_items.proofs.Layers.{stays_readable, stays_agree, stays_apart}
 use Rattle.arena_vec.specs.Held.{empty_block}
 use Rattle.arena_clone.specs.Asks.{Ask, PlacesAll, refusal}
 use Rattle.arena_clone.specs.Asks.Ask.{Room, Empty}
 use Rattle.arena_clone.specs.Kinds.{Kind}
 use Rattle.arena_clone.specs.KindLaws.{IsLawful}
-use Rattle.arena_clone.specs.Copies.{IsMade, MakesNew, StaysWhole}
-use Rattle.arena_clone.proofs.AsksLemmas.{same_places, asked_then, asked_refused, block_of, one_asked}
+use Rattle.arena_clone.specs.Copies.{IsMade, MakesNew, Copies, StaysWhole}
+use Rattle.arena_clone.specs.declared.ids.CloneInSemanticIds.{CloneInSemanticIds}
+use Rattle.arena_clone.proofs.AsksLemmas.{same_places, asked_then, asked_refused, block_of, refusal_leaves, one_asked}
 
 -- ---- Blocks in another order
 
-pub blocks_same : (bs : List Block) → IsPermutation bs bs
-blocks_same bs = IsPermutation-refl bs
-
--- What holds of each block holds of each in another order.
-all_to : (P : Block → Type 0) (bs : List Block) → AllByRecursion P bs → All P bs
-all_to P [] all = All-nil P
-all_to P (b ∷ bs) all = All-cons P b bs all.0 (all_to P bs all.1)
-
-all_from : (P : Block → Type 0) (bs : List Block) → All P bs → AllByRecursion P bs
-all_from P [] all = tt
-all_from P (b ∷ bs) all = (All-head P b bs all, all_from P bs (All-tail P b bs all))
-
-all_turned : (P : Block → Type 0) (bs cs : List Block) → IsPermutation bs cs → AllByRecursion P bs → AllByRecursion P cs
-all_turned P bs cs same all = all_from P cs (All-permutation P bs cs same (all_to P bs all))
-
-pub readable_turned : (m : Memory) (bs cs : List Block) → IsPermutation bs cs → AreReadable m.state bs → AreReadable m.state cs
-readable_turned m = all_turned (λ (b : Block). IsTrue (is_readable m.state b))
+-- What holds of each in a list holds of each in another order.
+pub all_in_order : {A : Type 0} (P : A → Type 0) (xs ys : List A) → IsPermutation xs ys → AllByRecursion P xs → AllByRecursion P ys
+all_in_order P xs ys same all = recursion_from_All P ys (All-permutation P xs ys same (All-from_recursion P xs all))
 
 pub apart_to : (bs others : List Block) → AreAllApart bs others → AllByRecursion (λ (b : Block). IsApart b.addr b.size others) bs
 apart_to [] others apart = tt
@@ -53,11 +39,11 @@ apart_from (b ∷ bs) others apart = (apart.0, apart_from bs others apart.1)
 
 pub apart_turned : (bs cs others : List Block) → IsPermutation bs cs → AreAllApart bs others → AreAllApart cs others
 apart_turned bs cs others same apart = apart_from cs others
-    (all_turned (λ (b : Block). IsApart b.addr b.size others) bs cs same (apart_to bs others apart))
+    (all_in_order (λ (b : Block). IsApart b.addr b.size others) bs cs same (apart_to bs others apart))
 
 -- ---- Values beside a call
 
-module _ {T : Type 0} (kind : Kind T) (is : IsLawful kind) (old new : Memory) (before after : List Block)
+module _ {T : Type 0} {kind : Kind T} (is : IsLawful kind) {old new : Memory} {before after : List Block}
     (frame : Frame old new before after) where
   -- The blocks of a value that lie apart keep their bytes.
   pub deep_agree : (v : T) → kind.is_held old v → AreAllApart (kind.deep old v) before → Agree old new (kind.deep old v)
@@ -78,10 +64,16 @@ module _ {T : Type 0} (kind : Kind T) (is : IsLawful kind) (old new : Memory) (b
         apart = subst (λ bs. AreAllApart bs after) (sym same) (stays_apart old new after blocks stays);
       }
 
-  -- So is one that was made.
-  pub made_stays : (meaning : kind.Whole) (blocks : List Block) (w : T) → IsMade kind meaning old blocks w
-      → AreAllApart blocks before → IsMade kind meaning new blocks w
-  made_stays meaning blocks w made apart =
+  -- So a copy that is made afterwards is one of what it was.
+  pub copies_earlier : (ids : CloneInSemanticIds) (v : T) {to later : View} {result : Result T AllocError} → kind.is_held old v
+      → AreAllApart (kind.deep old v) before → Copies kind ids new to later v result → Copies kind ids old to later v result
+  copies_earlier ids v held apart copies =
+      let agree = deep_agree v held apart in rw (sym (is.whole old new v agree), sym (is.asks old new v agree)) copies
+
+  -- A value that was made is as it was made.
+  pub made_stays : {meaning : kind.Whole} {blocks : List Block} {w : T} → IsMade kind meaning old blocks w → AreAllApart blocks before
+      → IsMade kind meaning new blocks w
+  made_stays {blocks} {w} made apart =
       let beside = apart_turned blocks (kind.deep old w) before (IsPermutation-sym (kind.deep old w) blocks made.deep) apart in
       let stays = deep_stays w made.held beside in
       record {
@@ -92,16 +84,26 @@ module _ {T : Type 0} (kind : Kind T) (is : IsLawful kind) (old new : Memory) (b
       }
 
 -- The blocks of a value that was made may be read.
-pub made_readable : {T : Type 0} (kind : Kind T) (is : IsLawful kind) (meaning : kind.Whole) (m : Memory) (blocks : List Block) (w : T)
+pub made_readable : {T : Type 0} {kind : Kind T} (is : IsLawful kind) {meaning : kind.Whole} {m : Memory} {blocks : List Block} {w : T}
     → IsMade kind meaning m blocks w → AreReadable m.state blocks
-made_readable kind is meaning m blocks w made =
-    readable_turned m (kind.deep m w) blocks made.deep (is.readable m w made.held)
+made_readable {kind} is {m} {blocks} {w} made =
+    all_in_order (λ (b : Block). IsTrue (is_readable m.state b)) (kind.deep m w) blocks made.deep (is.readable m w made.held)
 
 -- ---- Calls that place blocks
 
 pub apart_of_none : (bs : List Block) → AreAllApart bs []
 apart_of_none [] = tt
 apart_of_none (b ∷ bs) = (tt, apart_of_none bs)
+
+-- A value is what it was when blocks are placed.
+pub placed_stays : {T : Type 0} {kind : Kind T} (is : IsLawful kind) {old new : Memory} {blocks : List Block} (v : T)
+    → Frame old new [] blocks → kind.is_held old v → StaysWhole kind old new blocks v
+placed_stays {kind} is {old} v frame held = deep_stays is frame v held (apart_of_none (kind.deep old v))
+
+pub copies_placed : {T : Type 0} {kind : Kind T} (is : IsLawful kind) {old mid : Memory} {blocks : List Block} → Frame old mid [] blocks
+    → (ids : CloneInSemanticIds) (v : T) {to new : View} {result : Result T AllocError} → kind.is_held old v
+    → Copies kind ids mid to new v result → Copies kind ids old to new v result
+copies_placed {kind} is {old} frame ids v held copies = copies_earlier is frame ids v held (apart_of_none (kind.deep old v)) copies
 
 -- Readable blocks lie apart from those that a call places.
 pub beside_new : (old new : Memory) (bs after : List Block) → AreReadable old.state bs → Frame old new [] after → AreAllApart bs after
@@ -114,86 +116,67 @@ frame_more old mid new bs cs first second = frame_then old mid new [] bs (bs ++ 
     (frame_weaken mid new [] bs cs (bs ++ cs) (λ addr n some apart. tt)
     (λ addr n some apart rest. apart_both addr n bs cs apart rest) second)
 
-pub places_none : (a : View) → PlacesAll [] a a [] None
-places_none a = record { asked = (refl, refl, same_places a); apart = tt; frame = frame_reflexive a.memory [] }
-
-pub places_then : (xs ys : List Ask) (old mid new : View) (bs cs : List Block) (end : Option AllocError)
+pub places_then : {xs ys : List Ask} {old mid new : View} {bs cs : List Block} {end : Option AllocError}
     → AreReadable mid.memory.state bs → PlacesAll xs old mid bs None → PlacesAll ys mid new cs end
     → PlacesAll (xs ++ ys) old new (bs ++ cs) end
-places_then xs ys old mid new bs cs end readable first second = record {
+places_then {xs} {ys} {old} {mid} {new} {bs} {cs} {end} readable first second = record {
   asked = asked_then xs ys old mid new bs cs end first.asked second.asked;
   apart = pairwise_both bs cs first.apart second.apart (beside_new mid.memory new.memory bs cs readable second.frame);
   frame = frame_more old.memory mid.memory new.memory bs cs first.frame second.frame;
 }
 
-pub places_refused : (xs ys : List Ask) (old new : View) (bs : List Block) (e : AllocError) → PlacesAll xs old new bs (Some e)
-    → PlacesAll (xs ++ ys) old new bs (Some e)
-places_refused xs ys old new bs e placed =
+pub places_refused : {xs : List Ask} (ys : List Ask) {old new : View} {bs : List Block} {e : AllocError}
+    → PlacesAll xs old new bs (Some e) → PlacesAll (xs ++ ys) old new bs (Some e)
+places_refused {xs} ys {old} {new} {bs} {e} placed =
     record { asked = asked_refused xs ys old new bs e placed.asked; apart = placed.apart; frame = placed.frame }
 
-pub places_one : {X : Type 0} (f : X → Block) (result : Result X AllocError) (size align : ℕ) (old new : View)
+pub one_apart : {X : Type 0} (f : X → Block) (result : Result X AllocError) → ArePairwiseApart (block_of f result)
+one_apart f (Ok x) = (tt, tt)
+one_apart f (Err e) = tt
+
+pub places_one : {X : Type 0} (f : X → Block) (result : Result X AllocError) {size align : ℕ} {old new : View}
     → RoomAnswer f result (PlacesBlock old new size align)
     → PlacesAll (Room size align ∷ []) old new (block_of f result) (refusal result)
-places_one f result size align old new placed = record {
-  asked = one_asked f result size align old new placed;
-  apart = apart result;
-  frame = frame result placed;
-}
+places_one f result {size} {align} {old} {new} placed =
+    record { asked = one_asked f result size align old new placed; apart = one_apart f result; frame = frame result placed }
   where
-    apart : (result : Result _ AllocError) → ArePairwiseApart (block_of f result)
-    apart (Ok x) = (tt, tt)
-    apart (Err e) = tt
-
-    same : old.memory ≡ new.memory → Frame old.memory new.memory [] []
-    same is = subst (λ m. Frame old.memory m [] []) is (frame_reflexive old.memory [])
-
     frame : (result : Result _ AllocError) → RoomAnswer f result (PlacesBlock old new size align)
         → Frame old.memory new.memory [] (block_of f result)
     frame (Ok x) placed = placed.1.outcome.frame
-    frame (Err (AllocErr refused)) placed = same (sym placed.1.outcome.1.memory)
-    frame (Err OutOfMemory) placed = same (sym (ap (λ v. v.memory) placed.1.outcome.same))
-    frame (Err CapacityOverflow) placed = absurd placed
+    frame (Err e) placed = rw (refusal_leaves f e size align old new placed) (frame_reflexive old.memory [])
 
 -- ---- Calls that make values
 
 -- A value that names no block is made of nothing.
-pub makes_none : {T : Type 0} (kind : Kind T) (meaning : kind.Whole) (a : View) (w : T) → IsMade kind meaning a.memory [] w
+pub makes_none : {T : Type 0} {kind : Kind T} {meaning : kind.Whole} {a : View} {w : T} → IsMade kind meaning a.memory [] w
     → MakesNew kind meaning [] a a (Ok w)
-makes_none kind meaning a w made = record { blocks = []; placed = places_none a; made = made }
+makes_none {a} made = record {
+  blocks = [];
+  placed = record { asked = (refl, refl, same_places a); apart = tt; frame = frame_reflexive a.memory [] };
+  made = made;
+}
 
 -- One that names a block is made of it.
-pub makes_one : {T : Type 0} (kind : Kind T) (meaning : kind.Whole) (f : T → Block) (result : Result T AllocError) (size align : ℕ)
-    (old new : View) → RoomAnswer f result (PlacesBlock old new size align)
-    → IfOk result (λ w. IsMade kind meaning new.memory (f w ∷ []) w)
-    → MakesNew kind meaning (Room size align ∷ []) old new result
-makes_one kind meaning f result size align old new placed made = record {
-  blocks = block_of f result;
-  placed = places_one f result size align old new placed;
-  made = ok result made;
-}
-  where
-    ok : (result : Result _ AllocError) → IfOk result (λ w. IsMade kind meaning new.memory (f w ∷ []) w)
-        → IfOk result (IsMade kind meaning new.memory (block_of f result))
-    ok (Ok w) made = made
-    ok (Err e) made = tt
+pub makes_one : {T : Type 0} {kind : Kind T} {meaning : kind.Whole} (f : T → Block) (result : Result T AllocError) {size align : ℕ}
+    {old new : View} → RoomAnswer f result (PlacesBlock old new size align)
+    → IfOk result (λ w. IsMade kind meaning new.memory (f w ∷ []) w) → MakesNew kind meaning (Room size align ∷ []) old new result
+makes_one f (Ok w) placed made = record { blocks = f w ∷ []; placed = places_one f (Ok w) placed; made = made }
+makes_one f (Err e) placed made = record { blocks = []; placed = places_one f (Err e) placed; made = tt }
 
-pub one_refused : {T X : Type 0} (kind : Kind T) (meaning : kind.Whole) (f : X → Block) (size align : ℕ) (old new : View)
-    (e : AllocError) → RoomAnswer f (Err e) (PlacesBlock old new size align)
-    → MakesNew kind meaning (Room size align ∷ []) old new (Err e)
-one_refused kind meaning f size align old new e placed =
-    record { blocks = []; placed = places_one f (Err e) size align old new placed; made = tt }
+pub one_refused : {T X : Type 0} {kind : Kind T} {meaning : kind.Whole} (f : X → Block) {size align : ℕ} {old new : View}
+    {e : AllocError} → RoomAnswer f (Err e) (PlacesBlock old new size align) → MakesNew kind meaning (Room size align ∷ []) old new (Err e)
+one_refused f {e} placed = record { blocks = []; placed = places_one f (Err e) placed; made = tt }
 
 -- Where a part of a value is refused, so is the value.
-pub makes_refused : {T U : Type 0} (kind : Kind T) (of : Kind U) (meaning : kind.Whole) (meant : of.Whole) (xs ys : List Ask)
-    (old new : View) (e : AllocError) → MakesNew kind meaning xs old new (Err e)
+pub makes_refused : {T U : Type 0} {kind : Kind T} {of : Kind U} {meaning : kind.Whole} {meant : of.Whole} {xs : List Ask}
+    (ys : List Ask) {old new : View} {e : AllocError} → MakesNew kind meaning xs old new (Err e)
     → MakesNew of meant (xs ++ ys) old new (Err e)
-makes_refused kind of meaning meant xs ys old new e makes =
-    record { blocks = makes.blocks; placed = places_refused xs ys old new makes.blocks e makes.placed; made = tt }
+makes_refused ys makes = record { blocks = makes.blocks; placed = places_refused ys makes.placed; made = tt }
 
 -- A value whose one block is that of no storage is made of nothing.
-pub makes_empty : {T : Type 0} (kind : Kind T) (meaning : kind.Whole) (align : ℕ) (a : View) (w : T)
+pub makes_empty : {T : Type 0} {kind : Kind T} {meaning : kind.Whole} {align : ℕ} {a : View} {w : T}
     → IsMade kind meaning a.memory (empty_block align ∷ []) w → MakesNew kind meaning (Empty align ∷ []) a a (Ok w)
-makes_empty kind meaning align a w made = record {
+makes_empty {align} {a} made = record {
   blocks = empty_block align ∷ [];
   placed = record {
     asked = ([], refl, (refl, refl, same_places a));

@@ -1,18 +1,15 @@
 -- Copies of maps: the table that is placed, and what stands in it when all pairs were put.
-use Rattle.std.proofs.Common.{◌≡◌, ℕ, zero, suc, ◌*◌, ◌^◌, ◌<◌, ◌≤◌, refl, sym, ap, subst, ◌∙◌, arith, List, [], ◌∷◌, Option, Some, None, Ok, Err, Bool, true, false}
+use Rattle.std.proofs.Common.{◌≡◌, ℕ, zero, suc, ◌*◌, ◌^◌, ◌<◌, ◌≤◌, refl, sym, ap, subst, ◌∙◌, arith, List, [], ◌∷◌, Option, Some, Ok, Err, Bool, true, false}
 use Rattle.std.proofs.Math.Path.{fun_ext}
-use Rattle.std.specs.Prelude.{Result, OnErr, IsPermutation, cond, map, bytes_eq}
-use Rattle.std.specs.List.{All, AllByRecursion, IsDistinct, flat_map}
-use Rattle.std.proofs.lemmas.List.Sorted.{IsPermutation-cons, IsPermutation-sym, IsPermutation-trans, All-permutation}
-use Rattle.std.proofs.lemmas.List.Elements.{All-nil, All-cons, All-head, All-tail}
+use Rattle.std.specs.Prelude.{Result, IsPermutation, cond, map, bytes_eq}
+use Rattle.std.specs.List.{IsDistinct, flat_map}
+use Rattle.std.proofs.lemmas.List.Sorted.{IsPermutation-cons, IsPermutation-sym, IsPermutation-trans}
 use Rattle.arena_chunks.specs.Memory.{Memory}
 use Rattle.arena_chunks.specs.Source.{View}
-use Rattle.arena_chunks.specs.BlockCalls.{PlacesBlock}
-use Rattle.arena_chunks.specs.declared.block.Block.{Block}
+use Rattle.arena_chunks.specs.Frame.{Frame}
 use Rattle.arena_chunks.proofs.Layers.{frame_reflexive, frame_then}
-use Rattle.arena_items.specs.Room.{RoomAnswer, Took, SamePlaces}
+use Rattle.arena_items.specs.Room.{SamePlaces}
 use Rattle.arena_items.specs.declared.room.AllocError.{AllocError}
-use Rattle.arena_items.specs.declared.room.AllocError.TheVariants.{AllocErr, CapacityOverflow, OutOfMemory}
 use Rattle.arena_hash.specs.Accounts.{unit_of, credit_of}
 use Rattle.arena_hash.specs.Changes.{PlacesMap}
 use Rattle.arena_hash.specs.Contents.{content_in}
@@ -22,102 +19,61 @@ use Rattle.arena_hash.specs.Maps.{IsMapIn, pairs_in}
 use Rattle.arena_hash.specs.Policy.{table_align}
 use Rattle.arena_hash.specs.declared.map.HashMap.{HashMap}
 use Rattle.arena_clone.specs.Asks.{AsksFor, PlacesAll, refusal}
-use Rattle.arena_clone.specs.Asks.Ask.{Room}
 use Rattle.arena_clone.specs.Kinds.{Kind, of_some, row_of}
 use Rattle.arena_clone.specs.MapKind.{pair_of, map_of, table_ask}
 use Rattle.arena_clone.specs.MapCopies.{HoldsCopies, PutsCopies}
 use Rattle.arena_clone.specs.Copies.{Copies}
 use Rattle.arena_clone.specs.declared.ids.CloneInSemanticIds.{CloneInSemanticIds}
-use Rattle.arena_clone.proofs.AsksLemmas.{same_places, asked_then, asked_same, block_of, one_asked}
-use Rattle.arena_clone.proofs.CopyLemmas.{places_refused}
+use Rattle.arena_clone.proofs.AsksLemmas.{same_places, asked_then, block_of, took_asked}
+use Rattle.arena_clone.proofs.CopyLemmas.{all_in_order, one_apart, places_refused}
 use Rattle.arena_clone.proofs.FiniteLemmas.{pairs_turned}
-use Rattle.arena_clone.proofs.VectorLemmas.{view_same}
 
 -- ---- The table
 
--- A block that the arena answered before other bytes were written is one thing that is asked for.
-took_asked : {X : Type 0} (f : X → Block) (size align : ℕ) (old new : View) (result : Result X AllocError)
-    → Took new (λ between. RoomAnswer f result (PlacesBlock old between size align)) → OnErr result (new.memory ≡ old.memory)
-    → AsksFor (Room size align ∷ []) old new (block_of f result) (refusal result)
-took_asked f size align old new (Ok x) took same =
-    asked_same (Room size align ∷ []) old took.between new (f x ∷ []) (one_asked f (Ok x) size align old took.between took.took) took.places
-took_asked f size align old new (Err (AllocErr k)) took same =
-    subst (λ v. AsksFor (Room size align ∷ []) old v [] (Some (AllocErr k)))
-    (view_same took.between new (took.took.1.outcome.1.memory ∙ sym same) (sym took.places.source))
-    (one_asked f (Err (AllocErr k)) size align old took.between took.took)
-took_asked f size align old new (Err OutOfMemory) took same =
-    subst (λ v. AsksFor (Room size align ∷ []) old v [] (Some OutOfMemory))
-    (view_same took.between new (ap (λ v. v.memory) took.took.1.outcome.same ∙ sym same) (sym took.places.source))
-    (one_asked f (Err OutOfMemory) size align old took.between took.took)
-took_asked f size align old new (Err CapacityOverflow) took same = absurd took.took
-
 module _ {K V S : Type 0} (k : MapTypes K V S) (old new : View) where
-  -- An empty map for pairs is placed as one thing that is asked for,
-  pub table_placed : (n : ℕ) (e : HashMap K V S) → n < 2 ^ 32 → PlacesMap {X = HashMap K V S} k (λ m. m) old new n (Ok e)
-      → PlacesAll (table_ask k n ∷ []) old new (e.table.block ∷ []) None
-  table_placed zero e few places =
-      let none = places.none refl in
-      record {
-        asked = (e.table.block, [], none.1.block, refl, (refl, refl, subst (SamePlaces old) (sym none.0) (same_places old)));
-        apart = (tt, tt);
-        frame = places.frame;
-      }
-  table_placed (suc n) e few places =
-      let asks = places.asks (omega arith) few in
-      record {
-        asked = (
-          asks.size,
-          asks.within,
-          took_asked (λ (m : HashMap K V S). m.table.block) asks.size
-              (table_align k.keys.ALIGN k.values.ALIGN) old new (Ok e) asks.took tt,
-        );
-        apart = (tt, tt);
-        frame = places.frame;
-      }
-
-  -- or refused.
-  pub table_refused : (n : ℕ) (err : AllocError) → n < 2 ^ 32 → PlacesMap {X = HashMap K V S} k (λ m. m) old new n (Err err)
-      → PlacesAll (table_ask k n ∷ []) old new [] (Some err)
-  table_refused zero err few places = absurd (places.none refl).1
-  table_refused (suc n) err few places =
-      let asks = places.asks (omega arith) few in
-      record {
-        asked = (
-          asks.size,
-          asks.within,
-          took_asked (λ (m : HashMap K V S). m.table.block) asks.size
-              (table_align k.keys.ALIGN k.values.ALIGN) old new (Err err) asks.took places.err,
-        );
-        apart = tt;
-        frame = rw places.err (frame_reflexive old.memory []);
-      }
-
-  -- It holds copies of no pairs.
-  pub table_empty : (source : Memory) (n : ℕ) (e : HashMap K V S) → PlacesMap {X = HashMap K V S} k (λ m. m) old new n (Ok e)
-      → HoldsCopies k source new.memory e [] [] e
-  table_empty source n e places = record {
-    held = places.held;
-    map_is = places.map_is;
-    contents = refl;
-    len = places.len;
-    room = omega arith;
-    credit = omega (arith, places.credit);
-    block = refl;
+  -- An empty map for pairs is placed, or refused, as one thing that is asked for.
+  pub table_placed : (n : ℕ) (result : Result (HashMap K V S) AllocError) → n < 2 ^ 32
+      → PlacesMap {X = HashMap K V S} k (λ m. m) old new n result
+      → PlacesAll (table_ask k n ∷ []) old new (block_of (λ (m : HashMap K V S). m.table.block) result) (refusal result)
+  table_placed n result few places = record {
+    asked = asked n result few places;
+    apart = one_apart (λ (m : HashMap K V S). m.table.block) result;
+    frame = frame result places;
   }
+    where
+      asked : (n : ℕ) (result : Result (HashMap K V S) AllocError) → n < 2 ^ 32 → PlacesMap {X = HashMap K V S} k (λ m. m) old new n result
+          → AsksFor (table_ask k n ∷ []) old new (block_of (λ (m : HashMap K V S). m.table.block) result) (refusal result)
+      asked zero (Ok e) few places =
+          let none = places.none refl in
+          (e.table.block, [], none.1.block, refl, (refl, refl, subst (SamePlaces old) (sym none.0) (same_places old)))
+      asked zero (Err err) few places = absurd (places.none refl).1
+      asked (suc n) result few places =
+          let asks = places.asks (omega arith) few in (
+            asks.size,
+            asks.within,
+            took_asked (λ (m : HashMap K V S). m.table.block) asks.size
+                (table_align k.keys.ALIGN k.values.ALIGN) old new result asks.took places.err,
+          )
+
+      frame : (result : Result (HashMap K V S) AllocError) → PlacesMap {X = HashMap K V S} k (λ m. m) old new n result
+          → Frame old.memory new.memory [] (block_of (λ (m : HashMap K V S). m.table.block) result)
+      frame (Ok e) places = places.frame
+      frame (Err err) places = rw places.err (frame_reflexive old.memory [])
+
+-- An empty map holds copies of no pairs.
+pub table_empty : {K V S : Type 0} {k : MapTypes K V S} {old new : View} {n : ℕ} {e : HashMap K V S} {source : Memory}
+    → PlacesMap {X = HashMap K V S} k (λ m. m) old new n (Ok e) → HoldsCopies k source new.memory e [] [] e
+table_empty places = record {
+  held = places.held;
+  map_is = places.map_is;
+  contents = refl;
+  len = places.len;
+  room = omega arith;
+  credit = omega (arith, places.credit);
+  block = refl;
+}
 
 -- ---- A map of copies
-
--- what holds of each in a list holds of each in another order
-all_in_order : {A : Type 0} (P : A → Type 0) (xs ys : List A) → IsPermutation xs ys → AllByRecursion P xs → AllByRecursion P ys
-all_in_order {A} P xs ys same all = from ys (All-permutation P xs ys same (to xs all))
-  where
-    to : (xs : List A) → AllByRecursion P xs → All P xs
-    to [] all = All-nil P
-    to (x ∷ xs) all = All-cons P x xs all.0 (to xs all.1)
-
-    from : (xs : List A) → All P xs → AllByRecursion P xs
-    from [] all = tt
-    from (x ∷ xs) all = (All-head P x xs all, from xs (All-tail P x xs all))
 
 one_each : {A : Type 0} (xs : List A) → flat_map (λ x. x ∷ []) xs ≡ xs
 one_each [] = refl
@@ -150,31 +106,31 @@ module _ {K V S : Type 0} (k : MapTypes K V S) (keys : Kind K) (values : Kind V)
       either true here rest = ap Some here
       either false here rest = rest
 
-  module _ (old : View) (xs : List (K × V)) (m : HashMap K V S) where
-    -- The pairs of a map of copies are the copies, in another order.
-    pairs_copied : {B : Type 0} (f : K × V → List B) (ys : List (K × V)) (w : HashMap K V S) → AreOnce (content_in k.key source) xs
-        → HoldsCopies k source new m xs ys w → IsPermutation (flat_map f ys) (flat_map f (pairs_in k new w))
-    pairs_copied f ys w once holds = pairs_turned (content_in k.key new) f ys (pairs_in k new w)
-        (subst (IsDistinct bytes_eq) (sym holds.contents) once) holds.held.once (sym holds.map_is)
+-- The pairs of a map of copies are the copies, in another order.
+pairs_copied : {K V S B : Type 0} {k : MapTypes K V S} {source new : Memory} {xs ys : List (K × V)} {m w : HashMap K V S}
+    (f : K × V → List B) → AreOnce (content_in k.key source) xs → HoldsCopies k source new m xs ys w
+    → IsPermutation (flat_map f ys) (flat_map f (pairs_in k new w))
+pairs_copied {k} {new} {ys} {w} f once holds = pairs_turned (content_in k.key new) f ys (pairs_in k new w)
+    (subst (IsDistinct bytes_eq) (sym holds.contents) once) holds.held.once (sym holds.map_is)
 
-module _ {K V S : Type 0} (k : MapTypes K V S) (keys : Kind K) (values : Kind V) (ids : CloneInSemanticIds) (source : Memory) (old : View)
+module _ {K V S : Type 0} (k : MapTypes K V S) (keys : Kind K) (values : Kind V) (ids : CloneInSemanticIds) (source : Memory) {old : View}
     (h : HashMap K V S) (few : h.len < 2 ^ 32) where
   -- The table is refused,
-  pub map_refused : (new : View) (err : AllocError) → PlacesMap {X = HashMap K V S} k (λ m. m) old new h.len (Err err)
+  pub map_refused : {new : View} {err : AllocError} → PlacesMap {X = HashMap K V S} k (λ m. m) old new h.len (Err err)
       → Copies (map_of k keys values) ids source old new h (Err err)
-  map_refused new err places = record {
+  map_refused {new} {err} places = record {
     blocks = [];
-    placed = places_refused (table_ask k h.len ∷ []) ((row_of (pair_of keys values)).asks source (pairs_in k source h)) old new [] err
-        (table_refused k old new h.len err few places);
+    placed = places_refused ((row_of (pair_of keys values)).asks source (pairs_in k source h))
+        (table_placed k old new h.len (Err err) few places);
     made = tt;
   }
 
-  module _ (mid new : View) (e : HashMap K V S) (places : PlacesMap {X = HashMap K V S} k (λ m. m) old mid h.len (Ok e)) where
+  module _ {mid new : View} {e : HashMap K V S} (places : PlacesMap {X = HashMap K V S} k (λ m. m) old mid h.len (Ok e)) where
     map_placed : (r : Result (HashMap K V S) AllocError) (puts : PutsCopies k keys values ids source mid new e (pairs_in k source h) r)
         → PlacesAll (table_ask k h.len ∷ (row_of (pair_of keys values)).asks source (pairs_in k source h)) old new
         (e.table.block ∷ puts.row.blocks) (refusal r)
     map_placed r puts =
-        let own = table_placed k old mid h.len e few places in
+        let own = table_placed k old mid h.len (Ok e) few places in
         record {
           asked = asked_then (table_ask k h.len ∷ []) ((row_of (pair_of keys values)).asks source (pairs_in k source h)) old mid new
               (e.table.block ∷ []) puts.row.blocks (refusal r) own.asked puts.row.asked;
@@ -184,23 +140,23 @@ module _ {K V S : Type 0} (k : MapTypes K V S) (keys : Kind K) (values : Kind V)
         }
 
     -- or a pair,
-    pub map_pair_refused : (err : AllocError) → PutsCopies k keys values ids source mid new e (pairs_in k source h) (Err err)
+    pub map_pair_refused : {err : AllocError} → PutsCopies k keys values ids source mid new e (pairs_in k source h) (Err err)
         → Copies (map_of k keys values) ids source old new h (Err err)
-    map_pair_refused err puts = record { blocks = e.table.block ∷ puts.row.blocks; placed = map_placed (Err err) puts; made = tt }
+    map_pair_refused {err} puts = record { blocks = e.table.block ∷ puts.row.blocks; placed = map_placed (Err err) puts; made = tt }
 
     -- or all are copied.
-    pub map_made : (w : HashMap K V S) → IsMapIn k source h → PutsCopies k keys values ids source mid new e (pairs_in k source h) (Ok w)
+    pub map_made : {w : HashMap K V S} → IsMapIn k source h → PutsCopies k keys values ids source mid new e (pairs_in k source h) (Ok w)
         → Copies (map_of k keys values) ids source old new h (Ok w)
-    map_made w held puts =
+    map_made {w} held puts =
         let holds = puts.map in
         let row = puts.row.made in
         let ys = puts.ys in
         let zs = pairs_in k new.memory w in
         let deep = (pair_of keys values).deep new.memory in
-        let turned = pairs_copied k keys values ids source new.memory old (pairs_in k source h) e (λ p. p ∷ []) ys w held.once holds in
+        let turned = pairs_copied (λ (p : K × V). p ∷ []) held.once holds in
         let same : IsPermutation ys zs = subst (λ us. IsPermutation us zs) (one_each ys)
         (subst (IsPermutation (flat_map (λ p. p ∷ []) ys)) (one_each zs) turned) in
-        let blocks = pairs_copied k keys values ids source new.memory old (pairs_in k source h) e deep ys w held.once holds in
+        let blocks = pairs_copied deep held.once holds in
         let all = IsPermutation-cons e.table.block (flat_map deep zs) puts.row.blocks
         (IsPermutation-trans (flat_map deep zs) (flat_map deep ys) puts.row.blocks
         (IsPermutation-sym (flat_map deep ys) (flat_map deep zs) blocks) row.deep) in

@@ -12,25 +12,19 @@ use Rattle.arena_clone.proofs.CopyLemmas.{makes_refused}
 use Rattle.arena_clone.proofs.BothLemmas.{makes_both}
 use Rattle.arena_clone.proofs.BothLemmas.{second_refused as both_refused}
 
-module _ {K V : Type 0} (keys : Kind K) (values : Kind V) (is : IsLawful keys) (ids : CloneInSemanticIds) (source : Memory)
-    (old : View) (p : K × V) where
+module _ {K V : Type 0} {keys : Kind K} (values : Kind V) (is : IsLawful keys) (ids : CloneInSemanticIds) (source : Memory) {old : View}
+    (p : K × V) where
   -- The first part is refused,
-  pub first_refused : (new : View) (e : AllocError) → Copies keys ids source old new p.0 (Err e)
+  pub first_refused : {new : View} {e : AllocError} → Copies keys ids source old new p.0 (Err e)
       → Copies (pair_of keys values) ids source old new p (Err e)
-  first_refused new e copy =
-      makes_refused keys (pair_of keys values) (keys.by_ids ids (keys.whole source p.0))
-      ((pair_of keys values).by_ids ids ((pair_of keys values).whole source p)) (keys.asks source p.0) (values.asks source p.1) old new e
-      copy
+  first_refused copy = makes_refused (values.asks source p.1) copy
 
-  module _ (mid new : View) (k : K) (one : Copies keys ids source old mid p.0 (Ok k)) where
+  module _ {mid new : View} {k : K} (one : Copies keys ids source old mid p.0 (Ok k)) where
     -- or the second,
-    pub second_refused : (e : AllocError) → Copies values ids source mid new p.1 (Err e)
+    pub second_refused : {e : AllocError} → Copies values ids source mid new p.1 (Err e)
         → Copies (pair_of keys values) ids source old new p (Err e)
-    second_refused e two = both_refused keys values (λ p. p.0) (λ p. p.1) is (keys.by_ids ids (keys.whole source p.0))
-        (values.by_ids ids (values.whole source p.1)) (keys.asks source p.0) (values.asks source p.1) old mid new k one e two
+    second_refused two = both_refused keys values (λ p. p.0) (λ p. p.1) is one two
 
     -- or both are copied.
-    pub both_copied : (v : V) → Copies values ids source mid new p.1 (Ok v) → Copies (pair_of keys values) ids source old new p (Ok (k, v))
-    both_copied v two = makes_both keys values (λ p. p.0) (λ p. p.1) is (keys.by_ids ids (keys.whole source p.0))
-        (values.by_ids ids (values.whole source p.1)) (keys.asks source p.0) (values.asks source p.1) old mid new k one v (k, v) refl
-        refl two
+    pub both_copied : {v : V} → Copies values ids source mid new p.1 (Ok v) → Copies (pair_of keys values) ids source old new p (Ok (k, v))
+    both_copied two = makes_both keys values (λ p. p.0) (λ p. p.1) is one refl refl two

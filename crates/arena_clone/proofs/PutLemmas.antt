@@ -3,7 +3,7 @@ use Rattle.std.proofs.Common.{◌≡◌, ℕ, inl, inr, ◌+◌, ◌*◌, ◌<�
 use Rattle.std.specs.Prelude.{cond, slice_get, map, bytes_eq, is_some, nat_lt}
 use Rattle.std.specs.List.{AllByRecursion, IsDistinct}
 use Rattle.std.proofs.lemmas.Bool.Decides.{nat_tests}
-use Rattle.std.proofs.lemmas.List.{map-append, take_all}
+use Rattle.std.proofs.lemmas.List.{map-append}
 use Rattle.std.proofs.lemmas.List.Elements.{filter_map-append}
 use Rattle.std.proofs.lemmas.List.Sorted.{IsPermutation-sym}
 use Rattle.arena_chunks.specs.Memory.{Memory, is_readable}
@@ -12,7 +12,6 @@ use Rattle.arena_chunks.specs.Frame.{Frame, IsApart, AreAllApart, AreBlocksApart
 use Rattle.arena_chunks.specs.declared.block.Block.{Block}
 use Rattle.arena_chunks.proofs.Layers.{frame_keeps_all}
 use Rattle.arena_items.specs.Footprint.{Agree}
-use Rattle.arena_items.specs.Room.{SamePlaces}
 use Rattle.arena_items.specs.declared.room.AllocError.{AllocError}
 use Rattle.arena_items.proofs.Layers.{stays_readable, stays_agree}
 use Rattle.arena_hash.specs.Accounts.{unit_of, spare_of}
@@ -43,7 +42,7 @@ use Rattle.arena_clone.proofs.FiniteLemmas.{AreOthers, none_found, found_more, o
 once_more : (u n : ℕ) → u * (n + 1) ≡ u * n + u
 once_more u n = omega arith
 
-module _ {K V S : Type 0} (k : MapTypes K V S) (keys : Kind K) (values : Kind V) (keeps : KeepsContent k.key keys) (one : IsLawful keys)
+module _ {K V S : Type 0} (k : MapTypes K V S) {keys : Kind K} {values : Kind V} (keeps : KeepsContent k.key keys) (one : IsLawful keys)
     (two : IsLawful values) where
   -- ---- Contents beside a call
 
@@ -78,88 +77,24 @@ module _ {K V S : Type 0} (k : MapTypes K V S) (keys : Kind K) (values : Kind V)
         (apart_to (keys.deep memory key) (target ∷ []) apart) found.1 found.2).0
   ]
 
-  module _ (source : Memory) (m : HashMap K V S) (xs ys : List (K × V)) (w : HashMap K V S) where
-    -- A map of copies stays one.
-    pub holds_beside : (old new : Memory) (blocks : List Block) → Frame old new [] blocks → (row_of (pair_of keys values)).is_held old ys
-        → HoldsCopies k source old m xs ys w → HoldsCopies k source new m xs ys w
-    holds_beside old new blocks frame held holds =
-        let stays = frame_keeps_all old new [] blocks (footprint k old w) frame (holds.held.handle.place.readable, holds.held.texts)
-        (apart_of_none (footprint k old w)) in
-        let agree = stays_agree old new blocks (footprint k old w) stays in
-        let deep = deep_agree (row_of (pair_of keys values)) (row_lawful (pair_of keys values) (pair_lawful keys values one two)) old new []
-        blocks frame ys held (apart_of_none ((row_of (pair_of keys values)).deep old ys)) in
-        record {
-          held = held-agree k old new w agree holds.held (stays_readable old new blocks (footprint k old w) stays);
-          map_is = sym (meaning-agree k old new w agree) ∙ holds.map_is ∙ sym (first_agree old new ys deep);
-          contents = contents_agree old new ys deep ∙ holds.contents;
-          len = holds.len;
-          room = holds.room;
-          credit = holds.credit;
-          block = holds.block;
-        }
-
-    -- ---- One more
-
-    module _ (between : View) (x : K × V) (rest : List (K × V)) (key : K) (value : V)
-        (once : AreOnce (content_in k.key source) (xs ++ x ∷ rest)) (more : length xs < spare_of m)
-        (same : content_in k.key between.memory key ≡ content_in k.key source x.0)
-        (holds : HoldsCopies k source between.memory m xs ys w) where
-      -- The content of the next copy is new,
-      others : AreOthers (content_in k.key between.memory) (content_in k.key between.memory key) ys
-      others =
-          let cut = map-append (λ (p : K × V). content_in k.key source p.0) xs (x ∷ rest) in
-          let all = once_others (map (λ (p : K × V). content_in k.key source p.0) xs)
-          (map (λ (p : K × V). content_in k.key source p.0) rest) (content_in k.key source x.0) (subst (IsDistinct bytes_eq) cut once) in
-          rw (holds.contents, same) all
-
-      absent : has (map_in k between.memory w) (content_in k.key between.memory key) ≡ false
-      absent = ap is_some (ap (λ (f : Finite K V). f (content_in k.key between.memory key)) holds.map_is
-          ∙ none_found (content_in k.key between.memory) (content_in k.key between.memory key) ys others)
-
-      there_is_room : 0 < spare_of w
-      there_is_room = omega (arith, holds.room, more)
-
-      -- so nothing is asked for
-      growth_is : growth_for (has (map_in k between.memory w) (content_in k.key between.memory key)) w.table.slots w.len ≡ Stays
-      growth_is = rw (absent, below) refl
-        where
-          below : nat_lt w.len (limit w.table.slots) ≡ true
-          below = grind (arith, nat_tests, there_is_room)
-
-      -- and nothing is refused,
-      pub not_refused : (new : View) (u : HashMap K V S) (e : AllocError)
-          → Puts {X = Option V} k between new w key value is_value u (Err e) → ⊥
-      not_refused new u e puts = (rw growth_is at puts.made).0
-
-      module _ (new : View) (u : HashMap K V S) (before : Option V) (puts : Puts k between new w key value is_value u (Ok before)) where
-        -- the table is the same,
-        pub put_places : SamePlaces between new
-        put_places = (rw growth_is at puts.made).1
-
-        pub put_block : u.table.block ≡ m.table.block
-        put_block = (rw growth_is at puts.made).0 ∙ holds.block
-
-        pub put_frame : Frame between.memory new.memory (m.table.block ∷ []) (m.table.block ∷ [])
-        put_frame = rw (holds.block, put_block) at puts.frame
-
-        -- and the copy is there.
-        pub put_holds : Agree between.memory new.memory ((row_of (pair_of keys values)).deep between.memory (ys ++ (key, value) ∷ []))
-            → HoldsCopies k source new.memory m (xs ++ x ∷ []) (ys ++ (key, value) ∷ []) u
-        put_holds agree =
-            let paid = (puts.costs.room absent there_is_room).1 in
-            let long = length-append xs (x ∷ []) in
-            record {
-              held = puts.held;
-              map_is = puts.map_is ∙ ap (λ (f : Finite K V). with_pair f (content_in k.key between.memory key) key value) holds.map_is
-                  ∙ found_more (content_in k.key between.memory) ys key value others
-                  ∙ sym (first_agree between.memory new.memory (ys ++ (key, value) ∷ []) agree);
-              contents = contents_agree between.memory new.memory (ys ++ (key, value) ∷ []) agree
-                  ∙ simp map-append (cc (holds.contents, same));
-              len = puts.len ∙ rw absent (omega (arith, holds.len, long));
-              room = omega (arith, holds.room, paid.spare, long);
-              credit = rw (long, once_more (unit_of k) (length xs)) (omega (arith, holds.credit, paid.credit));
-              block = put_block;
-            }
+  -- A map of copies stays one.
+  holds_beside : {source old new : Memory} {m w : HashMap K V S} {xs ys : List (K × V)} {blocks : List Block} → Frame old new [] blocks
+      → (row_of (pair_of keys values)).is_held old ys → HoldsCopies k source old m xs ys w → HoldsCopies k source new m xs ys w
+  holds_beside {old} {new} {w} {ys} {blocks} frame held holds =
+      let stays = frame_keeps_all old new [] blocks (footprint k old w) frame (holds.held.handle.place.readable, holds.held.texts)
+      (apart_of_none (footprint k old w)) in
+      let agree = stays_agree old new blocks (footprint k old w) stays in
+      let deep = deep_agree (row_lawful (pair_of keys values) (pair_lawful keys values one two)) frame ys held
+      (apart_of_none ((row_of (pair_of keys values)).deep old ys)) in
+      record {
+        held = held-agree k old new w agree holds.held (stays_readable old new blocks (footprint k old w) stays);
+        map_is = sym (meaning-agree k old new w agree) ∙ holds.map_is ∙ sym (first_agree old new ys deep);
+        contents = contents_agree old new ys deep ∙ holds.contents;
+        len = holds.len;
+        room = holds.room;
+        credit = holds.credit;
+        block = holds.block;
+      }
 
 -- ---- The pairs in the first slots
 
@@ -184,65 +119,88 @@ pub record PutsFirst {K V S : Type 0} (k : MapTypes K V S) (keys : Kind K) (valu
   pub row : CopiesRow {X = Unit {0}} (pair_of keys values) ids source old new m.table.block (items (take i slots)) ys (Ok tt)
   pub holds : HoldsCopies k source new.memory m (items (take i slots)) ys w
 
-module _ {K V S : Type 0} (k : MapTypes K V S) (keys : Kind K) (values : Kind V) (keeps : KeepsContent k.key keys) (one : IsLawful keys)
-    (two : IsLawful values) (ids : CloneInSemanticIds) (source : Memory) (old : View) (m : HashMap K V S)
-    (slots : List (Option (K × V))) where
-  pairs_are : IsLawful (pair_of keys values)
-  pairs_are = pair_lawful keys values one two
+-- None at first.
+pub puts_none : {K V S : Type 0} {k : MapTypes K V S} {keys : Kind K} {values : Kind V} {ids : CloneInSemanticIds} {source : Memory}
+    {old : View} {m : HashMap K V S} {slots : List (Option (K × V))} → HoldsCopies k source old.memory m [] [] m
+    → PutsFirst k keys values ids source old old m slots 0 m
+puts_none empty = record { ys = []; row = row_none empty.held.handle.place.readable; holds = empty }
 
-  -- None at first.
-  pub puts_none : IsTrue (is_readable old.memory.state m.table.block) → HoldsCopies k source old.memory m [] [] m
-      → PutsFirst k keys values ids source old old m slots 0 m
-  puts_none readable empty = record {
-    ys = [];
-    row = row_none (pair_of keys values) pairs_are ids source old m.table.block tt readable;
-    holds = empty;
-  }
-
+module _ {K V S : Type 0} {k : MapTypes K V S} {keys : Kind K} {values : Kind V} {ids : CloneInSemanticIds} {source : Memory}
+    {old mid : View} {m w : HashMap K V S} {slots : List (Option (K × V))} {i : ℕ}
+    (puts : PutsFirst k keys values ids source old mid m slots i w) where
   -- A free slot has none.
-  pub puts_free : (new : View) (i : ℕ) (w : HashMap K V S) → slice_get slots i ≡ Some None
-      → PutsFirst k keys values ids source old new m slots i w → PutsFirst k keys values ids source old new m slots (i + 1) w
-  puts_free new i w free puts = record {
+  pub puts_free : slice_get slots i ≡ Some None → PutsFirst k keys values ids source old mid m slots (i + 1) w
+  puts_free free = record {
     ys = puts.ys;
     row = rw (items_free slots i free) puts.row;
     holds = rw (items_free slots i free) puts.holds;
   }
 
-  module _ (once : AreOnce (content_in k.key source) (items slots)) (room : length (items slots) ≤ spare_of m) (mid between : View) (i : ℕ)
-      (w : HashMap K V S) (x : K × V) (taken : slice_get slots i ≡ Some (Some x))
-      (puts : PutsFirst k keys values ids source old mid m slots i w) where
+  -- ---- One more
+
+  module _ (one : IsLawful keys) (two : IsLawful values) {x : K × V} (taken : slice_get slots i ≡ Some (Some x)) where
+    abbrev front : List (K × V)
+    front = items (take i slots)
+
+    abbrev rest : List (K × V)
+    rest = items (drop (suc i) slots)
+
+    pairs_are : IsLawful (pair_of keys values)
+    pairs_are = pair_lawful keys values one two
+
     -- A pair is refused.
-    pub puts_refused : (e : AllocError) → Copies (pair_of keys values) ids source mid between x (Err e)
+    pub puts_refused : {between : View} {e : AllocError} → Copies (pair_of keys values) ids source mid between x (Err e)
         → PutsCopies k keys values ids source old between m (items slots) (Err e)
-    puts_refused e copy = record {
-      ys = [];
-      row = rw (items_cut slots i x taken) (row_refused (pair_of keys values) pairs_are ids source old m.table.block mid between
-          (items (take i slots)) (items (drop (suc i) slots)) puts.ys [] x tt e puts.row copy);
-      map = tt;
-    }
+    puts_refused copy =
+        record { ys = []; row = rw (items_cut slots i x taken) (row_refused pairs_are puts.row x rest copy); map = tt }
 
-    module _ (copied : K × V) (copy : Copies (pair_of keys values) ids source mid between x (Ok copied)) where
-      holds_then : HoldsCopies k source between.memory m (items (take i slots)) puts.ys w
-      holds_then = holds_beside k keys values keeps one two source m (items (take i slots)) puts.ys w mid.memory between.memory copy.blocks
-          copy.placed.frame puts.row.made.held puts.holds
+    module _ (keeps : KeepsContent k.key keys) (once : AreOnce (content_in k.key source) (items slots))
+        (room : length (items slots) ≤ spare_of m) {between : View} {copied : K × V}
+        (copy : Copies (pair_of keys values) ids source mid between x (Ok copied)) where
+      abbrev contents : Memory → List (K × V) → List (List ℕ)
+      contents memory ps = map (λ (p : K × V). content_in k.key memory p.0) ps
 
-      once_cut : AreOnce (content_in k.key source) (items (take i slots) ++ x ∷ items (drop (suc i) slots))
-      once_cut = rw (items_cut slots i x taken) at once
+      holds : HoldsCopies k source between.memory m front puts.ys w
+      holds = holds_beside k keeps one two copy.placed.frame puts.row.made.held puts.holds
 
-      less : length (items (take i slots)) < spare_of m
-      less = omega (
-        arith,
-        room,
-        ap length (items_cut slots i x taken),
-        length-append (items (take i slots)) (x ∷ items (drop (suc i) slots)),
-      )
+      -- The table lies apart from the blocks of the copies.
+      deep_apart : AreAllApart ((row_of (pair_of keys values)).deep between.memory (puts.ys ++ copied ∷ [])) (m.table.block ∷ [])
+      deep_apart =
+          let deep = (row_of (pair_of keys values)).deep between.memory (puts.ys ++ copied ∷ []) in
+          apart_turned (puts.row.blocks ++ copy.blocks) deep (m.table.block ∷ [])
+          (IsPermutation-sym deep (puts.row.blocks ++ copy.blocks) (made_between pairs_are puts.row x copy).deep)
+          (apart_between pairs_are puts.row x copy)
 
-      same_content : content_in k.key between.memory copied.0 ≡ content_in k.key source x.0
-      same_content = keeps.same ids source between.memory x.0 copied.0 (λ j. (copy.made.means j).0)
+      -- The content of the next copy is new,
+      same : content_in k.key between.memory copied.0 ≡ content_in k.key source x.0
+      same = keeps.same ids source between.memory x.0 copied.0 (λ j. (copy.made.means j).0)
 
-      -- What the map needs of the copy of a key.
+      others : AreOthers (content_in k.key between.memory) (content_in k.key between.memory copied.0) puts.ys
+      others =
+          let once_cut : AreOnce (content_in k.key source) (front ++ x ∷ rest) = rw (items_cut slots i x taken) at once in
+          let cut = map-append (λ (p : K × V). content_in k.key source p.0) front (x ∷ rest) in
+          let all = once_others (contents source front) (contents source rest) (content_in k.key source x.0)
+          (subst (IsDistinct bytes_eq) cut once_cut) in
+          rw (holds.contents, same) all
+
+      absent : has (map_in k between.memory w) (content_in k.key between.memory copied.0) ≡ false
+      absent = ap is_some (ap (λ (f : Finite K V). f (content_in k.key between.memory copied.0)) holds.map_is
+          ∙ none_found (content_in k.key between.memory) (content_in k.key between.memory copied.0) puts.ys others)
+
+      there_is_room : 0 < spare_of w
+      there_is_room =
+          omega (arith, room, holds.room, ap length (items_cut slots i x taken), length-append front (x ∷ rest))
+
+      -- so the map asks for nothing;
+      growth_is : growth_for (has (map_in k between.memory w) (content_in k.key between.memory copied.0)) w.table.slots w.len ≡ Stays
+      growth_is = rw (absent, below) refl
+        where
+          below : nat_lt w.len (limit w.table.slots) ≡ true
+          below = grind (arith, nat_tests, there_is_room)
+
+      -- it is held, as is the text of the next key, which lies apart from its table.
       pub put_map : IsMapIn k between.memory w
-      put_map = holds_then.held
+      put_map = holds.held
 
       pub put_readable : IsTrue (is_readable between.memory.state (k.key.text copied.0))
       put_readable = text_readable k keys values keeps one two between.memory between.memory copied.0
@@ -250,47 +208,46 @@ module _ {K V S : Type 0} (k : MapTypes K V S) (keys : Kind K) (values : Kind V)
 
       pub put_apart : AreBlocksApart (k.key.text copied.0) w.table.block
       put_apart =
-          let both = apart_between (pair_of keys values) pairs_are ids source old m.table.block mid between (items (take i slots)) puts.ys x
-          copied tt puts.row copy in
-          let blocks = (apart_front puts.row.blocks copy.blocks (m.table.block ∷ []) both).1 in
+          let blocks = (apart_front puts.row.blocks copy.blocks (m.table.block ∷ []) (apart_between pairs_are puts.row x copy)).1 in
           let deep = apart_turned copy.blocks ((pair_of keys values).deep between.memory copied) (m.table.block ∷ [])
           (IsPermutation-sym ((pair_of keys values).deep between.memory copied) copy.blocks copy.made.deep) blocks in
-          rw puts.holds.block (text_apart k keys values keeps one two between.memory copied.0 m.table.block
+          rw puts.holds.block (text_apart k keeps one two between.memory copied.0 m.table.block
           (apart_front (keys.deep between.memory copied.0) (values.deep between.memory copied.1) (m.table.block ∷ []) deep).0)
 
       -- Nothing is refused,
-      pub puts_no_refusal : (new : View) (u : HashMap K V S) (e : AllocError)
+      pub puts_no_refusal : {new : View} {u : HashMap K V S} {e : AllocError}
           → Puts {X = Option V} k between new w copied.0 copied.1 is_value u (Err e) → ⊥
-      puts_no_refusal new u e put = not_refused k keys values keeps one two source m (items (take i slots)) puts.ys w between x
-          (items (drop (suc i) slots)) copied.0 copied.1 once_cut less same_content holds_then new u e put
+      puts_no_refusal put = (rw growth_is at put.made).0
 
       -- and there is one more.
-      pub puts_more : (new : View) (u : HashMap K V S) (before : Option V)
+      pub puts_more : {new : View} {u : HashMap K V S} {before : Option V}
           → Puts k between new w copied.0 copied.1 is_value u (Ok before) → PutsFirst k keys values ids source old new m slots (i + 1) u
-      puts_more new u before put =
-          let frame = put_frame k keys values keeps one two source m (items (take i slots)) puts.ys w between x
-          (items (drop (suc i) slots)) copied.0 copied.1 once_cut less same_content holds_then new u before put in
-          let places = put_places k keys values keeps one two source m (items (take i slots)) puts.ys w between x
-          (items (drop (suc i) slots)) copied.0 copied.1 once_cut less same_content holds_then new u before put in
-          let block = put_block k keys values keeps one two source m (items (take i slots)) puts.ys w between x
-          (items (drop (suc i) slots)) copied.0 copied.1 once_cut less same_content holds_then new u before put in
-          let made = made_between (pair_of keys values) pairs_are ids source old m.table.block mid between (items (take i slots)) puts.ys x
-          copied tt puts.row copy in
-          let apart = apart_between (pair_of keys values) pairs_are ids source old m.table.block mid between (items (take i slots))
-          puts.ys x
-          copied tt puts.row copy in
-          let deep = (row_of (pair_of keys values)).deep between.memory (puts.ys ++ copied ∷ []) in
-          let agree = deep_agree (row_of (pair_of keys values)) (row_lawful (pair_of keys values) pairs_are) between.memory new.memory
-          (m.table.block ∷ []) (m.table.block ∷ []) frame (puts.ys ++ copied ∷ []) made.held
-          (apart_turned (puts.row.blocks ++ copy.blocks) deep (m.table.block ∷ [])
-          (IsPermutation-sym deep (puts.row.blocks ++ copy.blocks) made.deep) apart) in
+      puts_more {new} put =
+          let made = rw growth_is at put.made in
+          let block = made.0 ∙ holds.block in
+          let frame : Frame between.memory new.memory (m.table.block ∷ []) (m.table.block ∷ []) = rw (holds.block, block) at put.frame in
+          let paid = (put.costs.room absent there_is_room).1 in
+          let long = length-append front (x ∷ []) in
+          let ys = puts.ys ++ copied ∷ [] in
+          let agree = deep_agree (row_lawful (pair_of keys values) pairs_are) frame ys (made_between pairs_are puts.row x copy).held
+          deep_apart in
           record {
-            ys = puts.ys ++ copied ∷ [];
-            row = rw (items_more slots i x taken) (row_added (pair_of keys values) pairs_are ids source old m.table.block mid between new
-                (items (take i slots)) puts.ys x copied tt tt puts.row copy frame places (rw block at put.held.handle.place.readable));
-            holds = rw (items_more slots i x taken) (put_holds k keys values keeps one two source m (items (take i slots)) puts.ys w
-                between x
-                (items (drop (suc i) slots)) copied.0 copied.1 once_cut less same_content holds_then new u before put agree);
+            ys = ys;
+            row = rw (items_more slots i x taken)
+                (row_added pairs_are puts.row x copy frame made.1 (rw block at put.held.handle.place.readable));
+            holds = rw (items_more slots i x taken) (record {
+              held = put.held;
+              map_is = put.map_is
+                  ∙ ap (λ (f : Finite K V). with_pair f (content_in k.key between.memory copied.0) copied.0 copied.1) holds.map_is
+                  ∙ found_more (content_in k.key between.memory) puts.ys copied.0 copied.1 others
+                  ∙ sym (first_agree k keeps one two between.memory new.memory ys agree);
+              contents = contents_agree k keeps one two between.memory new.memory ys agree
+                  ∙ simp map-append (cc (holds.contents, same));
+              len = put.len ∙ rw absent (omega (arith, holds.len, long));
+              room = omega (arith, holds.room, paid.spare, long);
+              credit = rw (long, once_more (unit_of k) (length front)) (omega (arith, holds.credit, paid.credit));
+              block = block;
+            });
           }
 
 -- what holds of each pair holds of the one in a slot
@@ -301,22 +258,3 @@ at_slot P (None ∷ slots) zero x all at = absurd (cc at)
 at_slot P (None ∷ slots) (suc i) x all at = at_slot P slots i x all at
 at_slot P (Some y ∷ slots) zero x all at = subst P (cc at) all.0
 at_slot P (Some y ∷ slots) (suc i) x all at = at_slot P slots i x all.1 at
-
--- All slots were looked at.
-pub puts_all : {K V S : Type 0} (k : MapTypes K V S) (keys : Kind K) (values : Kind V) (ids : CloneInSemanticIds) (source : Memory)
-    (old new : View) (m : HashMap K V S) (slots : List (Option (K × V))) (i : ℕ) (w : HashMap K V S) → length slots ≤ i
-    → PutsFirst k keys values ids source old new m slots i w → PutsCopies k keys values ids source old new m (items slots) (Ok w)
-puts_all k keys values ids source old new m slots i w all puts =
-    let whole : items (take i slots) ≡ items slots = ap items (take_all i slots all) in
-    record {
-      ys = puts.ys;
-      row = let row = rw whole at puts.row in record {
-        blocks = row.blocks;
-        asked = row.asked;
-        apart = row.apart;
-        frame = row.frame;
-        readable = row.readable;
-        made = row.made;
-      };
-      map = rw whole at puts.holds;
-    }

@@ -10,7 +10,7 @@ use Rattle.arena_chunks.specs.Source.{View}
 use Rattle.arena_chunks.specs.Frame.{Frame, ArePairwiseApart, Stays, AreAllApart}
 use Rattle.arena_chunks.specs.BlockCalls.{WritesBlock}
 use Rattle.arena_chunks.specs.declared.block.Block.{Block}
-use Rattle.arena_chunks.proofs.Layers.{apart_both, all_apart, pairwise_both, frame_reflexive, frame_then, frame_weaken, frame_beside, frame_keeps_all, frame_keeps_new, wrote_readable}
+use Rattle.arena_chunks.proofs.Layers.{apart_both, all_apart, pairwise_both, frame_reflexive, frame_then, frame_weaken, frame_beside, frame_keeps_all, wrote_readable}
 use Rattle.arena_items.specs.Values.{bytes_of, elements}
 use Rattle.arena_items.specs.declared.item.Item.{Ghosts}
 use Rattle.arena_items.specs.declared.room.AllocError.{AllocError}
@@ -52,128 +52,88 @@ module _ {A : Type 0} where
 
 -- ---- One more
 
-module _ {T : Type 0} (kind : Kind T) (is : IsLawful kind) (ids : CloneInSemanticIds) (source : Memory) where
-  -- Copies of some values, and one more behind them.
-  made_more : (new : Memory) (bs cs : List Block) (xs ys : List T) (x w : T)
-      → IsMade (row_of kind) ((row_of kind).by_ids ids ((row_of kind).whole source xs)) new bs ys
-      → IsMade kind (kind.by_ids ids (kind.whole source x)) new cs w
-      → IsMade (row_of kind) ((row_of kind).by_ids ids ((row_of kind).whole source (xs ++ x ∷ []))) new (bs ++ cs) (ys ++ w ∷ [])
-  made_more new bs cs xs ys x w first one = record {
-    held = all_more (kind.is_held new) ys w first.held one.held;
-    means = simp map-append (cc (first.means, one.means));
-    trim = all_more (kind.is_trim new) ys w first.trim one.trim;
-    deep = subst (λ ds. IsPermutation ds (bs ++ cs)) (flat_map_more (kind.deep new) [] ys w)
-        (IsPermutation-append (flat_map (kind.deep new) ys) bs (kind.deep new w) cs first.deep one.deep);
+-- Of no values there are no copies.
+pub row_none : {T X : Type 0} {kind : Kind T} {ids : CloneInSemanticIds} {source : Memory} {old : View} {target : Block} {x : X}
+    → IsTrue (is_readable old.memory.state target) → CopiesRow kind ids source old old target [] [] (Ok x)
+row_none {old} {target} readable = record {
+  blocks = [];
+  asked = (refl, refl, same_places old);
+  apart = (tt, tt);
+  frame = frame_reflexive old.memory (target ∷ []);
+  readable = readable;
+  made = record { held = tt; means = refl; trim = tt; deep = IsPermutation-refl [] };
+}
+
+module _ {T X : Type 0} {kind : Kind T} (is : IsLawful kind) {ids : CloneInSemanticIds} {source : Memory} {old mid : View} {target : Block}
+    {xs ys : List T} {u : X} (row : CopiesRow kind ids source old mid target xs ys (Ok u)) (x : T) where
+  module _ {between : View} {r : Result T AllocError} (copy : Copies kind ids source mid between x r) where
+    -- The block of the copies so far, and their blocks, stay beside the next copy, and lie apart from its blocks.
+    pub row_stays : AllByRecursion (Stays mid.memory between.memory copy.blocks) (target ∷ row.blocks)
+    row_stays = frame_keeps_all mid.memory between.memory [] copy.blocks (target ∷ row.blocks) copy.placed.frame
+        (row.readable, made_readable (row_lawful kind is) row.made) (apart_of_none (target ∷ row.blocks))
+
+    both_apart : ArePairwiseApart (target ∷ row.blocks ++ copy.blocks)
+    both_apart = pairwise_both (target ∷ row.blocks) copy.blocks row.apart copy.placed.apart
+        (stays_apart mid.memory between.memory copy.blocks (target ∷ row.blocks) row_stays)
+
+    both_frame : Frame old.memory between.memory (target ∷ []) (target ∷ row.blocks ++ copy.blocks)
+    both_frame =
+        frame_then old.memory mid.memory between.memory (target ∷ []) (target ∷ row.blocks) (target ∷ row.blocks ++ copy.blocks) row.frame
+        (frame_weaken mid.memory between.memory [] (target ∷ row.blocks) copy.blocks (target ∷ row.blocks ++ copy.blocks)
+        (λ addr n some apart. tt) (λ addr n some apart rest. apart_both addr n (target ∷ row.blocks) copy.blocks apart rest)
+        copy.placed.frame)
+
+  -- Where one is refused the call is, whatever it was to copy behind it.
+  pub row_refused : (rest : List T) {Y : Type 0} {zs : List T} {new : View} {e : AllocError} → Copies kind ids source mid new x (Err e)
+      → CopiesRow {X = Y} kind ids source old new target (xs ++ x ∷ rest) zs (Err e)
+  row_refused rest {new} {e} copy = record {
+    blocks = row.blocks ++ copy.blocks;
+    asked = rw (flat_map-append (kind.asks source) xs (x ∷ rest))
+        (asked_then _ _ old mid new row.blocks copy.blocks (Some e) row.asked
+        (asked_refused (kind.asks source x) (flat_map (kind.asks source) rest) mid new copy.blocks e copy.placed.asked));
+    apart = both_apart copy;
+    frame = both_frame copy;
+    readable = (row_stays copy).0.readable;
+    made = tt;
   }
 
-  module _ (old : View) (target : Block) where
-    -- Of no values there are no copies.
-    pub row_none : {X : Type 0} (x : X) → IsTrue (is_readable old.memory.state target)
-        → CopiesRow kind ids source old old target [] [] (Ok x)
-    row_none x readable = record {
-      blocks = [];
-      asked = (refl, refl, same_places old);
-      apart = (tt, tt);
-      frame = frame_reflexive old.memory (target ∷ []);
-      readable = readable;
-      made = record { held = tt; means = refl; trim = tt; deep = IsPermutation-refl [] };
-    }
-
-    module _ {X : Type 0} (mid between : View) (xs ys : List T) (x : T) (u : X) (r : Result T AllocError)
-        (row : CopiesRow kind ids source old mid target xs ys (Ok u)) (copy : Copies kind ids source mid between x r) where
-      -- The blocks of the copies so far are readable, and so is their own block.
-      row_readable : AllByRecursion (λ (b : Block). IsTrue (is_readable mid.memory.state b)) (target ∷ row.blocks)
-      row_readable =
-          (row.readable, made_readable (row_of kind) (row_lawful kind is) _ mid.memory row.blocks ys row.made)
-
-      -- They stay beside the next copy, and lie apart from its blocks.
-      row_stays : AllByRecursion (Stays mid.memory between.memory copy.blocks) (target ∷ row.blocks)
-      row_stays = frame_keeps_all mid.memory between.memory [] copy.blocks (target ∷ row.blocks) copy.placed.frame row_readable
-          (apart_of_none (target ∷ row.blocks))
-
-      both_apart : ArePairwiseApart (target ∷ row.blocks ++ copy.blocks)
-      both_apart = pairwise_both (target ∷ row.blocks) copy.blocks row.apart copy.placed.apart
-          (stays_apart mid.memory between.memory copy.blocks (target ∷ row.blocks) row_stays)
-
-      both_frame : Frame old.memory between.memory (target ∷ []) (target ∷ row.blocks ++ copy.blocks)
-      both_frame =
-          frame_then old.memory mid.memory between.memory (target ∷ []) (target ∷ row.blocks) (target ∷ row.blocks ++ copy.blocks) row.frame
-          (frame_weaken mid.memory between.memory [] (target ∷ row.blocks) copy.blocks (target ∷ row.blocks ++ copy.blocks)
-          (λ addr n some apart. tt) (λ addr n some apart rest. apart_both addr n (target ∷ row.blocks) copy.blocks apart rest)
-          copy.placed.frame)
-
-    -- The values of the block stay while the next one is copied.
-    pub same_values : {X : Type 0} (mid between : View) (xs ys : List T) (x : T) (u : X) (r : Result T AllocError)
-        → CopiesRow kind ids source old mid target xs ys (Ok u) → Copies kind ids source mid between x r
-        → bytes_of between.memory target ≡ bytes_of mid.memory target
-    same_values mid between xs ys x u r row copy =
-        (frame_keeps_new mid.memory between.memory copy.blocks target copy.placed.frame row.readable).bytes
-
+  module _ {between : View} {w : T} (copy : Copies kind ids source mid between x (Ok w)) where
     -- A copy of one more stands behind the others before it is put into the block,
-    pub made_between : {X : Type 0} (mid between : View) (xs ys : List T) (x w : T) (u : X)
-        (row : CopiesRow kind ids source old mid target xs ys (Ok u)) (copy : Copies kind ids source mid between x (Ok w))
-        → IsMade (row_of kind) ((row_of kind).by_ids ids ((row_of kind).whole source (xs ++ x ∷ []))) between.memory
+    pub made_between : IsMade (row_of kind) ((row_of kind).by_ids ids ((row_of kind).whole source (xs ++ x ∷ []))) between.memory
         (row.blocks ++ copy.blocks) (ys ++ w ∷ [])
-    made_between mid between xs ys x w u row copy =
-        made_more between.memory row.blocks copy.blocks xs ys x w
-        (made_stays (row_of kind) (row_lawful kind is) mid.memory between.memory [] copy.blocks copy.placed.frame _ row.blocks ys row.made
-        (apart_of_none row.blocks)) copy.made
-
-    -- apart from that.
-    pub apart_between : {X : Type 0} (mid between : View) (xs ys : List T) (x w : T) (u : X)
-        (row : CopiesRow kind ids source old mid target xs ys (Ok u)) (copy : Copies kind ids source mid between x (Ok w))
-        → AreAllApart (row.blocks ++ copy.blocks) (target ∷ [])
-    apart_between mid between xs ys x w u row copy =
-        all_apart target (row.blocks ++ copy.blocks) (both_apart mid between xs ys x u (Ok w) row copy).0
-
-    -- Of one more there is one more, behind the others in the block.
-    pub row_added : {X Y : Type 0} (mid between new : View) (xs ys : List T) (x w : T) (u : X) (y : Y)
-        → CopiesRow kind ids source old mid target xs ys (Ok u) → Copies kind ids source mid between x (Ok w)
-        → Frame between.memory new.memory (target ∷ []) (target ∷ []) → SamePlaces between new → IsTrue (is_readable new.memory.state
-        target)
-        → CopiesRow kind ids source old new target (xs ++ x ∷ []) (ys ++ w ∷ []) (Ok y)
-    row_added mid between new xs ys x w u y row copy frame places readable =
-        let bs = row.blocks in
-        let cs = copy.blocks in
+    made_between =
+        let first = made_stays (row_lawful kind is) copy.placed.frame row.made (apart_of_none row.blocks) in
+        let one = copy.made in
         record {
-          blocks = bs ++ cs;
-          asked = rw (← flat_map_more (kind.asks source) [] xs x)
-              (asked_same _ old between new (bs ++ cs) (asked_then _ (kind.asks source x) old mid between bs cs None row.asked
-              copy.placed.asked)
-              places);
-          apart = both_apart mid between xs ys x u (Ok w) row copy;
-          frame = frame_then old.memory between.memory new.memory (target ∷ []) (target ∷ bs ++ cs) (target ∷ bs ++ cs)
-              (both_frame mid between xs ys x u (Ok w) row copy)
-              (frame_beside between.memory new.memory (target ∷ []) (target ∷ []) (bs ++ cs) frame);
-          readable = readable;
-          made = made_stays (row_of kind) (row_lawful kind is) between.memory new.memory (target ∷ []) (target ∷ []) frame _ (bs ++ cs)
-              (ys ++ w ∷ []) (made_between mid between xs ys x w u row copy) (apart_between mid between xs ys x w u row copy);
+          held = all_more (kind.is_held between.memory) ys w first.held one.held;
+          means = simp map-append (cc (first.means, one.means));
+          trim = all_more (kind.is_trim between.memory) ys w first.trim one.trim;
+          deep = subst (λ ds. IsPermutation ds (row.blocks ++ copy.blocks)) (flat_map_more (kind.deep between.memory) [] ys w)
+              (IsPermutation-append (flat_map (kind.deep between.memory) ys) row.blocks (kind.deep between.memory w) copy.blocks first.deep
+              one.deep);
         }
 
-    -- So it is where the copy is written there.
-    pub row_more : {X Y : Type 0} (mid between new : View) (xs ys : List T) (x w : T) (u : X) (y : Y) (at : ℕ) (list : List ℕ)
-        → CopiesRow kind ids source old mid target xs ys (Ok u) → Copies kind ids source mid between x (Ok w)
-        → WritesBlock between.memory new.memory target at list → new.source ≡ between.source
-        → CopiesRow kind ids source old new target (xs ++ x ∷ []) (ys ++ w ∷ []) (Ok y)
-    row_more mid between new xs ys x w u y at list row copy writes source_same =
-        row_added mid between new xs ys x w u y row copy writes.frame (wrote_same between new target at list writes source_same)
-        (rw (wrote_readable between.memory new.memory target target at list writes)
-        (frame_keeps_new mid.memory between.memory copy.blocks target copy.placed.frame row.readable).readable)
+    -- apart from that.
+    pub apart_between : AreAllApart (row.blocks ++ copy.blocks) (target ∷ [])
+    apart_between = all_apart target (row.blocks ++ copy.blocks) (both_apart copy).0
 
-    -- Where one is refused the call is, whatever it was to copy behind it.
-    pub row_refused : {X Y : Type 0} (mid new : View) (xs rest ys zs : List T) (x : T) (u : X) (e : AllocError)
-        → CopiesRow kind ids source old mid target xs ys (Ok u) → Copies kind ids source mid new x (Err e)
-        → CopiesRow {X = Y} kind ids source old new target (xs ++ x ∷ rest) zs (Err e)
-    row_refused mid new xs rest ys zs x u e row copy = record {
-      blocks = row.blocks ++ copy.blocks;
-      asked = rw (flat_map-append (kind.asks source) xs (x ∷ rest))
-          (asked_then _ _ old mid new row.blocks copy.blocks (Some e) row.asked
-          (asked_refused (kind.asks source x) (flat_map (kind.asks source) rest) mid new copy.blocks e copy.placed.asked));
-      apart = both_apart mid new xs ys x u (Err e) row copy;
-      frame = both_frame mid new xs ys x u (Err e) row copy;
-      readable = (row_stays mid new xs ys x u (Err e) row copy).0.readable;
-      made = tt;
-    }
+    -- Of one more there is one more, behind the others in the block.
+    pub row_added : {Y : Type 0} {y : Y} {new : View} → Frame between.memory new.memory (target ∷ []) (target ∷ [])
+        → SamePlaces between new → IsTrue (is_readable new.memory.state target)
+        → CopiesRow kind ids source old new target (xs ++ x ∷ []) (ys ++ w ∷ []) (Ok y)
+    row_added {new} frame places readable =
+        let bs = row.blocks ++ copy.blocks in
+        record {
+          blocks = bs;
+          asked = rw (← flat_map_more (kind.asks source) [] xs x)
+              (asked_same _ old between new bs (asked_then _ (kind.asks source x) old mid between row.blocks copy.blocks None row.asked
+              copy.placed.asked) places);
+          apart = both_apart copy;
+          frame = frame_then old.memory between.memory new.memory (target ∷ []) (target ∷ bs) (target ∷ bs) (both_frame copy)
+              (frame_beside between.memory new.memory (target ∷ []) (target ∷ []) bs frame);
+          readable = readable;
+          made = made_stays (row_lawful kind is) frame made_between apart_between;
+        }
 
 -- ---- Copies into a block
 
@@ -183,30 +143,29 @@ CopiesFirst item kind ids source old new target xs i =
     CopiesRow {X = Unit {0}} kind ids source old new target (take i xs)
     (elements item.SIZE item.decoded i (bytes_of new.memory target)) (Ok tt)
 
-module _ {T : Type 0} (item : Ghosts T) (kind : Kind T) (is : IsLawful kind) (ids : CloneInSemanticIds) (source : Memory) (old : View)
-    (target : Block) (xs : List T) where
+module _ {T : Type 0} (item : Ghosts T) {kind : Kind T} (is : IsLawful kind) {ids : CloneInSemanticIds} {source : Memory} {old : View}
+    {target : Block} (xs : List T) where
   pub first_none : IsTrue (is_readable old.memory.state target) → CopiesFirst item kind ids source old old target xs 0
-  first_none readable =
-      rw (elements-empty item.SIZE item.decoded 0 (bytes_of old.memory target) refl) (row_none kind is ids source old target tt readable)
+  first_none readable = rw (elements-empty item.SIZE item.decoded 0 (bytes_of old.memory target) refl) (row_none readable)
 
-  pub first_more : (mid between new : View) (i at : ℕ) (x w : T) (list : List ℕ) → slice_get xs i ≡ Some x
-      → CopiesFirst item kind ids source old mid target xs i → Copies kind ids source mid between x (Ok w)
-      → WritesBlock between.memory new.memory target at list → new.source ≡ between.source
-      → elements item.SIZE item.decoded (i + 1) (bytes_of new.memory target)
-      ≡ elements item.SIZE item.decoded i (bytes_of between.memory target) ++ w ∷ []
-      → CopiesFirst item kind ids source old new target xs (i + 1)
-  first_more mid between new i at x w list found row copy writes source_same push =
-      let same = same_values kind is ids source old target mid between (take i xs) _ x tt (Ok w) row copy in
-      rw (take_more xs i x found, push, same) (row_more kind is ids source old target mid between new (take i xs) _ x w tt tt at list row
-      copy writes source_same)
+  module _ (i : ℕ) {mid : View} (row : CopiesFirst item kind ids source old mid target xs i) {x : T} (found : slice_get xs i ≡ Some x) where
+    pub first_more : {between new : View} {at : ℕ} {w : T} {list : List ℕ} → Copies kind ids source mid between x (Ok w)
+        → WritesBlock between.memory new.memory target at list → new.source ≡ between.source
+        → elements item.SIZE item.decoded (i + 1) (bytes_of new.memory target)
+        ≡ elements item.SIZE item.decoded i (bytes_of between.memory target) ++ w ∷ []
+        → CopiesFirst item kind ids source old new target xs (i + 1)
+    first_more {between} {new} {at} {list} copy writes source_same push =
+        let stays = (row_stays is row x copy).0 in
+        rw (take_more xs i x found, push, stays.bytes)
+        (row_added is row x copy writes.frame (wrote_same between new target at list writes source_same)
+        (rw (wrote_readable between.memory new.memory target target at list writes) stays.readable))
 
-  pub first_refused : {Y : Type 0} (mid new : View) (i : ℕ) (x : T) (zs : List T) (e : AllocError) → slice_get xs i ≡ Some x
-      → CopiesFirst item kind ids source old mid target xs i → Copies kind ids source mid new x (Err e)
-      → CopiesRow {X = Y} kind ids source old new target xs zs (Err e)
-  first_refused {Y} mid new i x zs e found row copy =
-      subst (λ vs. CopiesRow {X = Y} kind ids source old new target vs zs (Err e)) (sym (cut_at xs i x found))
-      (row_refused kind is ids source old target mid new (take i xs) (drop (suc i) xs) _ zs x tt e row copy)
+    pub first_refused : {Y : Type 0} {new : View} {zs : List T} {e : AllocError} → Copies kind ids source mid new x (Err e)
+        → CopiesRow {X = Y} kind ids source old new target xs zs (Err e)
+    first_refused {Y} {new} {zs} {e} copy =
+        subst (λ vs. CopiesRow {X = Y} kind ids source old new target vs zs (Err e)) (sym (cut_at xs i x found))
+        (row_refused is row x (drop (suc i) xs) copy)
 
-  pub first_all : (new : View) (i n : ℕ) → i ≡ n → length xs ≤ n → CopiesFirst item kind ids source old new target xs i
+  pub first_all : {new : View} (i n : ℕ) → i ≡ n → length xs ≤ n → CopiesFirst item kind ids source old new target xs i
       → CopiesRow {X = Unit {0}} kind ids source old new target xs (elements item.SIZE item.decoded n (bytes_of new.memory target)) (Ok tt)
-  first_all new i n last all row = rw (last, take_all n xs all) at row
+  first_all i n last all row = rw (last, take_all n xs all) at row

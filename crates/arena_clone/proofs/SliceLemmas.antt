@@ -18,33 +18,31 @@ use Rattle.arena_clone.specs.declared.ids.CloneInSemanticIds.{CloneInSemanticIds
 use Rattle.arena_clone.proofs.CopyLemmas.{places_one}
 use Rattle.arena_clone.proofs.ThroughLemmas.{own_refused, value_refused, values_made}
 
-module _ {T : Type 0} (item : Ghosts T) (kind : Kind T) (ids : CloneInSemanticIds) (source : Memory) (old : View) (s : BoxSlice T) where
+module _ {T : Type 0} (item : Ghosts T) (kind : Kind T) (ids : CloneInSemanticIds) (source : Memory) {old : View} (s : BoxSlice T) where
   -- The block is refused,
-  pub slice_refused : (new : View) (e : AllocError)
+  pub slice_refused : {new : View} {e : AllocError}
       → RoomAnswer (λ (b : Block). b) (Err e) (PlacesBlock old new (s.length * item.SIZE) item.ALIGN)
       → Copies (slice_of item kind) ids source old new s (Err e)
-  slice_refused new e placed =
+  slice_refused {e} placed =
       own_refused item kind (λ s. s.block) (IsSliceIn item) (slice_list item) (λ s. Unit {0}) (λ s. Room (s.length * item.SIZE) item.ALIGN)
-      ids source old s new e (places_one (λ (b : Block). b) (Err e) (s.length * item.SIZE) item.ALIGN old new placed)
+      ids source s (places_one (λ (b : Block). b) (Err e) placed)
 
-  module _ {X : Type 0} (mid new : View) (target : Block)
-      (placed : PlacesBlock old mid (s.length * item.SIZE) item.ALIGN (Placed target)) where
-    -- or a value,
-    pub slice_value_refused : (ys : List T) (e : AllocError)
-        → CopiesRow {X = X} kind ids source mid new target (slice_list item source s) ys (Err e)
-        → Copies (slice_of item kind) ids source old new s (Err e)
-    slice_value_refused ys e row =
-        value_refused item kind (λ s. s.block) (IsSliceIn item) (slice_list item) (λ s. Unit {0})
-        (λ s. Room (s.length * item.SIZE) item.ALIGN) ids source old s mid new target
-        (places_one (λ (b : Block). b) (Ok target) (s.length * item.SIZE) item.ALIGN old mid placed) ys e row
+  module _ {X : Type 0} {mid new : View} {target : Block} (placed : PlacesBlock old mid (s.length * item.SIZE) item.ALIGN (Placed target))
+    where
+      -- or a value,
+      pub slice_value_refused : {ys : List T} {e : AllocError}
+          → CopiesRow {X = X} kind ids source mid new target (slice_list item source s) ys (Err e)
+          → Copies (slice_of item kind) ids source old new s (Err e)
+      slice_value_refused row =
+          value_refused item kind (λ s. s.block) (IsSliceIn item) (slice_list item) (λ s. Unit {0})
+          (λ s. Room (s.length * item.SIZE) item.ALIGN) ids source s (places_one (λ (b : Block). b) (Ok target) placed) row
 
-    -- or all are copied.
-    pub slice_made : (w : BoxSlice T) (x : X) → w.block ≡ target → w.length ≡ s.length
-        → CopiesRow kind ids source mid new target (slice_list item source s) (slice_list item new.memory w) (Ok x)
-        → Copies (slice_of item kind) ids source old new s (Ok w)
-    slice_made w x at long row =
-        let layout = placed.1.outcome.of_layout in
-        values_made item kind (λ s. s.block) (IsSliceIn item) (slice_list item) (λ s. Unit {0})
-        (λ s. Room (s.length * item.SIZE) item.ALIGN) ids source old s mid new target
-        (places_one (λ (b : Block). b) (Ok target) (s.length * item.SIZE) item.ALIGN old mid placed) w x row at
-        (rw (at, long) (record { readable = row.readable; of_size = layout.of_size; of_align = layout.of_align })) tt
+      -- or all are copied.
+      pub slice_made : {w : BoxSlice T} {x : X} → w.block ≡ target → w.length ≡ s.length
+          → CopiesRow kind ids source mid new target (slice_list item source s) (slice_list item new.memory w) (Ok x)
+          → Copies (slice_of item kind) ids source old new s (Ok w)
+      slice_made at long row =
+          let layout = placed.1.outcome.of_layout in
+          values_made item kind (λ s. s.block) (IsSliceIn item) (slice_list item) (λ s. Unit {0})
+          (λ s. Room (s.length * item.SIZE) item.ALIGN) ids source s (places_one (λ (b : Block). b) (Ok target) placed) row at
+          (rw (at, long) (record { readable = row.readable; of_size = layout.of_size; of_align = layout.of_align })) tt

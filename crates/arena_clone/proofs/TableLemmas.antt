@@ -26,6 +26,7 @@ use Rattle.arena_hash.specs.Slots.{items}
 use Rattle.arena_hash.specs.Tables.{slots_of, IsTable}
 use Rattle.arena_hash.specs.declared.map.HashMap.{HashMap}
 use Rattle.arena_clone.specs.Asks.{PlacesAll, refusal}
+use Rattle.arena_clone.specs.Asks.Ask.{Room}
 use Rattle.arena_clone.specs.Kinds.{Kind, of_some, row_of}
 use Rattle.arena_clone.specs.MapKind.{KeepsContent, pair_of, map_of, table_ask}
 use Rattle.arena_clone.specs.Copies.{IsFlat, IsMade, Copies}
@@ -59,7 +60,8 @@ module _ {K V S : Type 0} (k : MapTypes K V S) (old new : View) where
   table_asked f result slots zero full placed = absurd (omega (arith, full))
   table_asked f result slots (suc n) full placed =
       let size = slots * slot_size k.keys.SIZE k.values.SIZE in
-      let one = places_one f result size (table_align k.keys.ALIGN k.values.ALIGN) old new placed in
+      let one : PlacesAll (Room size (table_align k.keys.ALIGN k.values.ALIGN) ∷ []) old new (block_of f result) (refusal result) =
+      places_one f result placed in
       let within = table_within k.keys.SIZE k.values.SIZE k.keys.ALIGN k.values.ALIGN slots (suc n) full in
       record { asked = (size, within, one.asked); apart = one.apart; frame = one.frame }
 

@@ -19,25 +19,22 @@ use Rattle.arena_clone.specs.Copies.{Copies, MakesNew, StaysWhole}
 use Rattle.arena_clone.specs.Rows.{CopiesRow}
 use Rattle.arena_clone.specs.declared.ids.CloneInSemanticIds.{CloneInSemanticIds}
 use Rattle.arena_clone.proofs.AsksLemmas.{asked_then}
-use Rattle.arena_clone.proofs.CopyLemmas.{apart_of_none, makes_empty, deep_agree, deep_stays, places_refused}
+use Rattle.arena_clone.proofs.CopyLemmas.{apart_of_none, makes_empty, deep_agree, placed_stays, places_refused}
 
 module _ {V T : Type 0} (item : Ghosts T) (kind : Kind T) (block : V → Block) (is_in : Memory → V → Type 0)
-    (values : Memory → V → List T) (is_trim : V → Type 0) (ask : V → Ask) (ids : CloneInSemanticIds) (source : Memory) (old : View)
+    (values : Memory → V → List T) (is_trim : V → Type 0) (ask : V → Ask) (ids : CloneInSemanticIds) (source : Memory) {old : View}
     (v : V) where
   -- The own block is refused.
-  pub own_refused : (new : View) (e : AllocError) → PlacesAll (ask v ∷ []) old new [] (Some e)
+  pub own_refused : {new : View} {e : AllocError} → PlacesAll (ask v ∷ []) old new [] (Some e)
       → Copies (row_in item kind block is_in values is_trim ask) ids source old new v (Err e)
-  own_refused new e placed = record {
-    blocks = [];
-    placed = places_refused (ask v ∷ []) ((row_of kind).asks source (values source v)) old new [] e placed;
-    made = tt;
-  }
+  own_refused placed =
+      record { blocks = []; placed = places_refused ((row_of kind).asks source (values source v)) placed; made = tt }
 
-  module _ {X : Type 0} (mid new : View) (target : Block) (own : PlacesAll (ask v ∷ []) old mid (target ∷ []) None) where
+  module _ {X : Type 0} {mid new : View} {target : Block} (own : PlacesAll (ask v ∷ []) old mid (target ∷ []) None) where
     -- The own block is placed, and then those of the values.
-    both_placed : (ys : List T) (r : Result X AllocError) (row : CopiesRow kind ids source mid new target (values source v) ys r)
+    both_placed : {ys : List T} {r : Result X AllocError} (row : CopiesRow kind ids source mid new target (values source v) ys r)
         → PlacesAll (ask v ∷ (row_of kind).asks source (values source v)) old new (target ∷ row.blocks) (refusal r)
-    both_placed ys r row = record {
+    both_placed {r} row = record {
       asked = asked_then (ask v ∷ []) ((row_of kind).asks source (values source v)) old mid new (target ∷ []) row.blocks
           (refusal r) own.asked row.asked;
       apart = row.apart;
@@ -45,21 +42,17 @@ module _ {V T : Type 0} (item : Ghosts T) (kind : Kind T) (block : V → Block) 
     }
 
     -- A value is refused.
-    pub value_refused : (ys : List T) (e : AllocError) → CopiesRow {X = X} kind ids source mid new target (values source v) ys (Err e)
+    pub value_refused : {ys : List T} {e : AllocError} → CopiesRow {X = X} kind ids source mid new target (values source v) ys (Err e)
         → Copies (row_in item kind block is_in values is_trim ask) ids source old new v (Err e)
-    value_refused ys e row = record {
-      blocks = target ∷ row.blocks;
-      placed = both_placed ys (Err e) row;
-      made = tt;
-    }
+    value_refused row = record { blocks = target ∷ row.blocks; placed = both_placed row; made = tt }
 
     -- All are copied, and reached through this handle.
-    pub values_made : (w : V) (x : X) → CopiesRow kind ids source mid new target (values source v) (values new.memory w) (Ok x)
+    pub values_made : {w : V} {x : X} → CopiesRow kind ids source mid new target (values source v) (values new.memory w) (Ok x)
         → block w ≡ target → is_in new.memory w → is_trim w
         → Copies (row_in item kind block is_in values is_trim ask) ids source old new v (Ok w)
-    values_made w x row at held trim = record {
+    values_made {w} row at held trim = record {
       blocks = target ∷ row.blocks;
-      placed = both_placed (values new.memory w) (Ok x) row;
+      placed = both_placed row;
       made = record {
         held = (held, row.made.held);
         means = row.made.means;
@@ -74,7 +67,7 @@ pub makes_no_values : {V T : Type 0} (item : Ghosts T) (block : V → Block) (is
     (is_trim : V → Type 0) (ask : V → Ask) (align : ℕ) (a : View) (w : V) → is_in a.memory w → block w ≡ empty_block align
     → values a.memory w ≡ [] → is_trim w → MakesNew (row_in item plain block is_in values is_trim ask) [] (Empty align ∷ []) a a (Ok w)
 makes_no_values item block is_in values is_trim ask align a w held at none trim =
-    makes_empty (row_in item plain block is_in values is_trim ask) [] align a w (record {
+    makes_empty (record {
       held = (held, subst (λ vs. (row_of plain).is_held a.memory vs) (sym none) tt);
       means = ap ((row_of plain).whole a.memory) none;
       trim = (trim, subst (λ vs. (row_of plain).is_trim a.memory vs) (sym none) tt);
@@ -85,39 +78,33 @@ makes_no_values item block is_in values is_trim ask align a w held at none trim 
 
 -- ---- Within one arena
 
-module _ {T : Type 0} (item : Ghosts T) (kind : Kind T) (is : IsLawful kind) (old mid : View) (target from : Block) (n : ℕ)
-    (frame : Frame old.memory mid.memory [] (target ∷ [])) (readable : IsTrue (is_readable old.memory.state from))
-    (held : (row_of kind).is_held old.memory (elements item.SIZE item.decoded n (bytes_of old.memory from))) where
+module _ {T : Type 0} (item : Ghosts T) {kind : Kind T} (is : IsLawful kind) {old now : Memory} {target : Block} (from : Block) (n : ℕ)
+    (frame : Frame old now [] (target ∷ [])) (readable : IsTrue (is_readable old.state from))
+    (held : (row_of kind).is_held old (elements item.SIZE item.decoded n (bytes_of old from))) where
   abbrev values_in : Memory → List T
   values_in m = elements item.SIZE item.decoded n (bytes_of m from)
 
   -- When a block is placed, values and their own block are what they were,
-  pub from_stays : Stays old.memory mid.memory (target ∷ []) from
-  from_stays = frame_keeps_new old.memory mid.memory (target ∷ []) from frame readable
+  pub from_stays : Stays old now (target ∷ []) from
+  from_stays = frame_keeps_new old now (target ∷ []) from frame readable
 
-  none_before : AreAllApart ((row_of kind).deep old.memory (values_in old.memory)) []
-  none_before = apart_of_none ((row_of kind).deep old.memory (values_in old.memory))
+  row_stays : StaysWhole (row_of kind) old now (target ∷ []) (values_in old)
+  row_stays = placed_stays (row_lawful kind is) (values_in old) frame held
 
-  row_stays : StaysWhole (row_of kind) old.memory mid.memory (target ∷ []) (values_in old.memory)
-  row_stays = deep_stays (row_of kind) (row_lawful kind is) old.memory mid.memory [] (target ∷ []) frame (values_in old.memory) held
-      none_before
-
-  pub row_held : (row_of kind).is_held mid.memory (values_in mid.memory)
+  pub row_held : (row_of kind).is_held now (values_in now)
   row_held = rw from_stays.bytes row_stays.held
 
   -- and lie apart from it.
-  pub row_apart : AreAllApart (from ∷ (row_of kind).deep mid.memory (values_in mid.memory)) (target ∷ [])
+  pub row_apart : AreAllApart (from ∷ (row_of kind).deep now (values_in now)) (target ∷ [])
   row_apart = (from_stays.apart, rw from_stays.bytes row_stays.apart)
 
   -- So copies of them are copies of what they were.
-  pub row_before : {X : Type 0} (ids : CloneInSemanticIds) (new : View) (ys : List T) (r : Result X AllocError)
-      → CopiesRow kind ids mid.memory mid new target (values_in mid.memory) ys r
-      → CopiesRow kind ids old.memory mid new target (values_in old.memory) ys r
-  row_before {X} ids new ys r row =
-      let here : CopiesRow {X = X} kind ids mid.memory mid new target (values_in old.memory) ys r = rw from_stays.bytes at row in
-      let asks = (row_lawful kind is).asks old.memory mid.memory (values_in old.memory)
-      (deep_agree (row_of kind) (row_lawful kind is) old.memory mid.memory [] (target ∷ []) frame (values_in old.memory) held
-      none_before) in
+  pub row_before : {X : Type 0} {ids : CloneInSemanticIds} {mid new : View} {ys : List T} {r : Result X AllocError}
+      → CopiesRow kind ids now mid new target (values_in now) ys r → CopiesRow kind ids old mid new target (values_in old) ys r
+  row_before {X} {ids} {mid} {new} {ys} {r} row =
+      let here : CopiesRow {X = X} kind ids now mid new target (values_in old) ys r = rw from_stays.bytes at row in
+      let apart = apart_of_none ((row_of kind).deep old (values_in old)) in
+      let asks = (row_lawful kind is).asks old now (values_in old) (deep_agree (row_lawful kind is) frame (values_in old) held apart) in
       record {
         blocks = here.blocks;
         asked = rw asks at here.asked;

@@ -1,7 +1,8 @@
 // Sets: maps whose values have no bytes.
 ghost use Rattle.std.specs.Prelude.{◌≡◌, ◌==◌, ◌^◌, ◌≤◌, ◌↔◌, IfOk, IfErr, OnErr, IsTrue};
-ghost use Rattle.std.specs.Prelude.{List, [], ◌∷◌, Some};
-ghost use Rattle.std.specs.Iterator.{IsFinite, Yields, YieldsFirst, item_count};
+ghost use Rattle.std.specs.Prelude.{List, [], ◌∷◌, Some, IfSome, length};
+ghost use Rattle.std.specs.Iterator.{IsFinite, Yields, YieldsFirst, UpTo, at_most, item_count};
+ghost use Rattle.std.specs.Iterator.SizeHint.{IsWithinCount};
 ghost use Rattle.arena_hash.specs.Collecting.{CollectsAll, CollectsSome};
 ghost use Rattle.arena_hash.specs.Sets.{set_kind, ListsKeys, HaveSame, StepsInPairs};
 ghost use Rattle.arena_chunks.specs.Memory.{is_readable};
@@ -238,7 +239,11 @@ impl<'a, T: Item, C: ChunkSource> Iterator for SetIter<'a, T, C> {
     }
 
     #[inline]
-    fn size_hint(&self) -> (usize, Option<usize>) {
+    fn size_hint(&self) -> (usize, Option<usize>)
+        ensures lower { IsWithinCount result.0 (at_most (length self.now)) }
+        ensures upper { IfSome result.1 (UpTo (at_most (length self.now))) }
+        ensures exact { result ≡ (length self.now, Some (length self.now)) }
+    {
         self.keys.size_hint()
     }
 }

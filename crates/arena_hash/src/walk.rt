@@ -1,8 +1,9 @@
 // The pairs of a map, in the order of its slots.
 ghost use Rattle.std.specs.Prelude.{◌≡◌, ◌≢◌, ℕ, ◌+◌, ◌*◌, ◌/◌, ◌%◌, ◌^◌, ◌<◌, ◌≤◌, ◌↔◌};
-ghost use Rattle.std.specs.Prelude.{List, Some, length, map, slice_get, take};
+ghost use Rattle.std.specs.Prelude.{List, Some, IfSome, length, map, slice_get, take};
 ghost use Rattle.std.specs.Option.{MatchOption};
-ghost use Rattle.std.specs.Iterator.{YieldsFirst, item_count};
+ghost use Rattle.std.specs.Iterator.{YieldsFirst, UpTo, at_most, item_count};
+ghost use Rattle.std.specs.Iterator.SizeHint.{IsWithinCount};
 ghost use Rattle.arena_hash.specs.Contents.{kind, content_in};
 ghost use Rattle.arena_hash.specs.Maps.{IsMapIn, map_in};
 ghost use Rattle.arena_hash.specs.Sets.{ListsKeys};
@@ -215,7 +216,11 @@ impl<'a, K: Item, V: Item, C: ChunkSource> Iterator for Iter<'a, K, V, C> {
     }
 
     #[inline]
-    fn size_hint(&self) -> (usize, Option<usize>) {
+    fn size_hint(&self) -> (usize, Option<usize>)
+        ensures lower { IsWithinCount result.0 (at_most (length self.now)) }
+        ensures upper { IfSome result.1 (UpTo (at_most (length self.now))) }
+        ensures exact { result ≡ (length self.now, Some (length self.now)) }
+    {
         (self.left as usize, Some(self.left as usize))
     }
 }
@@ -251,7 +256,11 @@ impl<'a, K: Item, V: Item, C: ChunkSource> Iterator for IntoKeys<'a, K, V, C> {
     }
 
     #[inline]
-    fn size_hint(&self) -> (usize, Option<usize>) {
+    fn size_hint(&self) -> (usize, Option<usize>)
+        ensures lower { IsWithinCount result.0 (at_most (length self.now)) }
+        ensures upper { IfSome result.1 (UpTo (at_most (length self.now))) }
+        ensures exact { result ≡ (length self.now, Some (length self.now)) }
+    {
         self.pairs.size_hint()
     }
 }
@@ -287,7 +296,11 @@ impl<'a, K: Item, V: Item, C: ChunkSource> Iterator for IntoValues<'a, K, V, C> 
     }
 
     #[inline]
-    fn size_hint(&self) -> (usize, Option<usize>) {
+    fn size_hint(&self) -> (usize, Option<usize>)
+        ensures lower { IsWithinCount result.0 (at_most (length self.now)) }
+        ensures upper { IfSome result.1 (UpTo (at_most (length self.now))) }
+        ensures exact { result ≡ (length self.now, Some (length self.now)) }
+    {
         self.pairs.size_hint()
     }
 }

@@ -1,7 +1,8 @@
 // A range of a vector on its way out.
-ghost use Rattle.std.specs.Prelude.{◌≡◌, ℕ, ◌+◌, ◌-◌, ◌*◌, ◌^◌, ◌≤◌};
+ghost use Rattle.std.specs.Prelude.{◌≡◌, ℕ, ◌+◌, ◌-◌, ◌*◌, ◌^◌, ◌≤◌, Some, IfSome, length};
 ghost use Rattle.std.specs.List.{remove_range};
-ghost use Rattle.std.specs.Iterator.{YieldsFirst, YieldsLast, item_count};
+ghost use Rattle.std.specs.Iterator.{YieldsFirst, YieldsLast, UpTo, at_most, item_count};
+ghost use Rattle.std.specs.Iterator.SizeHint.{IsWithinCount};
 ghost use Rattle.arena_vec.specs.Vecs.{IsVecIn, vec_list};
 ghost use Rattle.arena_vec.specs.Rows.{window};
 ghost use Rattle.arena_vec.specs.Changes.{Becomes};
@@ -94,7 +95,11 @@ impl<'s, T: Item, C: ChunkSource> Iterator for Drain<'s, T, C> {
         Some(item)
     }
 
-    fn size_hint(&self) -> (usize, Option<usize>) {
+    fn size_hint(&self) -> (usize, Option<usize>)
+        ensures lower { IsWithinCount result.0 (at_most (length (left T.Item self.now))) }
+        ensures upper { IfSome result.1 (UpTo (at_most (length (left T.Item self.now)))) }
+        ensures exact { let n = length (left T.Item self.now) in result ≡ (n, Some n) }
+    {
         let left = self.back.saturating_sub(self.front) as usize;
         (left, Some(left))
     }

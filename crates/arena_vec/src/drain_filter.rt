@@ -1,7 +1,8 @@
 // A vector of which a test picks the values that go.
-ghost use Rattle.std.specs.Prelude.{◌≡◌, ℕ, List, ◌-◌, ◌*◌, ◌^◌, ◌≤◌, [], ◌∷◌, ◌++◌, drop, IsTrue};
+ghost use Rattle.std.specs.Prelude.{◌≡◌, ℕ, List, ◌-◌, ◌*◌, ◌^◌, ◌≤◌, [], ◌∷◌, ◌++◌, drop, IsTrue, Some, IfSome};
 ghost use Rattle.std.specs.Fn.{CalledAtMut};
-ghost use Rattle.std.specs.Iterator.{at_most};
+ghost use Rattle.std.specs.Iterator.{UpTo, at_most};
+ghost use Rattle.std.specs.Iterator.SizeHint.{IsWithinCount};
 ghost use Rattle.arena_chunks.specs.Memory.{is_readable};
 ghost use Rattle.arena_chunks.specs.Frame.{Frame};
 ghost use Rattle.arena_items.specs.Values.{bytes_of, elements};
@@ -135,7 +136,11 @@ impl<'s, T: Item, C: ChunkSource, F: FnMut(&mut T) -> bool + Drop> Iterator
         None
     }
 
-    fn size_hint(&self) -> (usize, Option<usize>) {
+    fn size_hint(&self) -> (usize, Option<usize>)
+        ensures lower { IsWithinCount result.0 (at_most (self.now.vec.now.raw.len - self.now.front)) }
+        ensures upper { IfSome result.1 (UpTo (at_most (self.now.vec.now.raw.len - self.now.front))) }
+        ensures exact { result ≡ (0, Some (self.now.vec.now.raw.len - self.now.front)) }
+    {
         (
             0,
             Some(self.vec.raw.len.saturating_sub(self.front) as usize),

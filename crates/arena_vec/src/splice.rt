@@ -1,7 +1,8 @@
 // A range of a vector on its way out, in whose place an iterator's items come.
-ghost use Rattle.std.specs.Prelude.{◌≡◌, ℕ, ◌+◌, ◌-◌, ◌*◌, ◌^◌, ◌<◌, ◌≤◌, true, false, IfNone, IfSome, OnSome};
+ghost use Rattle.std.specs.Prelude.{◌≡◌, ℕ, ◌+◌, ◌-◌, ◌*◌, ◌^◌, ◌<◌, ◌≤◌, true, false, IfNone, IfSome, OnSome, Some, length};
 ghost use Rattle.std.specs.List.{replace_range};
-ghost use Rattle.std.specs.Iterator.{IsFinite, YieldsFirst, YieldsLast, item_count};
+ghost use Rattle.std.specs.Iterator.{IsFinite, YieldsFirst, YieldsLast, UpTo, at_most, item_count};
+ghost use Rattle.std.specs.Iterator.SizeHint.{IsWithinCount};
 ghost use Rattle.arena_chunks.specs.Frame.{AreBlocksApart};
 ghost use Rattle.arena_vec.specs.Growth.{amortised_growth};
 ghost use Rattle.arena_vec.specs.Vecs.{IsVecIn, vec_list};
@@ -323,7 +324,11 @@ impl<'s, T: Item, C: ChunkSource, I: Iterator<Item = T> + Drop> Iterator for Spl
         Some(item)
     }
 
-    fn size_hint(&self) -> (usize, Option<usize>) {
+    fn size_hint(&self) -> (usize, Option<usize>)
+        ensures lower { IsWithinCount result.0 (at_most (length (left_of T.Item self.now))) }
+        ensures upper { IfSome result.1 (UpTo (at_most (length (left_of T.Item self.now)))) }
+        ensures exact { let n = length (left_of T.Item self.now) in result ≡ (n, Some n) }
+    {
         let left = self.back.saturating_sub(self.front) as usize;
         (left, Some(left))
     }

@@ -1,6 +1,7 @@
 -- Branches that are copied part by part: the name, the id, and the leaves.
 use Rattle.std.proofs.Common.{List, [], ◌++◌, Ok, Err, refl}
 use Rattle.std.specs.Prelude.{Result}
+use Rattle.arena_chunks.specs.Frame.{Frame}
 use Rattle.arena_chunks.specs.Memory.{Memory}
 use Rattle.arena_chunks.specs.Source.{View}
 use Rattle.arena_chunks.specs.declared.allocator.text.Str.{Str}
@@ -11,7 +12,7 @@ use Rattle.arena_clone.specs.KindLaws.{IsLawful, text_lawful, semantic_id_lawful
 use Rattle.arena_clone.specs.Copies.{Copies}
 use Rattle.arena_clone.specs.declared.ids.CloneInSemanticIds.{CloneInSemanticIds}
 use Rattle.arena_clone.specs.declared.semantic_id.SemanticId.{SemanticId}
-use Rattle.arena_clone.proofs.Layers.{deep_stays, apart_of_none, frame_more, copies_earlier, makes_both, makes_refused, second_refused}
+use Rattle.arena_clone.proofs.Layers.{placed_stays, apart_of_none, frame_more, copies_earlier, makes_both, makes_refused, second_refused}
 use Rattle.example_clone.specs.Branches.{inside_of, branch_of}
 use Rattle.example_clone.specs.declared.branches.Branch.{Branch}
 
@@ -20,9 +21,7 @@ module _ {L : Type 0} (leaves : Kind (Vec L)) (ids : CloneInSemanticIds) (source
   -- Where the name is refused, so is the branch,
   pub name_refused : (e : AllocError) → Copies text ids source old new b.name (Err e)
       → Copies (branch_of leaves) ids source old new b (Err e)
-  name_refused e name = makes_refused text (branch_of leaves) (text.by_ids ids (text.whole source b.name))
-      ((branch_of leaves).by_ids ids ((branch_of leaves).whole source b)) (text.asks source b.name)
-      ((inside_of leaves).asks source b) old new e name
+  name_refused e name = makes_refused ((inside_of leaves).asks source b) name
 
   module _ (name : Str) (id : SemanticId) (named : Copies text ids source old first b.name (Ok name))
       (known : Copies semantic_id ids source first second b.id (Ok id)) where
@@ -30,28 +29,26 @@ module _ {L : Type 0} (leaves : Kind (Vec L)) (ids : CloneInSemanticIds) (source
     pub leaves_refused : (e : AllocError) → Copies leaves ids source second new b.leaves (Err e)
         → Copies (branch_of leaves) ids source old new b (Err e)
     leaves_refused e rest =
-        second_refused text (inside_of leaves) (λ b. b.name) (λ b. b) text_lawful _ _ _ _ old first new name named e
-        (second_refused semantic_id leaves (λ b. b.id) (λ b. b.leaves) semantic_id_lawful _ _ _ _ first second new id known e rest)
+        second_refused text (inside_of leaves) (λ b. b.name) (λ b. b) text_lawful named
+        (second_refused semantic_id leaves (λ b. b.id) (λ b. b.leaves) semantic_id_lawful known rest)
 
     -- Where nothing is refused the branch has the copies.
     pub branch_made : (list : Vec L) → Copies leaves ids source second new b.leaves (Ok list)
         → Copies (branch_of leaves) ids source old new b (Ok (record { name = name; id = id; leaves = list }))
     branch_made list rest =
-        let w : Branch L = record { name = name; id = id; leaves = list } in
-        makes_both text (inside_of leaves) (λ b. b.name) (λ b. b) text_lawful _ _ _ _ old first new name named w w refl refl
-        (makes_both semantic_id leaves (λ b. b.id) (λ b. b.leaves) semantic_id_lawful _ _ _ _ first second new id known list w refl refl
-        rest)
+        makes_both text (inside_of leaves) (λ b. b.name) (λ b. b) text_lawful named refl refl
+        (makes_both semantic_id leaves (λ b. b.id) (λ b. b.leaves) semantic_id_lawful known refl refl rest)
 
 -- In one arena the leaves are as they were once the name and the id were copied.
 module _ {L : Type 0} (leaves : Kind (Vec L)) (are : IsLawful leaves) (ids : CloneInSemanticIds) (b : Branch L)
     (old first second new : View) (name : Str) (id : SemanticId) (named : Copies text ids old.memory old first b.name (Ok name))
     (known : Copies semantic_id ids old.memory first second b.id (Ok id)) (held : leaves.is_held old.memory b.leaves) where
+  placed : Frame old.memory second.memory [] (named.blocks ++ known.blocks)
+  placed = frame_more old.memory first.memory second.memory named.blocks known.blocks named.placed.frame known.placed.frame
+
   pub leaves_held : leaves.is_held second.memory b.leaves
-  leaves_held = (deep_stays leaves are old.memory second.memory [] (named.blocks ++ known.blocks)
-      (frame_more old.memory first.memory second.memory named.blocks known.blocks named.placed.frame known.placed.frame) b.leaves held
-      (apart_of_none (leaves.deep old.memory b.leaves))).held
+  leaves_held = (placed_stays are b.leaves placed held).held
 
   pub leaves_copied : (result : Result (Vec L) AllocError) → Copies leaves ids second.memory second new b.leaves result
       → Copies leaves ids old.memory second new b.leaves result
-  leaves_copied result = copies_earlier leaves are ids old.memory second.memory second new (named.blocks ++ known.blocks) b.leaves result
-      (frame_more old.memory first.memory second.memory named.blocks known.blocks named.placed.frame known.placed.frame) held
+  leaves_copied result = copies_earlier are placed ids b.leaves held (apart_of_none (leaves.deep old.memory b.leaves))

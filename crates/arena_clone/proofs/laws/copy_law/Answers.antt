@@ -1,16 +1,13 @@
-use Rattle.std.proofs.Common.{[]}
-use Rattle.arena_clone.proofs.CopyLemmas.{deep_stays, made_stays, apart_of_none, beside_new}
+use Rattle.arena_clone.proofs.CopyLemmas.{placed_stays, made_stays, beside_new}
 use Rattle.arena_clone.proofs.LawLemmas.{all_turned}
 use Rattle.arena_clone.proofs.laws.copy_law.Goals as goal
 
 pub returns-clause-copy : goal.returns-clause-copy
 returns-clause-copy g c = λ new later blocks before after meaning w made frame apart.
-    made_stays g.T.CloneIn.kind g.met.T.CloneIn.lawful new later before after frame meaning blocks w made apart
+    made_stays g.met.T.CloneIn.lawful frame made apart
 
 pub returns-clause-source : goal.returns-clause-source
-returns-clause-source g c = λ old new blocks v frame held.
-    let kind = g.T.CloneIn.kind in
-    deep_stays kind g.met.T.CloneIn.lawful old new [] blocks frame v held (apart_of_none (kind.deep old v))
+returns-clause-source g c = λ old new blocks v frame held. placed_stays g.met.T.CloneIn.lawful v frame held
 
 pub returns-clause-apart : goal.returns-clause-apart
 returns-clause-apart g c = λ old new blocks v frame held.

@@ -2,5 +2,4 @@ use Rattle.arena_clone.proofs.CopyLemmas.{deep_stays}
 use Rattle.arena_clone.proofs.laws.deep_frame_law.Goals as goal
 
 pub returns : goal.returns
-returns g c = λ old new before after v frame held apart.
-    deep_stays g.T.CloneIn.kind g.met.T.CloneIn.lawful old new before after frame v held apart
+returns g c = λ old new before after v frame held apart. deep_stays g.met.T.CloneIn.lawful frame v held apart

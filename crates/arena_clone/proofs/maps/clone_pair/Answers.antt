@@ -5,17 +5,15 @@ use Rattle.arena_clone.proofs.maps.clone_pair.Goals as goal
 pub returns-in_err-key : goal.returns-in_err-key
 returns-in_err-key g c =
     let p = err_from_is_err_and c.from_residual.result c.from_residual.ensures.1 in
-    rw (p.1, p.2) (first_refused g.K.CloneIn.kind g.V.CloneIn.kind g.met.K.CloneIn.lawful c.args.ids c.args.from.now.memory c.args.to.now
-    c.args.pair.now c.clone_in_impl.new.to _ c.in_err-key.ensures)
+    rw (p.1, p.2) (first_refused g.V.CloneIn.kind g.met.K.CloneIn.lawful c.args.ids c.args.from.now.memory c.args.pair.now
+    c.in_err-key.ensures)
 
 pub returns-in_err-value : goal.returns-in_err-value
 returns-in_err-value g c =
     let p = err_from_is_err_and c.from_residual-in_err-value.result c.from_residual-in_err-value.ensures.1 in
-    rw (p.1, p.2) (second_refused g.K.CloneIn.kind g.V.CloneIn.kind g.met.K.CloneIn.lawful c.args.ids c.args.from.now.memory
-    c.args.to.now c.args.pair.now c.clone_in_impl.new.to c.clone_in_impl-2.new.to c.in_ok-key.key c.in_ok-key.ensures _
-    c.in_err-value.ensures)
+    rw (p.1, p.2) (second_refused g.V.CloneIn.kind g.met.K.CloneIn.lawful c.args.ids c.args.from.now.memory c.args.pair.now
+    c.in_ok-key.ensures c.in_err-value.ensures)
 
 pub returns : goal.returns
-returns g c =
-    both_copied g.K.CloneIn.kind g.V.CloneIn.kind g.met.K.CloneIn.lawful c.args.ids c.args.from.now.memory c.args.to.now c.args.pair.now
-    c.clone_in_impl.new.to c.clone_in_impl-2.new.to c.in_ok-key.key c.in_ok-key.ensures c.in_ok-value.value c.in_ok-value.ensures
+returns g c = both_copied g.V.CloneIn.kind g.met.K.CloneIn.lawful c.args.ids c.args.from.now.memory c.args.pair.now c.in_ok-key.ensures
+    c.in_ok-value.ensures

@@ -1,33 +1,26 @@
 use Rattle.std.proofs.lemmas.Result.{err_from_is_err_and}
 use Rattle.arena_clone.proofs.PairLemmas.{first_refused, second_refused, both_copied}
-use Rattle.arena_clone.proofs.BothLemmas.{copies_earlier}
-use Rattle.arena_clone.proofs.WithinLemmas.{placed_stays}
+use Rattle.arena_clone.proofs.CopyLemmas.{placed_stays, copies_placed}
 use Rattle.arena_clone.proofs.maps.clone_pair_within.Goals as goal
 
 pub returns-in_err-key : goal.returns-in_err-key
 returns-in_err-key g c =
     let p = err_from_is_err_and c.from_residual.result c.from_residual.ensures.1 in
-    rw (p.1, p.2) (first_refused g.K.CloneIn.kind g.V.CloneIn.kind g.met.K.CloneIn.lawful c.args.ids c.args.a.now.memory c.args.a.now
-    c.args.pair.now c.clone_within.new.a _ c.in_err-key.ensures)
+    rw (p.1, p.2) (first_refused g.V.CloneIn.kind g.met.K.CloneIn.lawful c.args.ids c.args.a.now.memory c.args.pair.now
+    c.in_err-key.ensures)
 
 pub clone_within-requires-2-clause-held : goal.clone_within-requires-2-clause-held
 clone_within-requires-2-clause-held g c =
-    (placed_stays g.V.CloneIn.kind g.met.V.CloneIn.lawful c.args.a.now c.clone_within.new.a c.in_ok-key.ensures.blocks c.args.pair.now.1
-    c.in_ok-key.ensures.placed.frame c.requires.held.1).held
+    (placed_stays g.met.V.CloneIn.lawful c.args.pair.now.1 c.in_ok-key.ensures.placed.frame c.requires.held.1).held
 
 pub returns-in_err-value : goal.returns-in_err-value
 returns-in_err-value g c =
     let p = err_from_is_err_and c.from_residual-in_err-value.result c.from_residual-in_err-value.ensures.1 in
-    rw (p.1, p.2) (second_refused g.K.CloneIn.kind g.V.CloneIn.kind g.met.K.CloneIn.lawful c.args.ids c.args.a.now.memory
-    c.args.a.now c.args.pair.now c.clone_within.new.a c.clone_within-2.new.a c.in_ok-key.key c.in_ok-key.ensures _
-    (copies_earlier g.V.CloneIn.kind g.met.V.CloneIn.lawful c.args.ids c.args.a.now.memory c.clone_within.new.a.memory
-    c.clone_within.new.a c.clone_within-2.new.a
-    c.in_ok-key.ensures.blocks c.args.pair.now.1 _ c.in_ok-key.ensures.placed.frame c.requires.held.1 c.in_err-value.ensures))
+    rw (p.1, p.2) (second_refused g.V.CloneIn.kind g.met.K.CloneIn.lawful c.args.ids c.args.a.now.memory c.args.pair.now
+    c.in_ok-key.ensures (copies_placed g.met.V.CloneIn.lawful c.in_ok-key.ensures.placed.frame c.args.ids c.args.pair.now.1
+    c.requires.held.1 c.in_err-value.ensures))
 
 pub returns : goal.returns
-returns g c =
-    both_copied g.K.CloneIn.kind g.V.CloneIn.kind g.met.K.CloneIn.lawful c.args.ids c.args.a.now.memory c.args.a.now c.args.pair.now
-    c.clone_within.new.a c.clone_within-2.new.a c.in_ok-key.key c.in_ok-key.ensures c.in_ok-value.value
-    (copies_earlier g.V.CloneIn.kind g.met.V.CloneIn.lawful c.args.ids c.args.a.now.memory c.clone_within.new.a.memory
-    c.clone_within.new.a c.clone_within-2.new.a
-    c.in_ok-key.ensures.blocks c.args.pair.now.1 _ c.in_ok-key.ensures.placed.frame c.requires.held.1 c.in_ok-value.ensures)
+returns g c = both_copied g.V.CloneIn.kind g.met.K.CloneIn.lawful c.args.ids c.args.a.now.memory c.args.pair.now c.in_ok-key.ensures
+    (copies_placed g.met.V.CloneIn.lawful c.in_ok-key.ensures.placed.frame c.args.ids c.args.pair.now.1 c.requires.held.1
+    c.in_ok-value.ensures)

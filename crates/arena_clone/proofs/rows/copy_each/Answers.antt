@@ -6,8 +6,7 @@ use Rattle.arena_clone.proofs.RowLemmas.{all_at, first_none, first_more, first_r
 use Rattle.arena_clone.proofs.rows.copy_each.Goals as goal
 
 pub loop-i-init : goal.loop-i-init
-loop-i-init g c =
-    first_none g.T.Item g.T.CloneIn.kind g.met.T.CloneIn.lawful c.args.ids c.args.from.now.memory c.args.to.now c.args.row.target
+loop-i-init g c = first_none g.T.Item g.met.T.CloneIn.lawful
     (elements g.T.Item.SIZE g.T.Item.decoded c.args.row.count (bytes_of c.args.from.now.memory c.args.row.source)) c.requires.target
 
 pub clone_in_impl-requires-clause-held : goal.clone_in_impl-requires-clause-held
@@ -18,21 +17,18 @@ pub returns-in_err-copy : goal.returns-in_err-copy
 returns-in_err-copy g c =
     let xs = elements g.T.Item.SIZE g.T.Item.decoded c.args.row.count (bytes_of c.args.from.now.memory c.args.row.source) in
     let p = err_from_is_err_and c.from_residual.result c.from_residual.ensures.1 in
-    rw (p.1, p.2) (first_refused g.T.Item g.T.CloneIn.kind g.met.T.CloneIn.lawful c.args.ids c.args.from.now.memory c.args.to.now
-    c.args.row.target xs c.loop-i.to c.clone_in_impl.new.to c.loop-i.i c.item_at-value.result _ _
-    (c.item_at-value.ensures c.args.row.count (omega arith)) c.loop-i.invariant c.in_err-copy.ensures)
+    rw (p.1, p.2) (first_refused g.T.Item g.met.T.CloneIn.lawful xs c.loop-i.i c.loop-i.invariant
+    (c.item_at-value.ensures c.args.row.count (omega arith)) c.in_err-copy.ensures)
 
 pub loop-i-preserved : goal.loop-i-preserved
 loop-i-preserved g c =
     let xs = elements g.T.Item.SIZE g.T.Item.decoded c.args.row.count (bytes_of c.args.from.now.memory c.args.row.source) in
     let put = c.put_item.ensures in
-    first_more g.T.Item g.T.CloneIn.kind g.met.T.CloneIn.lawful c.args.ids c.args.from.now.memory c.args.to.now c.args.row.target xs
-    c.loop-i.to c.clone_in_impl.new.to c.put_item.new.a c.loop-i.i _ c.item_at-value.result c.in_ok-copy.copy _
-    (c.item_at-value.ensures c.args.row.count (omega arith)) c.loop-i.invariant c.in_ok-copy.ensures put.writes put.source put.push
+    first_more g.T.Item g.met.T.CloneIn.lawful xs c.loop-i.i c.loop-i.invariant
+    (c.item_at-value.ensures c.args.row.count (omega arith)) c.in_ok-copy.ensures put.writes put.source put.push
 
 pub returns : goal.returns
 returns g c =
     let xs = elements g.T.Item.SIZE g.T.Item.decoded c.args.row.count (bytes_of c.args.from.now.memory c.args.row.source) in
     let long = length-elements g.T.Item.SIZE g.T.Item.decoded c.args.row.count (bytes_of c.args.from.now.memory c.args.row.source) in
-    first_all g.T.Item g.T.CloneIn.kind g.met.T.CloneIn.lawful c.args.ids c.args.from.now.memory c.args.to.now c.args.row.target xs
-    c.loop-i.to c.loop-i.i c.args.row.count (omega arith) (omega (arith, long)) c.loop-i.invariant
+    first_all g.T.Item g.met.T.CloneIn.lawful xs c.loop-i.i c.args.row.count (omega arith) (omega (arith, long)) c.loop-i.invariant

@@ -20,6 +20,8 @@ slots-init g c =
     let m = c.args.a.now.memory in
     let shape = handle-shape g.K.Item g.V.Item m c.args.table c.requires.keys_small c.requires.values_small c.requires.handle some in
     record {
+      some = some;
+      shape = shape;
       seeking = seeking-start g.K.Item g.V.Item c.args.table.slots (bytes_of m c.args.table.block) c.args.hash some shape c.ring-at.result
           c.home_mark-mark.result
           c.ring-at.ensures c.home_mark-mark.ensures;
@@ -30,74 +32,62 @@ slots-init g c =
 
 pub bounds-bytes-at : goal.bounds-bytes-at
 bounds-bytes-at g c =
-    let some : 0 < c.args.table.slots = omega (arith, c.requires.free) in
-    let shape = handle-shape g.K.Item g.V.Item c.args.a.now.memory c.args.table c.requires.keys_small c.requires.values_small
-    c.requires.handle some in
-    rw c.read-bytes.ensures (omega (arith, shape.long, c.slots.invariant.seeking.within))
+    rw c.read-bytes.ensures (omega (arith, c.slots.invariant.shape.long, c.slots.invariant.seeking.within))
 
 pub key_at-requires-clause-shape : goal.key_at-requires-clause-shape
-key_at-requires-clause-shape g c =
-    let some : 0 < c.args.table.slots = omega (arith, c.requires.free) in
-    rw c.read-bytes.ensures
-    (handle-shape g.K.Item g.V.Item c.args.a.now.memory c.args.table c.requires.keys_small c.requires.values_small c.requires.handle some)
+key_at-requires-clause-shape g c = rw c.read-bytes.ensures c.slots.invariant.shape
 
 pub holds-requires : goal.holds-requires
 holds-requires g c =
-    let some : 0 < c.args.table.slots = omega (arith, c.requires.free) in
     let m = c.args.a.now.memory in
-    let shape = handle-shape g.K.Item g.V.Item m c.args.table c.requires.keys_small c.requires.values_small c.requires.handle some in
     let is = rw c.read-bytes.ensures at c.if-found-mark.true in
-    let s = c.slots.invariant.seeking in
-    let x = slot-taken g.K.Item g.V.Item c.args.table.slots (bytes_of m c.args.table.block) shape c.slots.at s.within
-    (omega (arith, is, s.mark_is, mark-some c.args.hash c.slots.counter)) in
+    let s = c.slots.invariant in
+    let x = slot-taken g.K.Item g.V.Item c.args.table.slots (bytes_of m c.args.table.block) s.shape c.slots.at s.seeking.within
+    (omega (arith, is, s.seeking.mark_is, mark-some c.args.hash c.slots.counter)) in
     let key = (rw c.read-bytes.ensures at c.key_at.ensures) x.0 x.1 in
     subst (λ k. IsTrue (is_readable m.state (g.K.ArenaKey.key.text k))) (sym key) (c.requires.texts x.0 (c.slots.at, x.1))
 
 pub returns-then-holds : goal.returns-then-holds
 returns-then-holds g c = λ h table same.
-    let some : 0 < c.args.table.slots = omega (arith, c.requires.free) in
     let m = c.args.a.now.memory in
-    let shape = handle-shape g.K.Item g.V.Item m c.args.table c.requires.keys_small c.requires.values_small c.requires.handle some in
     let is = rw c.read-bytes.ensures at c.if-found-mark.true in
-    let s = c.slots.invariant.seeking in
-    let x = slot-taken g.K.Item g.V.Item c.args.table.slots (bytes_of m c.args.table.block) shape c.slots.at s.within
-    (omega (arith, is, s.mark_is, mark-some c.args.hash c.slots.counter)) in
+    let s = c.slots.invariant in
+    let x = slot-taken g.K.Item g.V.Item c.args.table.slots (bytes_of m c.args.table.block) s.shape c.slots.at s.seeking.within
+    (omega (arith, is, s.seeking.mark_is, mark-some c.args.hash c.slots.counter)) in
     let key = (rw c.read-bytes.ensures at c.key_at.ensures) x.0 x.1 in
     (x.0, x.1, ap (content_in g.K.ArenaKey.key m) (sym key) ∙ c.holds.ensures.0 c.if-holds.true)
 
 pub returns-then-found-least : goal.returns-then-found-least
 returns-then-found-least g c = λ h table same.
-    let some : 0 < c.args.table.slots = omega (arith, c.requires.free) in
     let m = c.args.a.now.memory in
-    let shape = handle-shape g.K.Item g.V.Item m c.args.table c.requires.keys_small c.requires.values_small c.requires.handle some in
     let low = rw (c.read-bytes.ensures, c.least.ensures) at c.if-found-least.true in
     let s = c.slots.invariant in
     let n : ℕ = c.args.table.slots in (
-      seeking-lacks g.K.Item g.V.Item n (bytes_of m c.args.table.block) c.args.hash some shape c.slots.counter c.slots.at c.slots.mark
+      seeking-lacks g.K.Item g.V.Item n (bytes_of m c.args.table.block) c.args.hash s.some s.shape c.slots.counter c.slots.at c.slots.mark
           (omega arith) s.seeking
           (λ p. h (content_in g.K.ArenaKey.key m p.0)) table low (λ p. content_in g.K.ArenaKey.key m p.0) c.args.wanted.now
           (λ j x t e. ap h e ∙ same)
           (s.passed h table same),
-      λ more. seeking-spot g.K.Item g.V.Item n (bytes_of m c.args.table.block) c.args.hash some shape c.slots.counter c.slots.at
+      λ more. seeking-spot g.K.Item g.V.Item n (bytes_of m c.args.table.block) c.args.hash s.some s.shape c.slots.counter c.slots.at
           c.slots.mark (omega arith) s.seeking
           (λ p. h (content_in g.K.ArenaKey.key m p.0)) table low,
     )
 
 pub slots-preserved : goal.slots-preserved
 slots-preserved g c =
-    let some : 0 < c.args.table.slots = omega (arith, c.requires.free) in
     let m = c.args.a.now.memory in
     let n : ℕ = c.args.table.slots in
-    let shape = handle-shape g.K.Item g.V.Item m c.args.table c.requires.keys_small c.requires.values_small c.requires.handle some in
     let high = rw (c.read-bytes.ensures, c.least.ensures) at c.if-found-least.false in
     let s = c.slots.invariant in
     record {
-      seeking = seeking-on g.K.Item g.V.Item n (bytes_of m c.args.table.block) c.args.hash some shape c.slots.counter c.slots.at
+      some = s.some;
+      shape = s.shape;
+      seeking = seeking-on g.K.Item g.V.Item n (bytes_of m c.args.table.block) c.args.hash s.some s.shape c.slots.counter c.slots.at
           c.slots.mark (omega arith) s.seeking
           c.ring-at-in-slots.result c.farther-mark.result high c.ring-at-in-slots.ensures
           (c.farther-mark.ensures c.args.hash c.slots.counter s.seeking.mark_is);
       passed = λ h table same.
-          seeking-other g.K.Item g.V.Item n (bytes_of m c.args.table.block) c.args.hash some shape c.slots.counter c.slots.at c.slots.mark
+          seeking-other g.K.Item g.V.Item n (bytes_of m c.args.table.block) c.args.hash s.some s.shape c.slots.counter c.slots.at c.slots.mark
           (omega arith) s.seeking
           high (λ p. h (content_in g.K.ArenaKey.key m p.0)) table (λ p. content_in g.K.ArenaKey.key m p.0) c.args.wanted.now
           (λ x e. ap h e ∙ same)
@@ -112,12 +102,11 @@ slots-preserved g c =
 
 pub returns : goal.returns
 returns g c = λ h table same.
-    let some : 0 < c.args.table.slots = omega (arith, c.requires.free) in
     let m = c.args.a.now.memory in
-    let shape = handle-shape g.K.Item g.V.Item m c.args.table c.requires.keys_small c.requires.values_small c.requires.handle some in
+    let s = c.slots.invariant in
     absurd (omega (
       arith,
-      seeking-less g.K.Item g.V.Item c.args.table.slots (bytes_of m c.args.table.block) c.args.hash some shape c.slots.counter c.slots.at
+      seeking-less g.K.Item g.V.Item c.args.table.slots (bytes_of m c.args.table.block) c.args.hash s.some s.shape c.slots.counter c.slots.at
           c.slots.mark
-          c.slots.invariant.seeking (λ p. h (content_in g.K.ArenaKey.key m p.0)) table c.requires.free,
+          s.seeking (λ p. h (content_in g.K.ArenaKey.key m p.0)) table c.requires.free,
     ))

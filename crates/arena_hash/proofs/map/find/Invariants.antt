@@ -1,13 +1,15 @@
-use Rattle.std.proofs.Common.{◌≡◌, ℕ, List}
+use Rattle.std.proofs.Common.{◌≡◌, ◌<◌, ℕ, List}
 use Rattle.arena_items.specs.Values.{bytes_of}
 use Rattle.arena_hash.specs.Contents.{content_in}
-use Rattle.arena_hash.specs.Tables.{home_of, slots_in, IsTable}
+use Rattle.arena_hash.specs.Tables.{home_of, slots_in, IsShape, IsTable}
 use Rattle.arena_hash.proofs.Find.{Passed}
 use Rattle.arena_hash.proofs.SearchLemmas.{Seeking}
 use Rattle.arena_hash.proofs.map.find.Given as goal
 
 abbrev pub invariant-slots : goal.invariant-slots
 invariant-slots g l = record {
+  some : 0 < l.table.slots;
+  shape : IsShape g.K.Item g.V.Item l.table.slots (bytes_of l.a.memory l.table.block);
   seeking : Seeking g.K.Item g.V.Item l.table.slots (bytes_of l.a.memory l.table.block) l.hash l.counter l.at l.mark;
   passed : (h : List ℕ → ℕ)
       → IsTable g.K.Item g.V.Item (λ p. h (content_in g.K.ArenaKey.key l.a.memory p.0)) l.table.slots (bytes_of l.a.memory l.table.block)

@@ -10,6 +10,8 @@ abbrev pub invariant-slots : goal.invariant-slots
 invariant-slots g l =
     let k = kind g.K.Item g.K.ArenaKey.key g.V.Item g.S.KeyHasher.hash_of in
     record {
+      some : 0 < l.table.slots;
+      begun : l.at < l.table.slots;
       held : IsTableIn k l.a.memory l.hasher l.table;
       closing : Closing (λ p. home_of l.table.slots (pair_hash k l.a.memory l.hasher p)) l.table.slots l.at
           (slots_in g.K.Item g.V.Item l.fn.a.memory l.table) l.counter

@@ -1,7 +1,6 @@
 use Rattle.std.proofs.Common.{[], ◌∷◌}
 use Rattle.std.proofs.lemmas.Result.{err_from_is_err_and}
 use Rattle.arena_clone.specs.Asks.Ask.{Room}
-use Rattle.arena_clone.specs.Kinds.{box_of}
 use Rattle.arena_clone.proofs.CopyLemmas.{makes_refused}
 use Rattle.arena_clone.proofs.BoxLemmas.{makes_box}
 use Rattle.arena_clone.proofs.boxes.BoxCloneIn.clone_in_impl.Goals as goal
@@ -9,11 +8,7 @@ use Rattle.arena_clone.proofs.boxes.BoxCloneIn.clone_in_impl.Goals as goal
 pub returns-in_err-value : goal.returns-in_err-value
 returns-in_err-value g c =
     let p = err_from_is_err_and c.from_residual.result c.from_residual.ensures.1 in
-    rw (p.1, p.2, ← c.get.ensures) (makes_refused g.T.CloneIn.kind (box_of g.T.Item g.T.CloneIn.kind) _ _ _
-    (Room g.T.Item.SIZE g.T.Item.ALIGN ∷ []) c.args.to.now c.clone_in_impl.new.to _ c.in_err-value.ensures)
+    rw (p.1, p.2, ← c.get.ensures) (makes_refused (Room g.T.Item.SIZE g.T.Item.ALIGN ∷ []) c.in_err-value.ensures)
 
 pub returns : goal.returns
-returns g c =
-    rw (← c.get.ensures) (makes_box g.T.Item g.T.CloneIn.kind g.met.T.CloneIn.lawful _ _ c.args.to.now c.clone_in_impl.new.to
-    c.place_box.new.a
-    c.in_ok-value.value c.place_box.result c.in_ok-value.ensures c.place_box.ensures)
+returns g c = rw (← c.get.ensures) (makes_box g.met.T.CloneIn.lawful c.in_ok-value.ensures c.place_box.result c.place_box.ensures)

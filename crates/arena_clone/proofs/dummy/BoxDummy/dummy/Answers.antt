@@ -1,7 +1,6 @@
 use Rattle.std.proofs.Common.{[], ◌∷◌}
 use Rattle.std.proofs.lemmas.Result.{err_from_is_err_and}
 use Rattle.arena_clone.specs.Asks.Ask.{Room}
-use Rattle.arena_clone.specs.Kinds.{box_of}
 use Rattle.arena_clone.proofs.CopyLemmas.{makes_refused}
 use Rattle.arena_clone.proofs.BoxLemmas.{makes_box}
 use Rattle.arena_clone.proofs.dummy.BoxDummy.dummy.Goals as goal
@@ -9,10 +8,7 @@ use Rattle.arena_clone.proofs.dummy.BoxDummy.dummy.Goals as goal
 pub returns-in_err-value : goal.returns-in_err-value
 returns-in_err-value g c =
     let p = err_from_is_err_and c.from_residual.result c.from_residual.ensures.1 in
-    rw (p.1, p.2) (makes_refused g.T.Dummy.kind (box_of g.T.Item g.T.Dummy.kind) g.T.Dummy.meaning g.T.Dummy.meaning g.T.Dummy.asks
-    (Room g.T.Item.SIZE g.T.Item.ALIGN ∷ []) c.args.a.now c.dummy.new.a _ c.in_err-value.ensures)
+    rw (p.1, p.2) (makes_refused (Room g.T.Item.SIZE g.T.Item.ALIGN ∷ []) c.in_err-value.ensures)
 
 pub returns : goal.returns
-returns g c =
-    makes_box g.T.Item g.T.Dummy.kind g.met.T.Dummy.lawful g.T.Dummy.meaning g.T.Dummy.asks c.args.a.now c.dummy.new.a c.place_box.new.a
-    c.in_ok-value.value c.place_box.result c.in_ok-value.ensures c.place_box.ensures
+returns g c = makes_box g.met.T.Dummy.lawful c.in_ok-value.ensures c.place_box.result c.place_box.ensures

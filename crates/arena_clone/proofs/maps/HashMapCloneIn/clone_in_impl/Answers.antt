@@ -8,14 +8,10 @@ pub returns-in_err-empty : goal.returns-in_err-empty
 returns-in_err-empty g c =
     let p = err_from_is_err_and c.from_residual.result c.from_residual.ensures.1 in
     rw (p.1, p.2) (map_refused (kind g.K.Item g.K.ArenaKey.key g.V.Item g.S.KeyHasher.hash_of) g.K.CloneIn.kind g.V.CloneIn.kind
-    c.args.ids c.args.from.now.memory c.args.to.now
-    c.args.self.now (omega (arith, c.requires.held.0.within))
-    c.with_capacity_and_hasher_in.new.a _ c.in_err-empty.ensures.placed)
+    c.args.ids c.args.from.now.memory c.args.self.now (omega (arith, c.requires.held.0.within)) c.in_err-empty.ensures.placed)
 
 pub put_pairs-requires-clause-empty : goal.put_pairs-requires-clause-empty
-put_pairs-requires-clause-empty g c =
-    table_empty (kind g.K.Item g.K.ArenaKey.key g.V.Item g.S.KeyHasher.hash_of) c.args.to.now c.with_capacity_and_hasher_in.new.a
-    c.args.from.now.memory c.args.self.now.len c.in_ok-empty.empty c.in_ok-empty.ensures.placed
+put_pairs-requires-clause-empty g c = table_empty c.in_ok-empty.ensures.placed
 
 pub put_pairs-requires-clause-room : goal.put_pairs-requires-clause-room
 put_pairs-requires-clause-room g c = c.in_ok-empty.ensures.placed.spare
@@ -24,14 +20,11 @@ pub returns-in_err-copy : goal.returns-in_err-copy
 returns-in_err-copy g c =
     let p = err_from_is_err_and c.from_residual-in_err-copy.result c.from_residual-in_err-copy.ensures.1 in
     rw (p.1, p.2) (map_pair_refused (kind g.K.Item g.K.ArenaKey.key g.V.Item g.S.KeyHasher.hash_of) g.K.CloneIn.kind g.V.CloneIn.kind
-    c.args.ids c.args.from.now.memory c.args.to.now
-    c.args.self.now (omega (arith, c.requires.held.0.within))
-    c.with_capacity_and_hasher_in.new.a c.put_pairs.new.to c.in_ok-empty.empty c.in_ok-empty.ensures.placed _ c.in_err-copy.ensures)
+    c.args.ids c.args.from.now.memory c.args.self.now (omega (arith, c.requires.held.0.within)) c.in_ok-empty.ensures.placed
+    c.in_err-copy.ensures)
 
 pub returns : goal.returns
 returns g c =
     map_made (kind g.K.Item g.K.ArenaKey.key g.V.Item g.S.KeyHasher.hash_of) g.K.CloneIn.kind g.V.CloneIn.kind c.args.ids
-    c.args.from.now.memory c.args.to.now
-    c.args.self.now (omega (arith, c.requires.held.0.within))
-    c.with_capacity_and_hasher_in.new.a c.put_pairs.new.to c.in_ok-empty.empty c.in_ok-empty.ensures.placed c.in_ok-copy.copy
-    c.requires.held.0 c.in_ok-copy.ensures
+    c.args.from.now.memory c.args.self.now (omega (arith, c.requires.held.0.within)) c.in_ok-empty.ensures.placed c.requires.held.0
+    c.in_ok-copy.ensures

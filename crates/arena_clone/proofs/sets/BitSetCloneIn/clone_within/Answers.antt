@@ -2,7 +2,6 @@ use Rattle.std.proofs.Common.{◌≡◌, ◌*◌, ap, ◌∙◌}
 use Rattle.std.proofs.lemmas.Result.{err_from_is_err_and}
 use Rattle.arena_items.specs.Layout.IsAlign.{eight}
 use Rattle.arena_bits.specs.Bits.{words_for}
-use Rattle.arena_clone.specs.Kinds.{bit_set}
 use Rattle.arena_clone.proofs.LayoutLemmas.{readable_layout}
 use Rattle.arena_clone.proofs.CopyLemmas.{one_refused}
 use Rattle.arena_clone.proofs.sets.BitSetCloneIn.clone_within.Goals as goal
@@ -16,6 +15,4 @@ returns-in_err-block g c =
     let p = err_from_is_err_and c.from_residual.result c.from_residual.ensures.1 in
     let size : c.args.self.now.words.block.size ≡ words_for c.args.self.now.capacity * 8 =
     c.requires.held.place.of_size ∙ ap (λ n. n * 8) c.requires.held.count in
-    rw (p.1, p.2, ← size) (one_refused bit_set (bit_set.whole c.args.a.now.memory c.args.self.now)
-    (λ b. b) c.args.self.now.words.block.size 8 c.args.a.now c.place_copy_within.new.a _
-    c.in_err-block.ensures.placed)
+    rw (p.1, p.2, ← size) (one_refused (λ b. b) c.in_err-block.ensures.placed)

@@ -19,17 +19,16 @@ place-requires g c =
 pub returns-in_err-target : goal.returns-in_err-target
 returns-in_err-target g c =
     let p = err_from_is_err_and c.from_residual.result c.from_residual.ensures.1 in
-    rw (p.1, p.2) (slice_refused g.T.Item g.T.CloneIn.kind c.args.ids c.args.from.now.memory c.args.to.now c.args.self.now c.place.new.a _
+    rw (p.1, p.2) (slice_refused g.T.Item g.T.CloneIn.kind c.args.ids c.args.from.now.memory c.args.self.now
     (rw (c.SIZE.ensures, c.ALIGN.ensures) at c.in_err-target.ensures))
 
 pub returns-in_err-copy_row : goal.returns-in_err-copy_row
 returns-in_err-copy_row g c =
     let p = err_from_is_err_and c.from_residual-in_err-copy_row.result c.from_residual-in_err-copy_row.ensures.1 in
-    rw (p.1, p.2) (slice_value_refused g.T.Item g.T.CloneIn.kind c.args.ids c.args.from.now.memory c.args.to.now c.args.self.now
-    c.place.new.a c.copy_row.new.to c.in_ok-target.target (rw (c.SIZE.ensures, c.ALIGN.ensures) at c.in_ok-target.ensures) _ _
-    c.in_err-copy_row.ensures)
+    rw (p.1, p.2) (slice_value_refused g.T.Item g.T.CloneIn.kind c.args.ids c.args.from.now.memory c.args.self.now
+    (rw (c.SIZE.ensures, c.ALIGN.ensures) at c.in_ok-target.ensures) c.in_err-copy_row.ensures)
 
 pub returns : goal.returns
 returns g c =
-    slice_made g.T.Item g.T.CloneIn.kind c.args.ids c.args.from.now.memory c.args.to.now c.args.self.now c.place.new.a c.copy_row.new.to
-    c.in_ok-target.target (rw (c.SIZE.ensures, c.ALIGN.ensures) at c.in_ok-target.ensures) _ _ refl refl c.in_ok-copy_row.ensures
+    slice_made g.T.Item g.T.CloneIn.kind c.args.ids c.args.from.now.memory c.args.self.now
+    (rw (c.SIZE.ensures, c.ALIGN.ensures) at c.in_ok-target.ensures) refl refl c.in_ok-copy_row.ensures

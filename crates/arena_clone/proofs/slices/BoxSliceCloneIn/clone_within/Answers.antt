@@ -19,42 +19,38 @@ place-requires g c =
 pub returns-in_err-target : goal.returns-in_err-target
 returns-in_err-target g c =
     let p = err_from_is_err_and c.from_residual.result c.from_residual.ensures.1 in
-    rw (p.1, p.2) (slice_refused g.T.Item g.T.CloneIn.kind c.args.ids c.args.a.now.memory c.args.a.now c.args.self.now c.place.new.a _
+    rw (p.1, p.2) (slice_refused g.T.Item g.T.CloneIn.kind c.args.ids c.args.a.now.memory c.args.self.now
     (rw (c.SIZE.ensures, c.ALIGN.ensures) at c.in_err-target.ensures))
 
 pub copy_row_within-requires-clause-source : goal.copy_row_within-requires-clause-source
 copy_row_within-requires-clause-source g c =
     let placed = rw (c.SIZE.ensures, c.ALIGN.ensures) at c.in_ok-target.ensures in
-    (from_stays g.T.Item g.T.CloneIn.kind g.met.T.CloneIn.lawful c.args.a.now c.place.new.a c.in_ok-target.target c.args.self.now.block
-    c.args.self.now.length placed.1.outcome.frame c.requires.held.0.readable c.requires.held.1).readable
+    (from_stays g.T.Item g.met.T.CloneIn.lawful c.args.self.now.block c.args.self.now.length placed.1.outcome.frame
+    c.requires.held.0.readable c.requires.held.1).readable
 
 pub copy_row_within-requires-clause-values : goal.copy_row_within-requires-clause-values
 copy_row_within-requires-clause-values g c =
     let placed = rw (c.SIZE.ensures, c.ALIGN.ensures) at c.in_ok-target.ensures in
-    row_held g.T.Item g.T.CloneIn.kind g.met.T.CloneIn.lawful c.args.a.now c.place.new.a c.in_ok-target.target c.args.self.now.block
-    c.args.self.now.length placed.1.outcome.frame c.requires.held.0.readable c.requires.held.1
+    row_held g.T.Item g.met.T.CloneIn.lawful c.args.self.now.block c.args.self.now.length placed.1.outcome.frame
+    c.requires.held.0.readable c.requires.held.1
 
 pub copy_row_within-requires-clause-apart : goal.copy_row_within-requires-clause-apart
 copy_row_within-requires-clause-apart g c =
     let placed = rw (c.SIZE.ensures, c.ALIGN.ensures) at c.in_ok-target.ensures in
-    row_apart g.T.Item g.T.CloneIn.kind g.met.T.CloneIn.lawful c.args.a.now c.place.new.a c.in_ok-target.target c.args.self.now.block
-    c.args.self.now.length placed.1.outcome.frame c.requires.held.0.readable c.requires.held.1
+    row_apart g.T.Item g.met.T.CloneIn.lawful c.args.self.now.block c.args.self.now.length placed.1.outcome.frame
+    c.requires.held.0.readable c.requires.held.1
 
 pub returns-in_err-copy_row_within : goal.returns-in_err-copy_row_within
 returns-in_err-copy_row_within g c =
     let placed = rw (c.SIZE.ensures, c.ALIGN.ensures) at c.in_ok-target.ensures in
     let p = err_from_is_err_and c.from_residual-in_err-copy_row_within.result c.from_residual-in_err-copy_row_within.ensures.1 in
-    rw (p.1, p.2) (slice_value_refused g.T.Item g.T.CloneIn.kind c.args.ids c.args.a.now.memory c.args.a.now c.args.self.now
-    c.place.new.a c.copy_row_within.new.a c.in_ok-target.target placed _ _
-    (row_before g.T.Item g.T.CloneIn.kind g.met.T.CloneIn.lawful c.args.a.now c.place.new.a c.in_ok-target.target c.args.self.now.block
-    c.args.self.now.length placed.1.outcome.frame c.requires.held.0.readable c.requires.held.1 c.args.ids c.copy_row_within.new.a _ _
-    c.in_err-copy_row_within.ensures))
+    rw (p.1, p.2) (slice_value_refused g.T.Item g.T.CloneIn.kind c.args.ids c.args.a.now.memory c.args.self.now placed
+    (row_before g.T.Item g.met.T.CloneIn.lawful c.args.self.now.block c.args.self.now.length placed.1.outcome.frame
+    c.requires.held.0.readable c.requires.held.1 c.in_err-copy_row_within.ensures))
 
 pub returns : goal.returns
 returns g c =
     let placed = rw (c.SIZE.ensures, c.ALIGN.ensures) at c.in_ok-target.ensures in
-    slice_made g.T.Item g.T.CloneIn.kind c.args.ids c.args.a.now.memory c.args.a.now c.args.self.now c.place.new.a c.copy_row_within.new.a
-    c.in_ok-target.target placed _ _ refl refl
-    (row_before g.T.Item g.T.CloneIn.kind g.met.T.CloneIn.lawful c.args.a.now c.place.new.a c.in_ok-target.target c.args.self.now.block
-    c.args.self.now.length placed.1.outcome.frame c.requires.held.0.readable c.requires.held.1 c.args.ids c.copy_row_within.new.a _ _
-    c.in_ok-copy_row_within.ensures)
+    slice_made g.T.Item g.T.CloneIn.kind c.args.ids c.args.a.now.memory c.args.self.now placed refl refl
+    (row_before g.T.Item g.met.T.CloneIn.lawful c.args.self.now.block c.args.self.now.length placed.1.outcome.frame
+    c.requires.held.0.readable c.requires.held.1 c.in_ok-copy_row_within.ensures)

@@ -5,16 +5,12 @@ use Rattle.arena_clone.proofs.take_in.TakeIn.take_in_box.Goals as goal
 pub returns-in_err-dummy : goal.returns-in_err-dummy
 returns-in_err-dummy g c =
     let p = err_from_is_err_and c.from_residual.result c.from_residual.ensures.1 in
-    rw (p.1, p.2) (takes_refused g.Self.Item g.Self.Dummy.kind g.Self.Dummy.meaning g.Self.Dummy.asks c.args.a.now c.dummy.new.a
-    c.args.self.now _ c.in_err-dummy.ensures)
+    rw (p.1, p.2) (takes_refused g.Self.Item c.in_err-dummy.ensures)
 
 pub returns-in_err-boxed : goal.returns-in_err-boxed
 returns-in_err-boxed g c =
     let p = err_from_is_err_and c.from_residual-in_err-boxed.result c.from_residual-in_err-boxed.ensures.1 in
-    rw (p.1, p.2) (takes_none g.Self.Item g.Self.Dummy.kind g.met.Self.Dummy.lawful g.Self.Dummy.meaning g.Self.Dummy.asks c.args.a.now
-    c.dummy.new.a c.place_box.new.a c.args.self.now c.in_ok-dummy.dummy _ c.in_ok-dummy.ensures c.in_err-boxed.ensures)
+    rw (p.1, p.2) (takes_none g.met.Self.Dummy.lawful c.in_ok-dummy.ensures c.in_err-boxed.ensures)
 
 pub returns : goal.returns
-returns g c =
-    takes_box g.Self.Item g.Self.Dummy.kind g.met.Self.Dummy.lawful g.Self.Dummy.meaning g.Self.Dummy.asks c.args.a.now c.dummy.new.a
-    c.place_box.new.a c.args.self.now c.in_ok-dummy.dummy c.in_ok-boxed.boxed c.in_ok-dummy.ensures c.in_ok-boxed.ensures
+returns g c = takes_box g.met.Self.Dummy.lawful c.in_ok-dummy.ensures c.in_ok-boxed.ensures

@@ -1,6 +1,5 @@
 use Rattle.std.proofs.lemmas.Result.{err_from_is_err_and}
 use Rattle.arena_items.specs.Layout.IsAlign.{one}
-use Rattle.arena_clone.specs.Kinds.{text}
 use Rattle.arena_clone.proofs.LayoutLemmas.{readable_layout}
 use Rattle.arena_clone.proofs.CopyLemmas.{one_refused}
 use Rattle.arena_clone.proofs.texts.StrCloneIn.clone_within.Goals as goal
@@ -12,6 +11,4 @@ place_copy_within-requires-clause-fits g c =
 pub returns-in_err-block : goal.returns-in_err-block
 returns-in_err-block g c =
     let p = err_from_is_err_and c.from_residual.result c.from_residual.ensures.1 in
-    rw (p.1, p.2) (one_refused text (text.whole c.args.a.now.memory c.args.self.now) (λ b. b) c.args.self.now.block.size 1 c.args.a.now
-    c.place_copy_within.new.a _
-    c.in_err-block.ensures.placed)
+    rw (p.1, p.2) (one_refused (λ b. b) c.in_err-block.ensures.placed)
