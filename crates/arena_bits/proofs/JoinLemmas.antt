@@ -62,16 +62,16 @@ joins_then from mid to old now others new order more one two = record {
   behind = λ k least. two.behind k least ∙ one.behind k (omega arith);
 }
 
--- Of eight words one more is joined in its place.
-pub joins_more : (old now row word : List ℕ) (i : ℕ) → i < 8 → (length now ≡ 64) × JoinsWords 0 i (words_in old) row (words_in now)
+-- Of sixteen words one more is joined in its place.
+pub joins_more : (old now row word : List ℕ) (i : ℕ) → i < 16 → (length now ≡ 128) × JoinsWords 0 i (words_in old) row (words_in now)
     → ChangesWord (λ w. bit_or w (get_or row i 0)) (take (i * 8 + 8 - i * 8) (drop (i * 8) now)) word
-    → (length (put_mid (i * 8) (i * 8 + 8 - i * 8) now word) ≡ 64)
+    → (length (put_mid (i * 8) (i * 8 + 8 - i * 8) now word) ≡ 128)
     × JoinsWords 0 (i + 1) (words_in old) row (words_in (put_mid (i * 8) (i * 8 + 8 - i * 8) now word))
 joins_more old now row word i small (long, joins) changes =
     let eight : i * 8 + 8 - i * 8 ≡ 8 = omega arith in
     let put : put_mid (i * 8) (i * 8 + 8 - i * 8) now word ≡ splice now (i * 8) word = grind (arith, common_steps, changes.length) in
     let sized : length (splice now (i * 8) word) ≡ length now = grind (arith, common_steps, changes.length) in
-    let count : length now / 8 ≡ 8 = omega arith in
+    let count : length now / 8 ≡ 16 = omega arith in
     let within : i < length (words_in now) = omega (arith, length-words (length now / 8) now) in
     rw (put, sized, word_put (length now / 8) now i _ word (omega arith) (omega arith) (rw eight at changes))
     (long, joins_then 0 i (i + 1) _ (words_in now) row _ (omega arith) (omega arith) joins (joins_word (words_in now) row i within))
@@ -103,21 +103,21 @@ joins_bits i old others new joins = λ p n. each n p
 
 -- ---- Rows
 
--- Eight words of a block are joined in their place.
+-- Sixteen words of a block are joined in their place.
 row_joined : (old new : Memory) (b : Block) (n i : ℕ) (row others : List ℕ) → IsRow row others i
-    → EditsBlock old new b (i * 8) 64 (JoinsRow row) → i + 8 ≤ n → n * 8 ≤ b.size
-    → JoinsWords i (i + 8) (words n (bytes_of old b)) others (words n (bytes_of new b))
+    → EditsBlock old new b (i * 8) 128 (JoinsRow row) → i + 16 ≤ n → n * 8 ≤ b.size
+    → JoinsWords i (i + 16) (words n (bytes_of old b)) others (words n (bytes_of new b))
 row_joined old new b n i row others is edits within room =
-    rw are (joins_over were others (words_in edits.list) i 8 few (omega (arith, length-words n (bytes_of old b))) (λ k small.
+    rw are (joins_over were others (words_in edits.list) i 16 few (omega (arith, length-words n (bytes_of old b))) (λ k small.
     edits.related.words.joined k (omega arith) small ∙ (λ p. bit_or (own k small p) (is.are k small p))))
   where
     were : List ℕ
     were = words n (bytes_of old b)
 
     part : List ℕ
-    part = bytes_from (image old) (b.addr + i * 8) 64
+    part = bytes_from (image old) (b.addr + i * 8) 128
 
-    few : length (words_in edits.list) ≡ 8
+    few : length (words_in edits.list) ≡ 16
     few = omega (arith, edits.related.length, length-words (length edits.list / 8) edits.list)
 
     are : words n (bytes_of new b) ≡ over were i (words_in edits.list)
@@ -127,11 +127,11 @@ row_joined old new b n i row others is edits within room =
         (omega (arith, edits.related.length)) (omega (arith, length-bytes (image old) b.addr b.size))
 
     -- the words that stood there
-    own : (k : ℕ) → k < 8 → get_or (words_in part) k 0 ≡ get_or were (i + k) 0
+    own : (k : ℕ) → k < 16 → get_or (words_in part) k 0 ≡ get_or were (i + k) 0
     own k small =
-        let sized = length-bytes (image old) (b.addr + i * 8) 64 in
+        let sized = length-bytes (image old) (b.addr + i * 8) 128 in
         let at : b.addr + i * 8 + k * 8 ≡ b.addr + (i + k) * 8 = omega arith in
-        word_there (image old) (b.addr + i * 8) 64 (length part / 8) k (omega (arith, sized)) (omega (arith, sized))
+        word_there (image old) (b.addr + i * 8) 128 (length part / 8) k (omega (arith, sized)) (omega (arith, sized))
         ∙ ap (λ addr. from_le_bytes w64 (bytes_from (image old) addr 8)) at
         ∙ sym (word_there (image old) b.addr b.size n (i + k) (omega arith) room)
 
@@ -191,10 +191,10 @@ module _ (old mid new : View) (s other : BitSet) (i : ℕ) (now : IsJoining old 
 
   -- a row of them,
   pub joining_row : (row : List ℕ) → IsRow row (words_of mid.memory other) i
-      → EditsBlock mid.memory new.memory s.words.block (i * 8) 64 (JoinsRow row) → i + 8 ≤ s.words.length
-      → IsJoining old new s other (i + 8)
+      → EditsBlock mid.memory new.memory s.words.block (i * 8) 128 (JoinsRow row) → i + 16 ≤ s.words.length
+      → IsJoining old new s other (i + 16)
   joining_row row is edits within =
-      joining_more (i + 8) (i * 8) edits.list edits.writes (omega arith)
+      joining_more (i + 16) (i * 8) edits.list edits.writes (omega arith)
       (row_joined mid.memory new.memory s.words.block s.words.length i row (words_of old.memory other) (rw now.same at is) edits within
       (omega (arith, now.becomes.held.place.of_size)))
 

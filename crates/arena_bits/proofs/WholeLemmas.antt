@@ -1,5 +1,5 @@
 -- Sets as wholes: new ones, and those without a number.
-use Rattle.std.proofs.Common.{◌≡◌, ℕ, ◌+◌, ◌-◌, ◌*◌, ◌/◌, ◌%◌, ◌^◌, ◌<◌, ◌≤◌, List, length, replicate, get_or, ap, ◌∙◌, sym, subst, arith, refl, false, eqb, inl, inr, IsTrue, Ok, w64}
+use Rattle.std.proofs.Common.{◌≡◌, ℕ, ◌+◌, ◌-◌, ◌*◌, ◌/◌, ◌%◌, ◌^◌, ◌<◌, ◌≤◌, List, [], ◌∷◌, length, replicate, get_or, Bool, true, ◌&&◌, nat_lt, ap, ◌∙◌, sym, subst, arith, refl, false, eqb, inl, inr, IsTrue, Ok, w64}
 use Rattle.std.specs.Int.{trailing_zeros}
 use Rattle.std.proofs.lemmas.Bool.{cases_lt}
 use Rattle.std.proofs.lemmas.Bool.Decides.{nat_tests}
@@ -8,14 +8,16 @@ use Rattle.std.proofs.lemmas.Nat.Bits.{bit_at-zero, bit_at-trailing_zeros}
 use Rattle.placement.specs.Rounding.{up, is_power_among, is_layout}
 use Rattle.arena_chunks.specs.Memory.{Memory, image}
 use Rattle.arena_chunks.specs.Source.{View, Source, view}
+use Rattle.arena_chunks.specs.Frame.{Frame}
 use Rattle.arena_chunks.specs.Answers.Answer.{Placed}
 use Rattle.arena_chunks.specs.BlockCalls.{PlacesBlock, EditsBlock}
 use Rattle.arena_chunks.specs.declared.block.Block.{Block}
-use Rattle.arena_chunks.proofs.Layers.{length-bytes, wrote_whole, places_written}
+use Rattle.arena_chunks.proofs.Layers.{length-bytes, wrote_whole, places_written, frame_then}
 use Rattle.arena_items.specs.Values.{bytes_of}
+use Rattle.arena_items.specs.Room.{SamePlaces}
 use Rattle.arena_items.proofs.Layers.{placed_held, written_held}
-use Rattle.arena_bits.specs.Bits.{bits_of, nothing, words_for}
-use Rattle.arena_bits.specs.Sets.{IsSetIn, words_of, BecomesSet, PlacesSet}
+use Rattle.arena_bits.specs.Bits.{Set, bits_of, below, nothing, words_for}
+use Rattle.arena_bits.specs.Sets.{IsSetIn, words_of, set_of, BecomesSet, PlacesSet}
 use Rattle.arena_bits.specs.Walks.{words_in}
 use Rattle.arena_bits.specs.declared.set.BitSet.{BitSet}
 use Rattle.arena_bits.proofs.WordLemmas.{words, length-words, word-is}
@@ -36,6 +38,14 @@ pub bits_past : (ws : List ℕ) (n : ℕ) → 64 * length ws ≤ n → bits_of w
 unfolding bits_of
 bits_past ws n past =
     ap (λ w. eqb (w / 2 ^ (n % 64) % 2) 1) (get_or_past ws (n / 64) 0 (omega arith)) ∙ ap (λ b. eqb b 1) (bit_at-zero (n % 64))
+
+-- So all of a set lies below that.
+pub all_below : (m : Memory) (s : BitSet) → below (64 * s.words.length) (set_of m s) ≡ set_of m s
+all_below m s = λ p n. each n (nat_lt n (64 * s.words.length)) refl p
+  where
+    each : (n : ℕ) (low : Bool) → nat_lt n (64 * s.words.length) ≡ low → (low && set_of m s n) ≡ set_of m s n
+    each n true is = refl
+    each n false is = sym (bits_past (words_of m s) n (grind (arith, nat_tests, length-words s.words.length (bytes_of m s.words.block))))
 
 -- Of no words the first is 0.
 pub no_words : (bytes : List ℕ) → length bytes < 8 → 0 ≡ get_or (words_in bytes) 0 0
@@ -107,6 +117,39 @@ new_set old mid new bits n b enough places edits source =
       held = record { place = written_held mid.memory new.memory _ 8 0 b b edits.list edits.writes held; count = enough };
       capacity = refl;
       set_is = cleared mid.memory new.memory b n (n * 8) held.of_size (sym held.of_size) edits;
+      frame = written.1.outcome.frame;
+    }
+
+-- It lies as it did where it was made another set then: both calls are one.
+placed_still : (old mid new : View) (size align : ℕ) (b : Block) → PlacesBlock old mid size align (Placed b) → SamePlaces mid new
+    → Frame old.memory new.memory [] (b ∷ []) → PlacesBlock old new size align (Placed b)
+placed_still old mid new size align b places same frame =
+    let valid = places.1.valid in
+    let placed = places.1.outcome in (
+      places.0,
+      record {
+        valid = record { entry = valid.entry; exit = rw same.state valid.exit };
+        outcome = record {
+          step = rw same.state placed.step;
+          asked = rw same.source placed.asked;
+          of_layout = rw same.state placed.of_layout;
+          aligned = rw same.state placed.aligned;
+          statistics = same.statistics ∙ placed.statistics;
+          frame = frame;
+        };
+      },
+    )
+
+pub filled : (old mid new : View) (bits : ℕ) (first set : Set) (s : BitSet) → PlacesSet old mid bits first (Ok s)
+    → BecomesSet mid new s set → PlacesSet old new bits set (Ok s)
+filled old mid new bits first set s made becomes =
+    let frame = frame_then old.memory mid.memory new.memory [] (s.words.block ∷ []) (s.words.block ∷ []) made.frame becomes.frame in
+    record {
+      placed = placed_still old mid new (words_for bits * 8) 8 s.words.block made.placed becomes.places frame;
+      held = becomes.held;
+      capacity = made.capacity;
+      set_is = becomes.set_is;
+      frame = frame;
     }
 
 -- for automatic proof

@@ -8,10 +8,10 @@ pub record ChangesWord (f : ℕ → ℕ) (old new : List ℕ) : Type 0 where
   pub length : length new ≡ 8
   pub word : from_le_bytes w64 new ≡ f (from_le_bytes w64 old)
 
--- eight words from an index on
+-- sixteen words from an index on
 pub record IsRow (row words : List ℕ) (i : ℕ) : Type 0 where
-  pub length : length row ≡ 8
-  pub are : (k : ℕ) → k < 8 → slice_index row k ≡ slice_index words (i + k)
+  pub length : length row ≡ 16
+  pub are : (k : ℕ) → k < 16 → slice_index row k ≡ slice_index words (i + k)
 
 -- The words from one index up to another are joined with those of another list, and no other word changes.
 pub record JoinsWords (from to : ℕ) (old others new : List ℕ) : Type 0 where
@@ -19,7 +19,7 @@ pub record JoinsWords (from to : ℕ) (old others new : List ℕ) : Type 0 where
   pub before : (k : ℕ) → k < from → slice_index new k ≡ slice_index old k
   pub behind : (k : ℕ) → to ≤ k → slice_index new k ≡ slice_index old k
 
--- the bytes of eight words become those of the words joined with these
+-- the bytes of sixteen words become those of the words joined with these
 pub record JoinsRow (row old new : List ℕ) : Type 0 where
-  pub length : length new ≡ 64
-  pub words : JoinsWords 0 8 (words_in old) row (words_in new)
+  pub length : length new ≡ 128
+  pub words : JoinsWords 0 16 (words_in old) row (words_in new)

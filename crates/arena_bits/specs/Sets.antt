@@ -36,3 +36,4 @@ pub record PlacesSet (old new : View) (bits : ℕ) (set : Set) (result : Result 
   pub held : IfOk result (IsSetIn new.memory)
   pub capacity : IfOk result (λ s. s.capacity ≡ bits)
   pub set_is : IfOk result (λ s. set_of new.memory s ≡ set)
+  pub frame : IfOk result (λ s. Frame old.memory new.memory [] (s.words.block ∷ []))

@@ -45,20 +45,20 @@ impl Edit for Lower {
     }
 }
 
-/// Sets the bits of eight words in eight others.
+/// Sets the bits of sixteen words in sixteen others.
 #[derive(Clone, Copy)]
 pub(crate) struct JoinRow {
-    pub(crate) row: [u64; 8],
+    pub(crate) row: [u64; 16],
 }
 
 impl Edit for JoinRow {
-    ghost suits = { λ e old. length old ≡ 64 };
+    ghost suits = { λ e old. length old ≡ 128 };
 
     ghost relates = { λ e old new. JoinsRow e.row old new };
 
     #[inline]
     fn edit(&self, place: &mut [u8]) {
-        'words: for i in 0..8 {
+        'words: for i in 0..16 {
             let word = Raise { mask: self.row[i] };
             word.edit(&mut place[i * 8..i * 8 + 8]);
         }

@@ -1,5 +1,5 @@
 // The numbers of a bit set in order.
-ghost use Rattle.std.specs.Prelude.{◌≡◌, ◌+◌, ◌-◌, ◌*◌, ◌/◌, ◌^◌, ◌<◌, ◌≤◌, [], ◌∷◌, Some, IfSome, length};
+ghost use Rattle.std.specs.Prelude.{◌≡◌, ◌+◌, ◌-◌, ◌*◌, ◌/◌, ◌^◌, ◌<◌, ◌≤◌, ⊤, [], ◌∷◌, Some, IfSome, length};
 ghost use Rattle.std.specs.Option.{MatchOption};
 ghost use Rattle.std.specs.Iterator.{YieldsFirst, UpTo, at_most, item_count};
 ghost use Rattle.std.specs.Iterator.SizeHint.{IsWithinCount};
@@ -10,6 +10,7 @@ ghost use Rattle.arena_bits.specs.Walks.{IsScan, Moves, words_in};
 use crate::set::BitSet;
 use crate::words::{first_word, word_at};
 use arena_chunks::{Allocator, ChunkSource};
+use std::alloc::AllocError;
 use std::marker::{Model, PhantomData};
 
 // A place in a walk over words: the first number of a word, what is left of the word, and the place after the
@@ -139,16 +140,20 @@ impl<'a, C: ChunkSource> Ones<'a, C> {
         self.scan = scan;
         bit
     }
+}
 
-    /// None at least, and at most as many as there are numbers from the place after the last one given to the
-    /// capacity.
-    #[tactic(auto, using(crate::proofs::MemberLemmas::member_laws))]
-    #[inline]
-    pub fn size_hint(&self) -> (usize, Option<usize>)
-        ensures hint { result ≡ (0, Some (self.now.capacity - self.now.front)) }
-        ensures bound { length self.now.left ≤ self.now.capacity - self.now.front }
-    {
-        (0, Some((self.capacity - self.scan.front) as usize))
+impl<'a, C: ChunkSource> Clone for Ones<'a, C> {
+    ghost is_clone = { λ walk copy. copy ≡ walk };
+
+    ghost is_infallible = { λ _. ⊤ };
+
+    fn clone(&self) -> Result<Ones<'a, C>, AllocError> {
+        Ok(Ones {
+            bytes: self.bytes,
+            capacity: self.capacity,
+            scan: self.scan,
+            of: PhantomData,
+        })
     }
 }
 
@@ -164,12 +169,15 @@ impl<'a, C: ChunkSource> Iterator for Ones<'a, C> {
         Ones::next(self)
     }
 
+    // None at least, and at most as many as there are numbers from the place after the last one given to the
+    // capacity.
+    #[tactic(auto, using(crate::proofs::MemberLemmas::member_laws))]
     #[inline]
     fn size_hint(&self) -> (usize, Option<usize>)
         ensures lower { IsWithinCount result.0 (at_most (length self.now.left)) }
         ensures upper { IfSome result.1 (UpTo (at_most (length self.now.left))) }
         ensures exact { result ≡ (0, Some (self.now.capacity - self.now.front)) }
     {
-        Ones::size_hint(self)
+        (0, Some((self.capacity - self.scan.front) as usize))
     }
 }

@@ -2,10 +2,12 @@
 ghost use Rattle.std.specs.Prelude.{◌≡◌, ◌*◌, ◌<◌, length, not};
 ghost use Rattle.arena_chunks.specs.Frame.{AreBlocksApart};
 ghost use Rattle.arena_bits.specs.Bits.{with_bit, members};
-ghost use Rattle.arena_bits.specs.Sets.{IsSetIn, set_of};
+ghost use Rattle.arena_bits.specs.Sets.{IsSetIn, set_of, BecomesSet, PlacesSet};
 
+use crate::laws::{filled_law, limit_law};
 use crate::set::BitSet;
 use arena_chunks::{Allocator, ChunkSource};
+use arena_items::Grown;
 use arena_items::laws::frame_law;
 
 /// Puts a number into a set, and tells whether it is new there. Another set stays as it was.
@@ -20,7 +22,8 @@ pub fn insert_beside<C: ChunkSource>(
     requires other { IsSetIn a.old.memory other }
     requires apart { AreBlocksApart other.words.block set.old.words.block }
     ensures new { result ≡ not (set_of a.old.memory set.old bit) }
-    ensures set { set_of a.new.memory set.new ≡ with_bit (set_of a.old.memory set.old) bit }
+    ensures becomes { BecomesSet a.old a.new set.old (with_bit (set_of a.old.memory set.old) bit) }
+    ensures handle { set.new ≡ set.old }
     ensures held { IsSetIn a.new.memory other }
     ensures other { set_of a.new.memory other ≡ set_of a.old.memory other }
 {
@@ -28,6 +31,24 @@ pub fn insert_beside<C: ChunkSource>(
     let is_new = !set.has_bit(a, bit);
     set.set_bit(a, bit);
     is_new
+}
+
+/// A new set with the numbers of another, for as many bits. It lies apart from the other, which was there before,
+/// so that they are joined with no test.
+///
+/// # Errors
+///
+/// As of `new_in`.
+pub fn copied<C: ChunkSource>(a: &mut Allocator<C>, set: &BitSet) -> Grown<BitSet>
+    requires { IsSetIn a.old.memory set.now }
+    ensures { PlacesSet a.old a.new set.now.capacity (set_of a.old.memory set.now) result }
+{
+    frame_law::<BitSet>();
+    limit_law();
+    filled_law();
+    let mut copy = BitSet::new_in(set.capacity, a)?;
+    copy.union(a, set);
+    Ok(copy)
 }
 
 /// How many numbers a set has below its capacity.

@@ -85,12 +85,12 @@ impl BitSet {
     {
         let count = self.words.length.min(other.words.length);
         let block = self.words.block;
-        // Each block is looked up once for eight words, and the rest are taken one by one.
-        'rows: for i in 0..count / 8 {
-            let row = row_at(other.bytes(a), i * 8);
-            a.write_with(block, i * 8 * 8, 64, &JoinRow { row });
+        // Each block is looked up once for sixteen words, and the rest are taken one by one.
+        'rows: for i in 0..count / 16 {
+            let row = row_at(other.bytes(a), i * 16);
+            a.write_with(block, i * 16 * 8, 128, &JoinRow { row });
         }
-        'words: for i in count / 8 * 8..count {
+        'words: for i in count / 16 * 16..count {
             let mask = word_at(other.bytes(a), i);
             a.write_with(block, i * 8, 8, &Raise { mask });
         }

@@ -27,14 +27,14 @@ pub(crate) fn word_at(bytes: &[u8], i: u64) -> u64
     word_of(&bytes[at..at + 8])
 }
 
-// Eight words from an index on.
+// Sixteen words from an index on.
 #[inline]
-pub(crate) fn row_at(bytes: &[u8], i: u64) -> [u64; 8]
-    requires { i + 8 ≤ length bytes.now / 8 }
+pub(crate) fn row_at(bytes: &[u8], i: u64) -> [u64; 16]
+    requires { i + 16 ≤ length bytes.now / 8 }
     ensures { IsRow result (words_in bytes.now) i }
 {
-    let mut row = [0; 8];
-    'words: for k in 0..8 {
+    let mut row = [0; 16];
+    'words: for k in 0..16 {
         row[k] = word_at(bytes, i + k as u64);
     }
     row

@@ -1,13 +1,14 @@
 -- What the calls on blocks mean for a layer above.
-use Rattle.std.proofs.Common.{◌≡◌, ℕ, zero, suc, ◌+◌, ◌*◌, ◌^◌, ◌<◌, ◌≤◌, List, [], ◌∷◌, ◌++◌, length, inl, inr, ap, refl, sym, ◌∙◌, arith, IsTrue, Bool, true, false}
+use Rattle.std.proofs.Common.{◌≡◌, ℕ, zero, suc, ◌+◌, ◌*◌, ◌^◌, ◌<◌, ◌≤◌, List, [], ◌∷◌, ◌++◌, length, map, sum, inl, inr, ap, refl, sym, ◌∙◌, arith, IsTrue, Bool, true, false}
 use Rattle.std.specs.List.{AllByRecursion}
 use Rattle.std.specs.Prelude.{nat_lt, nat_le, ◌==◌, ◌&&◌, ◌||◌}
-use Rattle.std.proofs.lemmas.Bool.{cases_lt, cases_eq, cond_both}
+use Rattle.std.proofs.lemmas.Bool.{cases_lt, cases_eq, cond_both, or_cases}
 use Rattle.std.proofs.lemmas.Bool.Decides.{nat_tests}
 use Rattle.std.proofs.lemmas.Grind.{common_steps}
+use Rattle.std.proofs.lemmas.List.Sums.{sum_by-cons}
 use Rattle.std.proofs.lemmas.Option.{cond_some}
 use Rattle.placement.specs.Rounding.{up, is_layout}
-use Rattle.placement.specs.State.{State, IsValid, AreApart, cursor_of, is_range_used}
+use Rattle.placement.specs.State.{State, Chunk, IsValid, AreApart, AreChunks, cursor_of, used_length, used_bytes, is_used_by, is_range_used}
 use Rattle.placement.specs.Moves.{Outcome, Resizing, shrink_step, placed, stays, fails}
 use Rattle.placement.specs.Moves.Resizing.{Moves}
 use Rattle.placement.specs.Moves.Resizing.{Stays as StaysThere}
@@ -23,6 +24,7 @@ use Rattle.arena_chunks.specs.Answers.Answer.{Placed, Wanting}
 use Rattle.arena_chunks.specs.Answers.Answer.{Refused as AnswerRefused}
 use Rattle.arena_chunks.specs.Frame.{IsApart, AreBlocksApart, ArePairwiseApart, Frame, Stays, padded}
 use Rattle.arena_chunks.specs.BlockCalls.{place_of, PlacesBlock, ResizesAfter, ResizesBlock, ShrinksBlock, GivesBack, WritesBlock}
+use Rattle.arena_chunks.specs.Resizes.{NoneReadable}
 use Rattle.arena_chunks.specs.declared.block.Block.{Block}
 use Rattle.arena_chunks.proofs.BytesLemmas.{written_none}
 use Rattle.arena_chunks.proofs.WrittenLemmas.{bytes_spliced}
@@ -39,6 +41,34 @@ readable_low state b valid some readable = used_low state b.addr b.size valid so
 -- They are below 2 ^ 64.
 pub readable_high : (state : State) (b : Block) → IsValid state → 0 < b.size → IsTrue (is_readable state b) → b.addr + b.size < 2 ^ 64
 readable_high state b valid some readable = used_below_last state b.addr b.size valid some (is_filled state b some readable).used
+
+-- A chunk has at most 2 ^ 63 - 64 bytes, and so has a range in use.
+range_size : (m addr n : ℕ) (chunks : List Chunk) → AreChunks m chunks → IsTrue (is_range_used chunks addr n) → n + 64 ≤ 2 ^ 63
+range_size m addr n [] are used = absurd cc
+range_size m addr n (newest ∷ older) are used = elim (or_cases (is_used_by addr n newest) (is_range_used older addr n) used) [
+  | inl here ↦ (let is = are.0 in grind (arith, nat_tests))
+  | inr there ↦ range_size m addr n older are.2 there
+]
+
+-- It has at most 2 ^ 63 - 64 bytes.
+pub readable_size : (state : State) (b : Block) → IsValid state → IsTrue (is_readable state b) → b.size + 64 ≤ 2 ^ 63
+readable_size state b valid readable = elim (cases_lt 0 b.size) [
+  | inl some ↦ range_size state.min_align b.addr b.size state.chunks valid.chunks (is_filled state b some readable).used
+  | inr none ↦ omega arith
+]
+
+-- Where no byte of chunks is used, no range of some bytes is.
+unused_chunks : (chunks : List Chunk) (addr n : ℕ) → sum (map used_length chunks) ≡ 0 → 0 < n → is_range_used chunks addr n ≡ false
+unused_chunks [] addr n used some = refl
+unused_chunks (newest ∷ older) addr n used some =
+    let all = sum_by-cons (λ (x : ℕ). x) (used_length newest) (map used_length older) in
+    let rest = unused_chunks older addr n (omega (arith, all, used)) some in
+    let none : used_length newest ≡ 0 = omega (arith, all, used) in
+    grind (arith, nat_tests)
+
+-- Where no byte is in use, no block of some bytes is readable.
+pub unused_unreadable : (state : State) → used_bytes state ≡ 0 → NoneReadable state
+unused_unreadable state used b some = let none = unused_chunks state.chunks b.addr b.size used some in grind (arith, nat_tests)
 
 -- A readable block is in use or empty.
 pub readable_used : (state : State) (b : Block) → IsTrue (is_readable state b) → IsTrue (is_place_used state (place_of b))

@@ -5,11 +5,11 @@ pub use Rattle.arena_chunks.proofs.FrameRules.{frame_reflexive, frame_then, fram
 pub use Rattle.arena_chunks.proofs.BytesLemmas.{length-bytes, no_bytes}
 pub use Rattle.arena_chunks.proofs.WrittenLemmas.{bytes_same, bytes_within, take_bytes}
 pub use Rattle.arena_chunks.proofs.BlockCallLemmas.{places_written, resizes_written, writes_block, edits_to, edits_by, wrote, wrote_first, wrote_after}
-pub use Rattle.arena_chunks.proofs.LayerLemmas.{readable_low, readable_high, readable_used, frame_keeps_new, frame_keeps_beside}
+pub use Rattle.arena_chunks.proofs.LayerLemmas.{readable_low, readable_high, readable_size, readable_used, unused_unreadable, frame_keeps_new, frame_keeps_beside}
 pub use Rattle.arena_chunks.proofs.LayerLemmas.{placed_apart, placed_pairwise, placed_is_block, resized_is_block, shrunk_placed, returned_bytes, returned_plain}
 pub use Rattle.arena_chunks.proofs.LayerLemmas.{wrote_part, wrote_whole, wrote_behind, wrote_readable, writes_more, writes_nothing}
 pub use Rattle.arena_chunks.proofs.UsedByCallLemmas.{placed_least, placed_most, placed_exact, grown_least, grown_most, grown_exact, shrunk_used, stays_used, anew_least, anew_most}
-pub use Rattle.arena_chunks.proofs.UsedByCallLemmas.{returned_used, returned_size, returned_elsewhere, wrote_used, placed_doubling, resized_doubling, returned_doubling}
+pub use Rattle.arena_chunks.proofs.UsedByCallLemmas.{returned_used, returned_size, returned_elsewhere, reset_keeps_bytes, wrote_used, placed_doubling, resized_doubling, returned_doubling}
 
 -- for automatic proof: frames, and the bytes of blocks
 pub ruleset layer_laws = (

@@ -1,10 +1,10 @@
 -- How many bytes the calls on blocks bring into use, and how chunks grow by them.
-use Rattle.std.proofs.Common.{◌≡◌, ℕ, ◌+◌, ◌-◌, ◌%◌, ◌≤◌, Option, Some, None, List, ap, refl, sym, subst, ◌∙◌, arith, IsTrue}
+use Rattle.std.proofs.Common.{◌≡◌, ℕ, ◌+◌, ◌-◌, ◌%◌, ◌≤◌, Bool, false, Option, Some, None, List, [], ◌∷◌, map, sum, ap, refl, sym, subst, ◌∙◌, arith, IsTrue}
 use Rattle.std.specs.Prelude.{◌≢◌}
 use Rattle.placement.specs.Rounding.{is_layout}
-use Rattle.placement.specs.State.{State, cursor_of, used_bytes}
+use Rattle.placement.specs.State.{State, Chunk, IsValid, FitsKind, cursor_of, newest_size, used_bytes, allocated_bytes}
 use Rattle.placement.specs.Search.{place}
-use Rattle.placement.specs.Moves.{Resizing, dealloc, grow, shrink}
+use Rattle.placement.specs.Moves.{Resizing, dealloc, grow, shrink, reset}
 use Rattle.placement.specs.Moves.Resizing.{Moves, Anew, Stays}
 use Rattle.placement.specs.Blocks.{padded_size}
 use Rattle.placement.specs.Used.{unit_of}
@@ -13,6 +13,7 @@ use Rattle.placement.proofs.RoundingLemmas.{layout_power}
 use Rattle.placement.proofs.UsedBytesLemmas.{alloc_least, alloc_most, alloc_exact, alloc_exact_in_new}
 use Rattle.placement.proofs.UsedResizeLemmas.{grow_used, growth_least, growth_most, growth_exact, shrink_used, resize_stays, dealloc_used, dealloc_used_elsewhere, padded_exact}
 use Rattle.placement.proofs.DoublingLemmas.{alloc_doubling, resize_doubling, dealloc_doubling}
+use Rattle.placement.proofs.ResetLemmas.{reset_allocated}
 use Rattle.arena_chunks.specs.Memory.{Memory, is_readable}
 use Rattle.arena_chunks.specs.Source.{View}
 use Rattle.arena_chunks.specs.Answers.Answer.{Placed}
@@ -146,3 +147,15 @@ resized_doubling z way old new block b size align k small resizes first double =
 pub returned_doubling : (z : ℕ) (old new : Memory) (b : Block) → GivesBack old new b → IsDoubling z old.state.chunks → IsDoubling z new.state.chunks
 returned_doubling z old new b gives double =
     subst (λ (w : Memory). IsDoubling z w.state.chunks) (sym gives.memory) (dealloc_doubling z b.addr b.size old.state double)
+
+-- ---- A reset
+
+-- An arena that doesn't grow has one chunk.
+one_chunk : (chunks : List Chunk) → FitsKind false chunks → newest_size chunks ≡ sum (map (λ (c : Chunk). c.size) chunks)
+one_chunk [] fits = absurd fits
+one_chunk (newest ∷ []) fits = omega arith
+one_chunk (newest ∷ (next ∷ older)) fits = absurd fits
+
+-- So a reset keeps all its bytes.
+pub reset_keeps_bytes : (state : State) → IsValid state → state.is_growing ≡ false → allocated_bytes (reset state) ≡ allocated_bytes state
+reset_keeps_bytes state valid still = reset_allocated state ∙ one_chunk state.chunks (subst (λ (b : Bool). FitsKind b state.chunks) still valid.kind)

@@ -1,5 +1,5 @@
 -- What the calls on blocks do to an arena and its source, whoever makes them.
-use Rattle.std.specs.Prelude.{◌≡◌, ℕ, ◌+◌, ◌<◌, ◌≤◌, ◌%◌, ◌*◌, ◌&&◌, min, nat_lt, true, false, Bool, Option, Some, None, List, [], ◌∷◌, IsTrue}
+use Rattle.std.specs.Prelude.{◌≡◌, ℕ, ◌+◌, ◌<◌, ◌≤◌, ◌%◌, ◌*◌, ◌&&◌, min, nat_lt, true, false, Bool, Option, Some, None, List, [], ◌∷◌, length, IsTrue}
 use Rattle.placement.specs.Rounding.{is_layout}
 use Rattle.placement.specs.State.{State, IsValid}
 use Rattle.placement.specs.Search.{place, alloc_requests}
@@ -147,8 +147,9 @@ pub record WritesBlock (old new : Memory) (block : Block) (at : ℕ) (list : Lis
   pub bytes : Writes old new (block.addr + at) list
   pub frame : Frame old new (block ∷ []) (block ∷ [])
 
--- the same by a change of the range's bytes, of which these may stand there afterwards
+-- the same by a change of the range's bytes, of which these may stand there afterwards: as many
 pub record EditsBlock (old new : Memory) (block : Block) (at size : ℕ) (relates : List ℕ → List ℕ → Type 0) : Type 0 where
   pub list : List ℕ
+  pub sized : length list ≡ size
   pub related : relates (bytes_from (image old) (block.addr + at) size) list
   pub writes : WritesBlock old new block at list

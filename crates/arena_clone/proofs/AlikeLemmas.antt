@@ -1,9 +1,15 @@
--- Options and lists that are alike.
+-- Options, lists and maps that are alike.
 use Rattle.std.proofs.Common.{◌≡◌, ℕ, zero, suc, ◌↔◌, ap, sym, ◌∙◌, refl, arith, Option, Some, None, List, [], ◌∷◌}
 use Rattle.std.specs.Prelude.{slice_get}
 use Rattle.arena_chunks.specs.Memory.{Memory}
-use Rattle.arena_clone.specs.Alike.{AreOptionsAlike, AreListsAlike}
-use Rattle.arena_clone.specs.Kinds.{Kind, AreAlike, option_of, row_of}
+use Rattle.std.proofs.Math.Path.{fun_ext}
+use Rattle.arena_hash.specs.Contents.{Kind as MapTypes}
+use Rattle.arena_hash.specs.Finite.{value_of}
+use Rattle.arena_hash.specs.Maps.{map_in}
+use Rattle.arena_hash.specs.declared.map.HashMap.{HashMap}
+use Rattle.arena_clone.specs.Alike.{AreOptionsAlike, AreListsAlike, AreMapsAlike}
+use Rattle.arena_clone.specs.Kinds.{Kind, AreAlike, of_some, option_of, row_of}
+use Rattle.arena_clone.specs.MapKind.{map_of}
 use Rattle.arena_clone.specs.declared.ids.CloneInSemanticIds.{CloneInSemanticIds}
 
 some_same : {A : Type 0} (x y : A) → Some x ≡ Some y → x ≡ y
@@ -46,3 +52,23 @@ module _ {T : Type 0} (kind : Kind T) (ids : CloneInSemanticIds) (a c : Memory) 
 
   pub lists_alike : (vs ws : List T) → AreAlike (row_of kind) ids a vs c ws ↔ AreListsAlike kind ids a vs c ws
   lists_alike vs ws = (lists_apart vs ws, lists_joined vs ws)
+
+module _ {K V S : Type 0} (k : MapTypes K V S) (keys : Kind K) (values : Kind V) (ids : CloneInSemanticIds) (a c : Memory) where
+  -- what is found under a content means what its value means
+  found_means : (m : Memory) (o : Option (K × V))
+      → of_some (λ (p : K × V). values.whole m p.1) o ≡ of_some (values.whole m) (value_of o)
+  found_means m None = refl
+  found_means m (Some p) = refl
+
+  -- Two maps mean what copies mean where what is found under each content does.
+  pub maps_alike : (v w : HashMap K V S) → AreAlike (map_of k keys values) ids a v c w ↔ AreMapsAlike k values ids a v c w
+  maps_alike v w = (
+    (λ same q. (found q).0 (sym (found_means c (map_in k c w q)) ∙ ap (λ (is : List ℕ → Option values.Whole). is q) same
+        ∙ ap (of_some (values.by_ids ids)) (found_means a (map_in k a v q)))),
+    (λ alike. fun_ext (λ q. found_means c (map_in k c w q) ∙ (found q).1 (alike q)
+        ∙ ap (of_some (values.by_ids ids)) (sym (found_means a (map_in k a v q))))),
+  )
+    where
+      found : (q : List ℕ) → AreAlike (option_of values) ids a (value_of (map_in k a v q)) c (value_of (map_in k c w q))
+          ↔ AreOptionsAlike values ids a (value_of (map_in k a v q)) c (value_of (map_in k c w q))
+      found q = options_alike values ids a c (value_of (map_in k a v q)) (value_of (map_in k c w q))

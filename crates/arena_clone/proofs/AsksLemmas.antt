@@ -11,7 +11,7 @@ use Rattle.arena_items.specs.declared.room.AllocError.{AllocError}
 use Rattle.arena_items.specs.declared.room.AllocError.TheVariants.{AllocErr, CapacityOverflow, OutOfMemory}
 use Rattle.arena_items.proofs.Layers.{same_then}
 use Rattle.arena_clone.specs.Asks.{Ask, Follows, Takes, AsksFor, refusal}
-use Rattle.arena_clone.specs.Asks.Ask.{Room, Within, NoBytes, Empty, TooMuch}
+use Rattle.arena_clone.specs.Asks.Ask.{Room, Table, NoBytes, Empty, TooMuch}
 
 pub same_places : (a : View) → SamePlaces a a
 same_places a = record { state = refl; statistics = refl; source = refl }
@@ -66,7 +66,7 @@ pub same_asked : (xs : List Ask) (old mid new : View) (bs : List Block) (end : O
     → AsksFor xs mid new bs end → AsksFor xs old new bs end
 same_asked [] old mid new bs end same asked = (asked.0, asked.1, same_then old mid new same asked.2)
 same_asked (Room size align ∷ xs) old mid new bs end same asked = takes_after same asked
-same_asked (Within most align ∷ xs) old mid new bs end same (size, few, asked) = (size, few, takes_after same asked)
+same_asked (Table pairs slot align ∷ xs) old mid new bs end same (slots, are, asked) = (slots, are, takes_after same asked)
 same_asked (NoBytes ∷ xs) old mid new bs end same (b, rest, none, is, more) =
     (b, rest, none, is, same_asked xs old mid new rest end same more)
 same_asked (Empty align ∷ xs) old mid new bs end same asked =
@@ -82,9 +82,9 @@ asked_then [] ys old mid new bs cs end first second = rw first.1 (same_asked ys 
 asked_then (Room size align ∷ xs) ys old mid new bs cs end first second = takes_on first
     (λ between b rest is more. (rest ++ cs, ap (λ bs. bs ++ cs) is, asked_then xs ys between mid new rest cs end more second))
     (λ e no none. absurd (cc no))
-asked_then (Within most align ∷ xs) ys old mid new bs cs end (size, few, first) second = (
-  size,
-  few,
+asked_then (Table pairs slot align ∷ xs) ys old mid new bs cs end (slots, are, first) second = (
+  slots,
+  are,
   takes_on first
       (λ between b rest is more. (rest ++ cs, ap (λ bs. bs ++ cs) is, asked_then xs ys between mid new rest cs end more second))
       (λ e no none. absurd (cc no)),
@@ -101,9 +101,9 @@ pub asked_refused : (xs ys : List Ask) (old new : View) (bs : List Block) (e : A
 asked_refused [] ys old new bs e asked = absurd (let no = asked.0 in cc)
 asked_refused (Room size align ∷ xs) ys old new bs e asked = takes_on asked
     (λ between b rest is more. (rest, is, asked_refused xs ys between new rest e more)) (λ k is none. (is, none, refl))
-asked_refused (Within most align ∷ xs) ys old new bs e (size, few, asked) = (
-  size,
-  few,
+asked_refused (Table pairs slot align ∷ xs) ys old new bs e (slots, are, asked) = (
+  slots,
+  are,
   takes_on asked
       (λ between b rest is more. (rest, is, asked_refused xs ys between new rest e more)) (λ k is none. (is, none, refl)),
 )

@@ -1,7 +1,6 @@
 -- Values whose bytes are copied in one move of memory.
-use Rattle.std.proofs.Common.{◌≡◌, ℕ, ◌*◌, ◌≤◌, refl, List, [], ◌∷◌, Ok, take, arith, IsTrue, subst, sym}
+use Rattle.std.proofs.Common.{◌≡◌, ℕ, ◌*◌, ◌≤◌, refl, List, [], Ok, take, arith, IsTrue, subst, sym}
 use Rattle.std.specs.Prelude.{IsPermutation}
-use Rattle.std.specs.List.{AllByRecursion, flat_map}
 use Rattle.std.proofs.lemmas.List.Sorted.{IsPermutation-refl}
 use Rattle.arena_chunks.specs.Memory.{Memory, image, is_readable}
 use Rattle.arena_chunks.specs.Source.{View}
@@ -12,35 +11,22 @@ use Rattle.arena_items.specs.Values.{bytes_of, elements}
 use Rattle.arena_items.proofs.Layers.{values_kept, wrote_same}
 use Rattle.arena_clone.specs.Kinds.{Kind, row_of}
 use Rattle.arena_clone.specs.Copies.{IsFlat, IsMade}
+use Rattle.arena_clone.specs.FlatLaws.{row_flat}
 use Rattle.arena_clone.specs.Rows.{CopiesRow}
 use Rattle.arena_clone.specs.declared.ids.CloneInSemanticIds.{CloneInSemanticIds}
 
--- what holds of all holds of each in a list
-everywhere : {A : Type 0} (P : A → Type 0) → ((x : A) → P x) → (xs : List A) → AllByRecursion P xs
-everywhere P all [] = tt
-everywhere P all (x ∷ xs) = (all x, everywhere P all xs)
-
--- lists of nothing are nothing together
-pub none_in_all : {A B : Type 0} (f : A → List B) → ((x : A) → f x ≡ []) → (xs : List A) → flat_map f xs ≡ []
-none_in_all f none [] = refl
-none_in_all f none (x ∷ xs) = rw (none x) (none_in_all f none xs)
-
 module _ {T : Type 0} (kind : Kind T) (ids : CloneInSemanticIds) (flat : IsFlat kind ids) where
-  -- Flat values elsewhere mean what copies of them mean.
-  all_alike : (a c : Memory) (xs : List T)
-      → (row_of kind).whole c xs ≡ (row_of kind).by_ids ids ((row_of kind).whole a xs)
-  all_alike a c [] = refl
-  all_alike a c (x ∷ xs) = λ i. flat.alike a c x i ∷ all_alike a c xs i
-
-  -- So a row of them elsewhere is a copy of the row.
+  -- A row of flat values elsewhere is a copy of the row.
   pub row_made : (a c : Memory) (xs : List T)
       → IsMade (row_of kind) ((row_of kind).by_ids ids ((row_of kind).whole a xs)) c [] xs
-  row_made a c xs = record {
-    held = everywhere (kind.is_held c) (flat.held c) xs;
-    means = all_alike a c xs;
-    trim = everywhere (kind.is_trim c) (flat.trim c) xs;
-    deep = subst (λ ds. IsPermutation ds []) (sym (none_in_all (kind.deep c) (flat.deep c) xs)) (IsPermutation-refl []);
-  }
+  row_made a c xs =
+      let row = row_flat flat in
+      record {
+        held = row.held c xs;
+        means = row.alike a c xs;
+        trim = row.trim c xs;
+        deep = subst (λ ds. IsPermutation ds []) (sym (row.deep c xs)) (IsPermutation-refl []);
+      }
 
   -- It is copied by a write that puts the same values there.
   pub row_written : {X : Type 0} (source : Memory) (old new : View) (target : Block) (at : ℕ) (list : List ℕ) (xs ys : List T) (x : X)
@@ -48,7 +34,7 @@ module _ {T : Type 0} (kind : Kind T) (ids : CloneInSemanticIds) (flat : IsFlat 
       → ys ≡ xs → CopiesRow kind ids source old new target xs ys (Ok x)
   row_written source old new target at list xs ys x writes same readable are = rw are (record {
     blocks = [];
-    asked = rw (none_in_all (kind.asks source) (flat.asks source) xs) (refl, refl, wrote_same old new target at list writes same);
+    asked = rw ((row_flat flat).asks source xs) (refl, refl, wrote_same old new target at list writes same);
     apart = (tt, tt);
     frame = writes.frame;
     readable = rw (wrote_readable old.memory new.memory target target at list writes) readable;

@@ -1,31 +1,15 @@
 -- A block that may be read has a layout, so that one of its size may be placed.
-use Rattle.std.proofs.Common.{◌≡◌, ℕ, ◌+◌, ◌-◌, ◌^◌, ◌≤◌, inl, inr, refl, arith, List, [], ◌∷◌, true, IsTrue}
+use Rattle.std.proofs.Common.{◌≡◌, ℕ, ◌+◌, ◌-◌, ◌^◌, ◌≤◌, refl, arith, true, IsTrue}
 use Rattle.std.specs.Prelude.{nat_le}
-use Rattle.std.proofs.lemmas.Bool.{cases_lt, or_cases}
 use Rattle.std.proofs.lemmas.Bool.Decides.{nat_tests}
 use Rattle.placement.specs.Rounding.{up, is_power, is_power_among, is_layout}
-use Rattle.placement.specs.State.{State, Chunk, IsValid, AreChunks, is_used_by, is_range_used}
+use Rattle.placement.specs.State.{State, IsValid}
 use Rattle.arena_chunks.specs.Memory.{is_readable}
 use Rattle.arena_chunks.specs.declared.block.Block.{Block}
+pub use Rattle.arena_chunks.proofs.Layers.{readable_size}
 use Rattle.arena_items.specs.Layout.{IsAlign}
 use Rattle.arena_items.specs.Layout.IsAlign.{one, two, four, eight, sixteen}
 use Rattle.arena_items.specs.LayoutLaws.{IsAlign-bounds, up-is}
-
--- a chunk has less than 2 ^ 63 bytes, and so has a range in use
-range_size : (m addr n : ℕ) (chunks : List Chunk) → AreChunks m chunks → IsTrue (is_range_used chunks addr n) → n + 64 ≤ 2 ^ 63
-range_size m addr n [] are used = absurd cc
-range_size m addr n (newest ∷ older) are used = elim (or_cases (is_used_by addr n newest) (is_range_used older addr n) used) [
-  | inl here ↦ (let is = are.0 in grind (arith, nat_tests))
-  | inr there ↦ range_size m addr n older are.2 there
-]
-
-pub readable_size : (state : State) (b : Block) → IsValid state → IsTrue (is_readable state b) → b.size + 64 ≤ 2 ^ 63
-readable_size state b valid readable = elim (cases_lt 0 b.size) [
-  | inl some ↦ (
-      let used : IsTrue (is_range_used state.chunks b.addr b.size) = grind (arith, nat_tests) in
-      range_size state.min_align b.addr b.size state.chunks valid.chunks used)
-  | inr none ↦ omega arith
-]
 
 power : (align : ℕ) → IsAlign align → is_power align ≡ true
 unfolding is_power_among

@@ -1,5 +1,5 @@
 -- Copies of maps: the table that is placed, and what stands in it when all pairs were put.
-use Rattle.std.proofs.Common.{◌≡◌, ℕ, zero, suc, ◌*◌, ◌^◌, ◌<◌, ◌≤◌, refl, sym, ap, subst, ◌∙◌, arith, List, [], ◌∷◌, Option, Some, Ok, Err, Bool, true, false}
+use Rattle.std.proofs.Common.{◌≡◌, ℕ, zero, suc, ◌+◌, ◌*◌, ◌/◌, ◌^◌, ◌<◌, refl, sym, ap, subst, ◌∙◌, arith, mul-div_cancel, zero-mul, length, List, [], ◌∷◌, Option, Some, Ok, Err, Bool, true, false}
 use Rattle.std.proofs.Math.Path.{fun_ext}
 use Rattle.std.specs.Prelude.{Result, IsPermutation, cond, map, bytes_eq}
 use Rattle.std.specs.List.{IsDistinct, flat_map}
@@ -10,17 +10,16 @@ use Rattle.arena_chunks.specs.Frame.{Frame}
 use Rattle.arena_chunks.proofs.Layers.{frame_reflexive, frame_then}
 use Rattle.arena_items.specs.Room.{SamePlaces}
 use Rattle.arena_items.specs.declared.room.AllocError.{AllocError}
-use Rattle.arena_hash.specs.Accounts.{unit_of, credit_of}
 use Rattle.arena_hash.specs.Changes.{PlacesMap}
 use Rattle.arena_hash.specs.Contents.{content_in}
 use Rattle.arena_hash.specs.Contents.{Kind as MapTypes}
 use Rattle.arena_hash.specs.Finite.{AreOnce, first_of}
 use Rattle.arena_hash.specs.Maps.{IsMapIn, pairs_in}
-use Rattle.arena_hash.specs.Policy.{table_align}
+use Rattle.arena_hash.specs.Policy.{table_align, slot_size}
 use Rattle.arena_hash.specs.declared.map.HashMap.{HashMap}
 use Rattle.arena_clone.specs.Asks.{AsksFor, PlacesAll, refusal}
 use Rattle.arena_clone.specs.Kinds.{Kind, of_some, row_of}
-use Rattle.arena_clone.specs.MapKind.{pair_of, map_of, table_ask}
+use Rattle.arena_clone.specs.MapKind.{pair_of, map_of, table_ask, IsTableFor}
 use Rattle.arena_clone.specs.MapCopies.{HoldsCopies, PutsCopies}
 use Rattle.arena_clone.specs.Copies.{Copies}
 use Rattle.arena_clone.specs.declared.ids.CloneInSemanticIds.{CloneInSemanticIds}
@@ -48,11 +47,11 @@ module _ {K V S : Type 0} (k : MapTypes K V S) (old new : View) where
           (e.table.block, [], none.1.block, refl, (refl, refl, subst (SamePlaces old) (sym none.0) (same_places old)))
       asked zero (Err err) few places = absurd (places.none refl).1
       asked (suc n) result few places =
-          let asks = places.asks (omega arith) few in (
-            asks.size,
-            asks.within,
-            took_asked (λ (m : HashMap K V S). m.table.block) asks.size
-                (table_align k.keys.ALIGN k.values.ALIGN) old new result asks.took places.err,
+          let made = places.made (omega arith) few in (
+            made.0,
+            made.1,
+            took_asked (λ (m : HashMap K V S). m.table.block) (made.0 * slot_size k.keys.SIZE k.values.SIZE)
+                (table_align k.keys.ALIGN k.values.ALIGN) old new result made.2 places.err,
           )
 
       frame : (result : Result (HashMap K V S) AllocError) → PlacesMap {X = HashMap K V S} k (λ m. m) old new n result
@@ -69,11 +68,33 @@ table_empty places = record {
   contents = refl;
   len = places.len;
   room = omega arith;
-  credit = omega (arith, places.credit);
   block = refl;
 }
 
 -- ---- A map of copies
+
+-- as many slots, where they have as many bytes
+same_slots : (slots other size : ℕ) → slots * (size + 1) ≡ other * (size + 1) → slots ≡ other
+same_slots slots other size same =
+    sym (mul-div_cancel slots (omega arith)) ∙ ap (λ n. n / (size + 1)) same ∙ mul-div_cancel other (omega arith)
+
+no_slots : (slots size : ℕ) → slots * (size + 1) ≡ 0 → slots ≡ 0
+no_slots slots size none = same_slots slots 0 size (none ∙ sym (zero-mul (size + 1)))
+
+-- The table of a map of copies is the one that was placed for them.
+copy_fits : {K V S : Type 0} (k : MapTypes K V S) {source new : Memory} {old mid : View} {xs ys : List (K × V)} {e w : HashMap K V S}
+    {n : ℕ} → PlacesMap {X = HashMap K V S} k (λ m. m) old mid n (Ok e) → HoldsCopies k source new e xs ys w → n ≡ length xs
+    → IsTableFor w.len w.table.slots
+copy_fits k {e} {w} {n} places holds count =
+    let bytes : w.table.block.size ≡ e.table.block.size = ap (λ b. b.size) holds.block in
+    let same : w.table.slots ≡ e.table.slots = same_slots w.table.slots e.table.slots (k.keys.SIZE + k.values.SIZE)
+    (sym holds.held.handle.place.of_size ∙ bytes ∙ places.held.handle.place.of_size) in
+    let len : w.len ≡ n = holds.len ∙ sym count in
+    rw (same, len) (
+      (λ none. no_slots e.table.slots (k.keys.SIZE + k.values.SIZE)
+          (sym places.held.handle.place.of_size ∙ (places.none none).1.block)),
+      places.slots,
+    )
 
 one_each : {A : Type 0} (xs : List A) → flat_map (λ x. x ∷ []) xs ≡ xs
 one_each [] = refl
@@ -169,7 +190,7 @@ module _ {K V S : Type 0} (k : MapTypes K V S) (keys : Kind K) (values : Kind V)
                 ap (λ (f : List ℕ → Option (K × V)). of_some (λ (p : K × V). values.whole new.memory p.1) (f q)) holds.map_is
                 ∙ values_alike k keys values ids source new.memory q (pairs_in k source h) ys holds.contents row.means);
             trim = (
-              subst (λ n. credit_of k w ≤ unit_of k * n) (sym holds.len) holds.credit,
+              copy_fits k places holds held.count,
               all_in_order ((pair_of keys values).is_trim new.memory) ys zs same row.trim,
             );
             deep = subst (λ b. IsPermutation (b ∷ flat_map deep zs) (e.table.block ∷ puts.row.blocks)) (sym holds.block) all;

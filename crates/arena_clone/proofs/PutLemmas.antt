@@ -1,5 +1,5 @@
 -- Copies of pairs, put one after another into a map with room for them.
-use Rattle.std.proofs.Common.{◌≡◌, ℕ, inl, inr, ◌+◌, ◌*◌, ◌<◌, ◌≤◌, refl, sym, ap, subst, ◌∙◌, arith, List, [], ◌∷◌, ◌++◌, Option, Some, None, Ok, Err, true, false, length, length-append, append-nil, take, drop, zero, suc, IsTrue}
+use Rattle.std.proofs.Common.{◌≡◌, ℕ, inl, inr, ◌+◌, ◌<◌, ◌≤◌, refl, sym, ap, subst, ◌∙◌, arith, List, [], ◌∷◌, ◌++◌, Option, Some, None, Ok, Err, true, false, length, length-append, append-nil, take, drop, zero, suc, IsTrue}
 use Rattle.std.specs.Prelude.{cond, slice_get, map, bytes_eq, is_some, nat_lt}
 use Rattle.std.specs.List.{AllByRecursion, IsDistinct}
 use Rattle.std.proofs.lemmas.Bool.Decides.{nat_tests}
@@ -14,7 +14,7 @@ use Rattle.arena_chunks.proofs.Layers.{frame_keeps_all}
 use Rattle.arena_items.specs.Footprint.{Agree}
 use Rattle.arena_items.specs.declared.room.AllocError.{AllocError}
 use Rattle.arena_items.proofs.Layers.{stays_readable, stays_agree}
-use Rattle.arena_hash.specs.Accounts.{unit_of, spare_of}
+use Rattle.arena_hash.specs.Accounts.{spare_of}
 use Rattle.arena_hash.specs.AgreeLaws.{meaning-agree, held-agree}
 use Rattle.arena_hash.specs.Changes.{Puts, is_value}
 use Rattle.arena_hash.specs.Contents.{content_in}
@@ -37,10 +37,6 @@ use Rattle.arena_clone.proofs.CopyLemmas.{apart_of_none, apart_to, apart_turned,
 use Rattle.arena_clone.proofs.RowLemmas.{take_more, cut_at, row_none, row_refused, row_added, made_between, apart_between}
 use Rattle.arena_clone.proofs.WithinLemmas.{apart_front}
 use Rattle.arena_clone.proofs.FiniteLemmas.{AreOthers, none_found, found_more, once_others}
-
--- a product with one more
-once_more : (u n : ℕ) → u * (n + 1) ≡ u * n + u
-once_more u n = omega arith
 
 module _ {K V S : Type 0} (k : MapTypes K V S) {keys : Kind K} {values : Kind V} (keeps : KeepsContent k.key keys) (one : IsLawful keys)
     (two : IsLawful values) where
@@ -92,7 +88,6 @@ module _ {K V S : Type 0} (k : MapTypes K V S) {keys : Kind K} {values : Kind V}
         contents = contents_agree old new ys deep ∙ holds.contents;
         len = holds.len;
         room = holds.room;
-        credit = holds.credit;
         block = holds.block;
       }
 
@@ -245,7 +240,6 @@ module _ {K V S : Type 0} {k : MapTypes K V S} {keys : Kind K} {values : Kind V}
                   ∙ simp map-append (cc (holds.contents, same));
               len = put.len ∙ rw absent (omega (arith, holds.len, long));
               room = omega (arith, holds.room, paid.spare, long);
-              credit = rw (long, once_more (unit_of k) (length front)) (omega (arith, holds.credit, paid.credit));
               block = block;
             });
           }

@@ -1,7 +1,6 @@
 -- Copies of maps whose keys and values hold nothing: the bytes of a table, copied elsewhere, are the table of a copy.
-use Rattle.std.proofs.Common.{◌≡◌, ℕ, zero, suc, inl, inr, ◌+◌, ◌-◌, ◌*◌, ◌<◌, ◌≤◌, refl, sym, ap, subst, ◌∙◌, arith, List, [], ◌∷◌, Option, Some, None, Ok, Err, length}
+use Rattle.std.proofs.Common.{◌≡◌, ℕ, zero, suc, inl, inr, ◌*◌, ◌<◌, ◌≤◌, ◌⊎◌, refl, sym, ap, subst, ◌∙◌, arith, List, [], ◌∷◌, Option, Some, None, Ok, Err, length}
 use Rattle.std.proofs.Math.Path.{fun_ext}
-use Rattle.std.proofs.Math.Nat.{mul-le-mul_left, mul-le-mul_right}
 use Rattle.std.proofs.lemmas.Bool.{eq-eqb, or_left}
 use Rattle.std.proofs.lemmas.List.Sorted.{IsPermutation-cons}
 use Rattle.std.specs.Prelude.{Result, map}
@@ -16,24 +15,24 @@ use Rattle.arena_items.specs.LayoutLaws.{plain_8, pair_layout}
 use Rattle.arena_items.specs.Room.{RoomAnswer}
 use Rattle.arena_items.specs.Values.{bytes_of, IsHeld}
 use Rattle.arena_items.specs.declared.room.AllocError.{AllocError}
-use Rattle.arena_hash.specs.Accounts.{unit_of}
 use Rattle.arena_hash.specs.Contents.{content_in}
 use Rattle.arena_hash.specs.Contents.{Kind as MapTypes}
 use Rattle.arena_hash.specs.Finite.{AreOnce, first_of}
 use Rattle.arena_hash.specs.Maps.{IsMapIn, map_in, pairs_in}
-use Rattle.arena_hash.specs.Policy.{slot_size, table_align, unit}
+use Rattle.arena_hash.specs.Policy.{slot_size, table_align, limit, IsSlotsFor}
 use Rattle.arena_hash.specs.Slots.{items}
-use Rattle.arena_hash.specs.Tables.{slots_of, IsTable}
+use Rattle.arena_hash.specs.Tables.{slots_of, IsTable, IsRing}
 use Rattle.arena_hash.specs.declared.map.HashMap.{HashMap}
 use Rattle.arena_clone.specs.Asks.{PlacesAll, refusal}
 use Rattle.arena_clone.specs.Asks.Ask.{Room}
 use Rattle.arena_clone.specs.Kinds.{Kind, of_some, row_of}
-use Rattle.arena_clone.specs.MapKind.{KeepsContent, pair_of, map_of, table_ask}
+use Rattle.arena_clone.specs.MapKind.{KeepsContent, pair_of, map_of, table_ask, IsTableFor}
 use Rattle.arena_clone.specs.Copies.{IsFlat, IsMade, Copies}
+use Rattle.arena_clone.specs.FlatLaws.{row_flat, both_flat}
 use Rattle.arena_clone.specs.declared.ids.CloneInSemanticIds.{CloneInSemanticIds}
 use Rattle.arena_clone.proofs.AsksLemmas.{block_of}
 use Rattle.arena_clone.proofs.CopyLemmas.{places_one}
-use Rattle.arena_clone.proofs.FlatLemmas.{none_in_all, row_made}
+use Rattle.arena_clone.proofs.FlatLemmas.{row_made}
 
 -- ---- The block of a table
 
@@ -41,29 +40,27 @@ use Rattle.arena_clone.proofs.FlatLemmas.{none_in_all, row_made}
 pub table_is_align : (k v ka va : ℕ) → IsItemLayout k ka → IsItemLayout v va → IsAlign (table_align ka va)
 table_is_align k v ka va keys values = (pair_layout 8 8 _ _ plain_8 (pair_layout k ka v va keys values)).is_align
 
--- A table of which more than a quarter is taken costs at most a unit for each pair, with its padding.
-table_within : (k v ka va slots len : ℕ) → slots < 4 * len
-    → slots * slot_size k v + (table_align ka va - 1) ≤ unit k v ka va * len
-table_within k v ka va slots len full =
-    let a : slots * slot_size k v ≤ 4 * len * slot_size k v =
-    mul-le-mul_right (slot_size k v) (let le : slots ≤ 4 * len = omega (arith, full) in le) in
-    let b : table_align ka va * 1 ≤ table_align ka va * len =
-    mul-le-mul_left (table_align ka va) (let le : 1 ≤ len = omega (arith, full) in le) in
-    let c : 8 * len ≤ table_align ka va * len = mul-le-mul_right len (let le : 8 ≤ table_align ka va = omega arith in le) in
-    omega (arith, a, b, c)
+-- A table of which more than a quarter is taken is that of a new map for so many pairs.
+full_fits : (slots len : ℕ) → (slots ≡ 0) ⊎ IsRing slots → len ≤ limit slots → slots < 4 * len → IsTableFor len slots
+full_fits slots len ring within full = (
+  (λ none. absurd (omega (arith, none, full))),
+  (λ some. elim ring [
+    | inl none ↦ absurd (omega (arith, some, none, within))
+    | inr is ↦ (is.0, omega (arith, is.1, within), omega (arith, some, full))
+  ]),
+)
 
 module _ {K V S : Type 0} (k : MapTypes K V S) (old new : View) where
   -- Such a table's block is what a copy for so many pairs asks for.
-  table_asked : {X : Type 0} (f : X → Block) (result : Result X AllocError) (slots len : ℕ) → slots < 4 * len
+  table_asked : {X : Type 0} (f : X → Block) (result : Result X AllocError) (slots len : ℕ) → 0 < len → IsSlotsFor len slots
       → RoomAnswer f result (PlacesBlock old new (slots * slot_size k.keys.SIZE k.values.SIZE) (table_align k.keys.ALIGN k.values.ALIGN))
       → PlacesAll (table_ask k len ∷ []) old new (block_of f result) (refusal result)
-  table_asked f result slots zero full placed = absurd (omega (arith, full))
-  table_asked f result slots (suc n) full placed =
+  table_asked f result slots zero some are placed = absurd (omega (arith, some))
+  table_asked f result slots (suc n) some are placed =
       let size = slots * slot_size k.keys.SIZE k.values.SIZE in
       let one : PlacesAll (Room size (table_align k.keys.ALIGN k.values.ALIGN) ∷ []) old new (block_of f result) (refusal result) =
       places_one f result placed in
-      let within = table_within k.keys.SIZE k.values.SIZE k.keys.ALIGN k.values.ALIGN slots (suc n) full in
-      record { asked = (size, within, one.asked); apart = one.apart; frame = one.frame }
+      record { asked = (slots, are, one.asked); apart = one.apart; frame = one.frame }
 
 -- ---- What stands in it
 
@@ -74,13 +71,7 @@ in_block h b = record { table = record { block = b; slots = h.table.slots; of = 
 module _ {K V S : Type 0} (k : MapTypes K V S) (keys : Kind K) (values : Kind V) (keeps : KeepsContent k.key keys)
     (ids : CloneInSemanticIds) (flat : IsFlat keys ids) (other : IsFlat values ids) where
   pairs_flat : IsFlat (pair_of keys values) ids
-  pairs_flat = record {
-    held = λ m p. (flat.held m p.0, other.held m p.1);
-    trim = λ m p. (flat.trim m p.0, other.trim m p.1);
-    deep = λ m p. rw (flat.deep m p.0, other.deep m p.1) refl;
-    asks = λ m p. rw (flat.asks m p.0, other.asks m p.1) refl;
-    alike = λ a c p i. (flat.alike a c p.0 i, other.alike a c p.1 i);
-  }
+  pairs_flat = both_flat (λ p. p.0) (λ p. p.1) flat other
 
   -- A key that names no block has no text,
   no_text : (m : Memory) (key : K) → (k.key.text key).size ≡ 0
@@ -127,16 +118,16 @@ module _ {K V S : Type 0} (k : MapTypes K V S) (keys : Kind K) (values : Kind V)
     map_same = λ i. first_of (contents_same a c i) (pairs_same i)
 
     -- and a copy.
-    block_made : IsMapIn k a h
+    block_made : h.table.slots < 4 * h.len → IsMapIn k a h
         → IsHeld (h.table.slots * slot_size k.keys.SIZE k.values.SIZE) (table_align k.keys.ALIGN k.values.ALIGN) c.state b
         → IsMade (map_of k keys values) ((map_of k keys values).by_ids ids ((map_of k keys values).whole a h)) c (b ∷ []) (in_block h b)
-    block_made is place =
+    block_made full is place =
         let row = row_made (pair_of keys values) ids pairs_flat a c (pairs_in k c (in_block h b)) in
         record {
           held = (block_held is place, row.held);
           means = fun_ext (λ q. ap (λ (f : List ℕ → Option (K × V)). of_some (λ (p : K × V). values.whole c p.1) (f q)) (sym map_same)
               ∙ alike (map_in k a h q));
-          trim = (mul-le-mul_left (unit_of k) (omega arith), row.trim);
+          trim = (full_fits h.table.slots h.len is.handle.ring is.within full, row.trim);
           deep = IsPermutation-cons b ((row_of (pair_of keys values)).deep c (pairs_in k c (in_block h b))) [] row.deep;
         }
       where
@@ -145,10 +136,15 @@ module _ {K V S : Type 0} (k : MapTypes K V S) (keys : Kind K) (values : Kind V)
         alike None = refl
         alike (Some p) = ap Some (other.alike a c p.1)
 
-  module _ (source : Memory) (old new : View) (h : HashMap K V S) (full : h.table.slots < 4 * h.len) where
+  module _ (source : Memory) (old new : View) (h : HashMap K V S) (full : h.table.slots < 4 * h.len) (is : IsMapIn k source h) where
+    some : 0 < h.len
+    some = omega (arith, full)
+
+    new_table : IsSlotsFor h.len h.table.slots
+    new_table = (full_fits h.table.slots h.len is.handle.ring is.within full).1 some
+
     asks_one : (map_of k keys values).asks source h ≡ table_ask k h.len ∷ []
-    asks_one = ap (λ xs. table_ask k h.len ∷ xs)
-        (none_in_all ((pair_of keys values).asks source) (pairs_flat.asks source) (pairs_in k source h))
+    asks_one = ap (λ xs. table_ask k h.len ∷ xs) ((row_flat pairs_flat).asks source (pairs_in k source h))
 
     -- Its block is refused,
     pub table_copy_refused : (e : AllocError)
@@ -158,22 +154,22 @@ module _ {K V S : Type 0} (k : MapTypes K V S) (keys : Kind K) (values : Kind V)
     table_copy_refused e placed = record {
       blocks = [];
       placed = subst (λ asks. PlacesAll asks old new [] (Some e)) (sym asks_one)
-          (table_asked k old new (λ b. b) (Err e) h.table.slots h.len full placed);
+          (table_asked k old new (λ b. b) (Err e) h.table.slots h.len some new_table placed);
       made = tt;
     }
 
     -- or placed, and has the table's bytes.
-    pub table_copied : (b : Block) → IsMapIn k source h
+    pub table_copied : (b : Block)
         → RoomAnswer {X = Block} (λ b. b) (Ok b)
         (PlacesBlock old new (h.table.slots * slot_size k.keys.SIZE k.values.SIZE) (table_align k.keys.ALIGN k.values.ALIGN))
         → bytes_of source h.table.block ≡ bytes_of new.memory b
         → Copies (map_of k keys values) ids source old new h (Ok (in_block h b))
-    table_copied b is placed same =
+    table_copied b placed same =
         let made = placed.1.outcome.of_layout in
         record {
           blocks = b ∷ [];
           placed = subst (λ asks. PlacesAll asks old new (b ∷ []) None) (sym asks_one)
-              (table_asked k old new (λ b. b) (Ok b) h.table.slots h.len full placed);
-          made = block_made source new.memory h b same is
+              (table_asked k old new (λ b. b) (Ok b) h.table.slots h.len some new_table placed);
+          made = block_made source new.memory h b same full is
               (record { readable = made.readable; of_size = made.of_size; of_align = made.of_align });
         }

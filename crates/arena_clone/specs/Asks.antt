@@ -1,5 +1,5 @@
 -- What a call asks of its arena, block after block.
-use Rattle.std.specs.Prelude.{◌≡◌, ℕ, ◌+◌, ◌-◌, ◌*◌, ◌≤◌, Option, Some, None, Result, Ok, Err, List, [], ◌∷◌}
+use Rattle.std.specs.Prelude.{◌≡◌, ℕ, ◌*◌, Option, Some, None, Result, Ok, Err, List, [], ◌∷◌}
 use Rattle.arena_chunks.specs.Source.{View}
 use Rattle.arena_chunks.specs.Answers.{Answer, OnAnswer}
 use Rattle.arena_chunks.specs.Frame.{Frame, ArePairwiseApart}
@@ -10,14 +10,15 @@ use Rattle.arena_items.specs.declared.room.Growth.{Growth}
 use Rattle.arena_items.specs.declared.room.Growth.TheVariants.{Stays, GrowsTo, Overflows}
 use Rattle.arena_items.specs.declared.room.AllocError.{AllocError}
 use Rattle.arena_items.specs.declared.room.AllocError.TheVariants.{AllocErr, CapacityOverflow, OutOfMemory}
+use Rattle.arena_hash.specs.Policy.{IsSlotsFor}
 use Rattle.arena_vec.specs.Held.{empty_block}
 use Rattle.arena_vec.specs.Growth.{new_growth}
 
--- A block of this size and this alignment; one of this alignment with at most so many bytes and its padding; a block of no bytes,
--- or the one of no storage, for which the arena isn't asked; or more than a vector can have.
+-- A block of this size and this alignment; the block of a new map's table for so many pairs, with slots of this size and of this
+-- alignment; a block of no bytes, or the one of no storage, for which the arena isn't asked; or more than a vector can have.
 pub data Ask : Type 0 where
   Room : ℕ → ℕ → Ask
-  Within : ℕ → ℕ → Ask
+  Table : ℕ → ℕ → ℕ → Ask
   NoBytes : Ask
   Empty : ℕ → Ask
   TooMuch : Ask
@@ -59,8 +60,8 @@ abbrev pub AsksFor : List Ask → View → View → List Block → Option AllocE
 AsksFor [] old new blocks end = (end ≡ None) × (blocks ≡ []) × SamePlaces old new
 AsksFor (Room size align ∷ asks) old new blocks end =
     Takes size align old new blocks end (λ between rest. AsksFor asks between new rest end)
-AsksFor (Within most align ∷ asks) old new blocks end =
-    (size : ℕ) × (size + (align - 1) ≤ most) × Takes size align old new blocks end (λ between rest. AsksFor asks between new rest end)
+AsksFor (Table pairs slot align ∷ asks) old new blocks end = (slots : ℕ) × IsSlotsFor pairs slots
+    × Takes (slots * slot) align old new blocks end (λ between rest. AsksFor asks between new rest end)
 AsksFor (NoBytes ∷ asks) old new blocks end =
     (b : Block) × (rest : List Block) × (b.size ≡ 0) × (blocks ≡ b ∷ rest) × AsksFor asks old new rest end
 AsksFor (Empty align ∷ asks) old new blocks end =

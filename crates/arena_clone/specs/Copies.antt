@@ -9,7 +9,7 @@ use Rattle.arena_clone.specs.Asks.{Ask, PlacesAll, refusal}
 use Rattle.arena_clone.specs.Kinds.{Kind, AreAlike}
 use Rattle.arena_clone.specs.declared.ids.CloneInSemanticIds.{CloneInSemanticIds}
 
--- A value with this meaning that names just these blocks, at every depth and in whatever order, and has no room to spare.
+-- A value with this meaning that names just these blocks, at every depth and in whatever order, each with the room of a new one.
 pub record IsMade {T : Type 0} (kind : Kind T) (meaning : kind.Whole) (new : Memory) (blocks : List Block) (w : T) : Type 0 where
   pub held : kind.is_held new w
   pub means : kind.whole new w ≡ meaning

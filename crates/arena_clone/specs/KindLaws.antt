@@ -2,6 +2,7 @@
 use Rattle.std.proofs.Common.{◌≡◌, ◌*◌, ◌<◌, ap, sym, refl, subst, ◌∙◌, Option, Some, None, List, [], ◌∷◌, ◌++◌, IsTrue}
 use Rattle.std.specs.List.{AllByRecursion}
 use Rattle.std.specs.Int.{from_le_bytes, w64}
+use Rattle.std.proofs.lemmas.Bool.{and_parts, false≢true}
 use Rattle.arena_chunks.specs.Memory.{Memory, is_readable}
 use Rattle.arena_chunks.specs.declared.block.Block.{Block}
 use Rattle.arena_items.specs.Footprint.{AreReadable, Agree}
@@ -13,10 +14,14 @@ use Rattle.arena_vec.specs.Vecs.{IsVecIn, vec_list}
 use Rattle.arena_bits.specs.Bits.{bits_of}
 use Rattle.arena_clone.specs.Asks.{Ask, vector_ask}
 use Rattle.arena_clone.specs.Asks.Ask.{Room}
+use Rattle.arena_clone.specs.Copies.{IsFlat}
+use Rattle.arena_clone.specs.FlatLaws.{plain_flat, id_flat, option_flat, row_flat, both_flat}
 use Rattle.arena_clone.specs.Kinds.{Kind, plain, semantic_id, text, bit_set, option_of, both_of, row_of, row_in, box_of, slice_of, vec_of}
+use Rattle.arena_clone.specs.declared.ids.CloneInSemanticIds.{CloneInSemanticIds}
+use Rattle.arena_clone.specs.declared.ids.CloneInSemanticIds.TheVariants.{With}
 
 -- A value that is held has readable blocks. In two memories with the same bytes in them, where they may be read in both, it is
--- the same in all respects.
+-- the same in all respects. A copy with ids means what its source means, and a kind whose values are copied by their bytes is flat.
 pub record IsLawful {T : Type 0} (kind : Kind T) : Type 0 where
   pub readable : (m : Memory) (v : T) → kind.is_held m v → AreReadable m.state (kind.deep m v)
   pub held : (a c : Memory) (v : T) → kind.is_held a v → Agree a c (kind.deep a v) → AreReadable c.state (kind.deep a v)
@@ -25,6 +30,8 @@ pub record IsLawful {T : Type 0} (kind : Kind T) : Type 0 where
   pub deep : (a c : Memory) (v : T) → Agree a c (kind.deep a v) → kind.deep c v ≡ kind.deep a v
   pub whole : (a c : Memory) (v : T) → Agree a c (kind.deep a v) → kind.whole c v ≡ kind.whole a v
   pub asks : (a c : Memory) (v : T) → Agree a c (kind.deep a v) → kind.asks c v ≡ kind.asks a v
+  pub kept : (w : kind.Whole) → kind.by_ids With w ≡ w
+  pub flat : (ids : CloneInSemanticIds) → IsTrue (kind.is_flat ids) → IsFlat kind ids
 
 -- ---- Values with no others in them
 
@@ -36,6 +43,8 @@ plain_lawful = record {
   deep = λ a c v agree. refl;
   whole = λ a c v agree. refl;
   asks = λ a c v agree. refl;
+  kept = λ w. refl;
+  flat = λ ids moved. plain_flat ids;
 }
 
 pub semantic_id_lawful : IsLawful semantic_id
@@ -46,6 +55,8 @@ semantic_id_lawful = record {
   deep = λ a c v agree. refl;
   whole = λ a c v agree. refl;
   asks = λ a c v agree. refl;
+  kept = λ w. refl;
+  flat = id_flat;
 }
 
 pub text_lawful : IsLawful text
@@ -56,6 +67,8 @@ text_lawful = record {
   deep = λ a c v agree. refl;
   whole = λ a c v agree. sym agree.0;
   asks = λ a c v agree. refl;
+  kept = λ w. refl;
+  flat = λ ids is. absurd (false≢true is);
 }
 
 pub bit_set_lawful : IsLawful bit_set
@@ -69,6 +82,8 @@ bit_set_lawful = record {
   deep = λ a c v agree. refl;
   whole = λ a c v agree. λ i. (v.capacity, bits_of (elements 8 (from_le_bytes w64) v.words.length (sym agree.0 i)));
   asks = λ a c v agree. refl;
+  kept = λ w. refl;
+  flat = λ ids is. absurd (false≢true is);
 }
 
 -- ---- Blocks of several values
@@ -102,8 +117,14 @@ module _ {T : Type 0} (kind : Kind T) (is : IsLawful kind) where
     deep = names;
     whole = means;
     asks = asks_same;
+    kept = keeps;
+    flat = λ ids moved. option_flat (is.flat ids moved);
   }
     where
+      keeps : (o : Option kind.Whole) → (option_of kind).by_ids With o ≡ o
+      keeps None = refl
+      keeps (Some w) = ap Some (is.kept w)
+
       reads : (m : Memory) (o : Option T) → (option_of kind).is_held m o → AreReadable m.state ((option_of kind).deep m o)
       reads m None held = tt
       reads m (Some v) held = is.readable m v held
@@ -141,8 +162,14 @@ module _ {T : Type 0} (kind : Kind T) (is : IsLawful kind) where
     deep = names;
     whole = means;
     asks = asks_same;
+    kept = keeps;
+    flat = λ ids moved. row_flat (is.flat ids moved);
   }
     where
+      keeps : (ws : List kind.Whole) → (row_of kind).by_ids With ws ≡ ws
+      keeps [] = refl
+      keeps (w ∷ ws) = λ i. is.kept w i ∷ keeps ws i
+
       -- the bytes of the first value's blocks, and of the others
       parts : (a c : Memory) (v : T) (vs : List T) → Agree a c ((row_of kind).deep a (v ∷ vs))
           → Agree a c (kind.deep a v) × Agree a c ((row_of kind).deep a vs)
@@ -199,6 +226,10 @@ module _ {T A B : Type 0} (first : Kind A) (second : Kind B) (a : T → A) (b : 
     deep = λ m n v agree. let same = parts m n v agree in λ i. is.deep m n (a v) same.0 i ++ other.deep m n (b v) same.1 i;
     whole = λ m n v agree. let same = parts m n v agree in λ i. (is.whole m n (a v) same.0 i, other.whole m n (b v) same.1 i);
     asks = λ m n v agree. let same = parts m n v agree in λ i. is.asks m n (a v) same.0 i ++ other.asks m n (b v) same.1 i;
+    kept = λ w i. (is.kept w.0 i, other.kept w.1 i);
+    flat = λ ids moved.
+        let each = and_parts (first.is_flat ids) (second.is_flat ids) moved in
+        both_flat a b (is.flat ids each.0) (other.flat ids each.1);
   }
     where
       parts : (m n : Memory) (v : T) → Agree m n ((both_of first second a b).deep m v)
@@ -220,6 +251,8 @@ module _ {T : Type 0} (item : Ghosts T) (kind : Kind T) (is : IsLawful kind) whe
     whole = λ a c b agree. ap (kind.whole c) (sym (same a c b agree)) ∙ is.whole a c _ (value a c b agree);
     asks = λ a c b agree. ap (λ xs. xs ++ Room item.SIZE item.ALIGN ∷ [])
         (ap (kind.asks c) (sym (same a c b agree)) ∙ is.asks a c _ (value a c b agree));
+    kept = is.kept;
+    flat = λ ids moved. absurd (false≢true moved);
   }
     where
       parts : (a c : Memory) (b : Box T) → Agree a c ((box_of item kind).deep a b)
@@ -251,6 +284,8 @@ module _ {T : Type 0} (item : Ghosts T) (kind : Kind T) (is : IsLawful kind) whe
       whole = λ a c v agree. ap ((row_of kind).whole c) (sym (same a c v agree.0)) ∙ row.whole a c (values a v) agree.1;
       asks = λ a c v agree. ap (λ xs. ask v ∷ xs)
           (ap ((row_of kind).asks c) (sym (same a c v agree.0)) ∙ row.asks a c (values a v) agree.1);
+      kept = row.kept;
+      flat = λ ids moved. absurd (false≢true moved);
     }
       where
         row : IsLawful (row_of kind)

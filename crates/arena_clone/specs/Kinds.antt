@@ -1,5 +1,5 @@
 -- What values are at every depth: the blocks that they name, what they mean, and what a copy of them is.
-use Rattle.std.specs.Prelude.{◌≡◌, ℕ, ◌*◌, ◌^◌, ◌<◌, ◌≤◌, Option, Some, None, IfSome, List, [], ◌∷◌, ◌++◌, map}
+use Rattle.std.specs.Prelude.{◌≡◌, ℕ, ◌*◌, ◌^◌, ◌<◌, ◌≤◌, Bool, true, false, ◌&&◌, Option, Some, None, IfSome, List, [], ◌∷◌, ◌++◌, map}
 use Rattle.std.specs.List.{AllByRecursion, flat_map}
 use Rattle.arena_chunks.specs.Memory.{Memory}
 use Rattle.arena_chunks.specs.declared.block.Block.{Block}
@@ -33,10 +33,12 @@ pub record Kind (T : Type 0) : Type 1 where
   pub is_held : Memory → T → Type 0
   -- what a copy means, by whether it keeps semantic ids
   pub by_ids : CloneInSemanticIds → Whole → Whole
-  -- it has no room to spare: the capacity of a vector is its length
+  -- it has the room of a new one: the capacity of a vector is its length, and a map's table is that of a new map for its pairs
   pub is_trim : Memory → T → Type 0
   -- what a copy asks of its arena, for one block after another of those that it names
   pub asks : Memory → T → List Ask
+  -- whether the bytes of each, copied elsewhere, are a copy of it
+  pub is_flat : CloneInSemanticIds → Bool
 
 -- Two values are alike by the rule for ids: the second means what a copy of the first means.
 abbrev pub AreAlike : {T : Type 0} → Kind T → CloneInSemanticIds → Memory → T → Memory → T → Type 0
@@ -55,12 +57,17 @@ plain {T} = record {
   by_ids = λ ids v. v;
   is_trim = λ m v. Unit {0};
   asks = λ m v. [];
+  is_flat = λ ids. true;
 }
 
 -- an id is kept, or becomes 0
 abbrev pub id_by : CloneInSemanticIds → ℕ → ℕ
 id_by With n = n
 id_by Without n = 0
+
+abbrev pub keeps_ids : CloneInSemanticIds → Bool
+keeps_ids With = true
+keeps_ids Without = false
 
 abbrev pub semantic_id : Kind SemanticId
 semantic_id = record {
@@ -72,6 +79,7 @@ semantic_id = record {
   by_ids = id_by;
   is_trim = λ m id. Unit {0};
   asks = λ m id. [];
+  is_flat = keeps_ids;
 }
 
 -- ---- Values of one block with no others in it
@@ -87,6 +95,7 @@ text = record {
   by_ids = λ ids bytes. bytes;
   is_trim = λ m s. Unit {0};
   asks = λ m s. Room s.block.size 1 ∷ [];
+  is_flat = λ ids. false;
 }
 
 -- a bit set is its capacity and its numbers
@@ -100,6 +109,7 @@ bit_set = record {
   by_ids = λ ids set. set;
   is_trim = λ m s. Unit {0};
   asks = λ m s. Room (words_for s.capacity * 8) 8 ∷ [];
+  is_flat = λ ids. false;
 }
 
 -- ---- Values that are made of others
@@ -125,6 +135,7 @@ module _ {T : Type 0} (kind : Kind T) where
     by_ids = λ ids. of_some (kind.by_ids ids);
     is_trim = λ m o. IfSome o (kind.is_trim m);
     asks = λ m. all_of (kind.asks m);
+    is_flat = kind.is_flat;
   }
 
   -- a list is its values in turn
@@ -138,6 +149,7 @@ module _ {T : Type 0} (kind : Kind T) where
     by_ids = λ ids. map (kind.by_ids ids);
     is_trim = λ m. AllByRecursion (kind.is_trim m);
     asks = λ m. flat_map (kind.asks m);
+    is_flat = kind.is_flat;
   }
 
 -- a value of two parts is both of them, of which the first is copied first
@@ -151,6 +163,7 @@ both_of first second a b = record {
   by_ids = λ ids whole. (first.by_ids ids whole.0, second.by_ids ids whole.1);
   is_trim = λ m v. first.is_trim m (a v) × second.is_trim m (b v);
   asks = λ m v. first.asks m (a v) ++ second.asks m (b v);
+  is_flat = λ ids. first.is_flat ids && second.is_flat ids;
 }
 
 module _ {T : Type 0} (item : Ghosts T) (kind : Kind T) where
@@ -165,6 +178,7 @@ module _ {T : Type 0} (item : Ghosts T) (kind : Kind T) where
     by_ids = kind.by_ids;
     is_trim = λ m b. kind.is_trim m (box_value item m b);
     asks = λ m b. kind.asks m (box_value item m b) ++ Room item.SIZE item.ALIGN ∷ [];
+    is_flat = λ ids. false;
   }
 
   -- Values in a row are reached through their handle, which is held itself. Its block comes first, and it means its values.
@@ -179,6 +193,7 @@ module _ {T : Type 0} (item : Ghosts T) (kind : Kind T) where
     by_ids = (row_of kind).by_ids;
     is_trim = λ m v. is_trim v × (row_of kind).is_trim m (values m v);
     asks = λ m v. ask v ∷ (row_of kind).asks m (values m v);
+    is_flat = λ ids. false;
   }
 
   -- a boxed slice is its values

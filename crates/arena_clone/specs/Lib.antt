@@ -1,5 +1,6 @@
 pub mod Asks
 pub mod Kinds
+pub mod FlatLaws
 pub mod KindLaws
 pub mod Alike
 pub mod Copies

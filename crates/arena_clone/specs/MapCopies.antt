@@ -1,8 +1,8 @@
 -- Copies of the pairs of a map, put into another.
-use Rattle.std.specs.Prelude.{◌≡◌, ◌+◌, ◌*◌, ◌≤◌, List, length, map, Result, IfOk}
+use Rattle.std.specs.Prelude.{◌≡◌, ◌+◌, ◌≤◌, List, length, map, Result, IfOk}
 use Rattle.arena_chunks.specs.Memory.{Memory}
 use Rattle.arena_chunks.specs.Source.{View}
-use Rattle.arena_hash.specs.Accounts.{unit_of, spare_of, credit_of}
+use Rattle.arena_hash.specs.Accounts.{spare_of}
 use Rattle.arena_hash.specs.Contents.{content_in}
 use Rattle.arena_hash.specs.Contents.{Kind as MapTypes}
 use Rattle.arena_hash.specs.Finite.{first_of}
@@ -14,7 +14,7 @@ use Rattle.arena_clone.specs.MapKind.{pair_of}
 use Rattle.arena_clone.specs.Rows.{CopiesRow}
 use Rattle.arena_clone.specs.declared.ids.CloneInSemanticIds.{CloneInSemanticIds}
 
--- The map of copies of these pairs, in the table of a map that was empty, with a unit of credit for each at most.
+-- The map of copies of these pairs, in the table of a map that was empty.
 pub record HoldsCopies {K V S : Type 0} (k : MapTypes K V S) (source new : Memory) (m : HashMap K V S) (xs ys : List (K × V))
     (w : HashMap K V S) : Type 0 where
   pub held : IsMapIn k new w
@@ -22,7 +22,6 @@ pub record HoldsCopies {K V S : Type 0} (k : MapTypes K V S) (source new : Memor
   pub contents : map (λ (p : K × V). content_in k.key new p.0) ys ≡ map (λ (p : K × V). content_in k.key source p.0) xs
   pub len : w.len ≡ length xs
   pub room : spare_of m ≤ spare_of w + length xs
-  pub credit : credit_of k w ≤ unit_of k * length xs
   pub block : w.table.block ≡ m.table.block
 
 -- Copies of pairs were put into an empty map, or one was refused.

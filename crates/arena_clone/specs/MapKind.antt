@@ -1,15 +1,14 @@
 -- What maps are at every depth.
-use Rattle.std.specs.Prelude.{◌≡◌, ℕ, zero, suc, ◌*◌, ◌^◌, ◌≤◌, ◌⊎◌, Option, List, ◌∷◌}
+use Rattle.std.specs.Prelude.{◌≡◌, ℕ, zero, suc, ◌^◌, ◌<◌, ◌≤◌, ◌⊎◌, false, Option, List, ◌∷◌}
 use Rattle.std.specs.List.{Contains}
 use Rattle.arena_chunks.specs.Memory.{Memory}
-use Rattle.arena_hash.specs.Accounts.{unit_of, credit_of}
 use Rattle.arena_hash.specs.Contents.{Key, content_in}
 use Rattle.arena_hash.specs.Contents.{Kind as MapTypes}
 use Rattle.arena_hash.specs.Maps.{IsMapIn, map_in, pairs_in}
-use Rattle.arena_hash.specs.Policy.{table_align}
+use Rattle.arena_hash.specs.Policy.{table_align, slot_size, IsSlotsFor}
 use Rattle.arena_hash.specs.declared.map.HashMap.{HashMap}
 use Rattle.arena_clone.specs.Asks.{Ask}
-use Rattle.arena_clone.specs.Asks.Ask.{Within, NoBytes}
+use Rattle.arena_clone.specs.Asks.Ask.{Table, NoBytes}
 use Rattle.arena_clone.specs.Kinds.{Kind, AreAlike, of_some, both_of, row_of}
 use Rattle.arena_clone.specs.declared.ids.CloneInSemanticIds.{CloneInSemanticIds}
 
@@ -24,12 +23,16 @@ pub record KeepsContent {K : Type 0} (key : Key K) (kind : Kind K) : Type 0 wher
 abbrev pub pair_of : {K V : Type 0} → Kind K → Kind V → Kind (K × V)
 pair_of keys values = both_of keys values (λ p. p.0) (λ p. p.1)
 
--- A table for so many pairs: a unit for each pair, with the padding before it. For none there are no bytes.
+-- A table for so many pairs is that of a new map for them. For none there are no bytes.
 abbrev pub table_ask : {K V S : Type 0} → MapTypes K V S → ℕ → Ask
 table_ask k zero = NoBytes
-table_ask k (suc n) = Within (unit_of k * suc n) (table_align k.keys.ALIGN k.values.ALIGN)
+table_ask k (suc n) = Table (suc n) (slot_size k.keys.SIZE k.values.SIZE) (table_align k.keys.ALIGN k.values.ALIGN)
 
--- A map is what stands under each content. A copy has room for just its pairs: its credit is at most a unit for each.
+-- the slots of a new map for so many pairs: none for none
+abbrev pub IsTableFor : ℕ → ℕ → Type 0
+IsTableFor len slots = (len ≡ 0 → slots ≡ 0) × (0 < len → IsSlotsFor len slots)
+
+-- A map is what stands under each content. A copy has the table of a new map for its pairs.
 abbrev pub map_of : {K V S : Type 0} → MapTypes K V S → Kind K → Kind V → Kind (HashMap K V S)
 map_of {K} {V} {S} k keys values = record {
   Whole = List ℕ → Option values.Whole;
@@ -38,6 +41,7 @@ map_of {K} {V} {S} k keys values = record {
   is_small = (k.keys.SIZE ≤ 2 ^ 24) × (k.values.SIZE ≤ 2 ^ 24) × keys.is_small × values.is_small;
   is_held = λ m h. IsMapIn k m h × (row_of (pair_of keys values)).is_held m (pairs_in k m h);
   by_ids = λ ids is q. of_some (values.by_ids ids) (is q);
-  is_trim = λ m h. (credit_of k h ≤ unit_of k * h.len) × (row_of (pair_of keys values)).is_trim m (pairs_in k m h);
+  is_trim = λ m h. IsTableFor h.len h.table.slots × (row_of (pair_of keys values)).is_trim m (pairs_in k m h);
   asks = λ m h. table_ask k h.len ∷ (row_of (pair_of keys values)).asks m (pairs_in k m h);
+  is_flat = λ ids. false;
 }

@@ -3,7 +3,7 @@ use Rattle.std.proofs.Common.{◌≡◌, ℕ, inl, inr, ap, sym, refl, subst, �
 use Rattle.std.proofs.Math.Path.{fun_ext}
 use Rattle.std.specs.Prelude.{Bool, map, cond, bytes_eq}
 use Rattle.std.specs.List.{AllByRecursion, find}
-use Rattle.std.proofs.lemmas.Bool.{eq-eqb, or_left}
+use Rattle.std.proofs.lemmas.Bool.{eq-eqb, or_left, false≢true}
 use Rattle.arena_chunks.specs.Memory.{Memory, is_readable, image}
 use Rattle.arena_chunks.specs.declared.block.Block.{Block}
 use Rattle.arena_chunks.proofs.Layers.{no_bytes}
@@ -18,7 +18,7 @@ use Rattle.arena_hash.specs.Slots.{items}
 use Rattle.arena_hash.specs.Tables.{slots_of}
 use Rattle.arena_hash.specs.declared.map.HashMap.{HashMap}
 use Rattle.arena_clone.specs.Kinds.{Kind, of_some, row_of}
-use Rattle.arena_clone.specs.KindLaws.{IsLawful, both_lawful, row_lawful, readable_each, agree_each}
+use Rattle.arena_clone.specs.KindLaws.{IsLawful, option_lawful, both_lawful, row_lawful, readable_each, agree_each}
 use Rattle.arena_clone.specs.MapKind.{KeepsContent, pair_of, map_of, table_ask}
 
 pub pair_lawful : {K V : Type 0} (keys : Kind K) (values : Kind V) → IsLawful keys → IsLawful values → IsLawful (pair_of keys values)
@@ -111,4 +111,6 @@ module _ {K V S : Type 0} (k : MapTypes K V S) (keys : Kind K) (values : Kind V)
     whole = λ a c h agree. fun_ext (meanings a c h agree);
     asks = λ a c h agree. ap (λ xs. table_ask k h.len ∷ xs) (ap ((row_of (pair_of keys values)).asks c) (sym (pairs_same a c h agree))
         ∙ pairs_lawful.asks a c (pairs_in k a h) agree.1);
+    kept = λ is. fun_ext (λ q. (option_lawful values two).kept (is q));
+    flat = λ ids moved. absurd (false≢true moved);
   }

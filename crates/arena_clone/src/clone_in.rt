@@ -1,8 +1,8 @@
 // Values that can be copied at every depth.
-ghost use Rattle.std.specs.Prelude.{IsTrue};
+ghost use Rattle.std.specs.Prelude.{◌≡◌};
 ghost use Rattle.arena_clone.specs.Kinds.{Kind};
 ghost use Rattle.arena_clone.specs.KindLaws.{IsLawful};
-ghost use Rattle.arena_clone.specs.Copies.{IsFlat, Copies};
+ghost use Rattle.arena_clone.specs.Copies.{Copies};
 
 use crate::ids::CloneInSemanticIds;
 use arena_chunks::{Allocator, ChunkSource};
@@ -14,9 +14,10 @@ pub trait CloneIn: Sized {
     // What its values are at every depth.
     ghost kind: { Kind Self };
 
-    /// Whether a value's bytes, copied elsewhere, are a copy of it. So a row of them is copied in one move of memory.
+    /// Whether a value's bytes, copied elsewhere, are a copy of it, exactly as its kind says. So a row of
+    /// them is copied in one move of memory.
     fn is_flat(ids: CloneInSemanticIds) -> bool
-        ensures { IsTrue result → IsFlat kind ids };
+        ensures { result ≡ kind.is_flat ids };
 
     /// A copy in another arena, which keeps semantic ids where that is asked for.
     ///

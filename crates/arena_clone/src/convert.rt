@@ -21,7 +21,8 @@ pub trait FromIn<T>: Sized {
     ///
     /// # Errors
     ///
-    /// As of the arena's `alloc_layout`. Nothing changes.
+    /// As of the arena's `alloc_layout`, and `CapacityOverflow` for an array whose values have more than
+    /// 4,294,967,295 bytes. Nothing changes.
     fn from_in<C: ChunkSource>(value: T, a: &mut Allocator<C>) -> Grown<Self>
         requires { is_small }
         ensures { converts a.old a.new value result };

@@ -7,16 +7,22 @@ ghost use Rattle.arena_chunks.specs.declared.block.Block.{Block};
 ghost use Rattle.arena_clone.specs.Asks.{vector_ask};
 ghost use Rattle.arena_clone.specs.Asks.Ask.{Room};
 ghost use Rattle.arena_clone.specs.Kinds.{AreAlike, option_of, box_of, slice_of, vec_of};
-ghost use Rattle.arena_clone.specs.Alike.{AreOptionsAlike, AreListsAlike};
+ghost use Rattle.arena_clone.specs.Alike.{AreOptionsAlike, AreListsAlike, AreMapsAlike};
 ghost use Rattle.arena_clone.specs.Copies.{IsMade, StaysWhole};
+ghost use Rattle.arena_clone.specs.MapKind.{map_of, table_ask};
+ghost use Rattle.arena_hash.specs.Contents.{kind};
+ghost use Rattle.arena_hash.specs.declared.map.HashMap.{HashMap};
 ghost use Rattle.arena_vec.specs.declared.vec.Vec.{Vec};
 ghost use Rattle.arena_vec.specs.Vecs.{vec_list};
 ghost use Rattle.arena_items.specs.Values.{box_value, slice_list};
 ghost use Rattle.arena_items.specs.declared.boxes.Box.{Box};
 ghost use Rattle.arena_items.specs.declared.slices.BoxSlice.{BoxSlice};
 ghost use Rattle.arena_clone.specs.declared.ids.CloneInSemanticIds.{CloneInSemanticIds};
+ghost use Rattle.arena_clone.specs.declared.ids.CloneInSemanticIds.TheVariants.{With};
 
 use crate::clone_in::CloneIn;
+use crate::keys::CloneKey;
+use arena_hash::KeyHasher;
 use arena_items::Item;
 
 /// When values that are made of others are alike by the rule for ids, whichever memory each stands in: options where both are
@@ -36,6 +42,14 @@ pub fn alike_law<T: CloneIn + Item>()
         ↔ AreListsAlike T.kind ids a (vec_list T.Item a v) c (vec_list T.Item c w) }
 {}
 
+/// When two maps are alike by the rule for ids: the same contents are keys of both, and the values of each
+/// are alike.
+pub fn maps_alike_law<K: CloneKey, V: CloneIn + Item, S: KeyHasher>()
+    ensures { (ids : CloneInSemanticIds) (a c : Memory) (v w : HashMap K V S)
+        → AreAlike (map_of (kind K.Item K.key V.Item S.hash_of) K.kind V.kind) ids a v c w
+        ↔ AreMapsAlike (kind K.Item K.key V.Item S.hash_of) V.kind ids a v c w }
+{}
+
 /// The frame law at every depth. A call on some blocks leaves every value whose blocks lie apart from them: it is held, names
 /// the same blocks, means the same, and its blocks lie apart from those that the call has then.
 pub fn deep_frame_law<T: CloneIn>()
@@ -46,7 +60,8 @@ pub fn deep_frame_law<T: CloneIn>()
 
 /// A value and its copy. Whatever arena the source is in, a call on blocks that lie apart from the copy's leaves the copy as it
 /// was made. A source in the arena of its copy is as it was before the copy was made, and the blocks of each lie apart from
-/// those of the other: so a call on the blocks of one alone leaves the other.
+/// those of the other: so a call on the blocks of one alone leaves the other. What is said of the source is
+/// `deep_frame_law` for calls that have no blocks before. A copy that keeps ids means just what its source means.
 pub fn copy_law<T: CloneIn>()
     ensures copy { (new later : Memory) (blocks before after : List Block) (meaning : T.kind.Whole) (w : T)
         → IsMade T.kind meaning new blocks w → Frame new later before after → AreAllApart blocks before
@@ -55,12 +70,23 @@ pub fn copy_law<T: CloneIn>()
         → T.kind.is_held old v → StaysWhole T.kind old new blocks v }
     ensures apart { (old new : Memory) (blocks : List Block) (v : T) → Frame old new [] blocks
         → T.kind.is_held old v → AreAllApart blocks (T.kind.deep old v) }
+    ensures ids { (w : T.kind.Whole) → T.kind.by_ids With w ≡ w }
 {}
 
-/// Values that place nothing ask for nothing, so that a copy of a list of them asks for its one block alone.
+/// Values that place nothing ask for nothing, so that a copy of a list of them asks for its one block alone, and
+/// for none where that is a vector's and has no bytes.
 pub fn one_block_law<T: CloneIn + Item>()
     ensures vector { ((m : Memory) (v : T) → T.kind.asks m v ≡ []) → (m : Memory) (v : Vec T)
         → (vec_of T.Item T.kind).asks m v ≡ vector_ask T.SIZE T.ALIGN v.raw.len ∷ [] }
     ensures slice { ((m : Memory) (v : T) → T.kind.asks m v ≡ []) → (m : Memory) (s : BoxSlice T)
         → (slice_of T.Item T.kind).asks m s ≡ Room (s.length * T.SIZE) T.ALIGN ∷ [] }
+{}
+
+/// Keys and values that place nothing ask for nothing, so that a copy of a map of them asks for its table alone,
+/// and for none where the map is empty.
+pub fn one_table_law<K: CloneKey, V: CloneIn + Item, S: KeyHasher>()
+    ensures { ((m : Memory) (key : K) → K.kind.asks m key ≡ []) → ((m : Memory) (v : V) → V.kind.asks m v ≡ [])
+        → (m : Memory) (h : HashMap K V S)
+        → (map_of (kind K.Item K.key V.Item S.hash_of) K.kind V.kind).asks m h
+        ≡ table_ask (kind K.Item K.key V.Item S.hash_of) h.len ∷ [] }
 {}

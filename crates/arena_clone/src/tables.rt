@@ -2,7 +2,7 @@
 // copy.
 ghost use Rattle.std.specs.Prelude.{◌*◌, ◌<◌, IsTrue};
 ghost use Rattle.arena_hash.specs.Contents.{kind};
-ghost use Rattle.arena_clone.specs.Copies.{IsFlat, Copies};
+ghost use Rattle.arena_clone.specs.Copies.{Copies};
 ghost use Rattle.arena_clone.specs.MapKind.{map_of};
 ghost use Rattle.arena_clone.specs.declared.ids.CloneInSemanticIds.{CloneInSemanticIds};
 
@@ -15,14 +15,15 @@ use arena_hash::{HashMap, KeyHasher, Table};
 use arena_items::{Grown, Item};
 
 // Whether the bytes of a map's table are that of a copy: keys and values hold nothing, and more than a
-// quarter of the slots are taken, as in a new table for as many pairs.
+// quarter of the slots are taken, so that a new table for as many pairs has as many slots. One or two pairs
+// are put one by one: a new table for them has 8 slots, of which they take a quarter at most.
 #[inline]
 pub(crate) fn is_copied_whole<K: CloneKey, V: CloneIn + Item, S: KeyHasher>(
     map: &HashMap<K, V, S>,
     ids: CloneInSemanticIds,
 ) -> bool
-    ensures keys { IsTrue result → IsFlat K.kind ids }
-    ensures values { IsTrue result → IsFlat V.kind ids }
+    ensures keys { IsTrue result → IsTrue (K.kind.is_flat ids) }
+    ensures values { IsTrue result → IsTrue (V.kind.is_flat ids) }
     ensures full { IsTrue result → map.now.table.slots < 4 * map.now.len }
 {
     K::is_flat(ids) && V::is_flat(ids) && map.table.slots < 4 * map.len as u64
@@ -38,7 +39,7 @@ pub(crate) fn copy_table<
 >(map: &HashMap<K, V, S>, from: &Allocator<C>, to: &mut Allocator<D>) -> Grown<HashMap<K, V, S>>
     requires held { (map_of (kind K.Item K.key V.Item S.hash_of) K.kind V.kind).is_held from.now.memory map.now }
     requires full { map.now.table.slots < 4 * map.now.len }
-    ensures { (ids : CloneInSemanticIds) → IsFlat K.kind ids → IsFlat V.kind ids
+    ensures { (ids : CloneInSemanticIds) → IsTrue (K.kind.is_flat ids) → IsTrue (V.kind.is_flat ids)
         → Copies (map_of (kind K.Item K.key V.Item S.hash_of) K.kind V.kind) ids
         from.now.memory to.old to.new map.now result }
 {
@@ -61,7 +62,7 @@ pub(crate) fn copy_table_within<
 >(map: &HashMap<K, V, S>, a: &mut Allocator<C>) -> Grown<HashMap<K, V, S>>
     requires held { (map_of (kind K.Item K.key V.Item S.hash_of) K.kind V.kind).is_held a.old.memory map.now }
     requires full { map.now.table.slots < 4 * map.now.len }
-    ensures { (ids : CloneInSemanticIds) → IsFlat K.kind ids → IsFlat V.kind ids
+    ensures { (ids : CloneInSemanticIds) → IsTrue (K.kind.is_flat ids) → IsTrue (V.kind.is_flat ids)
         → Copies (map_of (kind K.Item K.key V.Item S.hash_of) K.kind V.kind) ids
         a.old.memory a.old a.new map.now result }
 {

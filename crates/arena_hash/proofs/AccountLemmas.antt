@@ -62,6 +62,13 @@ answer-refused f g (AllocErr refused) P h = h
 answer-refused f g OutOfMemory P h = h
 answer-refused f g CapacityOverflow P h = h
 
+-- also by the call that was to take room,
+pub took-refused : {X Y : Type 0} (f : X → Block) (g : Y → Block) (e : AllocError) (old new : View) (size align : ℕ)
+    → Took new (λ between. RoomAnswer f (Err e) (PlacesBlock old between size align))
+    → Took new (λ between. RoomAnswer g (Err e) (PlacesBlock old between size align))
+took-refused f g e old new size align took =
+    record { between = took.between; took = answer-refused f g e _ took.took; places = took.places }
+
 -- and a fact that follows from another does for each answer.
 pub answer-map : {X : Type 0} (f : X → Block) (result : Result X AllocError) (P Q : Answer → Type 0) → ((x : Answer) → P x → Q x)
     → RoomAnswer f result P → RoomAnswer f result Q

@@ -26,6 +26,7 @@ pub mod PutLemmas
 pub mod Scanning
 pub mod GapLemmas
 pub mod MapLemmas
+pub mod KeyLemmas
 pub mod SearchLemmas
 pub mod CallLemmas
 pub mod HandleLemmas

@@ -17,7 +17,7 @@ use Rattle.arena_hash.specs.Policy.{slot_size, table_align, IsSlotsFor}
 use Rattle.arena_hash.specs.Tables.{slots_in, IsTableHandle}
 use Rattle.arena_hash.specs.declared.map.HashMap.{HashMap}
 use Rattle.arena_hash.specs.declared.table.Table.{Table}
-use Rattle.arena_hash.proofs.AccountLemmas.{answer-refused, capacity-costs}
+use Rattle.arena_hash.proofs.AccountLemmas.{took-refused, capacity-costs}
 use Rattle.arena_hash.proofs.FreeLemmas.{free-slots, free-map, free-is}
 use Rattle.arena_hash.proofs.PolicyLemmas.{slots-room, credit-none}
 
@@ -46,6 +46,7 @@ module _ {K V S : Type 0} (k : Kind K V S) (keys : IsItemLayout k.keys.SIZE k.ke
   places-none old pairs hasher m zero new = record {
     none = λ is. (refl, subst (λ h. IsNew k h m) (sym new.hasher_is) new);
     overflows = λ many. absurd (omega (arith, many, zero));
+    made = λ some few. absurd (omega (arith, some, zero));
     asks = λ some few. absurd (omega (arith, some, zero));
     held = new.held old.memory;
     map_is = new.map_is old.memory;
@@ -64,6 +65,7 @@ module _ {K V S : Type 0} (k : Kind K V S) (keys : IsItemLayout k.keys.SIZE k.ke
   places-too-many old pairs many = record {
     none = λ is. absurd (omega (arith, many, is));
     overflows = λ h. (refl, refl);
+    made = λ some few. absurd (omega (arith, many, few));
     asks = λ some few. absurd (omega (arith, many, few));
     held = tt;
     map_is = tt;
@@ -84,13 +86,16 @@ module _ {K V S : Type 0} (k : Kind K V S) (keys : IsItemLayout k.keys.SIZE k.ke
         → IsTableHandle k.keys k.values new.memory m.table → slots_in k.keys k.values new.memory m.table ≡ replicate slots None
         → Frame old.memory new.memory [] (m.table.block ∷ []) → PlacesMap {X = HashMap K V S} k (λ m. m) old new pairs (Ok m)
     places-table m same len took handle free frame =
+        let made : Took new (λ between. RoomAnswer {X = HashMap K V S} (λ m. m.table.block) (Ok m)
+        (PlacesBlock old between (slots * slot_size k.keys.SIZE k.values.SIZE) (table_align k.keys.ALIGN k.values.ALIGN))) =
+        record { between = took.between; took = took.took; places = took.places } in
         let costs = capacity-costs k keys values keys_small values_small {X = HashMap K V S} old new (λ m. m.table.block) pairs slots
-        (Ok m) some few is
-        (record { between = took.between; took = took.took; places = took.places }) in
+        (Ok m) some few is made in
         let free_all = subst (λ n. slots_in k.keys k.values new.memory m.table ≡ replicate n None) (sym same) free in
         record {
           none = λ is. absurd (omega (arith, some, is));
           overflows = λ many. absurd (omega (arith, many, few));
+          made = λ h l. (slots, is, made);
           asks = λ h l. costs.0;
           held = free-map k new.memory m free_all handle len;
           map_is = free-is k new.memory m free_all;
@@ -108,17 +113,14 @@ module _ {K V S : Type 0} (k : Kind K V S) (keys : IsItemLayout k.keys.SIZE k.ke
         (PlacesBlock old between (slots * slot_size k.keys.SIZE k.values.SIZE) (table_align k.keys.ALIGN k.values.ALIGN)))
         → new.memory ≡ old.memory → PlacesMap {X = HashMap K V S} k (λ m. m) old new pairs (Err e)
     places-refused e took same =
+        let made = took-refused {X = Table K V} {Y = HashMap K V S} (λ t. t.block) (λ m. m.table.block) e old new
+        (slots * slot_size k.keys.SIZE k.values.SIZE) (table_align k.keys.ALIGN k.values.ALIGN) took in
         let costs = capacity-costs k keys values keys_small values_small {X = HashMap K V S} old new (λ m. m.table.block) pairs slots
-        (Err e) some few is
-        (record {
-          between = took.between;
-          took = answer-refused {X = Table K V} {Y = HashMap K V S} (λ t. t.block) (λ m. m.table.block) e
-              _ took.took;
-          places = took.places;
-        }) in
+        (Err e) some few is made in
         record {
           none = λ is. absurd (omega (arith, some, is));
           overflows = λ many. absurd (omega (arith, many, few));
+          made = λ h l. (slots, is, made);
           asks = λ h l. costs.0;
           held = tt;
           map_is = tt;
@@ -138,6 +140,7 @@ pub places-as : {K V S X Y : Type 0} (k : Kind K V S) (f : X → HashMap K V S) 
 places-as k f h old new pairs x y same p = record {
   none = λ is. let n = p.none is in (n.0, rw same n.1);
   overflows = λ many. absurd (let no = (p.overflows many).1 in cc);
+  made = λ some few. let a = p.made some few in (a.0, a.1, rw same a.2);
   asks = λ some few. let a = p.asks some few in record { size = a.size; bounded = a.bounded; within = a.within; took = rw same a.took };
   held = rw same p.held;
   map_is = rw same p.map_is;
@@ -156,15 +159,12 @@ pub refused-as : {K V S X Y : Type 0} (k : Kind K V S) (f : X → HashMap K V S)
 refused-as k f h old new pairs e p = record {
   none = λ is. absurd (p.none is).1;
   overflows = λ many. let o = p.overflows many in (o.0, (let is : e ≡ CapacityOverflow = (let no = o.1 in cc) in ap Err is));
+  made = λ some few. let a = p.made some few in (a.0, a.1, took-refused (λ x. (f x).table.block) (λ y. (h y).table.block) e old new _ _ a.2);
   asks = λ some few. let a = p.asks some few in record {
     size = a.size;
     bounded = a.bounded;
     within = a.within;
-    took = record {
-      between = a.took.between;
-      took = answer-refused (λ x. (f x).table.block) (λ y. (h y).table.block) e _ a.took.took;
-      places = a.took.places;
-    };
+    took = took-refused (λ x. (f x).table.block) (λ y. (h y).table.block) e old new _ _ a.took;
   };
   held = tt;
   map_is = tt;

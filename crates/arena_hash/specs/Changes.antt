@@ -3,8 +3,9 @@ use Rattle.std.specs.Prelude.{◌≡◌, ℕ, ◌+◌, ◌-◌, ◌*◌, ◌^◌
 use Rattle.std.specs.Prelude.{IsOkAnd, if◌then◌else◌}
 use Rattle.arena_chunks.specs.Memory.{Memory}
 use Rattle.arena_chunks.specs.Source.{View}
+use Rattle.arena_chunks.specs.BlockCalls.{PlacesBlock}
 use Rattle.arena_chunks.specs.Frame.{Frame}
-use Rattle.arena_items.specs.Room.{MakesRoom, SamePlaces}
+use Rattle.arena_items.specs.Room.{MakesRoom, SamePlaces, RoomAnswer, Took}
 use Rattle.arena_items.specs.declared.room.AllocError.{AllocError}
 use Rattle.arena_items.specs.declared.room.AllocError.TheVariants.{CapacityOverflow}
 use Rattle.arena_hash.specs.Accounts.{unit_of, spare_of, credit_of, used, IsFree, AsksOnce, InsertCosts}
@@ -67,11 +68,15 @@ is_new before answer = answer ≡ not (is_some before)
 abbrev pub was_there : {V : Type 0} → Option V → Bool → Type 0
 was_there before answer = answer ≡ is_some before
 
--- A call that makes an empty map with room for so many pairs places a table for them, none for 0.
+-- A call that makes an empty map with room for so many pairs places a table for them, none for 0. The arena is asked for that table's
+-- layout and no other, and its answer is the call's.
 pub record PlacesMap {X K V S : Type 0} (k : Kind K V S) (map : X → HashMap K V S) (old new : View) (pairs : ℕ)
     (result : Result X AllocError) : Type 0 where
   pub none : pairs ≡ 0 → (new ≡ old) × IsOkAnd result (λ x. IsNew k (map x).hasher (map x))
   pub overflows : 2 ^ 32 ≤ pairs → (new ≡ old) × (result ≡ Err CapacityOverflow)
+  pub made : 0 < pairs → pairs < 2 ^ 32 → (n : ℕ) × IsSlotsFor pairs n × Took new (λ between.
+      RoomAnswer (λ x. (map x).table.block) result (PlacesBlock old between
+      (n * slot_size k.keys.SIZE k.values.SIZE) (table_align k.keys.ALIGN k.values.ALIGN)))
   pub asks : 0 < pairs → pairs < 2 ^ 32 → AsksOnce k old new (λ x. (map x).table.block) (unit_of k * pairs) result
   pub held : IfOk result (λ x. IsMapIn k new.memory (map x))
   pub map_is : IfOk result (λ x. map_in k new.memory (map x) ≡ empty)

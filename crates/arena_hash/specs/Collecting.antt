@@ -1,10 +1,13 @@
 -- Maps of an iterator's pairs.
-use Rattle.std.specs.Prelude.{◌≡◌, List, [], ◌∷◌, Option, Some, Ok, Err}
+use Rattle.std.specs.Prelude.{◌≡◌, ◌+◌, ◌*◌, ◌≤◌, List, [], ◌∷◌, length, Option, Some, Ok, Err}
 use Rattle.std.specs.Iterator.{Yields, Drains}
 use Rattle.arena_chunks.specs.Source.{View}
 use Rattle.arena_items.specs.declared.room.AllocError.{AllocError}
+use Rattle.arena_hash.specs.Accounts.{unit_of, credit_of, used}
 use Rattle.arena_hash.specs.Changes.{IsNew, Puts, is_value}
-use Rattle.arena_hash.specs.Contents.{Kind}
+use Rattle.arena_hash.specs.Contents.{Kind, content_in}
+use Rattle.arena_hash.specs.Finite.{empty, with_all}
+use Rattle.arena_hash.specs.Maps.{map_in}
 use Rattle.arena_hash.specs.declared.map.HashMap.{HashMap}
 
 -- These pairs were put one after another.
@@ -14,21 +17,25 @@ PutsAll {K} {V} {S} k old m (p ∷ ps) new w =
     (mid : View) × (u : HashMap K V S) × (before : Option V) × Puts k old mid m p.0 p.1 is_value u (Ok before)
     × PutsAll k mid u ps new w
 
--- All pairs of an iterator were put into a new map.
+-- All pairs of an iterator were put into a new map: it is the map of them, by their contents from the start, and each took two units
+-- at most.
 pub record CollectsAll {K V S I : Type 0} (k : Kind K V S) (steps : I → Option (K × V) → I → Type 0) (iter : I) (old new : View)
     (m : HashMap K V S) : Type 0 where
   pub pairs : List (K × V)
   pub drains : Drains steps iter pairs
+  pub map_is : map_in k new.memory m ≡ with_all (content_in k.key old.memory) empty pairs
+  pub bytes : used new + credit_of k m ≤ used old + 2 * unit_of k * length pairs
   pub first : HashMap K V S
   pub is_new : IsNew k first.hasher first
   pub puts : PutsAll k old first pairs new m
 
--- Some pairs were put into a new map, and one more was refused.
+-- Some pairs were put into a new map, and one more was refused. What was placed stays: two units for each that was put, at most.
 pub record CollectsSome {K V S I : Type 0} (k : Kind K V S) (steps : I → Option (K × V) → I → Type 0) (iter : I) (old new : View)
     (e : AllocError) : Type 0 where
   pub pairs : List (K × V)
   pub now : I
   pub yields : Yields steps iter pairs now
+  pub bytes : used new ≤ used old + 2 * unit_of k * length pairs
   pub first : HashMap K V S
   pub is_new : IsNew k first.hasher first
   pub between : View

@@ -1,32 +1,57 @@
 // Laws of maps. Each is a call that does nothing: made in a body, it gives its facts there.
-ghost use Rattle.std.specs.Prelude.{◌+◌, ◌*◌, ◌≤◌, Option, Result};
+ghost use Rattle.std.specs.Prelude.{◌≡◌, ◌+◌, ◌-◌, ◌*◌, ◌<◌, ◌≤◌, ◌↔◌, ℕ, List, Bool, Option, Some, Result};
+ghost use Rattle.std.specs.List.{Contains};
 ghost use Rattle.arena_chunks.specs.Memory.{Memory};
 ghost use Rattle.arena_chunks.specs.Source.{View};
+ghost use Rattle.arena_chunks.specs.declared.block.Block.{Block};
 ghost use Rattle.arena_items.specs.declared.room.AllocError.{AllocError};
 ghost use Rattle.arena_hash.specs.Accounts.{used, credit_of, unit_of};
-ghost use Rattle.arena_hash.specs.Changes.{Becomes, Puts, is_value};
-ghost use Rattle.arena_hash.specs.Contents.{kind};
+ghost use Rattle.arena_hash.specs.Changes.{Becomes, Puts, is_new, is_value};
+ghost use Rattle.arena_hash.specs.Contents.{kind, content_in};
 ghost use Rattle.arena_hash.specs.Finite.{Finite};
-ghost use Rattle.arena_hash.specs.Maps.{IsMapIn};
+ghost use Rattle.arena_hash.specs.Maps.{IsMapIn, map_in, texts_in};
+ghost use Rattle.arena_hash.specs.Policy.{slot_size, table_align, IsSlotsFor};
 ghost use Rattle.arena_hash.specs.declared.map.HashMap.{HashMap};
 
 use crate::hasher::KeyHasher;
 use crate::key::ArenaKey;
 use arena_items::Item;
 
-/// A map's block has at least the bytes of its pairs.
+/// A map's block has at least the bytes of its pairs. A new map's table for so many pairs takes a unit for each at
+/// most, with the padding before it.
 pub fn bytes_law<K: ArenaKey, V: Item, S: KeyHasher>()
-    ensures { (memory : Memory) (m : HashMap K V S) → IsMapIn (kind K.Item K.key V.Item S.hash_of) memory m
+    ensures pairs { (memory : Memory) (m : HashMap K V S) → IsMapIn (kind K.Item K.key V.Item S.hash_of) memory m
         → (K.SIZE + V.SIZE) * m.len ≤ m.table.block.size }
+    ensures table { (pairs slots : ℕ) → 0 < pairs → IsSlotsFor pairs slots
+        → slots * slot_size K.SIZE V.SIZE + (table_align K.ALIGN V.ALIGN - 1)
+        ≤ unit_of (kind K.Item K.key V.Item S.hash_of) * pairs }
 {}
 
-/// What a program's calls on one map take together: each insert raises the bytes that the arena uses and the
-/// map's credit together by at most two units, whatever it answers, and calls that take no memory don't raise
-/// them. So n inserts take at most 2 * n units more than the credit that the map had.
+/// What a map knows of its keys: each stands under its content, and the map's texts are those of its keys.
+pub fn texts_law<K: ArenaKey, V: Item, S: KeyHasher>()
+    ensures contents { (memory : Memory) (m : HashMap K V S) (q : List ℕ) (p : K × V)
+        → map_in (kind K.Item K.key V.Item S.hash_of) memory m q ≡ Some p
+        → content_in K.key memory p.0 ≡ q }
+    ensures texts { (memory : Memory) (m : HashMap K V S) (b : Block)
+        → IsMapIn (kind K.Item K.key V.Item S.hash_of) memory m
+        → Contains (texts_in (kind K.Item K.key V.Item S.hash_of) memory m) b
+        ↔ ((q : List ℕ) × (p : K × V) × (map_in (kind K.Item K.key V.Item S.hash_of) memory m q ≡ Some p)
+        × (K.key.text p.0 ≡ b)) }
+{}
+
+/// What a program's calls on one map or set take together: each insert raises the bytes that the arena uses
+/// and the map's credit together by at most two units, whatever it answers, and calls that take no memory
+/// don't raise them. So n inserts take at most 2 * n units more than the credit that the map had.
 pub fn costs_law<K: ArenaKey, V: Item, S: KeyHasher>()
     ensures inserts { (old new : View) (m w : HashMap K V S) (key : K) (value : V)
         (result : Result (Option V) AllocError)
         → Puts (kind K.Item K.key V.Item S.hash_of) old new m key value is_value w result
+        → used new + credit_of (kind K.Item K.key V.Item S.hash_of) w
+        ≤ used old + (credit_of (kind K.Item K.key V.Item S.hash_of) m
+        + 2 * unit_of (kind K.Item K.key V.Item S.hash_of)) }
+    ensures set_inserts { (old new : View) (m w : HashMap K V S) (item : K) (value : V)
+        (result : Result Bool AllocError)
+        → Puts (kind K.Item K.key V.Item S.hash_of) old new m item value is_new w result
         → used new + credit_of (kind K.Item K.key V.Item S.hash_of) w
         ≤ used old + (credit_of (kind K.Item K.key V.Item S.hash_of) m
         + 2 * unit_of (kind K.Item K.key V.Item S.hash_of)) }

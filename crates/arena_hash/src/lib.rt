@@ -21,7 +21,7 @@ mod whole;
 
 pub use hasher::{FxHasher, KeyHasher};
 pub use key::ArenaKey;
-pub use laws::{bytes_law, costs_law};
+pub use laws::{bytes_law, costs_law, texts_law};
 pub use map::HashMap;
 pub use set::{HashSet, SetIter};
 pub use table::Table;

@@ -282,7 +282,6 @@ impl<K: ArenaKey, V: Item, S: KeyHasher> HashMap<K, V, S> {
         requires values_small { V.SIZE ≤ 2 ^ 24 }
         requires held { IsMapIn (kind K.Item K.key V.Item S.hash_of) a.old.memory self.old }
         requires text { IsTrue (is_readable a.old.memory.state (K.key.text key)) }
-        requires apart { AreBlocksApart (K.key.text key) self.old.table.block }
         ensures { TakesOut (kind K.Item K.key V.Item S.hash_of) a.old a.new self.old key is_value
             self.new result }
     {

@@ -150,7 +150,6 @@ impl<T: ArenaKey, S: KeyHasher> HashSet<T, S> {
         requires small { T.SIZE ≤ 2 ^ 24 }
         requires held { IsMapIn (set_kind T.Item T.key S.hash_of) a.old.memory self.old.map }
         requires text { IsTrue (is_readable a.old.memory.state (T.key.text item)) }
-        requires apart { AreBlocksApart (T.key.text item) self.old.map.table.block }
         ensures { TakesOut (set_kind T.Item T.key S.hash_of) a.old a.new self.old.map item was_there
             self.new.map result }
     {

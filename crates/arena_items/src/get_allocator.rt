@@ -23,6 +23,12 @@ pub trait GetAllocator {
 
     // What is put in its place is there.
     ghost lent_back: { (s : Self) (a : View) → lent (with_lent s a) ≡ a };
+
+    // Lending touches nothing else: to put back what was there changes nothing, and only the last that was put
+    // counts.
+    ghost rest_stays: { (s : Self) → with_lent s (lent s) ≡ s };
+
+    ghost last_counts: { (s : Self) (a c : View) → with_lent (with_lent s a) c ≡ with_lent s c };
 }
 
 impl<C: ChunkSource> GetAllocator for Allocator<C> {
@@ -33,6 +39,10 @@ impl<C: ChunkSource> GetAllocator for Allocator<C> {
     ghost with_lent = { λ s a. a };
 
     ghost lent_back = { λ s a. refl };
+
+    ghost rest_stays = { λ s. refl };
+
+    ghost last_counts = { λ s a c. refl };
 
     fn allocator(&mut self) -> &mut Allocator<C> {
         self

@@ -11,6 +11,7 @@ ghost use Rattle.arena_chunks.specs.declared.block.Block.{Block};
 ghost use Rattle.arena_items.specs.Footprint.{Agree};
 ghost use Rattle.arena_items.specs.FrameLaw.{StaysHeld};
 
+use crate::address::Address;
 use crate::values::InArena;
 
 /// The frame law. A call on some blocks leaves every value whose footprint lies apart from them: it is held, names the same
@@ -36,5 +37,5 @@ pub fn address_law()
     ensures low { (state : State) (b : Block) → IsValid state → IsTrue (is_readable state b) → 0 < b.size
         → 4096 ≤ b.addr }
     ensures dummy { (state : State) (b : Block) → IsValid state → IsTrue (is_readable state b) → 0 < b.size
-        → b.addr ≢ 0 }
+        → b.addr ≢ Address.DUMMY.0 }
 {}

@@ -1,5 +1,6 @@
 // Blocks for values.
 ghost use Rattle.std.specs.Prelude.{◌≡◌, ◌^◌, ◌≤◌};
+ghost use Rattle.arena_chunks.specs.Answers.{answer_of};
 ghost use Rattle.arena_chunks.specs.BlockCalls.{PlacesBlock};
 ghost use Rattle.arena_items.specs.Placing.{Answers, PlacesArray};
 
@@ -51,20 +52,30 @@ pub(crate) fn layout_of<T: Item>() -> Layout
     }
 }
 
-// A block for one value.
-#[inline]
-pub(crate) fn place_one<T: Item, C: ChunkSource>(a: &mut Allocator<C>) -> Result<Block, ItemErr>
-    requires { T.SIZE ≤ 2 ^ 24 }
-    ensures { Answers (λ b. b) result (PlacesBlock a.old a.new T.SIZE T.ALIGN) }
+// What the arena answered, as calls on values tell it.
+#[inline(always)]
+fn told(placed: Result<Block, ArenaErr>) -> Result<Block, ItemErr>
+    ensures { Answers (λ b. b) result (λ answer. answer_of placed ≡ answer) }
 {
-    match a.alloc_layout(layout_of::<T>()) {
+    match placed {
         Ok(block) => Ok(block),
         Err(ArenaErr::AllocErr { refused }) => Err(ItemErr::AllocErr { refused }),
         Err(ArenaErr::OutOfMemory) => Err(ItemErr::OutOfMemory),
     }
 }
 
+// A block for one value.
+#[tactic(auto, using(crate::proofs::PlacingLemmas::answers_as))]
+#[inline]
+pub(crate) fn place_one<T: Item, C: ChunkSource>(a: &mut Allocator<C>) -> Result<Block, ItemErr>
+    requires { T.SIZE ≤ 2 ^ 24 }
+    ensures { Answers (λ b. b) result (PlacesBlock a.old a.new T.SIZE T.ALIGN) }
+{
+    told(a.alloc_layout(layout_of::<T>()))
+}
+
 // A block for n values.
+#[tactic(auto, using(crate::proofs::PlacingLemmas::answers_as))]
 #[inline]
 pub(crate) fn place_array<T: Item, C: ChunkSource>(
     a: &mut Allocator<C>,
@@ -75,9 +86,5 @@ pub(crate) fn place_array<T: Item, C: ChunkSource>(
     let Some(layout) = Layout::array(n, T::SIZE, T::ALIGN) else {
         return Err(ItemErr::AllocErr { refused: 0 });
     };
-    match a.alloc_layout(layout) {
-        Ok(block) => Ok(block),
-        Err(ArenaErr::AllocErr { refused }) => Err(ItemErr::AllocErr { refused }),
-        Err(ArenaErr::OutOfMemory) => Err(ItemErr::OutOfMemory),
-    }
+    told(a.alloc_layout(layout))
 }

@@ -1,26 +1,19 @@
 -- What new arenas are, and what a reset makes of an arena.
-use Rattle.std.proofs.Common.{◌≡◌, ℕ, ◌-◌, ◌<◌, ◌≤◌, Bool, false, not, List, [], ◌∷◌, length, take, replicate, map, sum, refl, ap, sym, ◌∙◌, subst, arith}
-use Rattle.std.proofs.lemmas.Bool.Decides.{nat_tests}
+use Rattle.std.proofs.Common.{◌≡◌, ℕ, ◌-◌, ◌≤◌, false, not, List, [], ◌∷◌, length, take, replicate, refl, ap, sym, ◌∙◌, subst, arith}
 use Rattle.std.proofs.lemmas.List.{length-replicate, take-replicate}
-use Rattle.std.proofs.lemmas.List.Sums.{sum_by-cons}
-use Rattle.placement.specs.State.{State, Chunk, IsValid, FitsKind, newest_size, allocated_bytes, used_length, is_range_used}
+use Rattle.placement.specs.State.{State, IsValid}
 use Rattle.placement.specs.Moves.{reset}
 use Rattle.placement.specs.Creation.{fixed_state}
 use Rattle.placement.proofs.CreationLemmas.{growing_valid}
-use Rattle.placement.proofs.ResetLemmas.{reset_valid, reset_used, reset_allocated}
+use Rattle.placement.proofs.ResetLemmas.{reset_valid, reset_used}
 use Rattle.arena_chunks.specs.Memory.{Memory}
 use Rattle.arena_chunks.specs.Source.{View, Source, view}
 use Rattle.arena_chunks.specs.Creating.{uncounted_memory}
 use Rattle.arena_chunks.specs.Resizes.{NoneReadable}
+use Rattle.arena_chunks.proofs.Layers.{reset_keeps_bytes, unused_unreadable}
 use Rattle.arena_pool.specs.declared.kind.PoolKind.{PoolKind}
 use Rattle.arena_pool.specs.declared.kind.PoolKind.TheVariants.{Standard, FixedSize}
 use Rattle.arena_pool.specs.Kinds.{is_fixed, HasRegions, IsOfKind, IsUnused, IsNew, new_memory, reset_view}
-
--- An arena that doesn't grow has one chunk.
-one_chunk : (chunks : List Chunk) → FitsKind false chunks → newest_size chunks ≡ allocated_bytes (record { min_align = 1; is_growing = false; generation = 0; chunks = chunks })
-one_chunk [] fits = absurd fits
-one_chunk (newest ∷ []) fits = omega arith
-one_chunk (newest ∷ (next ∷ older)) fits = absurd fits
 
 -- a kind with regions is that of arenas that don't grow
 pub still : (kind : PoolKind) (bytes : ℕ) (state : State) → IsOfKind kind state → kind ≡ FixedSize bytes → state.is_growing ≡ false
@@ -29,9 +22,7 @@ still kind bytes state of_kind is = of_kind.growing ∙ ap (λ (k : PoolKind). n
 pub reset_of_kind : (kind : PoolKind) (state : State) → IsValid state → IsOfKind kind state → IsOfKind kind (reset state)
 reset_of_kind kind state valid of_kind = record {
   growing = of_kind.growing;
-  region = λ bytes is.
-      reset_allocated state
-      ∙ (one_chunk state.chunks (subst (λ (b : Bool). FitsKind b state.chunks) (still kind bytes state of_kind is) valid.kind) ∙ of_kind.region bytes is);
+  region = λ bytes is. reset_keeps_bytes state valid (still kind bytes state of_kind is) ∙ of_kind.region bytes is;
 }
 
 -- After a reset nothing is used, and the kind is as before.
@@ -64,14 +55,6 @@ region_is_new bytes items arena source regions zeros is fresh = record {
   refusals = ap (λ (a : View). a.source.refusals) is ∙ fresh;
 }
 
--- Where no byte is used, none of a chunk is.
-unused_chunks : (chunks : List Chunk) (addr n : ℕ) → sum (map used_length chunks) ≡ 0 → 0 < n → is_range_used chunks addr n ≡ false
-unused_chunks [] addr n used some = refl
-unused_chunks (newest ∷ older) addr n used some = let all = sum_by-cons (λ (x : ℕ). x) (used_length newest) (map used_length older) in
-    let rest = unused_chunks older addr n (omega (arith, all, used)) some in
-    let none : used_length newest ≡ 0 = omega (arith, all, used) in
-    grind (arith, nat_tests)
-
--- No block of some bytes can be read then.
+-- No block of some bytes of an unused arena can be read.
 pub none_readable : (kind : PoolKind) (arena : View) → IsUnused kind arena → NoneReadable arena.memory.state
-none_readable kind arena unused b some = let none = unused_chunks arena.memory.state.chunks b.addr b.size unused.used some in grind (arith, nat_tests)
+none_readable kind arena unused = unused_unreadable arena.memory.state unused.used

@@ -12,6 +12,7 @@ use std::marker::Model;
 /// Why there are no claims.
 #[derive(Debug, Drop, PartialEq, Eq, thiserror::Error)]
 pub enum ClaimErr {
+    /// Memory for the words is wanting.
     #[error("out of memory")]
     OutOfMemory,
 }

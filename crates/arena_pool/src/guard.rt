@@ -100,6 +100,10 @@ impl<'a, K: ChunkMaker, L: PoolName> GetAllocator for AllocatorGuard<'a, K, L> {
 
     ghost lent_back = { λ g a. refl };
 
+    ghost rest_stays = { λ g. refl };
+
+    ghost last_counts = { λ g a c. refl };
+
     fn allocator(&mut self) -> &mut Allocator<K::Chunks> {
         &mut self.arena
     }

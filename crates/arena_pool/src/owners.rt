@@ -27,6 +27,7 @@ type Place<C> = Seat<Option<Allocator<C>>, OwnerView<Allocator<C>>>;
 /// Why an arena isn't shared. It comes back.
 #[derive(Drop)]
 pub enum ShareErr<C: ChunkSource> {
+    /// Memory for the two owners is wanting.
     OutOfMemory { arena: Allocator<C> },
 }
 
@@ -77,7 +78,9 @@ impl<C: ChunkSource> Model for OwnerSeat<C> {
 /// What giving up comes to: the arena stays with the other owner, or it is freed from both.
 #[derive(Drop)]
 pub enum GaveUp<C: ChunkSource> {
+    /// The other owner has the arena now.
     Stays(OwnerSeat<C>),
+    /// The other owner had given up before: this is the arena.
     Freed(Allocator<C>, OwnerSeat<C>),
 }
 

@@ -77,7 +77,7 @@ impl<K: ChunkMaker, L: PoolName> AllocatorPool<K, L> {
     ///
     /// # Errors
     ///
-    /// Memory for the place of a new arena is wanting. A fixed pool never refuses.
+    /// Memory for the place or the box of a new arena is wanting. A fixed pool never refuses.
     pub fn get<R: Wait>(&self, rt: &R) -> Result<AllocatorGuard<'_, K, L>, OutOfMemory>
         ensures unused { IfOk result (λ guard. IsUnused L.kind guard.0) }
         ensures fixed { IsTrue (is_fixed L.kind) → IsOk result }

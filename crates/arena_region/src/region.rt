@@ -18,7 +18,7 @@ pub struct Region {
     // How many bytes there are, and from which index on they are ready.
     len: usize,
     low: usize,
-    // How many bytes the block has, which only grows less than `len` by a truncation.
+    // How many bytes the block has: `len`, or more after a truncation.
     size: usize,
     store: Store,
     // None for a region with no block.

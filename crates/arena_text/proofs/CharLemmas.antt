@@ -1,7 +1,8 @@
 -- Characters as UTF-8, byte by byte.
-use Rattle.std.proofs.Common.{◌≡◌, ◌≢◌, ℕ, zero, suc, ◌+◌, ◌/◌, ◌%◌, ◌<◌, List, [], ◌∷◌, length, set, replicate, ap, refl, arith}
+use Rattle.std.proofs.Common.{◌≡◌, ◌≢◌, ℕ, zero, suc, ◌+◌, ◌/◌, ◌%◌, ◌<◌, List, [], ◌∷◌, ◌++◌, length, get_or, take, drop, set, replicate, ap, sym, ◌∙◌, subst, refl, arith}
 use Rattle.std.proofs.lemmas.Bool.Decides.{nat_tests}
-use Rattle.std.proofs.lemmas.Str.{IsUtf8-nil, IsUtf8-encode, IsUtf8-append, IsUtf8-from_ascii}
+use Rattle.std.proofs.lemmas.List.{set_split}
+use Rattle.std.proofs.lemmas.Str.{IsUtf8-nil, IsUtf8-encode, IsUtf8-append, IsUtf8-take, IsUtf8-drop, IsUtf8-from_ascii, IsCharBoundary-after_ascii}
 use Rattle.std.specs.Str.{IsUtf8, IsAscii}
 use Rattle.std.specs.Char.{encode_utf8, len_utf8}
 
@@ -57,4 +58,15 @@ times_ascii byte (suc n) small (suc i) = times_ascii byte n small i
 pub ascii_utf8 : (byte n : ℕ) → byte < 128 → IsUtf8 (replicate n byte)
 ascii_utf8 byte n small = IsUtf8-from_ascii (replicate n byte) (times_ascii byte n small)
 
-pub ruleset utf8 = (IsUtf8-nil, IsUtf8-encode, IsUtf8-append, ascii_utf8)
+-- So is a text of which one ASCII byte is replaced by another.
+pub set_utf8 : (bytes : List ℕ) (i byte : ℕ) → IsUtf8 bytes → i < length bytes → get_or bytes i 0 < 128 → byte < 128
+    → IsUtf8 (set bytes i byte)
+set_utf8 bytes i byte text inside ascii small =
+    let behind : suc i ≡ i + 1 = omega arith in
+    let parts = set_split bytes i byte inside ∙ ap (λ n. take i bytes ++ byte ∷ drop n bytes) behind in
+    let front = IsUtf8-take bytes i text (omega arith, λ below many. absurd (omega arith)) in
+    let one : IsUtf8 (byte ∷ []) = ascii_utf8 byte 1 small in
+    let back = IsUtf8-drop bytes (i + 1) text (IsCharBoundary-after_ascii bytes i text inside ascii) in
+    subst IsUtf8 (sym parts) (IsUtf8-append (take i bytes) _ front (IsUtf8-append (byte ∷ []) (drop (i + 1) bytes) one back))
+
+pub ruleset utf8 = (IsUtf8-nil, IsUtf8-encode, IsUtf8-append, ascii_utf8, set_utf8)

@@ -1,5 +1,5 @@
 -- Growth near the greatest capacity, computed.
-use Rattle.std.proofs.Common.{◌≡◌, ◌+◌, ◌-◌, ◌*◌, ◌^◌, refl}
+use Rattle.std.proofs.Common.{◌≡◌, ◌+◌, ◌-◌, ◌^◌, refl}
 use Rattle.arena_items.specs.declared.room.Growth.TheVariants.{GrowsTo, Overflows}
 use Rattle.arena_text.specs.Growth.{growth_to, amortised, amortised_growth, new_growth}
 

@@ -1,7 +1,8 @@
 -- Texts whose bytes are written.
-use Rattle.std.proofs.Common.{◌≡◌, ℕ, ◌+◌, ◌^◌, ◌≤◌, ◌<◌, List, [], ◌∷◌, ◌++◌, length, take, drop, set, get_or, subst, Ok, Err, refl, ap, sym, ◌∙◌, IsTrue, Result, IsOk, arith}
+use Rattle.std.proofs.Common.{◌≡◌, ℕ, ◌+◌, ◌^◌, ◌≤◌, ◌<◌, List, [], ◌∷◌, ◌++◌, length, take, drop, set, get_or, subst, Ok, Err, refl, ap, sym, ◌∙◌, IsTrue, IsUtf8, Result, IsOk, arith}
 use Rattle.std.proofs.lemmas.Grind.{common_steps}
 use Rattle.std.proofs.lemmas.List.{take_all, length-take-le, take_more_set, drop-set-lt, take-append-drop, take_more, flat_map_more, length-append}
+use Rattle.std.proofs.lemmas.Str.{IsUtf8-append}
 use Rattle.std.proofs.Math.Seq.{take-set-lt}
 use Rattle.std.specs.List.{flat_map}
 use Rattle.placement.specs.Machine.{splice}
@@ -212,14 +213,24 @@ not_made view n bytes many = record {
   err = refl;
 }
 
--- One text more was written behind the first i.
+-- One text more behind the first i:
+texts_more : {T : Type 0} (f : T → List ℕ) (xs : List T) (i : ℕ) (x : T) → i < length xs → x ≡ get_or xs i x
+    → flat_map f (take i xs) ++ f x ≡ flat_map f (take (i + 1) xs)
+texts_more f xs i x inside is = flat_map_more f [] (take i xs) x ∙ rw (take_more xs i x inside, ← is) refl
+
+-- they are UTF-8,
+pub utf8_more : {T : Type 0} (f : T → List ℕ) (xs : List T) (i : ℕ) (x : T) → i < length xs → x ≡ get_or xs i x
+    → IsUtf8 (flat_map f (take i xs)) → IsUtf8 (f x) → IsUtf8 (flat_map f (take (i + 1) xs))
+utf8_more f xs i x inside is texts text = subst IsUtf8 (texts_more f xs i x inside is) (IsUtf8-append _ _ texts text)
+
+-- and they are written, where it was.
 pub one_more : {T : Type 0} (f : T → List ℕ) (xs : List T) (i : ℕ) (x : T) (old mid new : Memory) (b : Block) (at : ℕ) → i < length xs
     → x ≡ get_or xs i x → at ≡ length (flat_map f (take i xs)) → WritesBlock old mid b 0 (flat_map f (take i xs))
     → WritesBlock mid new b at (f x)
     → WritesBlock old new b 0 (flat_map f (take (i + 1) xs)) × (at + length (f x) ≡ length (flat_map f (take (i + 1) xs)))
 one_more f xs i x old mid new b at inside is end first second =
     let list = flat_map f (take i xs) in
-    let more : list ++ f x ≡ flat_map f (take (i + 1) xs) = flat_map_more f [] (take i xs) x ∙ rw (take_more xs i x inside, ← is) refl in
+    let more = texts_more f xs i x inside is in
     let behind : at ≡ 0 + length list = omega (arith, end) in (
       subst (WritesBlock old new b 0) more (writes_more old mid new b 0 list (f x) first (rw behind at second)),
       ap (λ (n : ℕ). n + length (f x)) end ∙ sym (length-append list (f x)) ∙ ap length more,

@@ -1,6 +1,6 @@
 // The growth rule, calls within a text's room, and what is UTF-8, as facts. A law is a call that does nothing: made in a body,
 // it gives its facts there.
-ghost use Rattle.std.specs.Prelude.{◌≡◌, ℕ, ◌+◌, ◌^◌, ◌<◌, ◌≤◌, List, [], ◌∷◌, ◌++◌, length, max, replicate, encode_utf8, IsUtf8, Result, Ok, Err, IsOk};
+ghost use Rattle.std.specs.Prelude.{◌≡◌, ℕ, ◌+◌, ◌^◌, ◌<◌, ◌≤◌, List, [], ◌∷◌, ◌++◌, length, max, replicate, encode_utf8, slice_index, slice_set, IsUtf8, Result, Ok, Err, IsOk};
 ghost use Rattle.std.specs.Char.{IsScalar};
 ghost use Rattle.arena_chunks.specs.Memory.{Memory};
 ghost use Rattle.arena_chunks.specs.Source.{View};
@@ -63,11 +63,14 @@ pub fn length_rule()
         → t.len ≡ length (builder_bytes memory t) }
 {}
 
-/// No bytes are UTF-8; so are those of a character, ASCII bytes, and two texts one after the other.
+/// No bytes are UTF-8; so are those of a character, ASCII bytes, two texts one after the other, and a text of
+/// which one ASCII byte is replaced by another.
 #[tactic(auto, using(crate::proofs::CharLemmas::utf8))]
 pub fn utf8_rule()
     ensures none { IsUtf8 [] }
     ensures character { (c : ℕ) → IsScalar c → IsUtf8 (encode_utf8 c) }
     ensures ascii { (byte n : ℕ) → byte < 128 → IsUtf8 (replicate n byte) }
     ensures joined { (one two : List ℕ) → IsUtf8 one → IsUtf8 two → IsUtf8 (one ++ two) }
+    ensures set { (bytes : List ℕ) (i byte : ℕ) → IsUtf8 bytes → i < length bytes → slice_index bytes i < 128
+        → byte < 128 → IsUtf8 (slice_set bytes i byte) }
 {}

@@ -115,7 +115,7 @@ impl StringBuilder {
         self.push_byte_unchecked(a, byte)
     }
 
-    /// Puts a byte at the start. The bytes move up by one, in one move of memory.
+    /// Puts a byte at the start. Where there is room the bytes move up by one, in one move of memory.
     ///
     /// # Errors
     ///
@@ -137,7 +137,7 @@ impl StringBuilder {
         Ok(())
     }
 
-    /// Puts an ASCII byte at the start. The bytes move up by one, in one move of memory.
+    /// Puts an ASCII byte at the start. Where there is room the bytes move up by one, in one move of memory.
     ///
     /// # Errors
     ///

@@ -1,5 +1,5 @@
 // Texts: how they are made and read.
-ghost use Rattle.std.specs.Prelude.{◌≡◌, ◌^◌, ◌<◌, ◌≤◌, ◌↔◌, ◌==◌, [], IsTrue, IfSome, IfNone, IsUtf8, length, slice_set};
+ghost use Rattle.std.specs.Prelude.{◌≡◌, ◌^◌, ◌<◌, ◌≤◌, ◌↔◌, ◌==◌, [], IsTrue, IfOk, IfSome, IfNone, IsUtf8, length, slice_set};
 ghost use Rattle.std.specs.List.{flat_map};
 ghost use Rattle.arena_chunks.specs.Memory.{Memory, is_readable};
 ghost use Rattle.arena_chunks.specs.BlockCalls.{WritesBlock};
@@ -83,7 +83,8 @@ impl StringBuilder {
         strings: [T; N],
         a: &mut Allocator<C>,
     ) -> Grown<StringBuilder>
-        ensures { let bytes = flat_map T.text strings in Makes a.old a.new (length bytes) bytes result }
+        ensures made { let bytes = flat_map T.text strings in Makes a.old a.new (length bytes) bytes result }
+        ensures utf8 { IfOk result (λ text. IsUtf8 (builder_bytes a.new.memory text)) }
     {
         let Some(n) = whole_length(&strings) else {
             return Err(AllocError::CapacityOverflow);
@@ -127,7 +128,7 @@ impl StringBuilder {
         &a.read(self.block)[..self.len as usize]
     }
 
-    /// The text. Nothing is tested: that the bytes are UTF-8 is the caller's condition.
+    /// The text. Nothing is tested: that the bytes are UTF-8 is the caller's condition (`utf8_rule`).
     #[inline]
     pub fn as_str<'x, C: ChunkSource>(&self, a: &'x Allocator<C>) -> &'x str
         requires held { IsBuilderIn a.now.memory self.now }
@@ -137,7 +138,7 @@ impl StringBuilder {
         unsafe { str::from_utf8_unchecked(self.as_bytes(a)) }
     }
 
-    /// Replaces the byte at an index.
+    /// Replaces the byte at an index. Where both are ASCII, a text stays one (`utf8_rule`).
     #[inline]
     pub fn set_byte<C: ChunkSource>(&mut self, a: &mut Allocator<C>, i: u64, byte: u8)
         requires held { IsBuilderIn a.old.memory self.old }
@@ -202,6 +203,7 @@ fn write_all<T: AsStr, C: ChunkSource>(a: &mut Allocator<C>, block: Block, strin
     requires readable { IsTrue (is_readable a.old.memory.state block) }
     requires room { length (flat_map T.text strings.now) ≤ block.size }
     ensures writes { WritesBlock a.old.memory a.new.memory block 0 (flat_map T.text strings.now) }
+    ensures utf8 { IsUtf8 (flat_map T.text strings.now) }
     ensures source { a.new.source ≡ a.old.source }
 {
     // So the arena's state is known to be valid.

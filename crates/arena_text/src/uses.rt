@@ -1,5 +1,6 @@
 // Callers of texts.
-ghost use Rattle.std.specs.Prelude.{◌≡◌, ◌+◌, ◌<◌, ◌≤◌, ◌++◌, [], ◌∷◌, length, replicate, chars, encode_utf8, IsOk, IfOk, IsUtf8, OnOk, OnErr};
+ghost use Rattle.std.specs.Prelude.{◌≡◌, ◌+◌, ◌<◌, ◌≤◌, ◌++◌, ◌⊎◌, [], ◌∷◌, length, replicate, chars, encode_utf8, Err, IsOk, IfOk, IsUtf8};
+ghost use Rattle.std.specs.Result.{result_map_both};
 ghost use Rattle.std.specs.Fmt.{decimal};
 ghost use Rattle.placement.specs.State.{used_bytes};
 ghost use Rattle.arena_chunks.specs.Frame.{AreBlocksApart};
@@ -65,8 +66,9 @@ pub fn push_beside<C: ChunkSource>(
     requires text { IsBuilderIn a.old.memory text.old }
     requires other { IsBuilderIn a.old.memory other }
     requires apart { AreBlocksApart other.block text.old.block }
-    ensures bytes { OnOk result (builder_bytes a.new.memory text.new
-        ≡ builder_bytes a.old.memory text.old ++ s.now) }
+    ensures grows { let growth = amortised_growth text.old.cap text.old.len (length s.now) in
+        let list = builder_bytes a.old.memory text.old ++ s.now in
+        Grows a.old a.new text.old growth list text.new result }
     ensures held { IsBuilderIn a.new.memory other }
     ensures other { builder_bytes a.new.memory other ≡ builder_bytes a.old.memory other }
     ensures apart { AreBlocksApart other.block text.new.block }
@@ -75,7 +77,7 @@ pub fn push_beside<C: ChunkSource>(
     text.push_str(a, s)
 }
 
-/// Below the capacity a character is put with no memory taken.
+/// Puts a character at the end where there is room for its bytes: no memory is taken.
 ///
 /// # Errors
 ///
@@ -86,7 +88,7 @@ pub fn push_below<C: ChunkSource>(
     c: char,
 ) -> Grown<()>
     requires held { IsBuilderIn a.old.memory text.old }
-    requires room { text.old.len + 4 ≤ text.old.cap }
+    requires room { text.old.len + length (encode_utf8 c) ≤ text.old.cap }
     ensures grows { let growth = amortised_growth text.old.cap text.old.len (length (encode_utf8 c)) in
         let list = builder_bytes a.old.memory text.old ++ encode_utf8 c in
         Grows a.old a.new text.old growth list text.new result }
@@ -110,7 +112,9 @@ pub fn push_and_count<C: ChunkSource>(
 ) -> Grown<usize>
     requires held { IsBuilderIn a.old.memory text.old }
     requires utf8 { IsUtf8 (builder_bytes a.old.memory text.old) }
-    ensures held { IsBuilderIn a.new.memory text.new }
+    ensures grows { let growth = amortised_growth text.old.cap text.old.len (length (encode_utf8 c)) in
+        let list = builder_bytes a.old.memory text.old ++ encode_utf8 c in
+        Grows a.old a.new text.old growth list text.new (result_map_both (λ _. tt) (λ e. e) result) }
     ensures utf8 { IsUtf8 (builder_bytes a.new.memory text.new) }
     ensures count { IfOk result (λ n. n ≡ length (chars (builder_bytes a.new.memory text.new))) }
 {
@@ -132,11 +136,10 @@ pub fn push_number<C: ChunkSource>(
     n: u64,
 ) -> Grown<()>
     requires { IsBuilderIn a.old.memory text.old }
-    ensures ok { let growth = amortised_growth text.old.cap text.old.len (length (decimal n)) in
+    ensures { let growth = amortised_growth text.old.cap text.old.len (length (decimal n)) in
         let list = builder_bytes a.old.memory text.old ++ decimal n in
-        OnOk result (Grows a.old a.new text.old growth list text.new result) }
-    ensures held { IsBuilderIn a.new.memory text.new }
-    ensures err { OnErr result ((text.new ≡ text.old) × (a.new.memory ≡ a.old.memory)) }
+        Grows a.old a.new text.old growth list text.new result
+        ⊎ ((result ≡ Err AllocError.OutOfMemory) × (text.new ≡ text.old) × (a.new ≡ a.old)) }
 {
     let Ok(digits) = format!(in alloc; "{n}") else {
         return Err(AllocError::OutOfMemory);

@@ -50,6 +50,7 @@ pub record ShrinksTo {T : Type 0} (item : Ghosts T) (old new : View) (r : RawVec
   pub stays : amount ≡ r.cap → (s.block ≡ r.block) × (new ≡ old)
   pub given : 0 < item.SIZE → amount ≡ 0 → 0 < r.cap → GivesBack old.memory new.memory r.block
       × (new.source ≡ old.source)
+  pub gone : 0 < item.SIZE → amount ≡ 0 → 0 < r.cap → s.block ≡ empty_block item.ALIGN
   pub shrunk : 0 < item.SIZE → 0 < amount → amount < r.cap
       → ShrinksBlock old new r.block (amount * item.SIZE) item.ALIGN (Placed s.block)
   pub cap : 0 < item.SIZE → s.cap ≡ amount

@@ -81,6 +81,7 @@ impl<T: Item> Vec<T> {
             let list = vec_list T.Item a.old.memory self.old ++ more in
             Grows T.Item a.old a.new self.old growth list self.new result }
     {
+        // For the proof: 32 bits hold the capacity.
         let _cap = self.raw.cap;
         let n = count_all(slices);
         let mut raw = roomy(a, self.raw, n)?;

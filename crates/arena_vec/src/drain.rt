@@ -11,6 +11,7 @@ ghost use Rattle.arena_vec.specs.Draining.{IsDrain, left, SameDrain};
 use crate::vec::Vec;
 use arena_chunks::{Allocator, ChunkSource};
 use arena_items::Item;
+use std::iter::FusedIterator;
 
 /// A range of a vector on its way out. Its values are taken from both ends, and `finish` takes the range out.
 #[derive(Drop)]
@@ -127,3 +128,5 @@ impl<'s, T: Item, C: ChunkSource> ExactSizeIterator for Drain<'s, T, C> {
         self.back.saturating_sub(self.front) as usize
     }
 }
+
+impl<'s, T: Item, C: ChunkSource> FusedIterator for Drain<'s, T, C> {}

@@ -8,6 +8,7 @@ ghost use Rattle.arena_vec.specs.Vecs.{IsVecIn, vec_list};
 use crate::vec::Vec;
 use arena_chunks::{Allocator, ChunkSource};
 use arena_items::Item;
+use std::iter::FusedIterator;
 use std::marker::Model;
 
 /// What is left of a vector's values.
@@ -110,3 +111,5 @@ impl<'a, T: Item, C: ChunkSource> ExactSizeIterator for IntoIter<'a, T, C> {
         (self.back - self.front) as usize
     }
 }
+
+impl<'a, T: Item, C: ChunkSource> FusedIterator for IntoIter<'a, T, C> {}

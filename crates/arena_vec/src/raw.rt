@@ -347,6 +347,7 @@ impl<T: Item> RawVec<T> {
             return;
         }
         if amount == 0 {
+            // For the proof: the arena's least alignment is 1.
             let _ = a.min_align();
             a.deallocate(self.block);
             *self = RawVec::new_in();

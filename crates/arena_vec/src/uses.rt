@@ -1,6 +1,6 @@
 // Callers.
-ghost use Rattle.std.specs.Prelude.{◌≡◌, ◌^◌, ◌<◌, ◌≤◌, ◌++◌, [], ◌∷◌, IsOk, OnOk};
-ghost use Rattle.std.specs.List.{remove_range};
+ghost use Rattle.std.specs.Prelude.{◌≡◌, ◌%◌, ◌^◌, ◌<◌, ◌≤◌, ◌++◌, [], ◌∷◌, IsOk, OnOk, slice_get};
+ghost use Rattle.std.specs.List.{remove_range, sum};
 ghost use Rattle.placement.specs.State.{used_bytes};
 ghost use Rattle.arena_chunks.specs.Frame.{AreBlocksApart};
 ghost use Rattle.arena_items.specs.Values.{IsBoxIn, box_value};
@@ -25,7 +25,8 @@ pub fn cut_out<T: Item, C: ChunkSource>(
     requires held { IsVecIn T.Item a.old.memory vec.old }
     requires order { start < end }
     requires within { end ≤ vec.old.raw.len }
-    ensures { let list = remove_range (vec_list T.Item a.old.memory vec.old) start end in
+    ensures first { slice_get (vec_list T.Item a.old.memory vec.old) start ≡ result }
+    ensures becomes { let list = remove_range (vec_list T.Item a.old.memory vec.old) start end in
         Becomes T.Item a.old a.new vec.old list vec.new }
 {
     let mut gone = vec.drain(a, start, end);
@@ -35,10 +36,11 @@ pub fn cut_out<T: Item, C: ChunkSource>(
     first
 }
 
-/// Looks at the first value of a range on its way out, and leaves all as it was.
+/// Looks at the first value, by a range on its way out, and leaves all as it was.
 pub fn look<T: Item, C: ChunkSource>(vec: &mut Vec<T>, a: &mut Allocator<C>) -> Option<T>
     requires small { T.SIZE ≤ 2 ^ 24 }
     requires held { IsVecIn T.Item a.old.memory vec.old }
+    ensures first { slice_get (vec_list T.Item a.old.memory vec.old) 0 ≡ result }
     ensures vec { vec.new ≡ vec.old }
     ensures arena { a.new ≡ a.old }
 {
@@ -88,6 +90,7 @@ pub fn push_below<T: Item, C: ChunkSource>(
 /// The sum of a vector's numbers, cut at 64 bits.
 pub fn sum_of<C: ChunkSource>(a: &Allocator<C>, vec: Vec<u32>) -> u64
     requires held { IsVecIn ⟦<u32 as Item>⟧ a.now.memory vec }
+    ensures { result ≡ sum (vec_list ⟦<u32 as Item>⟧ a.now.memory vec) % 2 ^ 64 }
 {
     let mut sum = 0u64;
     for x in vec.into_iter(a) {

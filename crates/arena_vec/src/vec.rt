@@ -3,6 +3,7 @@ ghost use Rattle.std.specs.Prelude.{◌≡◌, ◌+◌, ◌-◌, ◌*◌, ◌^�
 ghost use Rattle.std.specs.List.{insert, remove, swap_remove, remove_range};
 ghost use Rattle.arena_chunks.specs.Memory.{Memory, image, bytes_from};
 ghost use Rattle.arena_chunks.specs.Source.{View};
+ghost use Rattle.arena_chunks.specs.BlockCalls.{WritesBlock};
 ghost use Rattle.arena_items.specs.Values.{elements, bytes_of, IsHeld};
 ghost use Rattle.arena_vec.specs.Growth.{amortised_growth, empty_capacity};
 ghost use Rattle.arena_vec.specs.Held.{empty_block};
@@ -153,14 +154,16 @@ impl<T: Item> Vec<T> {
         item_at(a, self.raw.block, i as u64)
     }
 
-    /// Replaces the value at an index.
+    /// Replaces the value at an index. Only the value's own bytes change.
     #[inline]
     pub fn set<C: ChunkSource>(&mut self, a: &mut Allocator<C>, i: u32, value: T)
         requires small { T.SIZE ≤ 2 ^ 24 }
         requires held { IsVecIn T.Item a.old.memory self.old }
         requires index { i < self.old.raw.len }
-        ensures { let list = slice_set (vec_list T.Item a.old.memory self.old) i value in
+        ensures becomes { let list = slice_set (vec_list T.Item a.old.memory self.old) i value in
             Becomes T.Item a.old a.new self.old list self.new }
+        ensures writes { WritesBlock a.old.memory a.new.memory self.old.raw.block (i * T.SIZE)
+            (T.encoded value) }
     {
         put_item(a, self.raw.block, i as u64, value);
     }
@@ -362,6 +365,7 @@ impl<T: Item> Vec<T> {
             Becomes T.Item a.old a.new self.old list self.new }
         ensures value { slice_get (vec_list T.Item a.old.memory self.old) i ≡ Some result }
     {
+        // For the proof: 32 bits hold the length.
         let _len = self.raw.len;
         let value = self.get(a, i);
         *self = self.without(a, i, i + 1);

@@ -5,16 +5,11 @@
 
 ghost use Rattle.std.specs.Prelude.{◌<◌};
 
+mod alone;
 mod loops;
 
-use loops::{
-    Failed, Timed, alloc_and_reset, alloc_fixed, alloc_warm, bitset_contains, bitset_ones,
-    bitset_set, bitset_set_ascending, bitset_union, box_new, claim, claim_threads, grow_at_cursor,
-    map_clone, map_get, map_insert, map_iter, map_remove, map_small, map_walked, pool_get,
-    pool_get_threads, read_older, reset_chunks, slice_copy, str_copy, string_push_byte,
-    string_push_start, string_push_str, vec_clone, vec_extend, vec_insert_front, vec_iter,
-    vec_push, vec_push_reserved, vec_retain, vec_small, vec_sum, write_older,
-};
+use alone::Alone;
+use loops::{Failed, Timed, claim_threads, pool_get, pool_get_threads, read_older, write_older};
 use std::process::ExitCode;
 use std::sync::Wait;
 use std::thread::Threads;
@@ -31,128 +26,64 @@ const CHUNKS: u64 = 9;
 
 #[derive(Clone, Copy, PartialEq, Eq)]
 enum Loop {
-    AllocWarm,
-    GrowAtCursor,
-    AllocAndReset,
-    ResetChunks,
+    Alone(Alone),
     ReadOlder,
     WriteOlder,
-    BoxNew,
-    SliceCopy,
-    StrCopy,
-    AllocFixed,
-    VecPush,
-    VecPushReserved,
-    VecSum,
-    VecSmall,
-    VecExtend,
-    VecInsertFront,
-    VecRetain,
-    VecIter,
     PoolGet,
     PoolGetThreads,
-    Claim,
     ClaimThreads,
-    StringPushStr,
-    StringPushByte,
-    StringPushStart,
-    BitsetSet,
-    BitsetSetAscending,
-    BitsetContains,
-    BitsetOnes,
-    BitsetUnion,
-    MapSmall,
-    MapGet,
-    MapRemove,
-    MapInsert,
-    MapIter,
-    MapWalked,
-    VecClone,
-    MapClone,
 }
 
 impl Loop {
     const ALL: [Loop; 38] = [
-        Loop::AllocWarm,
-        Loop::GrowAtCursor,
-        Loop::AllocAndReset,
-        Loop::ResetChunks,
+        Loop::Alone(Alone::AllocWarm),
+        Loop::Alone(Alone::GrowAtCursor),
+        Loop::Alone(Alone::AllocAndReset),
+        Loop::Alone(Alone::ResetChunks),
         Loop::ReadOlder,
         Loop::WriteOlder,
-        Loop::BoxNew,
-        Loop::SliceCopy,
-        Loop::StrCopy,
-        Loop::AllocFixed,
-        Loop::VecPush,
-        Loop::VecPushReserved,
-        Loop::VecSum,
-        Loop::VecSmall,
-        Loop::VecExtend,
-        Loop::VecInsertFront,
-        Loop::VecRetain,
-        Loop::VecIter,
+        Loop::Alone(Alone::BoxNew),
+        Loop::Alone(Alone::SliceCopy),
+        Loop::Alone(Alone::StrCopy),
+        Loop::Alone(Alone::AllocFixed),
+        Loop::Alone(Alone::VecPush),
+        Loop::Alone(Alone::VecPushReserved),
+        Loop::Alone(Alone::VecSum),
+        Loop::Alone(Alone::VecSmall),
+        Loop::Alone(Alone::VecExtend),
+        Loop::Alone(Alone::VecInsertFront),
+        Loop::Alone(Alone::VecRetain),
+        Loop::Alone(Alone::VecIter),
         Loop::PoolGet,
         Loop::PoolGetThreads,
-        Loop::Claim,
+        Loop::Alone(Alone::Claim),
         Loop::ClaimThreads,
-        Loop::StringPushStr,
-        Loop::StringPushByte,
-        Loop::StringPushStart,
-        Loop::BitsetSet,
-        Loop::BitsetSetAscending,
-        Loop::BitsetContains,
-        Loop::BitsetOnes,
-        Loop::BitsetUnion,
-        Loop::MapSmall,
-        Loop::MapGet,
-        Loop::MapRemove,
-        Loop::MapInsert,
-        Loop::MapIter,
-        Loop::MapWalked,
-        Loop::VecClone,
-        Loop::MapClone,
+        Loop::Alone(Alone::StringPushStr),
+        Loop::Alone(Alone::StringPushByte),
+        Loop::Alone(Alone::StringPushStart),
+        Loop::Alone(Alone::BitsetSet),
+        Loop::Alone(Alone::BitsetSetAscending),
+        Loop::Alone(Alone::BitsetContains),
+        Loop::Alone(Alone::BitsetOnes),
+        Loop::Alone(Alone::BitsetUnion),
+        Loop::Alone(Alone::MapSmall),
+        Loop::Alone(Alone::MapGet),
+        Loop::Alone(Alone::MapRemove),
+        Loop::Alone(Alone::MapInsert),
+        Loop::Alone(Alone::MapIter),
+        Loop::Alone(Alone::MapWalked),
+        Loop::Alone(Alone::VecClone),
+        Loop::Alone(Alone::MapClone),
     ];
 
     fn name(self) -> &'static str {
         match self {
-            Loop::AllocWarm => "alloc_warm",
-            Loop::GrowAtCursor => "grow_at_cursor",
-            Loop::AllocAndReset => "reset_empty",
-            Loop::ResetChunks => "reset_chunks",
+            Loop::Alone(each) => each.name(),
             Loop::ReadOlder => "read_older",
             Loop::WriteOlder => "write_older",
-            Loop::BoxNew => "box_new",
-            Loop::SliceCopy => "slice_copy",
-            Loop::StrCopy => "str_copy",
-            Loop::AllocFixed => "alloc_fixed",
-            Loop::VecPush => "vec_push",
-            Loop::VecPushReserved => "vec_push_reserved",
-            Loop::VecSum => "vec_sum",
-            Loop::VecSmall => "vec_small",
-            Loop::VecExtend => "vec_extend",
-            Loop::VecInsertFront => "vec_insert_front",
-            Loop::VecRetain => "vec_retain",
-            Loop::VecIter => "vec_iter",
             Loop::PoolGet => "pool_get",
             Loop::PoolGetThreads => "pool_get_threads",
-            Loop::Claim => "claim",
             Loop::ClaimThreads => "claim_threads",
-            Loop::StringPushStr => "string_push_str",
-            Loop::StringPushByte => "string_push_byte",
-            Loop::StringPushStart => "string_push_start",
-            Loop::BitsetSet => "bitset_set",
-            Loop::BitsetSetAscending => "bitset_set_ascending",
-            Loop::BitsetContains => "bitset_contains",
-            Loop::BitsetOnes => "bitset_ones",
-            Loop::BitsetUnion => "bitset_union",
-            Loop::MapSmall => "map_small",
-            Loop::MapGet => "map_get",
-            Loop::MapRemove => "map_remove",
-            Loop::MapInsert => "map_insert",
-            Loop::MapIter => "map_iter",
-            Loop::MapWalked => "map_walked",
-            Loop::VecClone => "vec_clone",
-            Loop::MapClone => "map_clone",
         }
     }
 
@@ -160,15 +91,7 @@ impl Loop {
         ensures { 0 < result }
     {
         match self {
-            Loop::ResetChunks => 100_000,
-            Loop::SliceCopy | Loop::VecExtend => 50_000_000,
-            Loop::BitsetUnion => 400_000_000,
-            Loop::MapInsert
-            | Loop::MapGet
-            | Loop::MapRemove
-            | Loop::MapIter
-            | Loop::MapWalked
-            | Loop::MapClone => 1_000_000,
+            Loop::Alone(each) => each.calls(),
             _ => 10_000_000,
         }
     }
@@ -181,44 +104,12 @@ impl Loop {
         chunks: u64,
     ) -> Result<Timed, Failed> {
         match self {
-            Loop::AllocWarm => alloc_warm(rt, calls),
-            Loop::GrowAtCursor => grow_at_cursor(rt, calls),
-            Loop::AllocAndReset => alloc_and_reset(rt, calls),
-            Loop::ResetChunks => reset_chunks(rt, calls),
+            Loop::Alone(each) => each.run(rt, calls),
             Loop::ReadOlder => read_older(rt, calls, chunks),
             Loop::WriteOlder => write_older(rt, calls, chunks),
-            Loop::BoxNew => box_new(rt, calls),
-            Loop::SliceCopy => slice_copy(rt, calls),
-            Loop::StrCopy => str_copy(rt, calls),
-            Loop::AllocFixed => alloc_fixed(rt, calls),
-            Loop::VecPush => vec_push(rt, calls),
-            Loop::VecPushReserved => vec_push_reserved(rt, calls),
-            Loop::VecSum => vec_sum(rt, calls),
-            Loop::VecSmall => vec_small(rt, calls),
-            Loop::VecExtend => vec_extend(rt, calls),
-            Loop::VecInsertFront => vec_insert_front(rt, calls),
-            Loop::VecRetain => vec_retain(rt, calls),
-            Loop::VecIter => vec_iter(rt, calls),
             Loop::PoolGet => pool_get(rt, threads, calls),
             Loop::PoolGetThreads => pool_get_threads(rt, threads, calls),
-            Loop::Claim => claim(rt, calls),
             Loop::ClaimThreads => claim_threads(rt, threads, calls),
-            Loop::StringPushStr => string_push_str(rt, calls),
-            Loop::StringPushByte => string_push_byte(rt, calls),
-            Loop::StringPushStart => string_push_start(rt, calls),
-            Loop::BitsetSet => bitset_set(rt, calls),
-            Loop::BitsetSetAscending => bitset_set_ascending(rt, calls),
-            Loop::BitsetContains => bitset_contains(rt, calls),
-            Loop::BitsetOnes => bitset_ones(rt, calls),
-            Loop::BitsetUnion => bitset_union(rt, calls),
-            Loop::MapSmall => map_small(rt, calls),
-            Loop::MapGet => map_get(rt, calls),
-            Loop::MapRemove => map_remove(rt, calls),
-            Loop::MapInsert => map_insert(rt, calls),
-            Loop::MapIter => map_iter(rt, calls),
-            Loop::MapWalked => map_walked(rt, calls),
-            Loop::VecClone => vec_clone(rt, calls),
-            Loop::MapClone => map_clone(rt, calls),
         }
     }
 
@@ -260,11 +151,12 @@ fn measure<R: Threads + Wait + Sync>(
     let chunks = asked(rt, 3, CHUNKS)?;
     let best = each.best(rt, threads, calls, chunks)?;
     let name = each.name();
-    let picoseconds = best.time.as_nanos() * 1000 / calls as u128;
-    let whole = picoseconds / 1000;
-    let part = picoseconds % 1000;
+    // A call may take less than a picosecond.
+    let femtoseconds = best.time.as_nanos() * 1_000_000 / calls as u128;
+    let whole = femtoseconds / 1_000_000;
+    let part = femtoseconds % 1_000_000;
     let number = best.number;
-    println!(rt; "{name:<21} {whole:>4}.{part:03} ns/op  ops {calls}  number {number}")?;
+    println!(rt; "{name:<21} {whole:>4}.{part:06} ns/op  ops {calls}  number {number}")?;
     Ok(())
 }
 

@@ -1,5 +1,5 @@
 -- Branches that are copied part by part: the name, the id, and the leaves.
-use Rattle.std.proofs.Common.{List, [], ◌++◌, Ok, Err, refl}
+use Rattle.std.proofs.Common.{[], ◌++◌, Ok, Err, refl}
 use Rattle.std.specs.Prelude.{Result}
 use Rattle.arena_chunks.specs.Frame.{Frame}
 use Rattle.arena_chunks.specs.Memory.{Memory}

@@ -4,16 +4,20 @@ use Rattle.std.proofs.Math.Path.{fun_ext}
 use Rattle.std.proofs.lemmas.Bool.{cases_Bool, cond-true, cond-false}
 use Rattle.std.proofs.lemmas.Option.{none-some, same_Some}
 use Rattle.std.proofs.lemmas.Slice.Eq.{bytes_eq-Decides}
-use Rattle.std.specs.Prelude.{bytes_eq, is_some, if◌then◌else◌}
+use Rattle.std.specs.Prelude.{bytes_eq, is_some, if◌then◌else◌, ◌≤◌, ◌*◌, ◌↔◌}
+use Rattle.std.specs.List.{Contains}
+use Rattle.arena_chunks.specs.Memory.{Memory}
 use Rattle.arena_chunks.specs.Source.{View}
+use Rattle.arena_chunks.specs.declared.block.Block.{Block}
 use Rattle.arena_chunks.proofs.Layers.{frame_reflexive}
 use Rattle.arena_items.specs.Room.{MakesRoom}
 use Rattle.arena_items.proofs.Layers.{room_then, room_refused}
 use Rattle.arena_items.specs.declared.room.AllocError.{AllocError}
+use Rattle.arena_hash.specs.Accounts.{unit_of, credit_of, used}
 use Rattle.arena_hash.specs.Changes.{Puts, is_value}
 use Rattle.arena_hash.specs.Contents.{Kind, content_in}
-use Rattle.arena_hash.specs.Finite.{Finite, has, value_of, with_pair}
-use Rattle.arena_hash.specs.Maps.{map_in}
+use Rattle.arena_hash.specs.Finite.{Finite, has, key_or, value_of, with_pair}
+use Rattle.arena_hash.specs.Maps.{map_in, texts_in}
 use Rattle.arena_hash.specs.Policy.{slot_size, table_align, growth_for}
 use Rattle.arena_hash.specs.declared.map.HashMap.{HashMap}
 use Rattle.example_hash.specs.Numbers.{Numbering, numbers_in, number_or, count_after, with_number, IsNumbering, IsInternerIn, Interns}
@@ -69,8 +73,9 @@ some_value : {K V : Type 0} (found : Option (K × V)) → is_some (value_of foun
 some_value None = refl
 some_value (Some p) = refl
 
-no_value : {K V : Type 0} (found : Option (K × V)) → value_of found ≡ None → is_some found ≡ false
-no_value found none = sym (some_value found) ∙ ap is_some none
+no_value : {K V : Type 0} (found : Option (K × V)) → value_of found ≡ None → found ≡ None
+no_value None none = refl
+no_value (Some p) none = absurd (none-some p.1 (sym none))
 
 -- the numbers of a map with one more pair
 pair_numbers : {K : Type 0} (m : Finite K ℕ) (text : List ℕ) (key : K) (n : ℕ)
@@ -82,18 +87,43 @@ pair_numbers m text key n = fun_ext (λ q. pick (bytes_eq q text) _ (m q))
     pick true p found = refl
     pick false p found = refl
 
+-- A map's texts are those of the keys that stand in it.
+abbrev AreTexts : {K S : Type 0} → Kind K ℕ S → Memory → HashMap K ℕ S → Type 0
+AreTexts {K} k memory m = (b : Block) → Contains (texts_in k memory m) b
+    ↔ ((q : List ℕ) × (p : K × ℕ) × (map_in k memory m q ≡ Some p) × (k.key.text p.0 ≡ b))
+
+-- Where a pair was put under a new content, a text of the map was one before, or is that of the key.
+texts_more : {K S : Type 0} (k : Kind K ℕ S) (old new : Memory) (m w : HashMap K ℕ S) (q : List ℕ) (key : K) (n : ℕ)
+    → map_in k old m q ≡ None → map_in k new w ≡ with_pair (map_in k old m) q key n → AreTexts k old m → AreTexts k new w
+    → (b : Block) → Contains (texts_in k new w) b → Contains (texts_in k old m) b ⊎ (b ≡ k.key.text key)
+texts_more k old new m w q key n none is before after b within =
+    let at = (after b).0 within in
+    let found : with_pair (map_in k old m) q key n at.0 ≡ Some at.1 = ap (λ f. f at.0) (sym is) ∙ at.2 in
+    elim (cases_Bool (bytes_eq at.0 q)) [
+      | inl t ↦
+          let put = same_Some (key_or (map_in k old m q) key, n) at.1
+          (sym (cond-true (bytes_eq at.0 q) (Some (key_or (map_in k old m q) key, n)) (map_in k old m at.0) t) ∙ found) in
+          inr (sym at.3 ∙ ap (λ p. k.key.text p.0) (sym put) ∙ ap (λ here. k.key.text (key_or here key)) none)
+      | inr t ↦
+          let kept = sym (cond-false (bytes_eq at.0 q) (Some (key_or (map_in k old m q) key, n)) (map_in k old m at.0) t) ∙ found in
+          inl ((before b).1 (at.0, at.1, kept, at.3))
+    ]
+
 module _ {K S : Type 0} (k : Kind K ℕ S) (old : View) (m : HashMap K ℕ S) (held : IsInternerIn k old.memory m) where
   -- A text that has a number is given that.
-  pub interns_known : (text : List ℕ) (n : ℕ) → numbers_in k old.memory m text ≡ Some n → Interns k old old m text m (Ok n)
-  interns_known text n there =
+  pub interns_known : (block : Block) (text : List ℕ) (n : ℕ) → numbers_in k old.memory m text ≡ Some n
+      → Interns k old old m block text m (Ok n)
+  interns_known block text n there =
       let made : MakesRoom {X = ℕ} (slot_size k.keys.SIZE k.values.SIZE) (table_align k.keys.ALIGN k.values.ALIGN) old old m.table.block 0
       (growth_for true m.table.slots m.len) (λ _. m.table.block) (Ok n) = (refl, record { state = refl; statistics = refl; source = refl }) in
       record {
         held = held;
         number = sym (ap (λ found. number_or found m.len) there);
         numbers = same_numbers (numbers_in k old.memory m) text n there;
+        texts = λ b within. inl within;
         count = sym (ap (λ found. count_after found m.len) there);
         made = rw (ap is_some there) made;
+        costs = omega arith;
         err = tt;
         frame = frame_reflexive old.memory (m.table.block ∷ []);
       }
@@ -102,15 +132,22 @@ module _ {K S : Type 0} (k : Kind K ℕ S) (old : View) (m : HashMap K ℕ S) (h
     abbrev text : List ℕ
     text = content_in k.key old.memory key
 
+    nothing : map_in k old.memory m text ≡ None
+    nothing = no_value (map_in k old.memory m text) none
+
     is_new : has (map_in k old.memory m) text ≡ false
-    is_new = no_value (map_in k old.memory m text) none
+    is_new = ap is_some nothing
 
     same : is_some (numbers_in k old.memory m text) ≡ has (map_in k old.memory m) text
     same = some_value (map_in k old.memory m text)
 
+    abbrev AtMost : Type 0
+    AtMost = used new + credit_of k w ≤ used old + (credit_of k m + 2 * unit_of k)
+
     -- A new one is given the next number,
-    pub interns_new : (before : Option ℕ) → Puts k old new m key m.len is_value w (Ok before) → Interns k old new m text w (Ok m.len)
-    interns_new before puts =
+    pub interns_new : (before : Option ℕ) → AreTexts k old.memory m → AreTexts k new.memory w → AtMost
+        → Puts k old new m key m.len is_value w (Ok before) → Interns k old new m (k.key.text key) text w (Ok m.len)
+    interns_new before had has_now most puts =
         let numbers : numbers_in k new.memory w ≡ with_number (numbers_in k old.memory m) text m.len =
         ap (λ f q. value_of (f q)) puts.map_is ∙ pair_numbers (map_in k old.memory m) text key m.len in
         let len : w.len ≡ m.len + 1 = rw is_new at puts.len in
@@ -121,22 +158,27 @@ module _ {K S : Type 0} (k : Kind K ℕ S) (old : View) (m : HashMap K ℕ S) (h
           };
           number = sym (ap (λ found. number_or found m.len) none);
           numbers = numbers;
+          texts = texts_more k old.memory new.memory m w text key m.len nothing puts.map_is had has_now;
           count = len ∙ sym (ap (λ found. count_after found m.len) none);
           made = rw same (room_then (slot_size k.keys.SIZE k.values.SIZE) (table_align k.keys.ALIGN k.values.ALIGN) old new new m.table.block 0 _
               (λ _. w.table.block) (λ _. w.table.block) before m.len refl puts.made (record { state = refl; statistics = refl; source = refl }));
+          costs = most;
           err = tt;
           frame = puts.frame;
         }
 
     -- or is refused.
-    pub interns_refused : (e : AllocError) → Puts {X = Option ℕ} k old new m key m.len is_value w (Err e) → Interns k old new m text w (Err e)
-    interns_refused e puts = record {
+    pub interns_refused : (e : AllocError) → AtMost → Puts {X = Option ℕ} k old new m key m.len is_value w (Err e)
+        → Interns k old new m (k.key.text key) text w (Err e)
+    interns_refused e most puts = record {
       held = rw (puts.err.0, puts.err.1) held;
       number = tt;
       numbers = tt;
+      texts = rw (puts.err.0, puts.err.1) (λ b within. inl within);
       count = tt;
       made = rw same (room_refused (slot_size k.keys.SIZE k.values.SIZE) (table_align k.keys.ALIGN k.values.ALIGN) old new m.table.block 0 _
           (λ _. w.table.block) (λ _. w.table.block) e puts.made);
+      costs = most;
       err = puts.err;
       frame = puts.frame;
     }

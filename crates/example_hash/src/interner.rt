@@ -2,11 +2,12 @@
 ghost use Rattle.std.specs.Prelude.{◌≡◌, IsTrue};
 ghost use Rattle.arena_chunks.specs.Memory.{Memory, is_readable};
 ghost use Rattle.arena_chunks.specs.Frame.{AreBlocksApart};
+ghost use Rattle.arena_hash.specs.Changes.{IsNew};
 ghost use Rattle.arena_hash.specs.Contents.{kind, content_in};
 ghost use Rattle.example_hash.specs.Numbers.{numbers_in, IsInternerIn, Interns};
 
 use arena_chunks::{Allocator, ChunkSource, Str};
-use arena_hash::{ArenaKey, FxHasher, HashMap, KeyHasher};
+use arena_hash::{ArenaKey, FxHasher, HashMap, KeyHasher, costs_law, texts_law};
 use arena_items::{Grown, Item};
 
 /// Texts, each with a number of its own: 0, 1, 2 and so on in the order in which they came. Two blocks with
@@ -22,7 +23,8 @@ impl<S: KeyHasher> Interner<S> {
     pub fn new_in() -> Interner<S>
         ensures held { (memory : Memory) → IsInternerIn (kind ⟦<Str as Item>⟧
             ⟦<Str as ArenaKey>⟧.key ⟦<u32 as Item>⟧ S.hash_of) memory result.numbers }
-        ensures count { result.numbers.len ≡ 0 }
+        ensures new { IsNew (kind ⟦<Str as Item>⟧ ⟦<Str as ArenaKey>⟧.key ⟦<u32 as Item>⟧ S.hash_of)
+            result.numbers.hasher result.numbers }
     {
         Interner {
             numbers: HashMap::new_in(),
@@ -48,7 +50,7 @@ impl<S: KeyHasher> Interner<S> {
         self.numbers.get(a, text)
     }
 
-    /// The number of a text: the one that it has, or the next one.
+    /// The number of a text: the one that it has, or the next one. A new text's block is read from then on.
     ///
     /// # Errors
     ///
@@ -59,9 +61,11 @@ impl<S: KeyHasher> Interner<S> {
         requires text { IsTrue (is_readable a.old.memory.state text.block) }
         requires apart { AreBlocksApart text.block self.old.numbers.table.block }
         ensures { Interns (kind ⟦<Str as Item>⟧ ⟦<Str as ArenaKey>⟧.key
-            ⟦<u32 as Item>⟧ S.hash_of) a.old a.new self.old.numbers
+            ⟦<u32 as Item>⟧ S.hash_of) a.old a.new self.old.numbers text.block
             (content_in ⟦<Str as ArenaKey>⟧.key a.old.memory text) self.new.numbers result }
     {
+        costs_law::<Str, u32, S>();
+        texts_law::<Str, u32, S>();
         if let Some(number) = self.numbers.get(a, text) {
             return Ok(number);
         }

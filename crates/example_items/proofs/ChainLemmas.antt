@@ -1,5 +1,5 @@
 -- A chain whose boxes are placed one after another, and one whose last number is replaced.
-use Rattle.std.proofs.Common.{◌≡◌, ℕ, ◌∙◌, sym, subst, arith, [], ◌∷◌, Ok}
+use Rattle.std.proofs.Common.{◌≡◌, ℕ, ◌∙◌, sym, subst, [], ◌∷◌, Ok}
 use Rattle.std.specs.Prelude.{slice_set}
 use Rattle.arena_chunks.specs.Memory.{Memory}
 use Rattle.arena_chunks.specs.Source.{View}
@@ -12,7 +12,7 @@ use Rattle.arena_items.specs.Values.{IsBoxIn, box_value}
 use Rattle.arena_items.specs.Typed.{PlacesBox}
 use Rattle.arena_items.proofs.Layers.{box_held, box_same}
 use Rattle.example_items.specs.declared.linked.Chain.{Chain}
-use Rattle.example_items.specs.Chains.{First, Second, IsChain, second, third, numbers, blocks, LeavesSome}
+use Rattle.example_items.specs.Chains.{First, Second, IsChain, second, third, numbers, blocks}
 use Rattle.example_items.specs.ChainLaws.{chain_is, numbers_are, blocks_are}
 
 module _ (inner : Ghosts Second) (number : Ghosts ℕ) (v0 v1 v2 : View) (y z : ℕ) (last : Box ℕ) (link : Box Second)
@@ -34,15 +34,6 @@ module _ (inner : Ghosts Second) (number : Ghosts ℕ) (v0 v1 v2 : View) (y z : 
   both_frame =
       let link_beside = frame_beside v1.memory v2.memory [] (link.block ∷ []) (last.block ∷ []) link_frame in
       frame_then v0.memory v1.memory v2.memory [] (last.block ∷ []) (link.block ∷ last.block ∷ []) last_frame link_beside
-
-  -- Where the first box is refused, the other two stay placed.
-  pub two_left : LeavesSome v0.memory v2.memory
-  two_left = record {
-    blocks = link.block ∷ last.block ∷ [];
-    few = omega arith;
-    readable = (places_link.held.readable, (last_held.readable, tt));
-    frame = both_frame;
-  }
 
   module _ (outer : Ghosts First) (x : ℕ) (v3 : View) (head : Box First)
       (places_head : PlacesBox outer v2 v3 (λ v. v ≡ (x, link)) (Ok head)) where

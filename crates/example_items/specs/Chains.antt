@@ -1,11 +1,10 @@
 -- A chain of three boxes: the first names the second, and that the third.
-use Rattle.std.specs.Prelude.{ℕ, ◌≤◌, List, [], ◌∷◌, length}
+use Rattle.std.specs.Prelude.{ℕ, List, [], ◌∷◌}
 use Rattle.arena_chunks.specs.Memory.{Memory}
-use Rattle.arena_chunks.specs.Frame.{Frame, ArePairwiseApart}
+use Rattle.arena_chunks.specs.Frame.{ArePairwiseApart}
 use Rattle.arena_chunks.specs.declared.block.Block.{Block}
 use Rattle.arena_items.specs.declared.item.Item.{Ghosts}
 use Rattle.arena_items.specs.declared.boxes.Box.{Box}
-use Rattle.arena_items.specs.Footprint.{AreReadable}
 use Rattle.arena_items.specs.Values.{IsBoxIn, box_value}
 use Rattle.example_items.specs.declared.linked.Chain.{Chain}
 
@@ -40,10 +39,3 @@ pub record IsChain (outer : Ghosts First) (inner : Ghosts Second) (number : Ghos
   pub second : IsBoxIn inner memory (second outer memory c)
   pub third : IsBoxIn number memory (third outer inner memory c)
   pub apart : ArePairwiseApart (blocks outer inner memory c)
-
--- At most two blocks were placed. What was in use stays, and lies apart from them.
-pub record LeavesSome (old new : Memory) : Type 0 where
-  pub blocks : List Block
-  pub few : length blocks ≤ 2
-  pub readable : AreReadable new.state blocks
-  pub frame : Frame old new [] blocks

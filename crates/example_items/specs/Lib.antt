@@ -1,2 +1,3 @@
+pub mod TwoCalls
 pub mod Chains
 pub mod ChainLaws

@@ -4,17 +4,18 @@ ghost use Rattle.arena_chunks.specs.Frame.{Frame, AreBlocksApart};
 ghost use Rattle.arena_items.specs.Footprint.{Agree};
 ghost use Rattle.arena_items.specs.Typed.{PlacesBox};
 ghost use Rattle.arena_items.specs.Values.{IsBoxIn, box_value};
+ghost use Rattle.example_items.specs.TwoCalls.{PlacesThen, box_in};
 
 use arena_chunks::laws::frames;
 use arena_chunks::{Allocator, ChunkSource};
 use arena_items::laws::{address_law, frame_law, meaning_law};
-use arena_items::{ArenaItems, Box, Item, ItemErr};
+use arena_items::{Address, ArenaItems, Box, Item, ItemErr};
 
 /// Places two values, which both stand then.
 ///
 /// # Errors
 ///
-/// As of `alloc`. The first value may be placed then.
+/// As of `alloc`. Where the second value is refused, the first stays placed.
 pub fn place_two<T: Item, U: Item, A: ArenaItems>(
     a: &mut A,
     x: T,
@@ -22,6 +23,9 @@ pub fn place_two<T: Item, U: Item, A: ArenaItems>(
 ) -> Result<(Box<T>, Box<U>), ItemErr>
     requires small { T.SIZE ≤ 2 ^ 24 }
     requires short { U.SIZE ≤ 2 ^ 24 }
+    ensures calls { PlacesThen T.Item (A.view a.old) (A.view a.new) (λ v. v ≡ x) (λ between first.
+        PlacesBox U.Item between (A.view a.new) (λ v. v ≡ y) (box_in (λ r. r.1) result)
+        × IfOk result (λ r. r.0 ≡ first)) result }
     ensures held { IfOk result (λ r. IsBoxIn T.Item (A.view a.new).memory r.0) }
     ensures first { IfOk result (λ r. box_value T.Item (A.view a.new).memory r.0 ≡ x) }
     ensures second { IfOk result (λ r. box_value U.Item (A.view a.new).memory r.1 ≡ y) }
@@ -90,8 +94,9 @@ pub fn place_another<T: Item, U: Item, A: ArenaItems>(
     requires earlier { IsBoxIn U.Item (A.view a.old).memory earlier }
     requires filled { 0 < T.SIZE }
     requires before { 0 < U.SIZE }
+    ensures places { PlacesBox T.Item (A.view a.old) (A.view a.new) (λ v. v ≡ value) result }
     ensures other { IfOk result (λ b. b.block.addr ≢ earlier.block.addr) }
-    ensures real { IfOk result (λ b. b.block.addr ≢ 0) }
+    ensures real { IfOk result (λ b. b.block.addr ≢ Address.DUMMY.0) }
 {
     address_law();
     let b = a.alloc(value)?;

@@ -1,12 +1,8 @@
 // Values that closures and iterators give.
-ghost use Rattle.std.specs.Prelude.{◌≡◌, ◌≢◌, ◌*◌, ◌/◌, ◌<◌, ◌≤◌, ℕ, IfOk, IfErr, IfSome, IfNone, [], ◌∷◌, replicate};
+ghost use Rattle.std.specs.Prelude.{◌≡◌, ◌*◌, ◌/◌, ◌≤◌, ℕ, Ok, Err, IfOk, IfErr, IfSome, IfNone, replicate, ⊤};
 ghost use Rattle.std.specs.Iterator.{size, Yields};
-ghost use Rattle.arena_chunks.specs.Source.{View};
-ghost use Rattle.arena_chunks.specs.Frame.{Frame};
-ghost use Rattle.arena_items.specs.Values.{IsBoxIn, box_value, IsSliceIn, slice_list};
-ghost use Rattle.arena_items.specs.Placing.{EndsEarly};
-ghost use Rattle.arena_items.specs.Typed.{PlacesBox};
-ghost use Rattle.arena_items.specs.declared.placing.ItemErr.TheVariants.{TooFew};
+ghost use Rattle.arena_items.specs.Placing.{EndsEarly, Abandons};
+ghost use Rattle.arena_items.specs.Typed.{PlacesBox, PlacesSlice};
 
 use arena_items::{ArenaItems, Box, BoxSlice, Item, ItemErr};
 
@@ -29,15 +25,15 @@ pub fn place_quotient<A: ArenaItems>(a: &mut A, n: u32, d: u32) -> Result<Box<u3
 ///
 /// As of `alloc_slice_fill_with`. Nothing changes.
 pub fn fill_with_size<A: ArenaItems>(a: &mut A, n: u64) -> Result<BoxSlice<u64>, ItemErr>
-    ensures held { IfOk result (IsSliceIn ⟦<u64 as Item>⟧ (A.view a.new).memory) }
-    ensures list { IfOk result (λ s.
-        slice_list ⟦<u64 as Item>⟧ (A.view a.new).memory s ≡ replicate n (n * 8)) }
+    ensures { PlacesSlice ⟦<u64 as Item>⟧ (A.view a.old) (A.view a.new) n
+        (λ list. list ≡ replicate n (n * 8)) result }
 {
     let sizes = a.alloc_slice_fill_with(n, |_| n * 8)?;
     Ok(sizes)
 }
 
-/// Places what an iterator gives, or nothing where it ends before it gave as many values as it told.
+/// Places what an iterator gives. Where it ends before it gave as many values as it told there is none, and
+/// what was in use stays as it was.
 ///
 /// # Errors
 ///
@@ -49,14 +45,14 @@ pub fn place_all_or_none<A: ArenaItems, I: ExactSizeIterator<Item = u32>>(
 where
     I: Drop,
     requires { I.can_next iter }
-    ensures held { IfOk result (λ o. IfSome o (IsSliceIn ⟦<u32 as Item>⟧ (A.view a.new).memory)) }
-    ensures list { IfOk result (λ o. IfSome o (λ s. (last : I)
-        × Yields I.next_gives iter (slice_list ⟦<u32 as Item>⟧ (A.view a.new).memory s) last)) }
-    ensures early { IfOk result (λ o. IfNone o ((taken : ℕ)
-        × EndsEarly I.next_gives iter (size (I.remaining iter)) taken)) }
-    ensures kept { IfOk result (λ o. IfNone o (Frame (A.view a.old).memory (A.view a.new).memory [] [])) }
+    ensures some { IfOk result (λ o. IfSome o (λ s.
+        PlacesSlice ⟦<u32 as Item>⟧ (A.view a.old) (A.view a.new) (size (I.remaining iter))
+        (λ list. (last : I) × Yields I.next_gives iter list last) (Ok s))) }
+    ensures none { IfOk result (λ o. IfNone o ((taken : ℕ)
+        × EndsEarly I.next_gives iter (size (I.remaining iter)) taken
+        × Abandons (A.view a.old) (A.view a.new) 4 4 (size (I.remaining iter)))) }
     ensures err { IfErr result (λ e.
-        ((n : ℕ) → e ≢ TooFew n) × ((A.view a.new).memory ≡ (A.view a.old).memory)) }
+        PlacesSlice ⟦<u32 as Item>⟧ (A.view a.old) (A.view a.new) (size (I.remaining iter)) (λ list. ⊤) (Err e)) }
 {
     match a.alloc_slice_fill_iter(iter) {
         Ok(s) => Ok(Some(s)),

@@ -22,6 +22,10 @@ impl<C: ChunkSource> GetAllocator for Guard<C> {
 
     ghost lent_back = { λ g a. refl };
 
+    ghost rest_stays = { λ g. refl };
+
+    ghost last_counts = { λ g a c. refl };
+
     fn allocator(&mut self) -> &mut Allocator<C> {
         &mut self.arena
     }

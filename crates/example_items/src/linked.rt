@@ -1,8 +1,10 @@
 // A chain of boxes, each of which names the next.
 ghost use Rattle.std.specs.Prelude.{◌≡◌, ◌+◌, ◌<◌, ◌^◌, ℕ, List, IfOk, IfErr, [], ◌∷◌, sum, slice_set};
 ghost use Rattle.arena_chunks.specs.Frame.{Frame, AreAllApart};
+ghost use Rattle.arena_items.specs.Typed.{PlacesBox};
 ghost use Rattle.arena_items.specs.Values.{box_value};
-ghost use Rattle.example_items.specs.Chains.{IsChain, third, blocks, numbers, LeavesSome};
+ghost use Rattle.example_items.specs.Chains.{IsChain, third, blocks, numbers};
+ghost use Rattle.example_items.specs.TwoCalls.{PlacesThen, box_in};
 ghost use Rattle.example_items.specs.ChainLaws.{chain_readable, chain_blocks, chain_numbers, chain_again};
 
 use arena_chunks::{Allocator, Block, ChunkSource};
@@ -52,7 +54,7 @@ impl Chain {
     ///
     /// # Errors
     ///
-    /// As of `alloc`. One or two boxes may be placed then; all else is as it was.
+    /// As of `alloc`. The boxes before the one that is refused stay placed; all else is as it was.
     pub fn make<C: ChunkSource>(
         a: &mut Allocator<C>,
         x: u32,
@@ -63,7 +65,10 @@ impl Chain {
         ensures numbers { IfOk result (λ c. ⟦<Chain as InArena>⟧.means a.new.memory c ≡ x ∷ y ∷ z ∷ []) }
         ensures frame { IfOk result (λ c.
             Frame a.old.memory a.new.memory [] (⟦<Chain as InArena>⟧.footprint a.new.memory c)) }
-        ensures err { IfErr result (λ e. LeavesSome a.old.memory a.new.memory) }
+        ensures calls { PlacesThen ⟦<u32 as Item>⟧ a.old a.new (λ v. v ≡ z) (λ one third.
+            PlacesThen ⟦<Second as Item>⟧ one a.new (λ v. v ≡ (y, third)) (λ two second.
+            PlacesBox ⟦<First as Item>⟧ two a.new (λ v. v ≡ (x, second)) (box_in (λ c. c.first) result))
+            result) result }
     {
         let third = Box::new_in(z, a)?;
         let second = Box::new_in((y, third), a)?;

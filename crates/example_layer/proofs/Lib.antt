@@ -1,2 +1,3 @@
 mod BlockLemmas
+mod GrowthLemmas
 mod BufferLemmas

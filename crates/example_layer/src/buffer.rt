@@ -1,10 +1,10 @@
 // A buffer of bytes that grows.
-ghost use Rattle.std.specs.Prelude.{◌≡◌, ◌≤◌, ◌<◌, ◌++◌, [], ◌∷◌, Err, IfOk, IfErr, IsTrue, false};
+ghost use Rattle.std.specs.Prelude.{◌≡◌, ◌≤◌, ◌<◌, ◌++◌, [], ◌∷◌, Ok, Err, IfOk, IfErr, IsOk, IsTrue, false};
 ghost use Rattle.placement.specs.Rounding.{is_layout};
 ghost use Rattle.arena_chunks.specs.Memory.{is_readable};
 ghost use Rattle.arena_chunks.specs.Answers.Answer.{Placed};
 ghost use Rattle.arena_chunks.specs.Frame.{Frame};
-ghost use Rattle.arena_chunks.specs.BlockCalls.{PlacesBlock, GrowsBlock};
+ghost use Rattle.arena_chunks.specs.BlockCalls.{PlacesBlock, GrowsBlock, WritesBlock};
 ghost use Rattle.example_layer.specs.declared.buffer.BufferErr.TheVariants.{CapacityOverflow, NoPlace};
 ghost use Rattle.example_layer.specs.Buffers.{IsBuffer, Has, HasRoom, contents, buffer_answer, doubled};
 
@@ -60,13 +60,23 @@ impl Buffer {
         &a.read(self.block)[..self.length as usize]
     }
 
-    /// Puts a byte behind the others. A full block becomes twice as large, and has 8 bytes at least.
+    /// Puts a byte behind the others: into its own block, or where that is full into one twice as large, of 8
+    /// bytes at least.
     ///
     /// # Errors
     ///
-    /// `CapacityOverflow` where twice its size is no layout, and otherwise as of `grow`. Nothing changes.
+    /// Where its block is full: `CapacityOverflow` if twice its size is no layout, and otherwise as of `grow`.
+    /// Nothing changes.
     pub fn push<C: ChunkSource>(&mut self, a: &mut Allocator<C>, byte: u8) -> Result<(), BufferErr>
         requires { IsBuffer a.old.memory self.old }
+        ensures room { self.old.length < self.old.block.size → IsOk result × (self.new.block ≡ self.old.block)
+            × WritesBlock a.old.memory a.new.memory self.old.block self.old.length (byte ∷ [])
+            × (a.new.source ≡ a.old.source) }
+        ensures overflow { let size = self.old.block.size in size ≤ self.old.length
+            → is_layout (doubled size) 1 ≡ false → (result ≡ Err CapacityOverflow) × (a.new ≡ a.old) }
+        ensures grown { let size = self.old.block.size in size ≤ self.old.length
+            → IsTrue (is_layout (doubled size) 1)
+            → GrowsBlock a.old a.new self.old.block (doubled size) 1 (buffer_answer (λ _. self.new.block) result) }
         ensures ok { IfOk result (λ _.
             Has a.new.memory self.new (contents a.old.memory self.old ++ byte ∷ [])) }
         ensures frame { IfOk result (λ _.
@@ -83,9 +93,14 @@ impl Buffer {
         Ok(())
     }
 
-    // A block with room for one more byte: its own, or one twice as large.
+    // A block with room for one more byte: its own, or where that is full one twice as large.
     fn make_room<C: ChunkSource>(self, a: &mut Allocator<C>) -> Result<Block, BufferErr>
         requires { IsBuffer a.old.memory self }
+        ensures own { self.length < self.block.size → (result ≡ Ok self.block) × (a.new ≡ a.old) }
+        ensures overflow { self.block.size ≤ self.length → is_layout (doubled self.block.size) 1 ≡ false
+            → (result ≡ Err CapacityOverflow) × (a.new ≡ a.old) }
+        ensures grown { self.block.size ≤ self.length → IsTrue (is_layout (doubled self.block.size) 1)
+            → GrowsBlock a.old a.new self.block (doubled self.block.size) 1 (buffer_answer (λ b. b) result) }
         ensures ok { IfOk result (HasRoom a.old.memory a.new.memory self) }
         ensures err { IfErr result (λ e. a.new.memory ≡ a.old.memory) }
     {

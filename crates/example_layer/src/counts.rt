@@ -5,7 +5,10 @@ ghost use Rattle.placement.specs.Doubling.{IsDoubling};
 ghost use Rattle.placement.specs.Moves.Resizing.{Moves};
 ghost use Rattle.arena_chunks.specs.Memory.{is_readable, image};
 ghost use Rattle.arena_chunks.specs.Frame.{Frame};
-ghost use Rattle.arena_chunks.specs.BlockCalls.{shrinking_of};
+ghost use Rattle.arena_chunks.specs.Answers.{answer_by};
+ghost use Rattle.arena_chunks.specs.Answers.Answer.{Placed};
+ghost use Rattle.arena_chunks.specs.BlockCalls.{PlacesBlock, ShrinksBlock, GivesBack, shrinking_of};
+ghost use Rattle.example_layer.specs.TwoCalls.{PlacesThen};
 
 use arena_chunks::laws::{
     doubling, given_back, used_by_giving_back, used_by_placing, used_by_resizing,
@@ -17,13 +20,16 @@ use arena_place::Layout;
 ///
 /// # Errors
 ///
-/// As of `alloc_layout`. The first block may be placed then.
+/// As of `alloc_layout`. Where the second block is refused, the first stays placed.
 pub fn place_both<C: ChunkSource>(
     a: &mut Allocator<C>,
     first: Layout,
     second: Layout,
 ) -> Result<(Block, Block), ArenaErr>
-    ensures { IfOk result (λ r.
+    ensures calls { PlacesThen a.old a.new first.size first.align
+        (λ between one. PlacesBlock between a.new second.size second.align (answer_by (λ r. r.1) result)
+        × IfOk result (λ r. r.0 ≡ one)) result }
+    ensures used { IfOk result (λ r.
         used_bytes a.old.memory.state + first.size + second.size ≤ used_bytes a.new.memory.state) }
 {
     used_by_placing();
@@ -35,6 +41,8 @@ pub fn place_both<C: ChunkSource>(
 /// Gives a block back. At least alignment 1 that touches the block alone, and a block at the cursor gives back its size.
 pub fn give_back<C: ChunkSource>(a: &mut Allocator<C>, block: Block)
     requires { IsTrue (is_readable a.old.memory.state block) }
+    ensures given { GivesBack a.old.memory a.new.memory block }
+    ensures source { a.new.source ≡ a.old.source }
     ensures frame { Frame a.old.memory a.new.memory (block ∷ []) [] }
     ensures bytes { (p : ℕ) → image a.new.memory p ≡ image a.old.memory p }
     ensures used { block.addr ≡ cursor_of a.old.memory.state.chunks
@@ -55,7 +63,7 @@ pub fn shrink_in_place<C: ChunkSource>(a: &mut Allocator<C>, block: Block, layou
     requires readable { IsTrue (is_readable a.old.memory.state block) }
     requires size { layout.size ≤ block.size }
     requires align { layout.align ≤ block.align }
-    ensures size { result.size ≡ layout.size }
+    ensures shrunk { ShrinksBlock a.old a.new block layout.size layout.align (Placed result) }
     ensures used { (q : ℕ) → shrinking_of a.old.memory block layout.size layout.align ≡ Moves q
         → used_bytes a.new.memory.state + (q - block.addr) ≡ used_bytes a.old.memory.state }
 {

@@ -3,8 +3,10 @@ ghost use Rattle.std.specs.Prelude.{◌≡◌, ◌≤◌, IfOk, IsTrue, [], ◌�
 ghost use Rattle.placement.specs.Blocks.{IsBlock};
 ghost use Rattle.arena_chunks.specs.Memory.{is_readable, image, bytes_from};
 ghost use Rattle.arena_chunks.specs.Frame.{AreBlocksApart, Frame, Stays};
-ghost use Rattle.arena_chunks.specs.BlockCalls.{place_of};
+ghost use Rattle.arena_chunks.specs.Answers.{answer_of};
+ghost use Rattle.arena_chunks.specs.BlockCalls.{GrowsBlock, place_of};
 ghost use Rattle.example_layer.specs.Blocks.{bytes_of};
+ghost use Rattle.example_layer.specs.TwoCalls.{PlacesThen};
 
 use arena_chunks::laws::{frames, placed, resized};
 use arena_chunks::{Alloc, ArenaErr, Block};
@@ -14,7 +16,7 @@ use arena_place::Layout;
 ///
 /// # Errors
 ///
-/// As of `grow`.
+/// As of `grow`. Nothing changes.
 #[tactic(auto, using(arena_chunks::proofs::Layers::layer_laws))]
 pub fn grow_beside<A: Alloc>(
     a: &mut A,
@@ -26,6 +28,7 @@ pub fn grow_beside<A: Alloc>(
     requires other { IsTrue (is_readable (A.view a.old).memory.state other) }
     requires apart { AreBlocksApart other block }
     requires size { block.size ≤ layout.size }
+    ensures grown { GrowsBlock (A.view a.old) (A.view a.new) block layout.size layout.align (answer_of result) }
     ensures bytes { IfOk result (λ b. bytes_from (image (A.view a.new).memory) b.addr block.size
         ≡ bytes_of (A.view a.old).memory block) }
     ensures other { IfOk result (λ b. Stays (A.view a.old).memory (A.view a.new).memory (b ∷ []) other) }
@@ -38,10 +41,12 @@ pub fn grow_beside<A: Alloc>(
 ///
 /// # Errors
 ///
-/// As of `alloc` and `grow`. The smaller block may be placed then.
+/// As of `alloc`, or of `grow` where the smaller block was placed. That one stays then.
 #[tactic(auto, using(arena_chunks::proofs::Layers::layer_laws))]
 pub fn place_and_grow<A: Alloc>(a: &mut A, small: Layout, large: Layout) -> Result<Block, ArenaErr>
     requires { small.size ≤ large.size }
+    ensures calls { PlacesThen (A.view a.old) (A.view a.new) small.size small.align
+        (λ between b. GrowsBlock between (A.view a.new) b large.size large.align (answer_of result)) result }
     ensures is_block { IfOk result (λ b. IsBlock (A.view a.new).memory.state (place_of b)) }
     ensures frame { IfOk result (λ b. Frame (A.view a.old).memory (A.view a.new).memory [] (b ∷ [])) }
 {

@@ -1,10 +1,11 @@
 // Blocks with bytes, beside each other.
 ghost use Rattle.std.specs.Prelude.{◌≡◌, IfOk, IsTrue, [], ◌∷◌, length};
 ghost use Rattle.arena_chunks.specs.Memory.{is_readable};
-ghost use Rattle.arena_chunks.specs.Answers.{answer_of};
+ghost use Rattle.arena_chunks.specs.Answers.{answer_of, answer_by};
 ghost use Rattle.arena_chunks.specs.Frame.{AreBlocksApart, Frame, Stays};
 ghost use Rattle.arena_chunks.specs.BlockCalls.{PlacesBlock};
 ghost use Rattle.example_layer.specs.Blocks.{bytes_of, Holds};
+ghost use Rattle.example_layer.specs.TwoCalls.{PlacesThen};
 
 use arena_chunks::{Allocator, ArenaErr, Block, ChunkSource};
 use arena_place::Layout;
@@ -46,7 +47,7 @@ pub fn place_bytes<C: ChunkSource>(
 ///
 /// # Errors
 ///
-/// As of `alloc_layout`. The first block may be placed then.
+/// As of `alloc_layout`. Where the second block is refused, the first stays placed.
 #[tactic(auto, using(arena_chunks::proofs::Layers::layer_laws))]
 pub fn place_two<C: ChunkSource>(
     a: &mut Allocator<C>,
@@ -56,6 +57,9 @@ pub fn place_two<C: ChunkSource>(
 ) -> Result<(Block, Block), ArenaErr>
     requires first { length first.now ≡ layout.size }
     requires second { length second.now ≡ layout.size }
+    ensures calls { PlacesThen a.old a.new layout.size layout.align
+        (λ between one. PlacesBlock between a.new layout.size layout.align (answer_by (λ r. r.1) result)
+        × IfOk result (λ r. r.0 ≡ one)) result }
     ensures first { IfOk result (λ r. Holds a.new.memory r.0 first.now) }
     ensures second { IfOk result (λ r. Holds a.new.memory r.1 second.now) }
     ensures apart { IfOk result (λ r. AreBlocksApart r.0 r.1) }

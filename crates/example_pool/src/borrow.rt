@@ -26,8 +26,8 @@ pub fn read_back<T: Item, C: ChunkSource>(a: &mut Allocator<C>, value: T) -> Opt
     }
 }
 
-/// Sends a value through a borrowed arena, which goes back to its pool. It comes back as it was. None where there is no place for
-/// it, or memory for an arena is wanting.
+/// Sends a value through a borrowed arena, which goes back to its pool. It comes back as it was; that it stood in the arena
+/// `take_out` and `put_in` show. None where there is no place for it, or memory for an arena is wanting.
 pub fn through<T: Item, K: ChunkMaker, L: PoolName, R: Wait>(
     rt: &R,
     pool: &AllocatorPool<K, L>,

@@ -1,6 +1,6 @@
 // An arena that two threads own.
 ghost use Rattle.std.specs.Prelude.{◌≡◌, IfOk, IfErr, IfSome, IfNone};
-ghost use Rattle.arena_pool.specs.Claiming.{times};
+ghost use Rattle.arena_pool.specs.Claiming.{times, with_free};
 ghost use Rattle.arena_pool.specs.GivingUp.{IsReturned};
 
 use arena_chunks::{Allocator, ChunkSource};
@@ -27,6 +27,7 @@ pub fn freed<C: ChunkSource + Drop>(owner: Owner<C>) -> Option<Allocator<C>>
 pub fn alone<C: ChunkSource + Drop>(owner: Owner<C>) -> Result<Allocator<C>, Owner<C>>
     ensures arena { IfOk result (λ a. a ≡ owner.shared) }
     ensures owner { IfErr result (λ o. o.shared ≡ owner.shared) }
+    ensures found { IfErr result (λ o. o.lists ≡ with_free 0 owner.lists) }
 {
     let mut owner = owner;
     if owner.is_double_owned() {

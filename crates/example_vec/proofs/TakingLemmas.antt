@@ -1,12 +1,18 @@
--- Values that are taken from the front of a range on its way out.
-use Rattle.std.proofs.Common.{◌≡◌, ℕ, suc, ◌+◌, ◌<◌, List, [], ◌∷◌, ◌++◌, length, take, drop, set, get_or, sym, ap, ◌∙◌, add-one}
+-- Values that are taken from the front of a range on its way out, and those that are put in its place.
+use Rattle.std.proofs.Common.{◌≡◌, ℕ, suc, ◌+◌, ◌<◌, List, [], ◌∷◌, ◌++◌, length, take, drop, set, get_or, refl, sym, ap, ◌∙◌, add-one, Option, Result, OnOk, OnErr}
 use Rattle.std.proofs.Math.Seq.{drop-cons}
-use Rattle.std.proofs.lemmas.List.{take_more, take_more_set}
-use Rattle.std.specs.List.{remove_range}
+use Rattle.std.proofs.lemmas.Iterator.{YieldsList, items_from_drains}
+use Rattle.std.proofs.lemmas.Iterator.Consumers.{YieldsList-so_far}
+use Rattle.std.proofs.lemmas.List.{take_more, take_more_set, map-id}
+use Rattle.std.proofs.lemmas.Result.{on_ok_weaker, on_err_weaker}
+use Rattle.std.specs.List.{remove_range, replace_range}
+use Rattle.arena_chunks.specs.Memory.{Memory}
 use Rattle.arena_chunks.specs.Source.{View}
 use Rattle.arena_items.specs.declared.item.Item.{Ghosts}
+use Rattle.arena_items.specs.declared.room.AllocError.{AllocError}
 use Rattle.arena_vec.specs.Changes.{Becomes}
 use Rattle.arena_vec.specs.Draining.{SameDrain}
+use Rattle.arena_vec.specs.Splicing.{Replaces}
 use Rattle.arena_vec.specs.Vecs.{vec_list}
 use Rattle.arena_vec.specs.declared.drain.Drain.{Drain}
 use Rattle.arena_vec.specs.declared.vec.Vec.{Vec}
@@ -37,3 +43,26 @@ module _ {T : Type 0} (list : List T) (i : ℕ) (within : i < length list) where
     taken_more out space so_far =
         let same : get_or list i x ≡ x = (let parts = cut in cc) in
         take_more_set out i x space ∙ ap (λ l. l ++ x ∷ []) so_far ∙ sym (take_more list i x within ∙ ap (λ y. take i list ++ y ∷ []) same)
+
+-- Of a front the front too.
+front : {X : Type 0} (xs ys all : List X) → xs ++ ys ≡ take (length (xs ++ ys)) all → xs ≡ take (length xs) all
+front [] ys all is = refl
+front (x ∷ xs) ys [] is = cc
+front (x ∷ xs) ys (z ∷ all) is = let rest = front xs ys all (ap (drop 1) is) in cc
+
+-- Of an iterator that gives these values all stand in a range's place, or after a refusal the first of them.
+module _ {T I : Type 0} {item : Ghosts T} {steps : I → Option T → I → Type 0} {iter : I} {old new : Memory} {v w : Vec T} {start end : ℕ}
+    {result : Result (Unit {0}) AllocError} {values : List T} (gives : YieldsList steps (λ x. x) iter values)
+    (is : Replaces item steps iter old new v start end w result) where
+  pub all_placed : OnOk result (vec_list item new w ≡ replace_range (vec_list item old v) start end values)
+  all_placed = on_ok_weaker result
+      (λ drains. is.list_is ∙ ap (replace_range (vec_list item old v) start end) (sym (map-id is.items) ∙ items_from_drains is.items
+      (drains.1.0, drains.1.1, λ _. (drains.0, drains.1.2)) gives)) is.all
+
+  pub some_placed : OnErr result ((n : ℕ) × (vec_list item new w ≡ replace_range (vec_list item old v) start end (take n values)))
+  some_placed = on_err_weaker result
+      (λ taken. (
+        length is.items,
+        is.list_is ∙ ap (replace_range (vec_list item old v) start end) (front is.items taken.0 values (sym (map-id _)
+            ∙ YieldsList-so_far gives (is.items ++ taken.0) taken.1 taken.2)),
+      )) is.some

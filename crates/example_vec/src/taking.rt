@@ -1,12 +1,15 @@
-// Values picked and taken out.
-ghost use Rattle.std.specs.Prelude.{◌≡◌, ◌^◌, ◌≤◌, length, take, drop, filter};
+// Values picked, taken out, and put in the place of others.
+ghost use Rattle.std.specs.Prelude.{◌≡◌, ℕ, ◌-◌, ◌^◌, ◌≤◌, [], ◌∷◌, length, take, drop, filter, OnOk, OnErr};
+ghost use Rattle.std.specs.List.{replace_range, range_with_len};
 ghost use Rattle.std.specs.Ordering.{is_le};
+ghost use Rattle.arena_chunks.specs.Frame.{Frame};
 ghost use Rattle.arena_vec.specs.Vecs.{IsVecIn, vec_list};
 ghost use Rattle.arena_vec.specs.Changes.{Becomes};
 
 use arena_chunks::{Allocator, ChunkSource};
 use arena_items::Item;
-use arena_vec::Vec;
+use arena_vec::{Grown, Vec};
+use std::ops::Range;
 
 /// Keeps the values that are no less than this one, in their order.
 pub fn keep_from<T: Item + Ord, C: ChunkSource>(a: &mut Allocator<C>, vec: &mut Vec<T>, least: T)
@@ -35,4 +38,31 @@ pub fn take_front<T: Item, C: ChunkSource>(a: &mut Allocator<C>, vec: &mut Vec<T
         }
     }
     gone.finish();
+}
+
+/// Puts numbers one after another in the place of a range.
+///
+/// # Errors
+///
+/// As of `try_reserve`. The first of the numbers stand in the range's place then.
+pub fn put_numbers<C: ChunkSource>(
+    a: &mut Allocator<C>,
+    vec: &mut Vec<u32>,
+    start: u32,
+    end: u32,
+    numbers: Range<u32>,
+) -> Grown<()>
+    requires held { IsVecIn ⟦<u32 as Item>⟧ a.old.memory vec.old }
+    requires order { start ≤ end }
+    requires within { end ≤ vec.old.raw.len }
+    ensures held { IsVecIn ⟦<u32 as Item>⟧ a.new.memory vec.new }
+    ensures ok { let all = range_with_len numbers.start (numbers.end - numbers.start) in
+        OnOk result (vec_list ⟦<u32 as Item>⟧ a.new.memory vec.new
+        ≡ replace_range (vec_list ⟦<u32 as Item>⟧ a.old.memory vec.old) start end all) }
+    ensures err { let all = range_with_len numbers.start (numbers.end - numbers.start) in
+        OnErr result ((n : ℕ) × (vec_list ⟦<u32 as Item>⟧ a.new.memory vec.new
+        ≡ replace_range (vec_list ⟦<u32 as Item>⟧ a.old.memory vec.old) start end (take n all))) }
+    ensures frame { Frame a.old.memory a.new.memory (vec.old.raw.block ∷ []) (vec.new.raw.block ∷ []) }
+{
+    vec.splice(a, start, end, numbers).finish()
 }

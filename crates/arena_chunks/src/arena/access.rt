@@ -14,7 +14,7 @@ impl<const MIN_ALIGN: usize> Arena<MIN_ALIGN> {
     ghost use Rattle.arena_chunks.specs.Lends.{LendsBlock, with_block};
 
     /// Whether a block is readable: it is empty, or of the arena's generation with its bytes in one chunk's used part.
-    /// Of a block that was placed in this arena this tells whether a reset ended it.
+    /// One of some bytes that a reset ended isn't, as long as generations rise.
     pub fn is_held_place(&self, block: Block) -> bool
         ensures { result ≡ is_readable self.now.state block }
     {

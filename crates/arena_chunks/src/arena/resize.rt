@@ -10,7 +10,7 @@ use crate::chunks::edit::{copy_across, move_within};
 use arena_place::{Layout, is_aligned_to, place, round_down_to, round_up_to_unchecked};
 
 // One fewer, unless the count stands at its last value.
-fn uncounted(count: u64) -> u64
+fn one_fewer(count: u64) -> u64
     requires { 0 < count }
     ensures { result ≡ (if nat_lt count (2 ^ 64 - 1) then count - 1 else count) }
 {
@@ -318,7 +318,7 @@ impl<const MIN_ALIGN: usize> Arena<MIN_ALIGN> {
           bytes = self.old.bytes;
         } }
     {
-        self.allocations = uncounted(self.allocations);
+        self.allocations = one_fewer(self.allocations);
         self.reallocations = self.reallocations.saturating_add(1);
     }
 

@@ -1,6 +1,6 @@
 // Blocks that lie apart, that may be read, and their bytes.
 ghost use Rattle.std.specs.Prelude.{◌≡◌, ℕ, ◌+◌, ◌^◌, ◌<◌, ◌≤◌, ◌↔◌, IsTrue, List, ◌∷◌, [], ◌++◌, length, take, drop};
-ghost use Rattle.placement.specs.State.{State, IsValid};
+ghost use Rattle.placement.specs.State.{State, IsValid, used_bytes};
 ghost use Rattle.placement.specs.Moves.{reset};
 ghost use Rattle.arena_chunks.specs.Memory.{Memory, is_readable, image, bytes_from};
 ghost use Rattle.arena_chunks.specs.Frame.{IsApart, AreBlocksApart, ArePairwiseApart, AreAllApart, IsInUse};
@@ -24,8 +24,8 @@ pub fn apart()
 {}
 
 /// An empty block is readable in every state. A block of some bytes is exactly where it is of the arena's generation
-/// and its bytes lie in the used part of one chunk; it lies at 4096 or above, and below 2^64. Once all blocks are given
-/// back none is readable.
+/// and its bytes lie in the used part of one chunk; it lies at 4096 or above, and below 2^64. None has more than
+/// 2^63 - 64 bytes. Where no byte is in use, as once all blocks are given back, none of some bytes is readable.
 pub fn readable()
     ensures empty { (state : State) (b : Block) → b.size ≡ 0 → IsTrue (is_readable state b) }
     ensures filled { (state : State) (b : Block) → 0 < b.size
@@ -34,6 +34,9 @@ pub fn readable()
         → 4096 ≤ b.addr }
     ensures high { (state : State) (b : Block) → IsValid state → 0 < b.size → IsTrue (is_readable state b)
         → b.addr + b.size < 2 ^ 64 }
+    ensures size { (state : State) (b : Block) → IsValid state → IsTrue (is_readable state b)
+        → b.size + 64 ≤ 2 ^ 63 }
+    ensures unused { (state : State) → used_bytes state ≡ 0 → NoneReadable state }
     ensures ended { (state : State) → NoneReadable (reset state) }
 {}
 

@@ -1,8 +1,8 @@
 // How many bytes calls bring into use, and how chunks grow.
-ghost use Rattle.std.specs.Prelude.{◌≡◌, ◌≢◌, ℕ, ◌+◌, ◌-◌, ◌%◌, ◌≤◌, IsTrue, List};
+ghost use Rattle.std.specs.Prelude.{◌≡◌, ◌≢◌, ℕ, ◌+◌, ◌-◌, ◌%◌, ◌≤◌, false, IsTrue, List};
 ghost use Rattle.placement.specs.Rounding.{is_layout};
-ghost use Rattle.placement.specs.State.{cursor_of, used_bytes};
-ghost use Rattle.placement.specs.Moves.{Resizing};
+ghost use Rattle.placement.specs.State.{State, IsValid, cursor_of, used_bytes, allocated_bytes};
+ghost use Rattle.placement.specs.Moves.{Resizing, reset};
 ghost use Rattle.placement.specs.Moves.Resizing.{Stays, Moves, Anew};
 ghost use Rattle.placement.specs.Blocks.{padded_size};
 ghost use Rattle.placement.specs.Used.{unit_of};
@@ -65,6 +65,7 @@ pub fn used_by_resizing()
 
 /// A block at the cursor that is given back takes as many bytes out of use as it has, up to the next multiple of the least
 /// alignment, which at least alignment 1 is its size. Any other block takes none. A write changes no number.
+/// A reset takes all bytes out of use, and an arena that doesn't grow has as many as before.
 pub fn used_by_giving_back()
     ensures last { (old new : Memory) (b : Block) → IsTrue (is_readable old.state b) → GivesBack old new b
         → b.addr ≡ cursor_of old.state.chunks
@@ -77,6 +78,9 @@ pub fn used_by_giving_back()
         → used_bytes new.state ≡ used_bytes old.state }
     ensures written { (old new : Memory) (b : Block) (at : ℕ) (list : List ℕ) → WritesBlock old new b at list
         → used_bytes new.state ≡ used_bytes old.state }
+    ensures reset { (state : State) → used_bytes (reset state) ≡ 0 }
+    ensures reset_keeps { (state : State) → IsValid state → state.is_growing ≡ false
+        → allocated_bytes (reset state) ≡ allocated_bytes state }
 {}
 
 /// Chunks that double still do after each call that makes no chunk, or makes it at the first size tried, at once.

@@ -122,6 +122,8 @@ fn copies_of_a_map(rt: HostRuntime) {
         for (key, value) in [("x", "xx"), ("y", "yy"), ("z", "zz")] {
             assert!(rt; copy.has_text(&rt, key, value));
         }
+        copy.put_text(&rt, "x", "other");
+        assert!(rt; copy.has_text(&rt, "x", "other") && original.has_text(&rt, "x", "xx"));
     }
 }
 

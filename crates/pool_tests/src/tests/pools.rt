@@ -5,8 +5,8 @@ ghost use Rattle.arena_pool.specs.declared.kind.PoolKind.TheVariants.{Standard, 
 
 use super::marks;
 use arena_pool::{
-    AllocatorPool, ChunkMaker, FixedSizeAllocatorMetadata, FixedSizeAllocatorPool, MOST_LENT,
-    MemoryMaker, PoolName, StandardAllocatorPool,
+    AllocatorGuard, AllocatorPool, ChunkMaker, FixedSizeAllocatorMetadata, FixedSizeAllocatorPool,
+    MOST_LENT, MemoryMaker, PoolName, StandardAllocatorPool,
 };
 use example_pool::{put_in, take_out, through, through_fixed, through_standard};
 use std::alloc::Global;
@@ -59,6 +59,56 @@ fn guards_of_a_fixed_pool(rt: HostRuntime) {
     guards_of_one::<Brand, _>(&rt, rt.alloc(), 112, Blank::new(MOST_LENT));
 }
 
+// The id of a guard, as a bit.
+fn id_bit<K: ChunkMaker, L: PoolName>(guard: &AllocatorGuard<'_, K, L>) -> u32 {
+    guard
+        .fixed_size_metadata()
+        .map_or(0, |metadata| 1 << (metadata.id % 32))
+}
+
+// The ids of three guards that are held at once, as bits. They come back in another order.
+fn ids_of_three<K: ChunkMaker, L: PoolName, R: Wait>(
+    rt: &R,
+    pool: &AllocatorPool<K, L>,
+    bytes: u64,
+) -> u32
+    requires kind { L.kind ≡ FixedSize bytes }
+{
+    let Ok(first) = pool.get(rt) else {
+        unreachable!()
+    };
+    let Ok(second) = pool.get(rt) else {
+        unreachable!()
+    };
+    let Ok(third) = pool.get(rt) else {
+        unreachable!()
+    };
+    let ids = id_bit(&first) | id_bit(&second) | id_bit(&third);
+    second.put_back(rt);
+    first.put_back(rt);
+    third.put_back(rt);
+    ids
+}
+
+fn guards_of_three<L: PoolName, R: Wait + Abort>(rt: &R, alloc: Global, bytes: u64, blank: Blank)
+    requires blank { IsBlankOf L.name L.parts blank }
+    requires kind { L.kind ≡ FixedSize bytes }
+    requires units { bytes % 16 ≡ 0 }
+    requires room { 48 ≤ bytes }
+{
+    let maker = MemoryMaker::new(alloc, 0);
+    let pool = AllocatorPool::<MemoryMaker, L>::new_fixed_size(alloc, 3, bytes, maker, blank);
+    let pool = pool.ok().expect(rt, "a pool");
+    for _ in 0..2 {
+        assert_eq!(rt; ids_of_three(rt, &pool, bytes), 7);
+    }
+}
+
+#[test]
+fn ids_of_a_fixed_pool(rt: HostRuntime) {
+    guards_of_three::<Brand, _>(&rt, rt.alloc(), 112, Blank::new(MOST_LENT));
+}
+
 fn guards_without_end<L: PoolName, R: Wait + Abort>(rt: &R, alloc: Global, blank: Blank)
     requires blank { IsBlankOf L.name L.parts blank }
     requires kind { L.kind ≡ Standard }
@@ -89,19 +139,24 @@ fn guards_of_a_standard_pool(rt: HostRuntime) {
     guards_without_end::<Brand, _>(&rt, rt.alloc(), Blank::new(MOST_LENT));
 }
 
-fn loans_of_one<L: PoolName, R: Wait + Abort>(rt: &R, alloc: Global, bytes: u64, blank: Blank)
+fn loans_of_two<L: PoolName, R: Wait + Abort>(rt: &R, alloc: Global, bytes: u64, blank: Blank)
     requires blank { IsBlankOf L.name L.parts blank }
     requires kind { L.kind ≡ FixedSize bytes }
     requires units { bytes % 16 ≡ 0 }
     requires room { 48 ≤ bytes }
 {
     let maker = MemoryMaker::new(alloc, 0);
-    let pool = FixedSizeAllocatorPool::<MemoryMaker, L>::new(alloc, 1, bytes, maker, blank);
+    let pool = FixedSizeAllocatorPool::<MemoryMaker, L>::new(alloc, 2, bytes, maker, blank);
     let pool = pool.ok().expect(rt, "a pool");
     assert_eq!(rt; through_fixed(rt, &pool, 9u32), Some(9));
     let Ok((mut arena, loan)) = pool.get(rt) else {
         unreachable!()
     };
+    // With one arena alone this would wait without end.
+    let Ok((other, other_loan)) = pool.get(rt) else {
+        unreachable!()
+    };
+    pool.add(rt, other, other_loan);
     assert!(rt; marks(&mut arena, 3));
     pool.add(rt, arena, loan);
     let Ok((arena, loan)) = pool.get(rt) else {
@@ -113,7 +168,7 @@ fn loans_of_one<L: PoolName, R: Wait + Abort>(rt: &R, alloc: Global, bytes: u64,
 
 #[test]
 fn loans_of_a_fixed_pool(rt: HostRuntime) {
-    loans_of_one::<Brand, _>(&rt, rt.alloc(), 112, Blank::new(MOST_LENT));
+    loans_of_two::<Brand, _>(&rt, rt.alloc(), 112, Blank::new(MOST_LENT));
 }
 
 fn loans_without_end<L: PoolName, R: Wait + Abort>(rt: &R, alloc: Global, blank: Blank)

@@ -117,9 +117,15 @@ fn over_standard<L: PoolName + Send + Sync, R: Threads + Wait + Abort + Sync>(
     let maker = MemoryMaker::new(alloc, 1 << 20);
     let pool = AllocatorPool::<MemoryMaker, L>::new(alloc, arenas, maker, blank);
     let pool = pool.ok().expect(rt, "a pool");
+    let counts = pool.counts(rt);
+    let arenas = u64::from(arenas);
+    assert_eq!(rt;
+        (counts.made, counts.stored, counts.lent, counts.given_up),
+        (arenas, arenas, 0, 0)
+    );
     let counts = crowd(rt, alloc, &pool, givers);
     // No more were made than were lent at once, and one for each that was given up.
-    let most = (u64::from(arenas) + WORKERS as u64).saturating_add(givers as u64);
+    let most = (arenas + WORKERS as u64).saturating_add(givers as u64);
     assert!(rt; counts.made <= most);
     assert_eq!(rt; (counts.lent, counts.given_up), (0, givers as u64));
 }

@@ -89,10 +89,13 @@ fn tells<C: ChunkSource>(
     }
 }
 
-// A walk gives these numbers, with its hints on the way.
+// A walk gives these numbers, with its hints on the way, and a clone of it stays behind.
 fn walks<C: ChunkSource>(rt: &impl Abort, a: &Allocator<C>, set: &BitSet, numbers: &[u64]) {
     held(rt, a, *set);
     let mut ones = set.ones(a);
+    let Ok(clone) = ones.clone() else {
+        unreachable!();
+    };
     let mut behind = 0;
     for number in numbers {
         assert!(rt; behind <= *number && *number < set.capacity);
@@ -112,7 +115,7 @@ fn walks<C: ChunkSource>(rt: &impl Abort, a: &Allocator<C>, set: &BitSet, number
         assert_eq!(rt; ones.next(), None);
         assert_eq!(rt; ones.size_hint(), (0, Some(0)));
     }
-    assert!(rt; set.ones(a).count() == numbers.len());
+    assert!(rt; clone.count() == numbers.len());
 }
 
 // Takes a step, and tells what was done.

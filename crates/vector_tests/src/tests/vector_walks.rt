@@ -211,15 +211,24 @@ const ALIKE: [(&[u32], &[u32], &[u32], &[u32]); 6] = [
 fn alike(rt: HostRuntime) {
     for (n, row) in ALIKE.iter().enumerate() {
         let (list, equal, tens, sums) = *row;
+        // Each value but the first is tested once, against the last one kept.
+        let pairs = list.len().saturating_sub(1);
         let mut a = ample(rt.alloc());
         let mut vec = vec_of(&rt, &mut a, list);
         vec.dedup(&mut a);
         assert!(rt; holds(&rt, &a, vec, equal), "row {n}");
+        let mut asked = 0u32;
         let mut vec = vec_of(&rt, &mut a, list);
-        vec.dedup_by_key(&mut a, |x| *x / 10);
+        vec.dedup_by_key(&mut a, |x| {
+            asked = asked.wrapping_add(1);
+            *x / 10
+        });
         assert!(rt; holds(&rt, &a, vec, tens), "row {n}");
+        assert_eq!(rt; asked as usize, pairs.wrapping_mul(2), "row {n}");
+        let mut tested = 0u32;
         let mut vec = vec_of(&rt, &mut a, list);
         vec.dedup_by(&mut a, |x, last| {
+            tested = tested.wrapping_add(1);
             let goes = *x < *last;
             if goes {
                 *last = last.wrapping_add(*x);
@@ -227,5 +236,6 @@ fn alike(rt: HostRuntime) {
             goes
         });
         assert!(rt; holds(&rt, &a, vec, sums), "row {n}");
+        assert_eq!(rt; tested as usize, pairs, "row {n}");
     }
 }

@@ -14,3 +14,6 @@ returns-clause-apart g c = λ old new blocks v frame held.
     let kind = g.T.CloneIn.kind in
     let readable = g.met.T.CloneIn.lawful.readable old v held in
     all_turned (kind.deep old v) blocks (beside_new old new (kind.deep old v) blocks readable frame)
+
+pub returns-clause-ids : goal.returns-clause-ids
+returns-clause-ids g c = g.met.T.CloneIn.lawful.kept

@@ -13,7 +13,8 @@ slice_bounds-write-end g c =
 pub returns : goal.returns
 returns g c =
     let writes = rw (c.SIZE.ensures, c.read.ensures) at c.write.ensures.writes in
-    row_written g.T.CloneIn.kind c.args.ids (c.is_flat.ensures c.if-not-is_flat.false) c.args.from.now.memory c.args.to.now c.write.new.self
+    let flat = g.met.T.CloneIn.lawful.flat c.args.ids (sym c.is_flat.ensures ∙ c.if-not-is_flat.false) in
+    row_written g.T.CloneIn.kind c.args.ids flat c.args.from.now.memory c.args.to.now c.write.new.self
     c.args.row.target 0 _ _ _ tt writes c.write.ensures.source c.requires.target
     (front_written g.T.Item.decoded c.args.from.now.memory c.args.to.now.memory c.write.new.self.memory c.args.row.source c.args.row.target
     g.T.Item.SIZE c.args.row.count c.requires.source_room c.requires.target_room writes)

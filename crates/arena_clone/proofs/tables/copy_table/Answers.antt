@@ -18,13 +18,15 @@ returns-in_err-block g c =
     let place = c.requires.held.0.handle.place in
     rw (p.1, p.2) (λ ids flat other.
     table_copy_refused (kind g.K.Item g.K.ArenaKey.key g.V.Item g.S.KeyHasher.hash_of) g.K.CloneIn.kind g.V.CloneIn.kind
-    g.met.K.CloneKey.keeps ids flat other c.args.from.now.memory c.args.to.now c.place_copy.new.to c.args.map.now c.requires.full _
+    g.met.K.CloneKey.keeps ids (g.met.K.CloneIn.lawful.flat ids flat) (g.met.V.CloneIn.lawful.flat ids other)
+    c.args.from.now.memory c.args.to.now c.place_copy.new.to c.args.map.now c.requires.full c.requires.held.0 _
     (rw (place.of_size, place.of_align) at c.in_err-block.ensures.placed))
 
 pub returns : goal.returns
 returns g c ids flat other =
     let place = c.requires.held.0.handle.place in
     table_copied (kind g.K.Item g.K.ArenaKey.key g.V.Item g.S.KeyHasher.hash_of) g.K.CloneIn.kind g.V.CloneIn.kind
-    g.met.K.CloneKey.keeps ids flat other c.args.from.now.memory c.args.to.now c.place_copy.new.to c.args.map.now c.requires.full
-    c.in_ok-block.block c.requires.held.0 (rw (place.of_size, place.of_align) at c.in_ok-block.ensures.placed)
+    g.met.K.CloneKey.keeps ids (g.met.K.CloneIn.lawful.flat ids flat) (g.met.V.CloneIn.lawful.flat ids other)
+    c.args.from.now.memory c.args.to.now c.place_copy.new.to c.args.map.now c.requires.full c.requires.held.0
+    c.in_ok-block.block (rw (place.of_size, place.of_align) at c.in_ok-block.ensures.placed)
     (sym c.in_ok-block.ensures.bytes)

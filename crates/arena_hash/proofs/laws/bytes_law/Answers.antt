@@ -1,7 +1,15 @@
-use Rattle.std.proofs.Common.{arith}
-use Rattle.arena_hash.proofs.PolicyLemmas.{table-holds}
+use Rattle.std.proofs.Common.{◌-◌, arith}
+use Rattle.arena_hash.specs.Policy.{slot_size, table_align, unit}
+use Rattle.arena_hash.proofs.PolicyLemmas.{table-holds, capacity-bytes, unit-covers}
 use Rattle.arena_hash.proofs.laws.bytes_law.Goals as goal
 
-pub returns : goal.returns
-returns g c = λ memory m held.
+pub returns-clause-pairs : goal.returns-clause-pairs
+returns-clause-pairs g c = λ memory m held.
     omega (arith, held.handle.place.of_size, table-holds g.K.Item.SIZE g.V.Item.SIZE m.table.slots m.len held.within)
+
+pub returns-clause-table : goal.returns-clause-table
+returns-clause-table g c =
+    let k = g.K.Item in
+    let v = g.V.Item in
+    capacity-bytes (slot_size k.SIZE v.SIZE) (table_align k.ALIGN v.ALIGN - 1) (unit k.SIZE v.SIZE k.ALIGN v.ALIGN)
+    (omega (arith, unit-covers k.SIZE v.SIZE k.ALIGN v.ALIGN))

@@ -1,13 +1,15 @@
 use Rattle.std.proofs.Common.{rules, arith, refl, ◌∙◌}
 use Rattle.std.proofs.lemmas.List.Folds.{length-flat_map-take}
+use Rattle.std.proofs.lemmas.Str.{IsUtf8-nil}
 use Rattle.arena_chunks.proofs.Layers.{writes_nothing}
-use Rattle.arena_text.proofs.TextLemmas.{one_more}
+use Rattle.arena_text.proofs.TextLemmas.{one_more, utf8_more}
 use Rattle.arena_text.proofs.text.write_all.Goals as goal
 
 pub loop-s-init : goal.loop-s-init
 loop-s-init g c = record {
   end = refl;
   writes = writes_nothing c.args.a.now.memory c.args.block 0 c.min_align.ensures.valid (omega arith);
+  utf8 = IsUtf8-nil;
   source = refl;
 }
 
@@ -23,6 +25,8 @@ pub loop-s-preserved : goal.loop-s-preserved
 loop-s-preserved g c =
     let inv = c.loop-s.invariant in
     let writes = rw (c.as_bytes.ensures.value, c.as_str-text.ensures) at c.write.ensures.writes in
+    let text = rw (c.as_bytes.ensures.value, c.as_str-text.ensures) at c.as_bytes.ensures.utf8 in
     let one = one_more g.T.AsStr.text c.args.strings.now c.loop-s.s-index c.s-item.result _ _ _ c.args.block c.loop-s.at (omega arith)
     c.s-item.is inv.end inv.writes writes in
-    record { end = rw c.as_str-text.ensures one.1; writes = one.0; source = c.write.ensures.source ∙ inv.source }
+    let utf8 = utf8_more g.T.AsStr.text c.args.strings.now c.loop-s.s-index c.s-item.result (omega arith) c.s-item.is inv.utf8 text in
+    record { end = rw c.as_str-text.ensures one.1; writes = one.0; utf8 = utf8; source = c.write.ensures.source ∙ inv.source }

@@ -1,17 +1,12 @@
-use Rattle.std.proofs.Common.{ap, arith}
-use Rattle.std.proofs.lemmas.Str.{length-encode, len_utf8_bounds}
+use Rattle.std.proofs.Common.{ap}
 use Rattle.placement.specs.State.{State, used_bytes}
 use Rattle.arena_text.proofs.uses.push_below.Goals as goal
 
 pub returns-clause-ok : goal.returns-clause-ok
-returns-clause-ok g c =
-    let few = (len_utf8_bounds c.args.c).1 in
-    (c.within_room.ensures.ok _ _ _ _ _ _ _ (omega (arith, length-encode c.args.c, few, c.requires.room)) c.push.ensures).0
+returns-clause-ok g c = (c.within_room.ensures.ok _ _ _ _ _ _ _ c.requires.room c.push.ensures).0
 
 pub returns-clause-places : goal.returns-clause-places
-returns-clause-places g c =
-    let few = (len_utf8_bounds c.args.c).1 in
-    (c.within_room.ensures.ok _ _ _ _ _ _ _ (omega (arith, length-encode c.args.c, few, c.requires.room)) c.push.ensures).1
+returns-clause-places g c = (c.within_room.ensures.ok _ _ _ _ _ _ _ c.requires.room c.push.ensures).1
 
 pub returns-clause-used : goal.returns-clause-used
 returns-clause-used g c = ap (λ (s : State). used_bytes s) (returns-clause-places g c).state

@@ -1,4 +1,4 @@
-use Rattle.std.proofs.Common.{◌∙◌, [], ◌∷◌}
+use Rattle.std.proofs.Common.{◌∙◌}
 use Rattle.example_items.proofs.beside.place_two.Goals as goal
 
 pub returns-clause-first : goal.returns-clause-first

@@ -8,8 +8,13 @@ pub alloc_slice_fill_with-requires-clause-callable : goal.alloc_slice_fill_with-
 alloc_slice_fill_with-requires-clause-callable g c = λ new b places.
     let fits = array_fits _ _ _ _ _ b plain_8 places in search (rules, of_calls)
 
-pub returns-clause-list : goal.returns-clause-list
-returns-clause-list g c =
+pub returns : goal.returns
+returns g c =
     let is = c.in_ok-sizes.ensures in
     let same = fills_same _ _ (c.args.n * 8) (λ i x t step. search rules) 0 _ is.list.0 is.list.1 in
-    same ∙ ap (λ k. replicate k (c.args.n * 8)) (length-elements _ _ _ _ ∙ is.length)
+    record {
+      placed = is.placed;
+      held = is.held;
+      length = is.length;
+      list = same ∙ ap (λ k. replicate k (c.args.n * 8)) (length-elements _ _ _ _ ∙ is.length);
+    }

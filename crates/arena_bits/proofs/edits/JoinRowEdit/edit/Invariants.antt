@@ -4,4 +4,4 @@ use Rattle.arena_bits.specs.Walks.{words_in}
 use Rattle.arena_bits.proofs.edits.JoinRowEdit.edit.Given as goal
 
 abbrev pub invariant-words : goal.invariant-words
-invariant-words l = (length l.place ≡ 64) × JoinsWords 0 l.i (words_in l.fn.place) l.self.row (words_in l.place)
+invariant-words l = (length l.place ≡ 128) × JoinsWords 0 l.i (words_in l.fn.place) l.self.row (words_in l.place)

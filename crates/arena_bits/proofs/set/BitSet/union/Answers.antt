@@ -4,9 +4,9 @@ use Rattle.arena_bits.proofs.set.BitSet.union.Goals as goal
 
 pub rows-preserved : goal.rows-preserved
 rows-preserved g c =
-    let more : (c.rows.i + 1) * 8 ≡ c.rows.i * 8 + 8 = omega arith in
+    let more : (c.rows.i + 1) * 16 ≡ c.rows.i * 16 + 16 = omega arith in
     rw more
-    (joining_row _ _ _ c.args.self.now c.args.other.now (c.rows.i * 8) c.rows.invariant c.requires.apart c.write_with.ensures.source
+    (joining_row _ _ _ c.args.self.now c.args.other.now (c.rows.i * 16) c.rows.invariant c.requires.apart c.write_with.ensures.source
     c.row_at-row.result (rw c.bytes.ensures.words at c.row_at-row.ensures) c.write_with.ensures.edits (omega arith))
 
 pub words-preserved : goal.words-preserved

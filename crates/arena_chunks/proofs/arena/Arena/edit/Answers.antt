@@ -16,6 +16,7 @@ returns-then-size-eq0 g c =
     let none = no_bytes (image c.args.self.now) (c.args.block.addr + c.args.at) c.args.size c.if-size-eq0.true in
     record {
       list = c.edit.new.place;
+      sized = omega (arith, c.edit.auto.place, c.if-size-eq0.true);
       related = rw none c.edit.ensures;
       writes = writes_block _ _ c.args.block c.args.at _ (subst (λ (w : Memory). IsValid w.state) c.self.view_is c.self.invariant.valid) refl refl (λ p. sym (written_none (image c.args.self.now) (c.args.block.addr + c.args.at) p _ c.edit.auto.place)) (omega (arith, c.edit.auto.place, c.requires.range));
     }
@@ -53,6 +54,7 @@ returns-then-addr-newest g c =
     let is = in_newest g c in
     record {
       list = c.edit_at.ensures.list;
+      sized = is.sized;
       related = subst (λ (l : List ℕ). g.E.Edit.relates c.args.e.now l c.edit_at.ensures.list) (newest_part _ _ _ _ _ range c.if-addr-newest.true).bytes c.edit_at.ensures.related;
       writes = writes_block _ _ c.args.block c.args.at _ (subst (λ (w : Memory). IsValid w.state) c.self.view_is c.self.invariant.valid) is.state (ap (λ (w : Memory). w.statistics) c.self.view_is) is.image (omega (arith, is.sized, c.requires.range));
     }
@@ -99,6 +101,7 @@ returns-else-addr-newest g c =
     let is = in_older g c in
     record {
       list = c.edit_at-else-addr-newest.ensures.list;
+      sized = is.sized;
       related = subst (λ (l : List ℕ). g.E.Edit.relates c.args.e.now l c.edit_at-else-addr-newest.ensures.list) older.part.bytes c.edit_at-else-addr-newest.ensures.related;
       writes = writes_block _ _ c.args.block c.args.at _ (subst (λ (w : Memory). IsValid w.state) c.self.view_is c.self.invariant.valid) is.state (ap (λ (w : Memory). w.statistics) c.self.view_is) is.image (omega (arith, is.sized, c.requires.range));
     }

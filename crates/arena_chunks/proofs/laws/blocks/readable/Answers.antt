@@ -1,4 +1,4 @@
-use Rattle.arena_chunks.proofs.Layers.{in_use, readable_low, readable_high}
+use Rattle.arena_chunks.proofs.Layers.{in_use, readable_low, readable_high, readable_size, unused_unreadable}
 use Rattle.arena_chunks.proofs.laws.blocks.readable.Goals as goal
 
 pub returns-clause-filled : goal.returns-clause-filled
@@ -9,3 +9,9 @@ returns-clause-low c = readable_low
 
 pub returns-clause-high : goal.returns-clause-high
 returns-clause-high c = readable_high
+
+pub returns-clause-size : goal.returns-clause-size
+returns-clause-size c = readable_size
+
+pub returns-clause-unused : goal.returns-clause-unused
+returns-clause-unused c = unused_unreadable

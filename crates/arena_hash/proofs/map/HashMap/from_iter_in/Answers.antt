@@ -28,8 +28,10 @@ loop-pair-preserved g c =
     collecting-more (kind g.K.Item g.K.ArenaKey.key g.V.Item g.S.KeyHasher.hash_of) g.I.Iterator.next_gives c.args.iter c.loop-pair.iter
     c.next.new.self
     c.args.a.now c.loop-pair.a c.insert.new.a c.loop-pair.map c.insert.new.self c.in-Some.pair c.loop-pair.invariant
-    c.in-Some.ensures.steps _
-    c.in_ok-insert.ensures
+    c.in-Some.ensures.steps
+    (c.requires.texts c.loop-pair.invariant.pairs c.loop-pair.iter c.next.new.self c.in-Some.pair c.loop-pair.invariant.yields
+    c.in-Some.ensures.steps)
+    _ c.in_ok-insert.ensures
 
 pub returns-in_err-insert-clause-refused : goal.returns-in_err-insert-clause-refused
 returns-in_err-insert-clause-refused g c =

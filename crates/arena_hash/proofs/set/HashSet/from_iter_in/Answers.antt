@@ -30,10 +30,14 @@ insert-requires-clause-apart g c =
 
 pub loop-item-preserved : goal.loop-item-preserved
 loop-item-preserved g c =
+    let so_far = c.loop-item.invariant in
+    let gave = items-yielded g.I.Iterator.next_gives c.args.iter so_far.pairs c.loop-item.iter so_far.yields in
     collecting-more (set_kind g.T.Item g.T.ArenaKey.key g.S.KeyHasher.hash_of) (StepsInPairs g.I.Iterator.next_gives) c.args.iter
     c.loop-item.iter
     c.next.new.self c.args.a.now c.loop-item.a c.insert.new.a c.loop-item.map c.insert.new.self (c.in-Some.item, tt) c.loop-item.invariant
-    c.in-Some.ensures.steps _ c.in_ok-insert.ensures
+    c.in-Some.ensures.steps
+    (c.requires.texts (map (λ p. p.0) so_far.pairs) c.loop-item.iter c.next.new.self c.in-Some.item gave c.in-Some.ensures.steps)
+    _ c.in_ok-insert.ensures
 
 pub returns-in_err-insert-clause-refused : goal.returns-in_err-insert-clause-refused
 returns-in_err-insert-clause-refused g c =

@@ -1,4 +1,4 @@
-use Rattle.std.proofs.Common.{◌≡◌, ◌+◌, List, length, refl, sym, ap, subst, ◌∙◌, arith, [], ◌∷◌, take}
+use Rattle.std.proofs.Common.{refl, sym, subst, ◌∙◌, arith, [], ◌∷◌, take}
 use Rattle.arena_chunks.proofs.Layers.{frame_reflexive, frame_then}
 use Rattle.arena_items.proofs.Layers.{same_then}
 use Rattle.arena_items.specs.Values.{bytes_of}

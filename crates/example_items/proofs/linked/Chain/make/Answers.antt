@@ -1,11 +1,32 @@
-use Rattle.std.proofs.Common.{rules}
-use Rattle.example_items.proofs.ChainLemmas.{two_left, made_held, made_numbers, made_frame}
+use Rattle.std.proofs.Common.{inl, inr}
+use Rattle.std.proofs.lemmas.Result.{err_from_is_err_and}
+use Rattle.example_items.proofs.ChainLemmas.{made_held, made_numbers, made_frame}
 use Rattle.example_items.proofs.linked.Chain.make.Goals as goal
 
-pub returns-in_err-first-clause-err : goal.returns-in_err-first-clause-err
-returns-in_err-first-clause-err g c =
-    let left = two_left _ _ _ _ _ _ _ _ _ c.in_ok-third.ensures c.in_ok-second.ensures in
-    search rules
+pub returns-in_err-second-clause-calls : goal.returns-in_err-second-clause-calls
+returns-in_err-second-clause-calls g c =
+    let p = err_from_is_err_and c.from_residual-in_err-second.result c.from_residual-in_err-second.ensures.1 in
+    rw (p.1, p.2) (inr (record {
+      between = _;
+      box = _;
+      placed = c.in_ok-third.ensures;
+      follows = inl (c.in_err-second.ensures);
+    }))
+
+pub returns-in_err-first-clause-calls : goal.returns-in_err-first-clause-calls
+returns-in_err-first-clause-calls g c =
+    let p = err_from_is_err_and c.from_residual-in_err-first.result c.from_residual-in_err-first.ensures.1 in
+    rw (p.1, p.2) (inr (record {
+      between = _;
+      box = _;
+      placed = c.in_ok-third.ensures;
+      follows = inr (record {
+        between = _;
+        box = _;
+        placed = c.in_ok-second.ensures;
+        follows = c.in_err-first.ensures;
+      });
+    }))
 
 pub returns-clause-held : goal.returns-clause-held
 returns-clause-held g c =

@@ -1,0 +1,146 @@
+// The loops that need to know only how many calls they make.
+ghost use Rattle.std.specs.Prelude.{◌<◌};
+
+use crate::loops::{
+    Failed, Timed, alloc_and_reset, alloc_fixed, alloc_warm, bitset_contains, bitset_ones,
+    bitset_set, bitset_set_ascending, bitset_union, box_new, claim, grow_at_cursor, map_clone,
+    map_get, map_insert, map_iter, map_remove, map_small, map_walked, reset_chunks, slice_copy,
+    str_copy, string_push_byte, string_push_start, string_push_str, vec_clone, vec_extend,
+    vec_insert_front, vec_iter, vec_push, vec_push_reserved, vec_retain, vec_small, vec_sum,
+};
+
+/// A loop that needs to know only how many calls it makes.
+#[derive(Clone, Copy, PartialEq, Eq)]
+pub enum Alone {
+    AllocWarm,
+    GrowAtCursor,
+    AllocAndReset,
+    ResetChunks,
+    BoxNew,
+    SliceCopy,
+    StrCopy,
+    AllocFixed,
+    VecPush,
+    VecPushReserved,
+    VecSum,
+    VecSmall,
+    VecExtend,
+    VecInsertFront,
+    VecRetain,
+    VecIter,
+    Claim,
+    StringPushStr,
+    StringPushByte,
+    StringPushStart,
+    BitsetSet,
+    BitsetSetAscending,
+    BitsetContains,
+    BitsetOnes,
+    BitsetUnion,
+    MapSmall,
+    MapGet,
+    MapRemove,
+    MapInsert,
+    MapIter,
+    MapWalked,
+    VecClone,
+    MapClone,
+}
+
+impl Alone {
+    /// The word that asks for the loop.
+    pub fn name(self) -> &'static str {
+        match self {
+            Alone::AllocWarm => "alloc_warm",
+            Alone::GrowAtCursor => "grow_at_cursor",
+            Alone::AllocAndReset => "reset_empty",
+            Alone::ResetChunks => "reset_chunks",
+            Alone::BoxNew => "box_new",
+            Alone::SliceCopy => "slice_copy",
+            Alone::StrCopy => "str_copy",
+            Alone::AllocFixed => "alloc_fixed",
+            Alone::VecPush => "vec_push",
+            Alone::VecPushReserved => "vec_push_reserved",
+            Alone::VecSum => "vec_sum",
+            Alone::VecSmall => "vec_small",
+            Alone::VecExtend => "vec_extend",
+            Alone::VecInsertFront => "vec_insert_front",
+            Alone::VecRetain => "vec_retain",
+            Alone::VecIter => "vec_iter",
+            Alone::Claim => "claim",
+            Alone::StringPushStr => "string_push_str",
+            Alone::StringPushByte => "string_push_byte",
+            Alone::StringPushStart => "string_push_start",
+            Alone::BitsetSet => "bitset_set",
+            Alone::BitsetSetAscending => "bitset_set_ascending",
+            Alone::BitsetContains => "bitset_contains",
+            Alone::BitsetOnes => "bitset_ones",
+            Alone::BitsetUnion => "bitset_union",
+            Alone::MapSmall => "map_small",
+            Alone::MapGet => "map_get",
+            Alone::MapRemove => "map_remove",
+            Alone::MapInsert => "map_insert",
+            Alone::MapIter => "map_iter",
+            Alone::MapWalked => "map_walked",
+            Alone::VecClone => "vec_clone",
+            Alone::MapClone => "map_clone",
+        }
+    }
+
+    /// How many calls the loop makes if no word tells.
+    pub fn calls(self) -> u64
+        ensures { 0 < result }
+    {
+        match self {
+            Alone::ResetChunks => 100_000,
+            Alone::SliceCopy | Alone::VecExtend => 50_000_000,
+            Alone::BitsetUnion => 400_000_000,
+            Alone::MapInsert
+            | Alone::MapGet
+            | Alone::MapRemove
+            | Alone::MapIter
+            | Alone::MapWalked
+            | Alone::MapClone => 1_000_000,
+            _ => 10_000_000,
+        }
+    }
+
+    /// Runs the loop once.
+    pub fn run(self, rt: &HostRuntime, calls: u64) -> Result<Timed, Failed> {
+        match self {
+            Alone::AllocWarm => alloc_warm(rt, calls),
+            Alone::GrowAtCursor => grow_at_cursor(rt, calls),
+            Alone::AllocAndReset => alloc_and_reset(rt, calls),
+            Alone::ResetChunks => reset_chunks(rt, calls),
+            Alone::BoxNew => box_new(rt, calls),
+            Alone::SliceCopy => slice_copy(rt, calls),
+            Alone::StrCopy => str_copy(rt, calls),
+            Alone::AllocFixed => alloc_fixed(rt, calls),
+            Alone::VecPush => vec_push(rt, calls),
+            Alone::VecPushReserved => vec_push_reserved(rt, calls),
+            Alone::VecSum => vec_sum(rt, calls),
+            Alone::VecSmall => vec_small(rt, calls),
+            Alone::VecExtend => vec_extend(rt, calls),
+            Alone::VecInsertFront => vec_insert_front(rt, calls),
+            Alone::VecRetain => vec_retain(rt, calls),
+            Alone::VecIter => vec_iter(rt, calls),
+            Alone::Claim => claim(rt, calls),
+            Alone::StringPushStr => string_push_str(rt, calls),
+            Alone::StringPushByte => string_push_byte(rt, calls),
+            Alone::StringPushStart => string_push_start(rt, calls),
+            Alone::BitsetSet => bitset_set(rt, calls),
+            Alone::BitsetSetAscending => bitset_set_ascending(rt, calls),
+            Alone::BitsetContains => bitset_contains(rt, calls),
+            Alone::BitsetOnes => bitset_ones(rt, calls),
+            Alone::BitsetUnion => bitset_union(rt, calls),
+            Alone::MapSmall => map_small(rt, calls),
+            Alone::MapGet => map_get(rt, calls),
+            Alone::MapRemove => map_remove(rt, calls),
+            Alone::MapInsert => map_insert(rt, calls),
+            Alone::MapIter => map_iter(rt, calls),
+            Alone::MapWalked => map_walked(rt, calls),
+            Alone::VecClone => vec_clone(rt, calls),
+            Alone::MapClone => map_clone(rt, calls),
+        }
+    }
+}

@@ -1,0 +1,31 @@
+-- A copy's blocks beside the block of a list that a call on the list alone gives another.
+use Rattle.std.proofs.Common.{List, [], ◌∷◌}
+use Rattle.arena_chunks.specs.Frame.{Frame, AreAllApart, ArePairwiseApart}
+use Rattle.arena_chunks.specs.Memory.{Memory}
+use Rattle.arena_chunks.specs.declared.block.Block.{Block}
+use Rattle.arena_chunks.proofs.Layers.{frame_then, frame_weaken, frame_keeps_all}
+use Rattle.arena_items.specs.Footprint.{AreReadable}
+use Rattle.arena_items.proofs.Layers.{stays_apart}
+use Rattle.arena_clone.proofs.Layers.{all_turned}
+
+-- What lies apart from blocks lies apart from the first of them.
+pub first_apart : (bs cs : List Block) (c : Block) → AreAllApart bs (c ∷ cs) → AreAllApart bs (c ∷ [])
+first_apart [] cs c all = tt
+first_apart (b ∷ bs) cs c all = ((all.0.0, tt), first_apart bs cs c all.1)
+
+-- Where a call gives a list's block for another, that one lies apart from what it left.
+pub beside_apart : (mid new : Memory) (blocks : List Block) (before after : Block) → Frame mid new (before ∷ []) (after ∷ [])
+    → AreReadable mid.state blocks → AreAllApart blocks (before ∷ []) → ArePairwiseApart blocks → ArePairwiseApart (after ∷ blocks)
+beside_apart mid new blocks before after frame readable apart each =
+    let stays = frame_keeps_all mid new (before ∷ []) (after ∷ []) blocks frame readable apart in
+    ((all_turned blocks (after ∷ []) (stays_apart mid new (after ∷ []) blocks stays)).0, each)
+
+-- A call that places blocks, and such a call after it, had the list's block, and have the other one and these.
+pub beside_frame : (old mid new : Memory) (blocks : List Block) (before after : Block) → Frame old mid [] blocks
+    → Frame mid new (before ∷ []) (after ∷ []) → Frame old new (before ∷ []) (after ∷ blocks)
+beside_frame old mid new blocks before after first second =
+    frame_then old mid new (before ∷ []) (before ∷ blocks) (after ∷ blocks)
+    (frame_weaken old mid [] (before ∷ []) blocks (before ∷ blocks) (λ addr n some apart. tt)
+    (λ addr n some apart rest. (apart.0, rest)) first)
+    (frame_weaken mid new (before ∷ []) (before ∷ blocks) (after ∷ []) (after ∷ blocks) (λ addr n some apart. (apart.0, tt))
+    (λ addr n some apart rest. (rest.0, apart.1)) second)

@@ -1,0 +1,16 @@
+-- A block that grows and is then written.
+use Rattle.std.proofs.Common.{◌≡◌, ℕ, ◌≤◌, min, sym, subst, List}
+use Rattle.arena_chunks.specs.Source.{View, Source, view}
+use Rattle.arena_chunks.specs.Answers.Answer.{Placed}
+use Rattle.arena_chunks.specs.BlockCalls.{GrowsBlock, WritesBlock}
+use Rattle.arena_chunks.specs.declared.block.Block.{Block}
+use Rattle.arena_chunks.proofs.Layers.{resizes_written}
+
+-- A growth and a write behind the bytes that it kept are a growth.
+pub grows_written : (old mid new : View) (block b : Block) (size align at : ℕ) (list : List ℕ)
+    → GrowsBlock old mid block size align (Placed b) → WritesBlock mid.memory new.memory b at list → new.source ≡ mid.source
+    → min block.size size ≤ at
+    → GrowsBlock old new block size align (Placed b)
+grows_written old mid new block b size align at list grows writes source behind =
+    subst (λ (s : Source). GrowsBlock old (view new.memory s) block size align (Placed b)) (sym source)
+    (resizes_written _ _ _ _ _ _ block size align b at list grows writes behind)
