@@ -132,10 +132,13 @@ fn replacing_a_list(rt: HostRuntime) {
     let alloc = rt.alloc();
     let mut a = ample(alloc);
     let mut list = Vec::from_array_in([1u32, 2, 3], &mut a).expect(&rt, "a list");
-    let more = Vec::from_array_in([0u32, 1, 2, 3], &mut a).expect(&rt, "a list");
     list.replace_with(|old| old);
     assert!(rt; is_list(&rt, &a, list, &[1, 2, 3]));
-    list.replace_with(|old| if old.raw.len == 3 { more } else { old });
+    list.replace_with(|old| {
+        let mut longer = old;
+        let _ = longer.insert(&mut a, 0, 0);
+        longer
+    });
     assert!(rt; is_list(&rt, &a, list, &[0, 1, 2, 3]));
     list.replace_with(|old| {
         let mut first = old;
