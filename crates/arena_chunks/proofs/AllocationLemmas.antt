@@ -4,9 +4,8 @@ use Rattle.std.specs.Prelude.{nat_le, ◌==◌, ◌&&◌}
 use Rattle.std.proofs.lemmas.Bool.{cases_lt, or_left, or_right}
 use Rattle.std.proofs.lemmas.Bool.Decides.{nat_tests}
 use Rattle.placement.specs.Rounding.{down, is_layout}
-use Rattle.placement.specs.State.{State, IsValid, is_used, is_range_used, start_of, cursor_of, with_cursor}
+use Rattle.placement.specs.State.{State, IsValid, is_range_used, start_of, cursor_of}
 use Rattle.placement.specs.Search.{place, place_below, alloc_requests}
-use Rattle.placement.specs.Moves.{alloc}
 use Rattle.placement.proofs.RoundingLemmas.{layout_power}
 use Rattle.placement.proofs.PlaceLemmas.{IsPlace, is_place}
 use Rattle.placement.proofs.CursorLemmas.{start_positive, cursor_within, valid_moved}
@@ -14,13 +13,12 @@ use Rattle.placement.proofs.UsedLemmas.{used_under}
 use Rattle.placement.proofs.AllocLemmas.{alloc_placed, alloc_refused, alloc_newest, IsGranted, is_granted}
 use Rattle.placement.proofs.NewBlockLemmas.{is_new_block, alloc_valid}
 use Rattle.placement.specs.Causes.{counted}
-use Rattle.placement.specs.Statistics.{one_allocation}
 use Rattle.placement.proofs.AllocatedLemmas.{alloc_allocated}
-use Rattle.arena_chunks.specs.Memory.{Memory, image}
+use Rattle.arena_chunks.specs.Memory.{Memory}
 use Rattle.arena_chunks.specs.Stored.{memory_of}
 use Rattle.arena_chunks.specs.declared.arena.Arena.TheInside.{Inside}
 use Rattle.arena_chunks.specs.Source.{Source, view, IsAsked}
-use Rattle.arena_chunks.specs.Adding.{IsAdded, AddsChunk, OnFound}
+use Rattle.arena_chunks.specs.Adding.{IsAdded, AddsChunk, OnFound, placed_at, IsPlacing}
 use Rattle.arena_chunks.specs.Answers.{OnCounted}
 use Rattle.arena_chunks.specs.Answers.Answer.{Placed}
 use Rattle.arena_chunks.specs.BlockCalls.{PlacesAfter}
@@ -40,24 +38,14 @@ place_cursor state size align p valid layout found =
       valid = valid_moved state p valid at.low (omega (arith, at.high)) at.min_aligned;
     }
 
--- a placed block at address p, and the arena with it
-abbrev pub with_block : Memory → ℕ → Memory
-with_block memory p = record { state = with_cursor p memory.state; statistics = one_allocation memory.statistics; bytes = memory.bytes }
-
 -- it is so with the cursor there, whatever is ready below it, and one more counted
 pub placed_view : (m : ℕ) (a : Inside m) (memory : Memory) (p low n : ℕ) → view_of m a ≡ memory → n ≡ counted a.allocations 1
-    → memory_of m a.is_growing a.generation n a.reallocations (moved_chunk m a p low) a.older.items ≡ with_block memory p
+    → memory_of m a.is_growing a.generation n a.reallocations (moved_chunk m a p low) a.older.items ≡ placed_at memory p
 placed_view m a memory p low n is one =
     ap (λ (w : Memory). record w { statistics = record w.statistics { allocations = n } }) (cursor_view m a memory p low is)
-    ∙ rw one (ap (λ (w : Memory). record (with_block memory p) { statistics = record memory.statistics { allocations = counted w.statistics.allocations 1 } }) is)
+    ∙ rw one (ap (λ (w : Memory). record (placed_at memory p) { statistics = record memory.statistics { allocations = counted w.statistics.allocations 1 } }) is)
 
--- an allocation with its step, which changed no byte in use
-pub record IsPlacing (old new : Memory) (size align k p : ℕ) : Type 0 where
-  pub step : alloc old.state size align k ≡ Some (record { answer = Some p; state = new.state })
-  pub statistics : new.statistics ≡ one_allocation old.statistics
-  pub bytes : (a : ℕ) → IsTrue (is_used old.state a) → image new a ≡ image old a
-
-pub placing_here : (memory : Memory) (size align p : ℕ) → place memory.state size align ≡ Some p → IsPlacing memory (with_block memory p) size align 0 p
+pub placing_here : (memory : Memory) (size align p : ℕ) → place memory.state size align ≡ Some p → IsPlacing memory (placed_at memory p) size align 0 p
 placing_here memory size align p found = record {
   step = alloc_placed memory.state size align p found;
   statistics = refl;
@@ -83,10 +71,10 @@ added_place old new size align k p layout none added =
     subst (λ (w : Memory). place w.state size align ≡ Some p) (sym added.memory) (place_is added.entry.0 (added.entry.0 + added.entry.1) size align old.state.min_align p at)
 
 pub placing_in_new : (old mid : Memory) (size align k p : ℕ) → IsTrue (is_layout size align) → place old.state size align ≡ None → IsAdded old mid size align k p
-    → IsPlacing old (with_block mid p) size align k p
+    → IsPlacing old (placed_at mid p) size align k p
 placing_in_new old mid size align k p layout none added =
     let granted = added_granted old mid size align k p layout none added in
-    subst (λ (m : Memory). IsPlacing old (with_block m p) size align k p) (sym added.memory) (record {
+    subst (λ (m : Memory). IsPlacing old (placed_at m p) size align k p) (sym added.memory) (record {
       step = granted.step;
       statistics = refl;
       bytes = λ a used.

@@ -25,7 +25,7 @@ use Rattle.arena_chunks.proofs.PartLemmas.{IsRange, IsPart, IsOlder, IsWritten, 
 -- ---- Lists written from an index on
 
 -- One that has room replaces the bytes there.
-written_spliced : (xs list : List ℕ) (at : ℕ) → at + length list ≤ length xs → written_from xs at list ≡ splice xs at list
+pub written_spliced : (xs list : List ℕ) (at : ℕ) → at + length list ≤ length xs → written_from xs at list ≡ splice xs at list
 written_spliced xs list at fits = grind (arith, common_steps)
 
 -- Any replaces some of the bytes from there on.

@@ -17,6 +17,7 @@ mod LastLemmas
 mod PartLemmas
 mod LentLemmas
 mod ResizedLemmas
+mod CopiedLemmas
 mod ResizeSteps
 mod FrameRules
 mod BlockCallLemmas

@@ -50,6 +50,17 @@ last_is older addr i r last is =
     sym (is ∙ ap (λ (l : List StoredChunk). get_or l i r) last.split ∙ ap (λ (k : ℕ). get_or (last.before ++ last.chunk ∷ last.after) k r) (sym last.at)
     ∙ get_or-append_seam last.before last.chunk last.after r)
 
+-- newer chunks begin behind the end of a chunk
+floor_above : (m p : ℕ) (newer : List StoredChunk) (chunk : StoredChunk) (rest : List StoredChunk) → AreChunks m (chunks_in (newer ++ chunk ∷ rest)) → p ≤ chunk.base + length chunk.bytes.items
+    → p < floor_of (chunks_in (newer ++ chunk ∷ rest))
+floor_above m p [] chunk rest valid high = omega (arith, high)
+floor_above m p (newest ∷ newer) chunk rest valid high = omega (arith, floor_above m p newer chunk rest valid.2 high, valid.1)
+
+above_end : (m p : ℕ) (newer : List StoredChunk) (chunk : StoredChunk) (rest : List StoredChunk) → AreChunks m (chunks_in (newer ++ chunk ∷ rest)) → p ≤ chunk.base + length chunk.bytes.items
+    → AllByRecursion (λ (c : StoredChunk). p < c.base) newer
+above_end m p [] chunk rest valid high = tt
+above_end m p (newest ∷ newer) chunk rest valid high = (omega (arith, floor_above m p newer chunk rest valid.2 high, valid.1), above_end m p newer chunk rest valid.2 high)
+
 -- ---- The chunk that has it
 
 module _ (m : ℕ) (a : Inside m) (memory : Memory) where
@@ -78,6 +89,14 @@ module _ (m : ℕ) (a : Inside m) (memory : Memory) where
   block_range block addr n stands view readable low high some =
       let more : 0 < n = omega (arith, some) in
       is_range addr n stands view more (readable_part memory.state block addr n readable low high more)
+
+  -- a block and a part of it
+  pub whole_block : (block : Block) (at n : ℕ) → Stands m a → view_of m a ≡ memory → IsTrue (is_readable memory.state block) → at + n ≤ block.size → (n ≡ 0 → ⊥)
+      → IsRange block.addr block.size × IsRange (block.addr + at) n
+  whole_block block at n stands view readable within some = (
+    block_range block block.addr block.size stands view readable (omega arith) (omega arith) (λ none. some (omega (arith, none, within))),
+    block_range block (block.addr + at) n stands view readable (omega arith) (omega (arith, within)) some,
+  )
 
   pub range_fits : (addr n : ℕ) → IsRange addr n → addr < 2 ^ 64
   range_fits addr n range =
@@ -158,6 +177,19 @@ module _ (m : ℕ) (a : Inside m) (memory : Memory) where
       let last = subst (λ (l : List StoredChunk). IsLastBelow l addr i) same found in
       subst (IsOlder addr n i) (last_is a.older.items addr i r last is)
       (record { before = last.before; after = last.after; table = last.split; at = last.at; part = older_part addr n i range below last })
+
+  -- a part of the range lies in the same chunk
+  pub older_within : (addr n p k i : ℕ) (chunk : StoredChunk) → IsOlder addr n i chunk → IsRange p k → addr ≤ p → p ≤ addr + n → IsOlder p k i chunk
+  older_within addr n p k i chunk is range low high =
+      let valid = subst (λ (l : List StoredChunk). AreChunks m (chunks_in l)) is.part.split range.valid in
+      record {
+        before = is.before;
+        after = is.after;
+        table = is.table;
+        at = is.at;
+        part = is_part p k (a.newest ∷ reverse is.after) chunk (reverse is.before) range is.part.split
+            (above_end m p (a.newest ∷ reverse is.after) chunk (reverse is.before) valid (omega (arith, is.part.high, high))) (omega (arith, is.part.low, low));
+      }
 
   -- ---- A range of it written
 

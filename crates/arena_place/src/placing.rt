@@ -25,21 +25,12 @@ fn align_with(layout: Layout, min_align: u64) -> u64
 #[inline(always)]
 pub fn place(start: u64, cursor: u64, layout: Layout, min_align: u64) -> Option<u64>
     requires start { 0 < start }
-    requires ordered { start ≤ cursor }
-    requires near { cursor - start ≤ 2 ^ 63 - 1 }
     requires min_align { IsTrue (is_min_align min_align) }
     ensures { result ≡ place_below start cursor layout.size layout.align min_align }
 {
-    // A size past the cursor wraps to an address far above it, which the distance test refuses.
-    let p = round_down_to(
-        cursor.wrapping_sub(layout.size),
-        align_with(layout, min_align),
-    );
-    if cursor.wrapping_sub(p) <= cursor - start {
-        Some(p)
-    } else {
-        None
-    }
+    let top = cursor.checked_sub(layout.size)?;
+    let p = round_down_to(top, align_with(layout, min_align));
+    if start <= p { Some(p) } else { None }
 }
 
 const LARGEST_WANTED: u64 = (1 << 63) - OVERHEAD;

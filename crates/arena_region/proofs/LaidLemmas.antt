@@ -1,6 +1,7 @@
 -- The bytes of a region, before and after a change of its memory.
-use Rattle.std.proofs.Common.{◌≡◌, ℕ, zero, suc, ◌+◌, ◌-◌, ◌≤◌, List, [], ◌∷◌, ◌++◌, length, take, drop, replicate, refl, sym, ap, ◌∙◌, subst, arith, length-append, length-take-le, append_assoc}
-use Rattle.std.proofs.lemmas.List.{replicate-append-replicate, length-replicate}
+use Rattle.std.proofs.Common.{◌≡◌, ℕ, zero, suc, ◌+◌, ◌-◌, ◌≤◌, List, [], ◌∷◌, ◌++◌, length, take, drop, replicate, refl, sym, ap, ◌∙◌, arith, length-append, length-take-le, append_assoc}
+use Rattle.std.proofs.Math.Seq.{take-length}
+use Rattle.std.proofs.lemmas.List.{replicate-append-replicate, length-replicate, length-drop, drop-drop, take-append-drop}
 use Rattle.arena_region.specs.Bytes.{written_from}
 
 -- zeros that are written below the others
@@ -61,3 +62,28 @@ pub part_shown : (low n from size : ℕ) (xs : List ℕ) → low ≤ from → fr
     → take size (drop (from - low) xs) ≡ take size (drop from (take n (replicate low 0 ++ xs)))
 part_shown low n from size xs above le =
     sym (within_first n from size (replicate low 0 ++ xs) le ∙ ap (take size) (behind low (from - low) from xs (omega arith)))
+
+-- a list written in front of what was written before is one list with it
+pub written_joined : (i k : ℕ) (xs us ws : List ℕ) → k ≡ i + length us → k + length ws ≤ length xs → written_from (written_from xs k ws) i us ≡ written_from xs i (us ++ ws)
+written_joined zero zero xs [] ws e fits = take-length (written_from xs 0 ws)
+written_joined zero (suc k) xs [] ws e fits = absurd (omega arith)
+written_joined zero zero xs (u ∷ us) ws e fits = absurd (omega arith)
+written_joined zero (suc k) [] (u ∷ us) ws e fits = absurd (omega arith)
+written_joined zero (suc k) (x ∷ xs) (u ∷ us) ws e fits = ap (λ l. u ∷ l) (written_joined zero k xs us ws (omega arith) (omega arith))
+written_joined (suc i) zero xs us ws e fits = absurd (omega arith)
+written_joined (suc i) (suc k) [] us ws e fits = absurd (omega arith)
+written_joined (suc i) (suc k) (x ∷ xs) us ws e fits = ap (λ l. x ∷ l) (written_joined i k xs us ws (omega arith) (omega arith))
+
+-- so are the parts of a list that are written from its end on
+pub written_part : (from start end : ℕ) (xs ws : List ℕ) → start ≤ end → end ≤ length ws → from + length ws ≤ length xs
+    → written_from (written_from xs (from + end) (drop end ws)) (from + start) (take (end - start) (drop start ws)) ≡ written_from xs (from + start) (drop start ws)
+written_part from start end xs ws below within fits =
+    let rest = length-drop start ws in
+    let first = length-take-le (end - start) (drop start ws) (omega (arith, rest)) in
+    let last : drop end ws ≡ drop (end - start) (drop start ws) = ap (λ n. drop n ws) (omega arith) ∙ sym (drop-drop (end - start) start ws) in
+    written_joined (from + start) (from + end) xs (take (end - start) (drop start ws)) (drop end ws) (omega (arith, first)) (omega (arith, length-drop end ws))
+    ∙ ap (written_from xs (from + start)) (ap (λ l. take (end - start) (drop start ws) ++ l) last ∙ take-append-drop (end - start) (drop start ws))
+
+-- nothing written is no change
+pub written_nothing : (xs : List ℕ) (i : ℕ) → written_from xs i [] ≡ xs
+written_nothing xs i = ap (take (length xs)) (take-append-drop i xs) ∙ take-length xs

@@ -1,5 +1,5 @@
 -- Room and bytes in a block are cut and joined. Assumes `Logic`.
-use Rattle.std.proofs.Common.{◌≡◌, ℕ, zero, suc, ◌+◌, ◌≤◌, List, [], ◌∷◌, ◌++◌, length, take, refl, sym, ap, ◌∙◌, subst, arith, length-append, length-take, length-take-le, length-drop, take_all}
+use Rattle.std.proofs.Common.{◌≡◌, ℕ, zero, suc, ◌+◌, ◌≤◌, List, [], ◌∷◌, ◌++◌, length, take, refl, sym, ◌∙◌, subst, arith, length-append, length-take, length-take-le, length-drop, take_all}
 use lib.ListN.{drop, take-append-drop}
 use seplogic.Ra.Ura.{Ura}
 use mir.Syntax.{Ty, w8, ty_int}
@@ -7,7 +7,7 @@ use base.Logic.{ent, sep, via, snd∗, mono_r, id⊢}
 use base.Fraction.{full_share}
 use base.Fml.{Lft, Fml, fsep, froom}
 use types.Logic.{Logic, sem}
-use types.Kit.{‵, ◌⊛◌, ◌$◌, ◌∵◌, !, qed, by, move, keep, use1, use2, split, rewrite, fsplit, fjoin, done}
+use types.Kit.{‵, ◌⊛◌, ◌$◌, ◌∵◌, !, qed, move, keep, use1, use2, split, rewrite, fsplit, fjoin, done}
 use denote.Builtin.{u8}
 use denote.Memory.{shared_of}
 use denote.Slice.{elements_shared}

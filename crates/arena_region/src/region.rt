@@ -1,7 +1,7 @@
 // A region of bytes.
 ghost use Rattle.std.specs.Prelude.{◌≡◌, ◌+◌, ◌≤◌, ◌<◌, ◌^◌, [], length, take, drop, min, replicate, IfOk};
 ghost use Rattle.std.specs.Borrow.{sem};
-ghost use Rattle.arena_region.specs.Bytes.{bytes, OnlyZerosBelow};
+ghost use Rattle.arena_region.specs.Bytes.{bytes, written_from, OnlyZerosBelow};
 
 use crate::fill::{clear, copy};
 use crate::store::{Base, Deed, Store, allocate, deallocate, nowhere};
@@ -10,6 +10,9 @@ use std::marker::Model;
 
 // The most bytes of a block.
 const MOST: usize = 0x7fff_ffff_ffff_ffff;
+
+// How many bytes are cleared and then put at once.
+const PART: usize = 16384;
 
 /// Bytes that are zeros at first. Those from `low` on are ready: they can be read and written. Those below are memory
 /// that was not touched yet.
@@ -121,6 +124,25 @@ impl Region {
         if from < self.low {
             clear(&mut self.store, self.base, self.low, from);
             self.low = from;
+        }
+    }
+
+    /// Makes the bytes from an index on ready, and puts these there. Each part of them is put while its zeros are in the
+    /// fastest cache, so that memory is written once.
+    pub fn make_ready_with(&mut self, from: usize, list: &[u8])
+        requires { from + length list.now ≤ length self.old.items }
+        ensures { self.new ≡ bytes (written_from self.old.items from list.now) (min self.old.low from) }
+    {
+        // That the sums below have 63 bits is known by this call.
+        let _ = self.len();
+        let mut end = list.len();
+        self.make_ready(from + end);
+        while end > 0 {
+            let start = end.saturating_sub(PART);
+            self.make_ready(from + start);
+            self.part_mut(from + start, end - start)
+                .copy_from_slice(&list[start..end]);
+            end = start;
         }
     }
 

@@ -14,8 +14,6 @@ use std::alloc::Global;
 /// The place of an array below a cursor, or none where it is no layout or there is no room for it.
 pub fn place_array(start: u64, cursor: u64, n: u64, size: u64, align: u64) -> Option<u64>
     requires start { 0 < start }
-    requires ordered { start ≤ cursor }
-    requires near { cursor - start ≤ 2 ^ 63 - 1 }
     ensures { result ≡ (if is_layout (n * size) align
         then place_below start cursor (n * size) align 1
         else None) }

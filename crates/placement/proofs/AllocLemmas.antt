@@ -5,7 +5,7 @@ use Rattle.std.specs.Option.{option_map}
 use Rattle.std.proofs.lemmas.Bool.{cases_Bool}
 use Rattle.std.proofs.lemmas.Option.{none-some, same_Some, cond_some, slice_get_past}
 use Rattle.placement.specs.Rounding.{down, is_power}
-use Rattle.placement.specs.State.{State, Chunk, FitsKind, IsValid, start_of, cursor_of, floor_of, newest_size, with_cursor}
+use Rattle.placement.specs.State.{State, Chunk, FitsKind, IsValid, start_of, cursor_of, floor_of, newest_size}
 use Rattle.placement.specs.Search.{place, place_below, chunk_align, next_base, asked, asked_above, least_size}
 use Rattle.placement.specs.Moves.{Outcome, alloc, alloc_at, alloc_in_new, placed, fails, with_chunk}
 use Rattle.placement.proofs.RoundingLemmas.{down_le, up_ge, up_mod, power_positive, power_multiple, max_power, pow_power, min_align_power, min_align_le, min_align_multiple}

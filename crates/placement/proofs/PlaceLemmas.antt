@@ -1,13 +1,12 @@
 -- The place of a block.
-use Rattle.std.proofs.Common.{◌≡◌, ℕ, ◌+◌, ◌-◌, ◌%◌, ◌^◌, ◌<◌, ◌≤◌, max, ap, sym, ◌∙◌, arith, IsTrue, Some, None, inl, inr, leb-true}
+use Rattle.std.proofs.Common.{◌≡◌, ℕ, ◌+◌, ◌-◌, ◌%◌, ◌<◌, ◌≤◌, max, sym, arith, IsTrue, Some, None, leb-true}
 use Rattle.std.specs.Prelude.{nat_le}
-use Rattle.std.proofs.lemmas.Bool.{cases_lt}
 use Rattle.std.proofs.lemmas.Bool.Decides.{nat_tests}
 use Rattle.std.proofs.lemmas.Option.{cond_some}
-use Rattle.placement.specs.Rounding.{down, is_power, is_layout}
+use Rattle.placement.specs.Rounding.{down, is_power}
 use Rattle.placement.specs.State.{is_min_align}
 use Rattle.placement.specs.Search.{place_below}
-use Rattle.placement.proofs.RoundingLemmas.{down_le, down_mod, down_greatest, power_positive, power_small, power_mod, power_multiple, pow_power, max_power, min_align_power, layout_power, layout_small}
+use Rattle.placement.proofs.RoundingLemmas.{down_le, down_mod, down_greatest, power_positive, power_multiple, max_power, min_align_power}
 
 pub record IsPlace (start cursor size align min_align p : ℕ) : Type 0 where
   pub low : start ≤ p
@@ -41,48 +40,10 @@ place_found base cursor size align m power min_align aligned fits =
     let low = down_greatest (cursor - size) (max align m) base (power_positive (max align m) whole) aligned (omega arith) in
     grind (arith, nat_tests)
 
--- ---- The bump step with sums that wrap
+-- ---- The bump step, test by test
 
-pub record IsWrapped (start cursor size align m p : ℕ) : Type 0 where
-  pub layout : IsTrue (is_layout size align)
-  pub min_align : IsTrue (is_min_align m)
-  pub positive : 0 < start
-  pub ordered : start ≤ cursor
-  pub fits : cursor < 2 ^ 64
-  pub is : p ≡ down ((cursor + (2 ^ 64 - size)) % 2 ^ 64) (max align m)
-
--- where the size passes the cursor, the wrapped difference lies far above it
-past : (start cursor size align m p : ℕ) → IsWrapped start cursor size align m p → cursor < size → 2 ^ 63 ≤ p
-past start cursor size align m p wrapped beyond =
-    let whole = max_power align m (layout_power size align wrapped.layout) (min_align_power m wrapped.min_align) in
-    let multiple = power_mod (max align m) (2 ^ 63) whole (pow_power 63 (omega arith)) (power_small (max align m) whole) in
-    omega (
-      arith,
-      wrapped,
-      layout_small size align wrapped.layout,
-      down_greatest ((cursor + (2 ^ 64 - size)) % 2 ^ 64) (max align m) (2 ^ 63) (power_positive (max align m) whole) multiple (omega (arith, wrapped, layout_small size align wrapped.layout)),
-    )
-
-within : (start cursor size align m p : ℕ) → IsWrapped start cursor size align m p → size ≤ cursor → p ≡ down (cursor - size) (max align m)
-within start cursor size align m p wrapped below = wrapped.is ∙ ap (λ (n : ℕ). down n (max align m)) (omega (arith, wrapped))
-
-pub wrapped_some : (start cursor size align m p : ℕ) → IsWrapped start cursor size align m p → (cursor + (2 ^ 64 - p)) % 2 ^ 64 ≤ cursor - start
-    → Some p ≡ place_below start cursor size align m
-wrapped_some start cursor size align m p wrapped near = elim (cases_lt cursor size) [
-  | inl beyond ↦ absurd (omega (arith, past start cursor size align m p wrapped beyond, wrapped, layout_small size align wrapped.layout))
-  | inr below ↦
-      let same = within start cursor size align m p wrapped below in
-      let low = down_le (cursor - size) (max align m) in
-      let held : start ≤ down (cursor - size) (max align m) = omega arith in
-      grind (arith, nat_tests)
-]
-
-pub wrapped_none : (start cursor size align m p : ℕ) → IsWrapped start cursor size align m p → cursor - start < (cursor + (2 ^ 64 - p)) % 2 ^ 64
-    → None ≡ place_below start cursor size align m
-wrapped_none start cursor size align m p wrapped far =
+-- a size past the cursor has no place
+pub past_none : (start cursor size align m : ℕ) → 0 < start → cursor < size → None ≡ place_below start cursor size align m
+past_none start cursor size align m positive past =
     let low = down_le (cursor - size) (max align m) in
-    let out : down (cursor - size) (max align m) < start = elim (cases_lt cursor size) [
-      | inl beyond ↦ omega arith
-      | inr below ↦ let same = within start cursor size align m p wrapped below in omega arith
-    ] in
     grind (arith, nat_tests)

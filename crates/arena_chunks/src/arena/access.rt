@@ -136,10 +136,10 @@ impl<const MIN_ALIGN: usize> Arena<MIN_ALIGN> {
             return;
         }
         let addr = block.addr + at;
-        if addr >= newest {
+        if block.addr >= newest {
             edit_at(&mut self.newest, addr, size, e);
         } else {
-            let i = find_chunk(&self.older, addr);
+            let i = find_chunk(&self.older, block.addr);
             edit_at(&mut self.older[i], addr, size, e);
         }
     }

@@ -1,10 +1,11 @@
 // Where an arena places blocks, and gives them back.
-ghost use Rattle.std.specs.Prelude.{◌≡◌, ℕ, ◌+◌, IfOk, OnErr, IsTrue, Some, None, [], ◌∷◌, true};
+ghost use Rattle.std.specs.Prelude.{◌≡◌, ℕ, ◌+◌, ◌-◌, ◌^◌, ◌<◌, ◌≤◌, IfOk, IfErr, OnErr, IsTrue, Err, Some, None, [], ◌∷◌, true};
+ghost use Rattle.placement.specs.Causes.{counted};
 
 use crate::arena::Arena;
 use crate::block::{ArenaErr, Block};
 use crate::chunks::ChunkSource;
-use crate::chunks::chunk::install;
+use crate::chunks::chunk::{find_chunk, install, part_at};
 use crate::chunks::search::{Granted, ask_above};
 use arena_place::{Layout, place, round_down_to, round_up_to_unchecked};
 
@@ -17,15 +18,36 @@ pub(crate) enum SlowAnswer {
     NoMemory,
 }
 
+// Counts one more, up to the last value. A jump that isn't taken is faster here than a value that is chosen, since the next
+// call waits for the count.
+#[inline(always)]
+fn count_one(count: &mut u64)
+    ensures { count.new ≡ counted count.old 1 }
+{
+    match count.checked_add(1) {
+        Some(n) => *count = n,
+        None => stay_at_last(count),
+    }
+}
+
+// Writes the last value again: the compiler makes a jump of what is written by a call.
+#[cold]
+#[inline(never)]
+fn stay_at_last(count: &mut u64)
+    ensures { count.new ≡ 2 ^ 64 - 1 }
+{
+    *count = u64::MAX;
+}
+
 impl<const MIN_ALIGN: usize> Arena<MIN_ALIGN> {
-    ghost use Rattle.placement.specs.State.{cursor_of, with_cursor};
+    ghost use Rattle.placement.specs.State.{cursor_of, with_cursor, is_range_used};
     ghost use Rattle.placement.specs.Search.{place};
     ghost use Rattle.placement.specs.Statistics.{one_allocation};
-    ghost use Rattle.arena_chunks.specs.Memory.{Memory, is_readable};
+    ghost use Rattle.arena_chunks.specs.Memory.{Memory, Writes, is_readable, image, bytes_from};
     ghost use Rattle.arena_chunks.specs.Source.{view};
     ghost use Rattle.arena_chunks.specs.Answers.{answer_of, OnCounted, at_cursor};
     ghost use Rattle.arena_chunks.specs.BlockCalls.{PlacesBlock, PlacesAfter, GivesBack};
-    ghost use Rattle.arena_chunks.specs.Adding.{AddsChunk, OnFound};
+    ghost use Rattle.arena_chunks.specs.Adding.{AddsChunk, OnFound, FindsPlace};
 
     /// Places a block, in a new chunk where the newest has no place for it. No byte in use changes. Where there is a
     /// place this takes no memory, and a few machine operations.
@@ -85,7 +107,7 @@ impl<const MIN_ALIGN: usize> Arena<MIN_ALIGN> {
         ) {
             Some(addr) => {
                 self.newest.cursor = addr;
-                self.allocations = self.allocations.saturating_add(1);
+                count_one(&mut self.allocations);
                 Ok((self.block_of(addr, layout), 0))
             }
             None => {
@@ -120,23 +142,39 @@ impl<const MIN_ALIGN: usize> Arena<MIN_ALIGN> {
             (PlacesAfter (view self.old (C.source chunks.old)) (view self.new (C.source chunks.new))
             layout.size layout.align) }
     {
+        match self.find_place(chunks, layout) {
+            Ok((addr, refused)) => {
+                self.place_at(addr, layout);
+                SlowAnswer::AtCursor { refused }
+            }
+            Err(ArenaErr::AllocErr { refused }) => SlowAnswer::NoChunk { refused },
+            Err(ArenaErr::OutOfMemory) => SlowAnswer::NoMemory,
+        }
+    }
+
+    // Where a block goes in the newest chunk, or in one that becomes the newest for it; and how many requests were refused.
+    pub(crate) fn find_place<C: ChunkSource>(
+        &mut self,
+        chunks: &mut C,
+        layout: Layout,
+    ) -> Result<(u64, u32), ArenaErr>
+        ensures found { IfOk result (λ found. FindsPlace
+            (view self.old (C.source chunks.old)) (view self.new (C.source chunks.new))
+            layout.size layout.align found.1 found.0) }
+        ensures refused { IfErr result (λ e. OnCounted (Err e)
+            (PlacesAfter (view self.old (C.source chunks.old)) (view self.new (C.source chunks.new))
+            layout.size layout.align)) }
+    {
         match place(
             self.newest.base,
             self.newest.cursor,
             layout,
             MIN_ALIGN as u64,
         ) {
-            Some(addr) => {
-                self.place_at(addr, layout);
-                SlowAnswer::AtCursor { refused: 0 }
-            }
+            Some(addr) => Ok((addr, 0)),
             None => match self.add_chunk(chunks, layout) {
-                Ok((addr, refused)) => {
-                    self.place_at(addr, layout);
-                    SlowAnswer::AtCursor { refused }
-                }
-                Err(ArenaErr::AllocErr { refused }) => SlowAnswer::NoChunk { refused },
-                Err(ArenaErr::OutOfMemory) => SlowAnswer::NoMemory,
+                Ok((addr, refused)) => Ok((addr, refused)),
+                Err(e) => Err(e),
             },
         }
     }
@@ -152,7 +190,30 @@ impl<const MIN_ALIGN: usize> Arena<MIN_ALIGN> {
     {
         self.newest.make_ready(addr);
         self.newest.cursor = addr;
-        self.allocations = self.allocations.saturating_add(1);
+        count_one(&mut self.allocations);
+    }
+
+    // The same, with the n bytes from an address on, which are in use then, copied into the block. Those of an older chunk are
+    // put where the bytes are made ready.
+    pub(crate) fn place_copy_at(&mut self, addr: u64, layout: Layout, from: u64, n: u64)
+        requires place { place self.old.state layout.size layout.align ≡ Some addr }
+        requires source { 0 < n → IsTrue (is_range_used (with_cursor addr self.old.state).chunks from n) }
+        requires fits { n ≤ layout.size }
+        ensures state { self.new.state ≡ with_cursor addr self.old.state }
+        ensures statistics { self.new.statistics ≡ one_allocation self.old.statistics }
+        ensures bytes { Writes self.old self.new addr (bytes_from (image self.old) from n) }
+    {
+        let newest = self.newest.base;
+        if n == 0 || from >= newest {
+            self.place_at(addr, layout);
+            self.move_bytes(from, addr, n);
+            return;
+        }
+        let i = find_chunk(&self.older, from);
+        let bytes = part_at(&self.older[i], from, n);
+        self.newest.make_ready_with(addr, bytes);
+        self.newest.cursor = addr;
+        count_one(&mut self.allocations);
     }
 
     // A chunk for the block becomes the newest. Answers the block's place in it, and how many requests were refused.

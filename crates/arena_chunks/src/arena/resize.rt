@@ -265,9 +265,9 @@ impl<const MIN_ALIGN: usize> Arena<MIN_ALIGN> {
             (view self.old (C.source chunks.old)) (view self.new (C.source chunks.new))
             block layout.size layout.align) }
     {
-        match self.alloc_counted(chunks, layout) {
-            Ok((new, refused)) => {
-                self.move_bytes(block.addr, new.addr, n);
+        match self.find_place(chunks, layout) {
+            Ok((addr, refused)) => {
+                self.place_copy_at(addr, layout, block.addr, n);
                 self.count_move();
                 SlowAnswer::AtCursor { refused }
             }

@@ -1,9 +1,9 @@
 // A chunk with its bytes.
-ghost use Rattle.std.specs.Prelude.{◌≡◌, ◌<◌, ◌^◌, [], ◌∷◌, ◌++◌, ◌==◌, if◌then◌else◌, vec_len, vec_capacity, length, take, drop, ◌≤◌, ◌+◌, ◌-◌, Some, None, nat_le};
+ghost use Rattle.std.specs.Prelude.{◌≡◌, ◌<◌, ◌^◌, [], ◌∷◌, ◌++◌, ◌==◌, if◌then◌else◌, vec_len, vec_capacity, length, take, drop, ◌≤◌, ◌+◌, ◌-◌, Some, None, nat_le, min};
 ghost use Rattle.std.specs.Borrow.{sem};
 ghost use Rattle.std.specs.List.{All, list_any, count_by};
 ghost use Rattle.placement.specs.State.{used_length, is_used_by};
-ghost use Rattle.arena_region.specs.Bytes.{bytes};
+ghost use Rattle.arena_region.specs.Bytes.{bytes, written_from};
 ghost use Rattle.arena_chunks.specs.Lends.{LendsPart};
 ghost use Rattle.arena_chunks.specs.Stored.{stored_chunk, floor_in, part_of, IsOrdered, IsMadeReady, IsSearchable, IsLastBelow};
 
@@ -92,6 +92,20 @@ impl StoredChunk {
                 .min(LARGEST_STEP);
             self.bytes.make_ready(from.min(low.saturating_sub(step)));
         }
+    }
+
+    // Makes the bytes from an address on ready, and puts these there.
+    pub(crate) fn make_ready_with(&mut self, addr: u64, list: &[u8])
+        requires low { self.old.base ≤ addr }
+        requires high { addr - self.old.base + length list.now ≤ length self.old.bytes.items }
+        ensures { self.new ≡ record self.old {
+          bytes = bytes
+              (written_from self.old.bytes.items (addr - self.old.base) list.now)
+              (min self.old.bytes.low (addr - self.old.base));
+        } }
+    {
+        self.bytes
+            .make_ready_with((addr - self.base) as usize, list);
     }
 
     // The data end, if there is a chunk.

@@ -1,15 +1,14 @@
 -- `allocate` gives a new block as room, with the right to give it back. Assumes `Logic`.
-use Rattle.std.proofs.Common.{◌≡◌, ℕ, ◌+◌, ◌*◌, ◌^◌, ◌<◌, List, [], ◌∷◌, ◌++◌, length, refl, sym, ap, ◌∙◌, arith}
+use Rattle.std.proofs.Common.{◌≡◌, ◌+◌, ◌^◌, ◌<◌, List, [], ◌∷◌, ◌++◌, refl, ap, ◌∙◌, arith}
 use mathlib.Core.Bool.{true, false}
 use lib.Dec.{lit<}
 use native.Mathlib.Nat.{mul-one}
 use seplogic.Ra.Ura.{Ura}
-use base.Fraction.{full_share}
 use mir.Syntax.{Fn, Args, Body, a_type, dcons, dnil, w64}
 use mir.MapTy.{inst_fn}
-use mir.Val.{Val, vptr, vint, vstruct, vcons, vnil}
+use mir.Val.{Val, vptr, vint, vcons, vnil}
 use base.Logic.{SProp, ent}
-use base.Fml.{Lft, ftrue, froom, flft, Incl-trans}
+use base.Fml.{ftrue, flft, Incl-trans}
 use prog.Memory.{Memory, capped, size}
 use prog.Capped.{capped_is}
 use prog.Routine.{Routine}
@@ -19,7 +18,7 @@ use contract.Monad.{Fun, fact}
 use contract.Running.{tables, tables_of}
 use sound.WpLaws.{WpFn-mono, FmC, fm_of}
 use types.Logic.{Logic}
-use types.Kit.{Post as After, any_q, ‵, raw, ◌⊛◌, later, await, prop, ◌$◌, ◌∵◌, !, qed, by, move, keep, use0, use1, use2, split, join, frame, fsplit, fsplit3, fjoin, feq_l, feq_i, flt_l, flt_i, regoal, suffices, done, at_ret}
+use types.Kit.{Post as After, any_q, ‵, raw, ◌⊛◌, later, await, prop, ◌$◌, ◌∵◌, !, qed, move, keep, use1, use2, split, join, frame, fsplit, fsplit3, fjoin, feq_l, flt_l, flt_i, regoal, suffices, done, at_ret}
 use types.Match.{live, vrt, in_variant}
 use types.Part.{whole, agg}
 use types.Run.{stop, fld, lit, of_opd, and_then, no_more, first, exec, switches_on, enter, returns}
@@ -49,7 +48,6 @@ use Rattle.std.proofs.alloc.Shapes.{after, head, arm_body}
 use Rattle.std.proofs.ResultValues.{ok_of, err_of}
 use Rattle.std.proofs.RcSteps.{Good, first_Good}
 use Rattle.arena_region.specs.Ownership.{block_of}
-use Rattle.arena_region.proofs.Memory.{byte}
 use Rattle.arena_region.proofs.Steps.{St, Bs, Dd, word, word-good, none, mark, three, word_made, store_made, deed_made, three_made}
 use Rattle.arena_region.specs.contracts.store.allocate as F
 use Rattle.arena_region.specs.contracts.store.allocate.Key.{name as #self}

@@ -1,6 +1,5 @@
 -- `deallocate` makes the block room again, and gives it back with its deed. Assumes `Logic`.
-use Rattle.std.proofs.Common.{◌≡◌, ℕ, ◌+◌, ◌*◌, ◌^◌, ◌<◌, List, [], ◌∷◌, ◌++◌, length, refl, sym, ap, ◌∙◌, subst, arith}
-use mathlib.Core.Bool.{true, false}
+use Rattle.std.proofs.Common.{◌≡◌, ℕ, ◌+◌, List, [], ◌∷◌, ◌++◌, length, refl, sym, ap, ◌∙◌, subst}
 use lib.Dec.{T, lit<}
 use native.Mathlib.Nat.{mul-one}
 use seplogic.Ra.Ura.{Ura}
@@ -9,48 +8,38 @@ use mir.Syntax.{Fn, Args, a_type, ty_unit, dcons, dnil, w64}
 use mir.MapTy.{inst_fn}
 use mir.Val.{Val, vptr, vint, vunit, has_ty, WT}
 use base.Logic.{SProp, ent, never, id⊢}
-use base.Fml.{Lft, ftrue, fat, froom, flft, Incl-trans}
+use base.Fml.{ftrue, fat, froom, flft, Incl-trans}
 use prog.Memory.{Memory, capped, size}
 use prog.Capped.{capped_is}
 use prog.Routine.{Routine}
-use prog.Wp.{Env, Calls, Loops, Wp, WpFn, Tables, after_seq, at_return}
+use prog.Wp.{Env, Calls, Loops, WpFn, Tables}
 use contract.BorrowLft.{◌⊑◌}
 use contract.Monad.{Fun, fact}
 use contract.Running.{tables, tables_of}
 use sound.WpLaws.{WpFn-mono, FmC, fm_of}
 use types.Logic.{Logic}
-use types.Kit.{‵, raw, ◌⊛◌, later, given, await, learn, group, prop, ◌$◌, ◌∵◌, !, qed, by, move, keep, use0, use1, use2, split, join, frame, fsplit, fsplit3, fjoin, feq_l, feq_i, flt_l, flt_i, rewrite, regoal, suffices, done, at_ret}
-use types.Match.{live, vrt, in_variant}
+use types.Kit.{‵, raw, ◌⊛◌, later, given, await, learn, group, prop, ◌$◌, ◌∵◌, !, qed, move, keep, use1, use2, split, join, fsplit, fsplit3, fjoin, feq_l, feq_i, flt_l, rewrite, regoal, suffices, done, at_ret}
 use types.Part.{whole, sub}
 use types.Run.{stop, fld, lit, unit_lit, of_opd, and_then, no_more, first, blocks, exec, enter, returns}
-use types.ByLocal.{alloc_all, pass_all, free_all, look_at, get, get_in, lands_last, take_at, give_at, sets, sets_last, env}
+use types.ByLocal.{alloc_all, pass_all, free_all, look_at, get, get_in, lands_last, take_at, give_at, sets, env}
 use denote.Builtin.{usize, RefOf}
 use denote.Exit.{yes, no}
-use denote.Laws.{Is}
 use denote.Param.{layout, param, bounded}
 use denote.RattleType.{RattleType, owns}
-use denote.RawPtr.{Ptr, block_ptr, in_a_block}
+use denote.RawPtr.{Ptr, in_a_block}
 use denote.Signature.{plain, types_at}
-use denote.Steps.{nothing, heard, owned}
-use denote.Struct.Declared as Declared
-use denote.Struct.Struct.{Struct, Struct-Makes}
-use denote.Struct.Tuple.{Tuple}
+use denote.Steps.{nothing, heard}
 use denote.Triple.Call.{calls_at_last}
 use denote.Triple.Clauses.{Clauses, Ended, closing}
 use denote.Triple.Spec.{Meets, triple_of}
 use denote.Triple.Statement.{Triple}
 use denote.Triple.Table.{entered}
-use denote.Triple.Walked.{says, Stays, stay_dropped, walk_of, ends_at, walk_Meets, Goes-dropped}
-use Rattle.std.specs.Prelude.{Ok, Err}
-use Rattle.std.specs.contracts.result.Result as RS
-use Rattle.std.specs.contracts.alloc.AllocError as AE
+use denote.Triple.Walked.{Stays, stay_dropped, walk_of, ends_at, walk_Meets, Goes-dropped}
 use Rattle.std.proofs.alloc.Calls.{Al, gives_key, Gives, at_gives, Gives-goes, Gives-Gives, Goes-blank}
-use Rattle.std.proofs.alloc.Shapes.{after, head, arm_body}
-use Rattle.std.proofs.ResultValues.{ok_of, err_of}
-use Rattle.std.proofs.RcSteps.{Good, first_Good}
+use Rattle.std.proofs.alloc.Shapes.{after}
 use Rattle.arena_region.specs.Ownership.{block_of, store_owns, deed_owns}
-use Rattle.arena_region.proofs.Memory.{byte, all_room}
-use Rattle.arena_region.proofs.Steps.{St, Bs, Dd, word, word-good, none, mark, three, word_had, none_had, deed_had}
+use Rattle.arena_region.proofs.Memory.{all_room}
+use Rattle.arena_region.proofs.Steps.{St, Bs, Dd, word, word-good, none, mark, word_had, none_had, deed_had}
 use Rattle.arena_region.specs.contracts.store.deallocate as F
 use Rattle.arena_region.specs.contracts.store.deallocate.Key.{name as #self}
 use Rattle.arena_region.proofs.store.deallocate.Statement as stated

@@ -1,21 +1,20 @@
 -- `nowhere` gives a place with no room and no bytes. Assumes `Logic`.
-use Rattle.std.proofs.Common.{◌≡◌, ℕ, ◌+◌, ◌^◌, ◌<◌, List, [], ◌∷◌, ◌++◌, length, refl, arith}
+use Rattle.std.proofs.Common.{◌^◌, [], ◌∷◌, refl, arith}
 use seplogic.Ra.Ura.{Ura}
-use base.Fraction.{full_share}
 use mir.Syntax.{Fn}
 use mir.Val.{Val}
 use base.Logic.{SProp, ent}
-use base.Fml.{ftrue, froom}
+use base.Fml.{froom}
 use prog.Memory.{Memory}
 use prog.Routine.{Routine}
-use prog.Wp.{Env, Calls, Loops, WpFn, Tables}
+use prog.Wp.{Calls, Loops, WpFn, Tables}
 use contract.Monad.{Fun}
 use contract.Running.{tables, tables_of}
 use sound.WpLaws.{WpFn-mono}
 use types.Logic.{Logic}
-use types.Kit.{‵, raw, ◌⊛◌, ◌$◌, ◌∵◌, !, qed, move, keep, use0, split, join, fsplit, fjoin, feq_i, flt_i, suffices, done}
+use types.Kit.{‵, raw, ◌$◌, ◌∵◌, !, qed, keep, use0, fjoin, flt_i, suffices, done}
 use types.Part.{agg}
-use types.Run.{stop, from, addr, of_opd, and_then, no_more, enter, returns}
+use types.Run.{stop, from, addr, and_then, no_more, enter, returns}
 use types.ByLocal.{alloc_all, pass_all, free_all, look_at, get, sets}
 use denote.RawPtr.{block_ptr}
 use denote.Steps.{nothing}

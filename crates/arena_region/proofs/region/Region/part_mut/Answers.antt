@@ -1,4 +1,4 @@
-use Rattle.std.proofs.Common.{◌≡◌, ◌+◌, ◌-◌, ◌≤◌, ◌++◌, length, take, replicate, refl, ◌∙◌, ap, arith, length-take}
+use Rattle.std.proofs.Common.{◌+◌, ◌-◌, ◌≤◌, ◌++◌, length, take, replicate, refl, ◌∙◌, ap, arith, length-take}
 use Rattle.arena_region.specs.Bytes.{bytes, written_from}
 use Rattle.arena_region.specs.Laid.{block_bytes}
 use Rattle.arena_region.proofs.LaidLemmas.{written_shown, part_shown}

@@ -1,5 +1,5 @@
 -- `put` takes the last byte of the room, and puts it before the bytes that are ready. Assumes `Logic`.
-use Rattle.std.proofs.Common.{◌≡◌, ℕ, ◌+◌, ◌^◌, ◌<◌, List, [], ◌∷◌, ◌++◌, length, refl, sym, ap, ◌∙◌, subst, arith}
+use Rattle.std.proofs.Common.{◌≡◌, ◌+◌, ◌^◌, List, [], ◌∷◌, ◌++◌, length, refl, sym, ◌∙◌, arith}
 use seplogic.Ra.Ura.{Ura}
 use base.Fraction.{full_share}
 use mir.Syntax.{Fn, w8, w64}
@@ -12,7 +12,7 @@ use denote.RawPtr.Bytes.{bytes}
 use denote.Param.{layout}
 use prog.Memory.{Memory}
 use prog.Routine.{Routine}
-use prog.Wp.{Env, Calls, Loops, WpFn, Tables}
+use prog.Wp.{Calls, Loops, WpFn, Tables}
 use contract.Monad.{Fun, fact}
 use contract.Running.{tables, tables_of}
 use sound.WpLaws.{WpFn-mono}

@@ -1,26 +1,23 @@
 -- `slice` shows a part of the bytes that are ready. Assumes `Logic`.
-use Rattle.std.proofs.Common.{◌≡◌, ℕ, ◌+◌, ◌-◌, ◌*◌, ◌^◌, ◌<◌, ◌≤◌, List, [], ◌∷◌, ◌++◌, length, take, length-take-le, length-drop, refl, sym, ap, ◌∙◌, subst, arith}
+use Rattle.std.proofs.Common.{◌≡◌, ◌+◌, ◌-◌, ◌*◌, ◌^◌, ◌≤◌, List, [], ◌∷◌, ◌++◌, length, take, length-take-le, length-drop, refl, sym, ap, ◌∙◌, arith}
 use lib.ListN.{drop as drop_l}
 use seplogic.Ra.Ura.{Ura}
 use base.Fraction.{full_share}
-use mir.Syntax.{Fn, w8, w64}
-use mir.Val.{Val, vptr, vint, vunit}
+use mir.Syntax.{Fn, w64}
+use mir.Val.{Val, vptr, vint}
 use base.Logic.{SProp, ent, never, id⊢}
-use base.Fml.{ftrue, fat, froom, flft}
-use denote.Memory.{part_at}
-use denote.Plain.{uint_in}
-use denote.RawPtr.Bytes.{bytes}
+use base.Fml.{ftrue, fat, flft}
 use denote.Param.{layout}
 use prog.Memory.{Memory}
 use prog.Routine.{Routine}
-use prog.Wp.{Env, Calls, Loops, WpFn, Tables}
+use prog.Wp.{Calls, Loops, WpFn, Tables}
 use contract.Monad.{Fun, fact}
 use contract.Running.{tables, tables_of}
 use sound.WpLaws.{WpFn-mono}
 use types.Logic.{Logic}
-use types.Kit.{‵, raw, ◌⊛◌, prop, ◌$◌, ◌∵◌, !, qed, move, keep, drop, use1, split, join, frame, rewrite, fsplit, fsplit3, fjoin, fjoin3, feq_l, feq_i, flt_l, flt_i, regoal, suffices, done, at_ret}
+use types.Kit.{‵, raw, ◌⊛◌, prop, ◌$◌, ◌∵◌, !, qed, move, keep, drop, use1, split, join, frame, rewrite, fsplit, fjoin, feq_l, feq_i, flt_l, flt_i, regoal, suffices, done, at_ret}
 use types.Part.{whole, sub, agg}
-use types.Run.{init, stop, fld, unit_lit, of_opd, bin, assigns_last, and_then, no_more, first, blocks, exec, enter, returns}
+use types.Run.{stop, fld, of_opd, bin, and_then, no_more, first, blocks, exec, enter, returns}
 use types.ByLocal.{alloc_all, pass_all, free_all, look_at, get, get_in, take_at, give_at, sets, sets_last, env}
 use denote.Exit.{yes}
 use denote.RattleType.{owns}
@@ -29,11 +26,11 @@ use denote.Opens.{hide, unhide}
 use denote.Slice.{slice_val, elements_shared}
 use denote.RawPtr.{Ptr, in_a_block}
 use denote.Signature.{plain, types_at}
-use denote.Steps.{nothing, heard, opens, closes}
+use denote.Steps.{nothing, heard}
 use denote.Triple.Clauses.{Clauses, Ended, closing}
 use denote.Triple.Spec.{Meets, triple_of}
 use denote.Triple.Table.{entered}
-use denote.Triple.Walked.{says, Stays, stay_ref, stay_dropped, walk_of, ends_at, walk_Meets, Goes-dropped, Goes-ref}
+use denote.Triple.Walked.{says, Stays, stay_dropped, walk_of, ends_at, walk_Meets, Goes-dropped}
 use Rattle.arena_region.specs.Ownership.{store_lends}
 use Rattle.arena_region.proofs.Memory.{seen_from, seen_first}
 use Rattle.arena_region.proofs.Steps.{St, Bs, word, word-good, word_had, tail}

@@ -1,30 +1,28 @@
 -- `slice_mut` lends a part of the bytes that are ready, and the memory follows it. Assumes `Logic`.
-use Rattle.std.proofs.Common.{◌≡◌, ℕ, ◌+◌, ◌-◌, ◌*◌, ◌^◌, ◌<◌, ◌≤◌, List, [], ◌∷◌, ◌++◌, length, take, length-take-le, length-drop, refl, sym, ap, ◌∙◌, subst, arith}
+use Rattle.std.proofs.Common.{◌≡◌, ℕ, ◌+◌, ◌-◌, ◌*◌, ◌^◌, ◌<◌, ◌≤◌, List, [], ◌∷◌, ◌++◌, length, take, length-take-le, length-drop, refl, sym, ◌∙◌, arith}
 use lib.ListN.{drop as drop_l}
 use seplogic.Ra.Ura.{Ura}
 use base.Fraction.{full_share}
-use mir.Syntax.{Fn, named, w8, w64}
-use mir.Val.{Val, vptr, vint, vunit}
+use mir.Syntax.{Fn, named, w64}
+use mir.Val.{Val, vptr, vint}
 use base.Logic.{SProp, ent, sep, never, id⊢}
 use base.Fml.{GName, Fml, fsep, ftrue, fat, froom, flft}
-use denote.Memory.{part_at}
-use denote.Plain.{uint_in}
 use denote.RawPtr.Bytes.{bytes}
 use denote.Param.{layout}
 use prog.Memory.{Memory}
 use prog.Routine.{Routine}
-use prog.Wp.{Env, Calls, Loops, WpFn, Tables}
+use prog.Wp.{Calls, Loops, WpFn, Tables}
 use contract.Monad.{Fun, fact}
 use contract.Running.{tables, tables_of}
 use sound.WpLaws.{WpFn-mono}
 use types.Logic.{Logic, sem}
-use types.Kit.{‵, raw, ◌⊛◌, some, later, await, pick, group, fpack, prop, ◌$◌, ◌∵◌, !, qed, move, keep, drop, use1, use2, split, split3, join, frame, rewrite, fsplit, fsplit3, fjoin, fjoin3, feq_l, feq_i, flt_l, flt_i, regoal, suffices, done, at_ret}
+use types.Kit.{‵, raw, ◌⊛◌, some, later, await, pick, group, fpack, prop, ◌$◌, ◌∵◌, !, qed, move, keep, use1, use2, split, split3, join, frame, rewrite, fsplit, fsplit3, fjoin, feq_l, flt_l, flt_i, regoal, suffices, done, at_ret}
 use types.Part.{whole, sub, agg}
-use types.Run.{init, stop, fld, unit_lit, of_opd, bin, assigns_last, and_then, no_more, first, blocks, exec, enter, returns}
+use types.Run.{stop, fld, of_opd, bin, and_then, no_more, first, blocks, exec, enter, returns}
 use types.ByLocal.{alloc_all, pass_all, free_all, look_at, get, get_in, take_at, give_at, sets, sets_last, env}
 use denote.Exit.{yes, no}
 use denote.RattleType.{owns}
-use denote.Builtin.{u8, usize, RefOf}
+use denote.Builtin.{u8, usize}
 use denote.Index.{whole_in, whole_out}
 use denote.Memory.{mem, cell_at, part_of}
 use denote.Array.{Array}
@@ -32,7 +30,6 @@ use denote.RawPtr.Bytes.{bytes}
 use denote.Follow.{follows}
 use denote.FollowSlice.{Elements, lends_Elements}
 use types.SemTy.{cells}
-use denote.Opens.{hide, unhide}
 use denote.Slice.{MutSlice, slice_val}
 use denote.Ref.{MutBor}
 use denote.RawPtr.{Ptr, block_ptr, in_a_block}
@@ -41,7 +38,7 @@ use denote.Steps.{nothing, heard, opens}
 use denote.Triple.Clauses.{Clauses, Ended, closing}
 use denote.Triple.Spec.{Meets, triple_of}
 use denote.Triple.Table.{entered}
-use denote.Triple.Walked.{says, Stays, stay_ref, stay_dropped, walk_of, ends_at, walk_Meets, Goes-dropped, Goes-spent_ref}
+use denote.Triple.Walked.{says, Stays, stay_dropped, walk_of, ends_at, walk_Meets, Goes-dropped, Goes-spent_ref}
 use Rattle.arena_region.specs.Lends.{with_ready}
 use Rattle.arena_region.specs.Ownership.{block_of, store_owns}
 use Rattle.arena_region.proofs.Memory.{written_long, Around, part_out, part_in}
