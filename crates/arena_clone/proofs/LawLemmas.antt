@@ -1,10 +1,8 @@
--- What the laws say: blocks apart in either order, and lists of values that ask for nothing.
-use Rattle.std.proofs.Common.{◌≡◌, refl, List, [], ◌∷◌, ◌++◌}
-use Rattle.arena_chunks.specs.Memory.{Memory}
+-- What the laws say: blocks apart in either order.
+use Rattle.std.proofs.Common.{List, [], ◌∷◌}
 use Rattle.arena_chunks.specs.Frame.{IsApart, AreAllApart}
 use Rattle.arena_chunks.specs.declared.block.Block.{Block}
 use Rattle.arena_chunks.proofs.Layers.{blocks_turned}
-use Rattle.arena_clone.specs.Kinds.{Kind, row_of}
 
 -- the first of the others, and the rest
 columns : (bs cs : List Block) (c : Block) → AreAllApart bs (c ∷ cs) → IsApart c.addr c.size bs × AreAllApart bs cs
@@ -15,9 +13,3 @@ columns (b ∷ bs) cs c all = let rest = columns bs cs c all.1 in ((blocks_turne
 pub all_turned : (bs cs : List Block) → AreAllApart bs cs → AreAllApart cs bs
 all_turned bs [] all = tt
 all_turned bs (c ∷ cs) all = let parts = columns bs cs c all in (parts.0, all_turned bs cs parts.1)
-
--- Values that ask for nothing do so in a row.
-pub none_asked : {T : Type 0} (kind : Kind T) → ((m : Memory) (v : T) → kind.asks m v ≡ []) → (m : Memory) (vs : List T)
-    → (row_of kind).asks m vs ≡ []
-none_asked kind none m [] = refl
-none_asked kind none m (v ∷ vs) = λ i. none m v i ++ none_asked kind none m vs i

@@ -33,7 +33,7 @@ everywhere P all [] = tt
 everywhere P all (x ∷ xs) = (all x, everywhere P all xs)
 
 -- lists of nothing are nothing together
-none_in_all : {A B : Type 0} (f : A → List B) → ((x : A) → f x ≡ []) → (xs : List A) → flat_map f xs ≡ []
+pub none_in_all : {A B : Type 0} (f : A → List B) → ((x : A) → f x ≡ []) → (xs : List A) → flat_map f xs ≡ []
 none_in_all f none [] = refl
 none_in_all f none (x ∷ xs) = rw (none x) (none_in_all f none xs)
 

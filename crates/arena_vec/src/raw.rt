@@ -248,7 +248,6 @@ impl<T: Item> RawVec<T> {
     ) -> Grown<()>
         requires small { T.SIZE ≤ 2 ^ 24 }
         requires held { IsRawIn T.Item a.old.memory self.old }
-        requires within { len ≤ self.old.cap }
         ensures reserves { let growth = amortised_growth T.SIZE self.old.cap (len + additional) in
             Reserves T.Item a.old a.new self.old growth self.new result }
         ensures enough { OnOk result (len + additional ≤ self.new.cap) }
@@ -269,7 +268,6 @@ impl<T: Item> RawVec<T> {
     ) -> Grown<()>
         requires small { T.SIZE ≤ 2 ^ 24 }
         requires held { IsRawIn T.Item a.old.memory self.old }
-        requires within { len ≤ self.old.cap }
         ensures reserves { let growth = amortised_growth T.SIZE self.old.cap (len + additional) in
             Reserves T.Item a.old a.new self.old growth self.new result }
         ensures enough { OnOk result (len + additional ≤ self.new.cap) }
@@ -290,7 +288,6 @@ impl<T: Item> RawVec<T> {
     ) -> Grown<()>
         requires small { T.SIZE ≤ 2 ^ 24 }
         requires held { IsRawIn T.Item a.old.memory self.old }
-        requires within { len ≤ self.old.cap }
         ensures reserves { let growth = exact_growth T.SIZE self.old.cap (len + additional) in
             Reserves T.Item a.old a.new self.old growth self.new result }
         ensures enough { OnOk result (len + additional ≤ self.new.cap) }
@@ -311,7 +308,6 @@ impl<T: Item> RawVec<T> {
     ) -> Grown<()>
         requires small { T.SIZE ≤ 2 ^ 24 }
         requires held { IsRawIn T.Item a.old.memory self.old }
-        requires within { len ≤ self.old.cap }
         ensures reserves { let growth = exact_growth T.SIZE self.old.cap (len + additional) in
             Reserves T.Item a.old a.new self.old growth self.new result }
         ensures enough { OnOk result (len + additional ≤ self.new.cap) }

@@ -1,4 +1,5 @@
-//! Small callers of vectors in an arena, for who builds on them: numbers are put in order, picked, taken out, put in the place of others, compared and read back.
+//! Small callers of vectors in an arena, for who builds on them: numbers are put in order, picked, taken out, put in the
+//! place of others, compared and read back.
 //! Nothing of the crates below is opened here: each proof uses the records of their calls and their laws alone.
 #![tactic(auto)]
 

@@ -25,6 +25,8 @@ fn ids_with_and_without(rt: HostRuntime) {
     assert!(rt; within.raw.block.addr != ids.raw.block.addr);
     let none = copy_within(&rt, &ids, Without, &mut from).expect(&rt, "a copy");
     assert!(rt; at(&rt, &from, none, 1) == SemanticId(0));
+    // The numbers that the two have in the Rust crate.
+    assert_eq!(rt; (With as u32, Without as u32), (0, u32::MAX));
 }
 
 #[test]
