@@ -5,7 +5,7 @@ ghost use Rattle.arena_bits.specs.Sets.{IsSetIn};
 
 use super::{BUDGET, Failed, Timed};
 use arena_bits::BitSet;
-use arena_chunks::{Allocator, Block, MemoryChunks};
+use arena_chunks::{Allocator, MemoryChunks};
 use arena_items::laws::frame_law;
 use std::time::Instant;
 
@@ -121,28 +121,6 @@ pub fn bitset_ones(rt: &HostRuntime, calls: u64) -> Result<Timed, Failed> {
     Ok(Timed { time, number })
 }
 
-// Whether a set may be read.
-fn is_held(a: &Allocator<MemoryChunks>, set: &BitSet) -> bool
-    ensures { IsTrue result → IsSetIn a.now.memory set.now }
-{
-    let count = set.words.len();
-    let block = set.words.block;
-    if !a.is_held_place(block) || block.align != 8 {
-        return false;
-    }
-    block.size % 8 == 0 && block.size / 8 == count && count == set.capacity.div_ceil(64)
-}
-
-// Whether two blocks lie apart, the first behind the other.
-fn are_apart(one: Block, other: Block) -> bool
-    ensures { IsTrue result → AreBlocksApart one other }
-{
-    match other.addr.checked_add(other.size) {
-        Some(end) => end <= one.addr,
-        None => false,
-    }
-}
-
 // Joins a set with another, so many times.
 fn joined(a: &mut Allocator<MemoryChunks>, set: BitSet, other: BitSet, times: u64)
     requires set { IsSetIn a.old.memory set }
@@ -159,12 +137,10 @@ fn joined(a: &mut Allocator<MemoryChunks>, set: BitSet, other: BitSet, times: u6
 
 /// Bits of sets of 4,096 that are joined.
 pub fn bitset_union(rt: &HostRuntime, calls: u64) -> Result<Timed, Failed> {
+    frame_law::<BitSet>();
     let mut a = new_allocator(rt);
     let other = thirds(&mut a, JOINED)?;
     let set = BitSet::new_in(JOINED, &mut a)?;
-    if !is_held(&a, &other) || !are_apart(other.words.block, set.words.block) {
-        return Err(Failed::NoPlace);
-    }
     let began = Instant::now(rt)?;
     joined(&mut a, set, other, calls.div_ceil(JOINED));
     let time = began.elapsed(rt)?;
