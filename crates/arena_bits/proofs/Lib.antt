@@ -6,3 +6,4 @@ pub mod MemberLemmas
 pub mod ScanLemmas
 pub mod JoinLemmas
 pub mod PrintLemmas
+pub mod Layers

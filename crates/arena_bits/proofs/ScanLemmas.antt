@@ -1,15 +1,17 @@
 -- A walk over words.
-use Rattle.std.proofs.Common.{◌≡◌, ℕ, ◌+◌, ◌-◌, ◌/◌, ◌%◌, ◌^◌, ◌<◌, ◌≤◌, ◌*◌, List, [], ◌∷◌, false, eqb, get_or, ap, ◌∙◌, sym, arith, refl, inl, inr, w64, Option, Some, None}
+use Rattle.std.proofs.Common.{◌≡◌, ℕ, ◌+◌, ◌-◌, ◌/◌, ◌%◌, ◌^◌, ◌<◌, ◌≤◌, ◌*◌, List, [], ◌∷◌, length, false, eqb, get_or, ap, ◌∙◌, sym, arith, refl, inl, inr, w64, Option, Some, None}
 use Rattle.std.proofs.lemmas.Bool.{cases_eq, cases_lt}
 use Rattle.std.proofs.lemmas.Nat.{trailing_le}
 use Rattle.std.proofs.lemmas.Nat.Bits.{bit_at-zero, bit_at-trailing_zeros, bit_at_clear_same, bit_at_clear_other}
+use Rattle.std.proofs.lemmas.Iterator.{YieldsList}
+use Rattle.std.proofs.lemmas.Iterator.Consumers.{YieldsList-from_shown}
 use Rattle.std.specs.Prelude.{bit_and}
 use Rattle.std.specs.Int.{bit_at, bit_not, trailing_zeros}
 use Rattle.std.specs.Int.Count.{count_trailing_zeros}
 use Rattle.std.specs.Iterator.{YieldsFirst}
 use Rattle.std.specs.Option.{MatchOption}
 use Rattle.arena_bits.specs.Bits.{Set, bits_of, members}
-use Rattle.arena_bits.specs.Walks.{IsScan}
+use Rattle.arena_bits.specs.Walks.{Walk, Goes, IsScan}
 use Rattle.arena_bits.specs.declared.ones.Scan.{Scan}
 use Rattle.arena_bits.proofs.MemberLemmas.{members_skip, members_first, members_none}
 
@@ -120,6 +122,10 @@ pub walk_yields : (set : Set) (front to : ℕ) (r : Option ℕ) (after : ℕ) �
     → YieldsFirst (λ (xs : List ℕ). xs) (members set front to) r (members set after to)
 walk_yields set front to None after at first = (first, rw at (members_none set to to (λ n low high. absurd (omega arith))))
 walk_yields set front to (Some n) after at first = first ∙ ap (λ m. n ∷ members set m to) (sym at)
+
+-- All calls of `next` together give what is left, in order.
+pub walk_gives_all : (walk : Walk) → YieldsList Goes (λ n. n) walk walk.left
+walk_gives_all walk = YieldsList-from_shown Goes (λ n. n) (λ w. w.left) (λ old new goes. ap length goes.0.0) (λ old n new goes. goes.0) walk
 
 -- for automatic proof
 pub ruleset step_laws = (scan_ended, place_fits, scan_first)

@@ -1,5 +1,5 @@
 -- Sets as wholes: new ones, and those without a number.
-use Rattle.std.proofs.Common.{◌≡◌, ℕ, ◌+◌, ◌-◌, ◌*◌, ◌/◌, ◌%◌, ◌^◌, ◌<◌, ◌≤◌, List, [], ◌∷◌, length, replicate, get_or, Bool, true, ◌&&◌, nat_lt, ap, ◌∙◌, sym, subst, arith, refl, false, eqb, inl, inr, IsTrue, Ok, w64}
+use Rattle.std.proofs.Common.{◌≡◌, ℕ, ◌+◌, ◌-◌, ◌*◌, ◌/◌, ◌%◌, ◌^◌, ◌<◌, ◌≤◌, List, [], ◌∷◌, length, replicate, get_or, Bool, true, ◌&&◌, nat_lt, ap, ◌∙◌, sym, subst, arith, refl, false, eqb, inl, inr, IsTrue, Result, Ok, Err, w64}
 use Rattle.std.specs.Int.{trailing_zeros}
 use Rattle.std.proofs.lemmas.Bool.{cases_lt}
 use Rattle.std.proofs.lemmas.Bool.Decides.{nat_tests}
@@ -14,7 +14,9 @@ use Rattle.arena_chunks.specs.BlockCalls.{PlacesBlock, EditsBlock}
 use Rattle.arena_chunks.specs.declared.block.Block.{Block}
 use Rattle.arena_chunks.proofs.Layers.{length-bytes, wrote_whole, places_written, frame_then}
 use Rattle.arena_items.specs.Values.{bytes_of}
-use Rattle.arena_items.specs.Room.{SamePlaces}
+use Rattle.arena_items.specs.Room.{RoomAnswer, TakesRoom, SamePlaces}
+use Rattle.arena_items.specs.declared.room.AllocError.{AllocError}
+use Rattle.arena_items.specs.declared.room.AllocError.TheVariants.{AllocErr, CapacityOverflow, OutOfMemory}
 use Rattle.arena_items.proofs.Layers.{placed_held, written_held}
 use Rattle.arena_bits.specs.Bits.{Set, bits_of, below, nothing, words_for}
 use Rattle.arena_bits.specs.Sets.{IsSetIn, words_of, set_of, BecomesSet, PlacesSet}
@@ -105,6 +107,14 @@ pub words_layout : (n : ℕ) → n ≤ 2 ^ 58 → IsTrue (is_layout (n * 8) 8)
 unfolding is_power_among up
 words_layout n few = grind (arith, nat_tests)
 
+-- and room for them is taken as a block is placed
+pub room_placed : (old new : View) (b : Block) (size align : ℕ) (result : Result Block AllocError)
+    → RoomAnswer (λ b. b) result (TakesRoom old new b 0 size align) → RoomAnswer (λ b. b) result (PlacesBlock old new size align)
+room_placed old new b size align (Ok x) takes = takes.placed refl
+room_placed old new b size align (Err (AllocErr refused)) takes = takes.placed refl
+room_placed old new b size align (Err OutOfMemory) takes = takes.placed refl
+room_placed old new b size align (Err CapacityOverflow) takes = absurd takes
+
 -- A block that was placed and cleared is a new set.
 pub new_set : (old mid new : View) (bits n : ℕ) (b : Block) → n ≡ words_for bits → PlacesBlock old mid (n * 8) 8 (Placed b)
     → EditsBlock mid.memory new.memory b 0 (n * 8) (λ before after. after ≡ replicate (length before) 0) → new.source ≡ mid.source
@@ -154,3 +164,5 @@ filled old mid new bits first set s made becomes =
 
 -- for automatic proof
 pub ruleset read_words = (bytes_count, words_read)
+
+pub ruleset words_placed = (words_layout, room_placed)

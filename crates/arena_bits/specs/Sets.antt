@@ -1,10 +1,11 @@
 -- Bit sets in an arena, and what calls on them do.
-use Rattle.std.specs.Prelude.{◌≡◌, ℕ, ◌*◌, List, [], ◌∷◌, Result, IfOk}
+use Rattle.std.specs.Prelude.{◌≡◌, ℕ, ◌*◌, ◌⊎◌, List, [], ◌∷◌, Result, IfOk}
 use Rattle.std.specs.Int.{from_le_bytes, w64}
 use Rattle.arena_chunks.specs.Memory.{Memory}
 use Rattle.arena_chunks.specs.Source.{View}
-use Rattle.arena_chunks.specs.Frame.{Frame}
+use Rattle.arena_chunks.specs.Frame.{Frame, AreBlocksApart}
 use Rattle.arena_chunks.specs.BlockCalls.{PlacesBlock}
+use Rattle.arena_chunks.specs.declared.block.Block.{Block}
 use Rattle.arena_items.specs.Values.{bytes_of, elements, IsHeld}
 use Rattle.arena_items.specs.Room.{RoomAnswer, SamePlaces}
 use Rattle.arena_bits.specs.Bits.{Set, bits_of, words_for}
@@ -22,6 +23,10 @@ words_of m s = elements 8 (from_le_bytes w64) s.words.length (bytes_of m s.words
 
 abbrev pub set_of : Memory → BitSet → Set
 set_of m s = bits_of (words_of m s)
+
+-- one block, or two that share no byte
+abbrev pub AreOneOrApart : Block → Block → Type 0
+AreOneOrApart one other = (one ≡ other) ⊎ AreBlocksApart one other
 
 -- A call that takes no memory makes the bits this set. No byte changes but the set's own.
 pub record BecomesSet (old new : View) (s : BitSet) (set : Set) : Type 0 where

@@ -1,6 +1,7 @@
 -- Walks over the numbers of a set.
 use Rattle.std.specs.Prelude.{◌≡◌, ℕ, ◌+◌, ◌/◌, ◌%◌, ◌<◌, ◌≤◌, List, length, Option, ◌==◌}
 use Rattle.std.specs.Option.{MatchOption}
+use Rattle.std.specs.Iterator.{YieldsFirst}
 use Rattle.std.specs.Int.{bit_at, from_le_bytes, w64}
 use Rattle.arena_items.specs.Values.{elements}
 use Rattle.arena_bits.specs.Bits.{bits_of, members}
@@ -16,6 +17,10 @@ pub record Walk : Type 0 where
 pub record Moves (old : Walk) (given : Option ℕ) (new : Walk) : Type 0 where
   pub front : MatchOption given (new.front ≡ old.capacity) (λ n. new.front ≡ n + 1)
   pub capacity : new.capacity ≡ old.capacity
+
+-- one call of `next`
+abbrev pub Goes : Walk → Option ℕ → Walk → Type 0
+Goes old given new = YieldsFirst (λ (walk : Walk). walk.left) old given new × Moves old given new
 
 -- the words of some bytes
 abbrev pub words_in : List ℕ → List ℕ

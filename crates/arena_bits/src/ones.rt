@@ -5,7 +5,7 @@ ghost use Rattle.std.specs.Iterator.{YieldsFirst, UpTo, at_most, item_count};
 ghost use Rattle.std.specs.Iterator.SizeHint.{IsWithinCount};
 ghost use Rattle.arena_bits.specs.Bits.{bits_of, members};
 ghost use Rattle.arena_bits.specs.Sets.{IsSetIn, set_of};
-ghost use Rattle.arena_bits.specs.Walks.{IsScan, Moves, words_in};
+ghost use Rattle.arena_bits.specs.Walks.{IsScan, Goes, Moves, words_in};
 
 use crate::set::BitSet;
 use crate::words::{first_word, word_at};
@@ -142,6 +142,7 @@ impl<'a, C: ChunkSource> Ones<'a, C> {
     }
 }
 
+// A walk is a place in a list that is lent, and can be copied as std's walks over slices can: who looks ahead walks on with a copy.
 impl<'a, C: ChunkSource> Clone for Ones<'a, C> {
     ghost is_clone = { λ walk copy. copy ≡ walk };
 
@@ -160,7 +161,7 @@ impl<'a, C: ChunkSource> Clone for Ones<'a, C> {
 impl<'a, C: ChunkSource> Iterator for Ones<'a, C> {
     type Item = u64;
 
-    ghost next_gives = { YieldsFirst (λ w. w.left) };
+    ghost next_gives = { Goes };
 
     ghost remaining = { item_count (λ w. w.left) };
 

@@ -1,5 +1,5 @@
 // Bit sets: their handles, and calls on one number.
-ghost use Rattle.std.specs.Prelude.{◌≡◌, ◌*◌, ◌<◌, ◌&&◌, nat_lt, length};
+ghost use Rattle.std.specs.Prelude.{◌≡◌, ◌*◌, ◌<◌, ◌↔◌, ◌&&◌, nat_lt, length, IsTrue};
 ghost use Rattle.arena_bits.specs.Bits.{with_bit, without_bit};
 ghost use Rattle.arena_bits.specs.Sets.{IsSetIn, words_of, set_of, BecomesSet};
 ghost use Rattle.arena_bits.specs.Walks.{words_in};
@@ -28,6 +28,17 @@ impl BitSet {
         ensures { result ≡ self.now.capacity }
     {
         self.capacity
+    }
+
+    /// Whether the handle is well formed and may be read here.
+    pub fn is_held<C: ChunkSource>(&self, a: &Allocator<C>) -> bool
+        ensures { IsTrue result ↔ IsSetIn a.now.memory self.now }
+    {
+        let block = self.words.block;
+        self.words.length == self.capacity.div_ceil(64)
+            && block.size == self.words.length * 8
+            && block.align == 8
+            && a.is_held_place(block)
     }
 
     /// Whether a number is below the capacity and in the set. Any number may be asked for.

@@ -1,21 +1,20 @@
 // Calls on whole bit sets.
 ghost use Rattle.std.specs.Prelude.{◌≡◌, ◌*◌, ◌^◌, ◌≤◌, min};
 ghost use Rattle.arena_chunks.specs.BlockCalls.{PlacesBlock};
-ghost use Rattle.arena_chunks.specs.Frame.{AreBlocksApart};
 ghost use Rattle.arena_items.specs.Room.{RoomAnswer};
 ghost use Rattle.arena_bits.specs.Bits.{nothing, joined, below, TellsEmpty};
-ghost use Rattle.arena_bits.specs.Sets.{IsSetIn, set_of, BecomesSet, PlacesSet};
+ghost use Rattle.arena_bits.specs.Sets.{IsSetIn, AreOneOrApart, set_of, BecomesSet, PlacesSet};
 
 use crate::edits::{JoinRow, Raise, Zeros};
 use crate::set::BitSet;
 use crate::words::{are_zero, row_at, word_at};
-use arena_chunks::{Allocator, ArenaErr, Block, ChunkSource};
-use arena_items::{AllocError, BoxSlice, Grown};
+use arena_chunks::{Allocator, Block, ChunkSource};
+use arena_items::{BoxSlice, Grown, take_room};
 use arena_place::Layout;
 use std::marker::PhantomData;
 
 // A block for so many words.
-#[tactic(auto, using(crate::proofs::WholeLemmas::words_layout))]
+#[tactic(auto, using(crate::proofs::WholeLemmas::words_placed))]
 fn place_words<C: ChunkSource>(a: &mut Allocator<C>, count: u64) -> Grown<Block>
     requires { count ≤ 2 ^ 58 }
     ensures { RoomAnswer (λ b. b) result (PlacesBlock a.old a.new (count * 8) 8) }
@@ -23,14 +22,10 @@ fn place_words<C: ChunkSource>(a: &mut Allocator<C>, count: u64) -> Grown<Block>
     let Some(layout) = Layout::array(count, 8, 8) else {
         unreachable!();
     };
-    match a.alloc_layout(layout) {
-        Ok(block) => Ok(block),
-        Err(ArenaErr::AllocErr { refused }) => Err(AllocError::AllocErr { refused }),
-        Err(ArenaErr::OutOfMemory) => Err(AllocError::OutOfMemory),
-    }
+    take_room(a, Block::empty(8), 0, layout)
 }
 
-#[tactic(auto, using(arena_chunks::proofs::Layers::layer_laws, crate::proofs::JoinLemmas::joining_none))]
+#[tactic(auto, using(arena_chunks::proofs::Layers::layer_laws, crate::proofs::JoinLemmas::joined_sets))]
 impl BitSet {
     /// An empty set for so many bits, in one block of whole words.
     ///
@@ -73,18 +68,21 @@ impl BitSet {
         a.write_with(block, 0, block.size, &Zeros);
     }
 
-    /// Puts in the numbers of another set, as far as both have words.
+    /// Puts in the numbers of another set, as far as both have words. A set that is joined with itself stays as it is.
     pub fn union<C: ChunkSource>(&mut self, a: &mut Allocator<C>, other: &BitSet)
         requires held { IsSetIn a.old.memory self.old }
         requires other { IsSetIn a.old.memory other.now }
-        requires apart { AreBlocksApart other.now.words.block self.old.words.block }
+        requires apart { AreOneOrApart other.now.words.block self.old.words.block }
         ensures becomes { let limit = 64 * min self.old.words.length other.now.words.length in
             BecomesSet a.old a.new self.old
             (joined (set_of a.old.memory self.old) (below limit (set_of a.old.memory other.now))) }
         ensures handle { self.new ≡ self.old }
     {
-        let count = self.words.length.min(other.words.length);
         let block = self.words.block;
+        if other.words.block == block {
+            return;
+        }
+        let count = self.words.length.min(other.words.length);
         // Each block is looked up once for sixteen words, and the rest are taken one by one.
         'rows: for i in 0..count / 16 {
             let row = row_at(other.bytes(a), i * 16);

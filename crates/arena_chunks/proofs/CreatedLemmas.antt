@@ -1,5 +1,5 @@
 -- How an arena begins.
-use Rattle.std.proofs.Common.{◌≡◌, ℕ, ◌+◌, max, sym, ap, refl, subst, ◌∙◌, arith, IsTrue, true, false, Option, Some, None, [], ◌∷◌, length}
+use Rattle.std.proofs.Common.{◌≡◌, ℕ, ◌+◌, ◌^◌, ◌<◌, max, sym, ap, refl, subst, ◌∙◌, arith, IsTrue, true, false, Option, Some, None, [], ◌∷◌, length}
 use Rattle.std.specs.Prelude.{◌==◌, replicate}
 use Rattle.std.specs.Option.{option_map}
 use Rattle.std.proofs.lemmas.Bool.Decides.{nat_tests}
@@ -68,15 +68,17 @@ module _ (m capacity size : ℕ) (before after : Source) (min_align : IsTrue (is
   told asked = rw (unit m min_align) asked
 
   -- it was refused
-  pub created_refused : after.refusals ≡ counted before.refusals 1 → TellsRequests before.asked after.asked ((size, 16) ∷ []) → IsCreation m capacity 1 None before after
-  created_refused refusals asked = created_at m capacity 1 None before after (Some (4096, size)) some chunk refl (record { refusals = refusals; requests = told asked })
+  pub created_refused : after.refusals ≡ counted before.refusals 1 → after.refusals < 2 ^ 64 → TellsRequests before.asked after.asked ((size, 16) ∷ [])
+      → IsCreation m capacity 1 None before after
+  created_refused refusals bounded asked =
+      created_at m capacity 1 None before after (Some (4096, size)) some chunk refl (record { refusals = refusals; bounded = λ some. bounded; requests = told asked })
 
   -- it was granted: zeros from 4096 on, with nothing used
   pub created_first : (bytes : Bytes) → bytes.items ≡ replicate size 0 → after.refusals ≡ before.refusals
       → TellsRequests before.asked after.asked ((size, 16) ∷ [])
       → IsCreation m capacity 0 (Some (memory_of m true 0 0 0 (record { base = 4096; cursor = 4096 + length bytes.items; bytes = bytes }) [])) before after
   created_first bytes zeros refusals asked =
-      created_at m capacity 0 _ before after (Some (4096, size)) some chunk (rw (zeros, length-replicate) refl) (record { refusals = refusals ∙ sym (counted_none before.refusals); requests = told asked })
+      created_at m capacity 0 _ before after (Some (4096, size)) some chunk (rw (zeros, length-replicate) refl) (record { refusals = refusals ∙ sym (counted_none before.refusals); bounded = λ some. absurd (omega arith); requests = told asked })
 
   -- the arena over that chunk is valid
   pub first_stored : (bytes : Bytes) (newest : StoredChunk) → bytes.items ≡ replicate size 0 → newest ≡ record { base = 4096; cursor = 4096 + length bytes.items; bytes = bytes }

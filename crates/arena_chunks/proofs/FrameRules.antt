@@ -102,6 +102,18 @@ frame_beside old new before after others =
     frame_weaken old new before (before ++ others) after (after ++ others) (λ addr n some apart. (apart_each addr n before others apart).0)
     (λ addr n some apart rest. apart_both addr n after others rest (apart_each addr n before others apart).1)
 
+pub frame_behind : (old new : Memory) (before after others : List Block) → Frame old new before after → Frame old new (others ++ before) (others ++ after)
+frame_behind old new before after others =
+    frame_weaken old new before (others ++ before) after (others ++ after) (λ addr n some apart. (apart_each addr n others before apart).1)
+    (λ addr n some apart rest. apart_both addr n others after (apart_each addr n others before apart).0 rest)
+
+-- a call on the last of some blocks, and then one on the first
+pub frame_both : (old mid new : Memory) (first last first' last' : List Block) → Frame old mid last last' → Frame mid new first first'
+    → Frame old new (first ++ last) (first' ++ last')
+frame_both old mid new first last first' last' one two =
+    frame_then old mid new (first ++ last) (first ++ last') (first' ++ last') (frame_behind old mid last last' first one)
+    (frame_beside mid new first first' last' two)
+
 -- a block of no bytes among others doesn't matter
 apart_but : (addr n : ℕ) (first last : List Block) (b : Block) → b.size ≡ 0 → IsApart addr n (first ++ b ∷ last) ↔ IsApart addr n (first ++ last)
 apart_but addr n first last b none = (

@@ -5,6 +5,7 @@ use Rattle.std.specs.Cmp.{unsigned_tied, nat_cmp_total}
 use Rattle.std.specs.FinMap as finite
 use Rattle.std.specs.FinMap.{get-insert, get-remove, same_map, nat_cmp-IsAntisymmetric}
 use Rattle.std.proofs.lemmas.Bool.{cases_eq}
+use Rattle.std.proofs.lemmas.Option.{none-some}
 
 ties : (k : ℕ) → eq_by_cmp nat_cmp k k ≡ true
 ties k = unsigned_tied k k ∙ eq-eqb k k (λ _. k)
@@ -44,3 +45,10 @@ module _ {X : Type 0} where
 
   pub remove_absent : (m : finite.FinMap nat_cmp X) (k : ℕ) → finite.get m k ≡ None → finite.remove m k ≡ m
   remove_absent m k none = agree _ _ k (get-removed m k ∙ sym none) (λ q other. get-remove_other m k q other)
+
+  -- what is held after a removal was held before
+  pub less_removed : (m : finite.FinMap nat_cmp X) (k q : ℕ) (v : X) → finite.get (finite.remove m k) q ≡ Some v → finite.get m q ≡ Some v
+  less_removed m k q v at = elim (cases_eq q k) [
+    | inl same ↦ absurd (none-some v (sym (get-removed m k) ∙ subst (λ (x : ℕ). finite.get (finite.remove m k) x ≡ Some v) same at))
+    | inr other ↦ sym (get-remove_other m k q other) ∙ at
+  ]

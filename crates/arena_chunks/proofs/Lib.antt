@@ -1,4 +1,12 @@
+pub mod RewindLemmas
+pub mod FindingLemmas
+pub mod WrittenFrom
+pub mod KeptLemmas
+pub mod BelowLemmas
 mod HeldLemmas
+mod LogLemmas
+mod KnownLemmas
+mod MarkingLemmas
 mod WrittenLemmas
 mod ServingLemmas
 mod RunLemmas
@@ -6,6 +14,7 @@ mod Asking
 mod BytesLemmas
 mod AskedLemmas
 mod EditLemmas
+mod TellingLemmas
 mod AnswerLemmas
 mod TextLemmas
 mod TableLemmas
@@ -25,6 +34,9 @@ mod CreatedLemmas
 mod WalkLemmas
 mod ShiftLemmas
 mod LayerLemmas
+mod ApartLemmas
+mod MeasureLemmas
+mod AskingLemmas
 mod UsedByCallLemmas
 mod NameLemmas
 pub mod Layers

@@ -18,7 +18,8 @@ use Rattle.placement.specs.declared.calls.Reply.{Reply}
 use Rattle.placement.proofs.DoublingRunLemmas.{run_doubling}
 use Rattle.arena_chunks.specs.Source.{View, IsAsked}
 use Rattle.arena_chunks.specs.Runs.{HoldsBytes, StandsFor, RunLeaves, Runs, RunsFirst, held_blocks}
-use Rattle.arena_chunks.specs.Serving.{machine_of, Holds, Keeps, Serves}
+use Rattle.arena_chunks.specs.Serving.{machine_of, Holds, Keeps, ServesRun}
+use Rattle.arena_chunks.specs.Marks.{Noted, named, Tracks, KeepEntry}
 use Rattle.arena_chunks.specs.declared.block.Block.{Block}
 use Rattle.arena_chunks.proofs.AskedLemmas.{asked_none, asked_more}
 use Rattle.arena_chunks.proofs.ServingLemmas.{holds_none, no_bytes_held, none_kept}
@@ -52,16 +53,17 @@ run_more m mid next (c ∷ calls) call (j ∷ ks) k replies reply ran stepped =
     )))
 
 -- The calls so far are a run of the machine that the arena and its names are.
-pub record IsRunning (entry now : View) (names : Held) (calls : List Call) (replies : List Reply) : Type 0 where
+pub record IsRunning (entry now : View) (names : Held) (noted : Noted) (calls : List Call) (replies : List Reply) : Type 0 where
   pub bytes : Contents
-  pub ran : run entry.memory.state calls (told replies) ≡ Some (replies, machine_of now.memory names bytes)
+  pub ran : run entry.memory.state calls (told replies) ≡ Some (replies, machine_of now.memory names (named noted.marks) bytes)
   pub held : HoldsBytes now.memory names bytes
   pub holds : Holds now.memory.state names
   pub asked : IsAsked entry.source now.source (sum (told replies)) (requests_of entry.memory.state calls (told replies))
   pub statistics : now.memory.statistics ≡ statistics_of entry.memory.state calls (told replies) entry.memory.statistics
-  pub keeps : list_any is_reset calls ≡ false → Keeps entry.memory now.memory names
+  pub tracks : Tracks now.memory.state names noted
+  pub keeps : list_any is_reset calls ≡ false → Keeps entry.memory now.memory names × KeepEntry entry.memory.state now.memory.state noted.marks
 
-pub running_first : (now : View) → IsValid now.memory.state → IsRunning now now finite.empty [] []
+pub running_first : (now : View) → IsValid now.memory.state → IsRunning now now finite.empty (record { marks = []; log = [] }) [] []
 unfolding run_from requests_from statistics_from
 running_first now valid = record {
   bytes = finite.empty;
@@ -70,26 +72,28 @@ running_first now valid = record {
   holds = holds_none now.memory.state valid;
   asked = asked_none now.source;
   statistics = refl;
-  keeps = λ kept. none_kept now.memory;
+  tracks = tt;
+  keeps = λ kept. (none_kept now.memory, tt);
 }
 
-pub running_more : (entry old new : View) (names others : Held) (calls : List Call) (call : Call) (replies : List Reply) (reply : Reply)
-    → IsRunning entry old names calls replies → Serves call reply old new names others
-    → IsRunning entry new others (calls ++ call ∷ []) (replies ++ reply ∷ [])
-running_more entry old new names others calls call replies reply running serves =
+pub running_more : (entry old new : View) (names others : Held) (noted later : Noted) (calls : List Call) (call : Call) (replies : List Reply) (reply : Reply)
+    → IsRunning entry old names noted calls replies → ServesRun call reply old new names others noted later
+    → IsRunning entry new others later (calls ++ call ∷ []) (replies ++ reply ∷ [])
+running_more entry old new names others noted later calls call replies reply running serves =
     let stepped = serves.steps running.bytes running.held in
     let k : ℕ = refused_of reply in
-    let more = run_more (fresh entry.memory.state) (machine_of old.memory names running.bytes) (machine_of new.memory others stepped.0) calls call (told replies) k replies reply running.ran stepped.1 in
+    let more = run_more (fresh entry.memory.state) (machine_of old.memory names (named noted.marks) running.bytes) (machine_of new.memory others (named later.marks) stepped.0) calls call (told replies) k replies reply running.ran stepped.1 in
     let telling : told (replies ++ reply ∷ []) ≡ told replies ++ k ∷ [] = map-append refused_of replies (reply ∷ []) in
     record {
       bytes = stepped.0;
       ran = rw telling more.0;
       held = stepped.2;
       holds = serves.holds;
-      asked = rw (telling, total (told replies) k, more.1) (asked_more entry.source old.source new.source (sum (told replies)) k _ _ running.asked (serves.asks.asked running.bytes));
-      statistics = rw (telling, more.2 entry.memory.statistics, ← running.statistics) (serves.asks.statistics running.bytes);
+      tracks = serves.tracks;
+      asked = rw (telling, total (told replies) k, more.1) (asked_more entry.source old.source new.source (sum (told replies)) k _ _ running.asked (serves.asks.asked (named noted.marks) running.bytes));
+      statistics = rw (telling, more.2 entry.memory.statistics, ← running.statistics) (serves.asks.statistics (named noted.marks) running.bytes);
       keeps = λ kept. let both = neither (list_any is_reset calls) (is_reset call) (sym (list_any-append is_reset calls (call ∷ [])) ∙ kept) in
-          serves.keeps both.1 entry.memory (running.keeps both.0);
+          let before = running.keeps both.0 in serves.keeps both.1 entry.memory before.0 before.1;
     }
   where
     total : (ks : List ℕ) (k : ℕ) → sum (ks ++ k ∷ []) ≡ sum ks + k
@@ -101,8 +105,8 @@ running_more entry old new names others calls call replies reply running serves 
     neither true b none = cc
 
 -- the machine that the arena and its names are, and what the calls leave beside it
-stands : (entry now : View) (names : Held) (calls : List Call) (replies : List Reply) → (running : IsRunning entry now names calls replies) → StandsFor now.memory (machine_of now.memory names running.bytes)
-stands entry now names calls replies running = record {
+stands : (entry now : View) (names : Held) (noted : Noted) (calls : List Call) (replies : List Reply) → (running : IsRunning entry now names noted calls replies) → StandsFor now.memory (machine_of now.memory names (named noted.marks) running.bytes)
+stands entry now names noted calls replies running = record {
   state = refl;
   valid = running.holds.valid;
   sound = record {
@@ -113,37 +117,37 @@ stands entry now names calls replies running = record {
   bytes = running.held;
 }
 
-leaves : (entry now : View) (names : Held) (calls : List Call) (replies : List Reply) → IsRunning entry now names calls replies → RunLeaves entry now calls (told replies)
-leaves entry now names calls replies running = record {
+leaves : (entry now : View) (names : Held) (noted : Noted) (calls : List Call) (replies : List Reply) → IsRunning entry now names noted calls replies → RunLeaves entry now calls (told replies)
+leaves entry now names noted calls replies running = record {
   asked = running.asked;
   statistics = running.statistics;
-  kept = λ kept. (running.keeps kept).kept;
+  kept = λ kept. (running.keeps kept).0.kept;
   doubling = λ least small made double. run_doubling least (fresh entry.memory.state) calls (told replies) replies _ small double running.ran made;
 }
 
-pub running_over : (entry now : View) (names : Held) (calls : List Call) (replies : List Reply) (blocks : List (ℕ × Block))
-    → IsRunning entry now names calls replies → blocks ≡ held_blocks now.memory.state.generation names → Runs entry now calls replies blocks
-running_over entry now names calls replies blocks running held = record {
-  last = machine_of now.memory names running.bytes;
+pub running_over : (entry now : View) (names : Held) (noted : Noted) (calls : List Call) (replies : List Reply) (blocks : List (ℕ × Block))
+    → IsRunning entry now names noted calls replies → blocks ≡ held_blocks now.memory.state.generation names → Runs entry now calls replies blocks
+running_over entry now names noted calls replies blocks running held = record {
+  last = machine_of now.memory names (named noted.marks) running.bytes;
   ran = running.ran;
-  stands = stands entry now names calls replies running;
+  stands = stands entry now names noted calls replies running;
   held = held;
-  leaves = leaves entry now names calls replies running;
+  leaves = leaves entry now names noted calls replies running;
 }
 
 -- Where the next call, or what is made of the replies, finds no memory: before the first call, at one that takes memory, or after the last.
-pub running_stopped : (entry now : View) (names : Held) (calls : List Call) (done : ℕ) (replies : List Reply) → done ≤ length calls
-    → (running : IsRunning entry now names (take done calls) replies)
-    → ((call : Call) → 0 < done → slice_get calls done ≡ Some call → IsTrue (takes_memory call (machine_of now.memory names running.bytes)))
+pub running_stopped : (entry now : View) (names : Held) (noted : Noted) (calls : List Call) (done : ℕ) (replies : List Reply) → done ≤ length calls
+    → (running : IsRunning entry now names noted (take done calls) replies)
+    → ((call : Call) → 0 < done → slice_get calls done ≡ Some call → IsTrue (takes_memory call (machine_of now.memory names (named noted.marks) running.bytes)))
     → (first : RunsFirst entry now calls done) × (first.replies ≡ replies)
-running_stopped entry now names calls done replies within running stops = (
+running_stopped entry now names noted calls done replies within running stops = (
   record {
     within = within;
     replies = replies;
-    last = machine_of now.memory names running.bytes;
+    last = machine_of now.memory names (named noted.marks) running.bytes;
     ran = running.ran;
-    stands = stands entry now names (take done calls) replies running;
-    leaves = leaves entry now names (take done calls) replies running;
+    stands = stands entry now names noted (take done calls) replies running;
+    leaves = leaves entry now names noted (take done calls) replies running;
     stops = stops;
   },
   refl,

@@ -11,19 +11,21 @@ use Rattle.std.proofs.lemmas.Option.{same_Some, none-some}
 use Rattle.std.proofs.lemmas.List.{length-replicate}
 use Rattle.placement.specs.Rounding.{up, is_layout}
 use Rattle.placement.specs.State.{State, IsValid, is_used, is_range_used, AreApart}
+use Rattle.placement.specs.Back.{Point, accepts, KeepsMark}
 use Rattle.placement.specs.Blocks.{IsBlock, IsMovedBlock, padded_size}
-use Rattle.placement.specs.Moves.{dealloc, grow, growing, shrink, shrinking, reset}
+use Rattle.placement.specs.Moves.{dealloc, grow, growing, shrink, shrinking}
 use Rattle.placement.specs.Requests.{placed_anew}
-use Rattle.placement.specs.Statistics.{uncounted, call_statistics}
-use Rattle.placement.specs.Machine.{Held, Contents, Next, is_place_used, at_name, step, splice, refused_of}
+use Rattle.placement.specs.Statistics.{call_statistics}
+use Rattle.placement.specs.Machine.{Held, Contents, Marks, Next, is_place_used, at_name, step, splice, refused_of}
 use Rattle.placement.specs.declared.place.Place.{Place}
 use Rattle.placement.specs.declared.calls.Call.{Call}
-use Rattle.placement.specs.declared.calls.Call.TheVariants.{Alloc, Grow, Shrink, Dealloc, Write, Reset}
+use Rattle.placement.specs.declared.calls.Call.TheVariants.{Alloc, Grow, Shrink, Dealloc, Write}
 use Rattle.placement.specs.declared.calls.Reply.{Reply}
 use Rattle.placement.specs.declared.calls.Reply.TheVariants.{Placed, Done, NoSuchName}
 use Rattle.placement.proofs.RoundingLemmas.{up_ge, up_same, up_least, min_align_positive, layout_power}
 use Rattle.placement.proofs.UsedLemmas.{used_part}
 use Rattle.placement.proofs.ReturnLemmas.{used_filled}
+use Rattle.placement.proofs.MarkLemmas.{still_keeps, alloc_keeps, resize_keeps, dealloc_keeps_mark}
 use Rattle.placement.proofs.MoveLemmas.{moved_anew, grow_moved, shrink_moved}
 use Rattle.arena_chunks.specs.Memory.{Memory, Writes, image, bytes_from, is_readable}
 use Rattle.arena_chunks.specs.Source.{Source, view}
@@ -94,11 +96,12 @@ record IsChange (old new : Memory) (names after : Held) (name : ℕ) (a b : Plac
   beside : (addr : ℕ) → IsTrue (is_used old.state addr) → IsBeside old.state.min_align a addr 1 → IsBeside old.state.min_align b addr 1
   rest : (q : ℕ) → q ≢ name → finite.get after q ≡ finite.get names q
   own : (p : Place) → finite.get after name ≡ Some p → (b ≡ p) × IsBlock new.state b
+  marks : (mark : Point) → IsTrue (accepts mark old.state) → KeepsMark mark old.state new.state
 
 -- the step of a call, with the bytes after it
-record IsStep (call : Call) (k : ℕ) (reply : Reply) (old new : Memory) (names after : Held) (name : ℕ) (b : Place) (bytes : Contents) : Type 0 where
+record IsStep (call : Call) (k : ℕ) (reply : Reply) (old new : Memory) (names after : Held) (name : ℕ) (b : Place) (marks : Marks) (bytes : Contents) : Type 0 where
   next : Contents
-  step : step call k (machine_of old names bytes) ≡ Some (reply, machine_of new after next)
+  step : step call k (machine_of old names marks bytes) ≡ Some (reply, machine_of new after marks next)
   rest : (q : ℕ) → q ≢ name → finite.get next q ≡ finite.get bytes q
   own : finite.get after name ≡ Some b → finite.get next name ≡ Some (bytes_from (image new) b.addr b.size)
 
@@ -177,8 +180,8 @@ module _ (old new : Memory) (names after : Held) (name : ℕ) (a b : Place) (hol
         ]);
       }
 
-  bytes_changed : (call : Call) (k : ℕ) (reply : Reply) (bytes : Contents) → HoldsBytes old names bytes → (stepped : IsStep call k reply old new names after name b bytes) → HoldsBytes new after stepped.next
-  bytes_changed call k reply bytes held stepped = record {
+  bytes_changed : (call : Call) (k : ℕ) (reply : Reply) (marks : Marks) (bytes : Contents) → HoldsBytes old names bytes → (stepped : IsStep call k reply old new names after name b marks bytes) → HoldsBytes new after stepped.next
+  bytes_changed call k reply marks bytes held stepped = record {
     each = λ q p at. elim (held_cases q p at) [
       | inl own ↦
           let here = stepped.own (ap (finite.get after) (sym own.0) ∙ at ∙ ap Some (sym own.1)) in
@@ -187,13 +190,14 @@ module _ (old new : Memory) (names after : Held) (name : ℕ) (a b : Place) (hol
     ];
   }
 
-  serves_changed : (call : Call) (reply : Reply) (before later : Source) → ((bytes : Contents) → HoldsBytes old names bytes → IsStep call (refused_of reply) reply old new names after name b bytes)
+  serves_changed : (call : Call) (reply : Reply) (before later : Source) → ((marks : Marks) (bytes : Contents) → HoldsBytes old names bytes → IsStep call (refused_of reply) reply old new names after name b marks bytes)
       → Asks call reply (view old before) (view new later) names → Serves call reply (view old before) (view new later) names after
   serves_changed call reply before later steps asks = record {
-    steps = λ bytes held. ((steps bytes held).next, (steps bytes held).step, bytes_changed call (refused_of reply) reply bytes held (steps bytes held));
+    steps = λ marks bytes held. let stepped = steps marks bytes held in (stepped.next, stepped.step, bytes_changed call (refused_of reply) reply marks bytes held stepped);
     asks = asks;
     holds = holds_changed;
-    keeps = λ kept. keeps_changed;
+    keeps = keeps_changed;
+    marks = change.marks;
   }
 
 -- A change after which bytes were written in the block that came.
@@ -213,14 +217,16 @@ change_written old mid new names after name a b at list valid change within same
       beside = change.beside;
       rest = change.rest;
       own = λ p is. ((change.own p is).0, subst (λ (s : State). IsBlock s b) (sym same) (change.own p is).1);
+      marks = λ mark accepted. subst (KeepsMark mark old.state) (sym same) (change.marks mark accepted);
     }
 
 -- A block was placed for a name, in place of the one that it had, or of none.
 change_placed : (old new : Memory) (names : Held) (name size align p : ℕ) (a : Place) (before blocks : List Block) → Holds old.state names
     → (0 < padded_size old.state.min_align a.addr a.size → finite.get names name ≡ Some a) → true ≡ is_layout size align → IsMovedBlock old.state a size align p new.state → IsValid new.state
     → Frame old new before blocks → ((addr n : ℕ) → IsBeside old.state.min_align a addr n → IsApart addr n before)
+    → ((mark : Point) → IsTrue (accepts mark old.state) → KeepsMark mark old.state new.state)
     → IsChange old new names (finite.insert names name (record { addr = p; size = size; align = align })) name a (record { addr = p; size = size; align = align })
-change_placed old new names name size align p a before blocks holds gone good moved valid frame apart =
+change_placed old new names name size align p a before blocks holds gone good moved valid frame apart marks =
     let m : ℕ = old.state.min_align in
     let b : Place = record { addr = p; size = size; align = align } in
     record {
@@ -235,33 +241,35 @@ change_placed old new names name size align p a before blocks holds gone good mo
         same_Some b o (sym (get-inserted names name b) ∙ is),
         record { layout = sym good; aligned = moved.aligned; min_aligned = rw moved.min_align moved.min_aligned; used = used_place new.state b moved.used },
       );
+      marks = marks;
     }
 
 -- ---- Calls that change nothing, or give all blocks back
 
 -- a call that places nothing, and gives nothing back at once
 pub asks_none : (call : Call) (reply : Reply) (old new : Memory) (names : Held) (source : Source) → refused_of reply ≡ 0 → new.statistics ≡ old.statistics
-    → ((bytes : Contents) → placed_anew call (machine_of old names bytes) ≡ None)
-    → ((bytes : Contents) → call_statistics call reply (machine_of old names bytes) old.statistics ≡ old.statistics) → Asks call reply (view old source) (view new source) names
+    → ((marks : Marks) (bytes : Contents) → placed_anew call (machine_of old names marks bytes) ≡ None)
+    → ((marks : Marks) (bytes : Contents) → call_statistics call reply (machine_of old names marks bytes) old.statistics ≡ old.statistics) → Asks call reply (view old source) (view new source) names
 asks_none call reply old new names source none same anew counts = record {
-  asked = λ bytes. rw (none, anew bytes) (asked_none source);
-  statistics = λ bytes. same ∙ sym (counts bytes);
+  asked = λ marks bytes. rw (none, anew marks bytes) (asked_none source);
+  statistics = λ marks bytes. same ∙ sym (counts marks bytes);
 }
 
 -- a call that changes nothing
 pub asks_still : (call : Call) (reply : Reply) (memory : Memory) (names : Held) (source : Source) → refused_of reply ≡ 0
-    → ((bytes : Contents) → placed_anew call (machine_of memory names bytes) ≡ None)
-    → ((bytes : Contents) → call_statistics call reply (machine_of memory names bytes) memory.statistics ≡ memory.statistics) → Asks call reply (view memory source) (view memory source) names
+    → ((marks : Marks) (bytes : Contents) → placed_anew call (machine_of memory names marks bytes) ≡ None)
+    → ((marks : Marks) (bytes : Contents) → call_statistics call reply (machine_of memory names marks bytes) memory.statistics ≡ memory.statistics) → Asks call reply (view memory source) (view memory source) names
 asks_still call reply memory names source none = asks_none call reply memory memory names source none refl
 
 pub serves_still : (call : Call) (reply : Reply) (memory : Memory) (names : Held) (before later : Source) → Holds memory.state names
-    → ((bytes : Contents) → HoldsBytes memory names bytes → step call (refused_of reply) (machine_of memory names bytes) ≡ Some (reply, machine_of memory names bytes))
+    → ((marks : Marks) (bytes : Contents) → HoldsBytes memory names bytes → step call (refused_of reply) (machine_of memory names marks bytes) ≡ Some (reply, machine_of memory names marks bytes))
     → Asks call reply (view memory before) (view memory later) names → Serves call reply (view memory before) (view memory later) names names
 serves_still call reply memory names before later holds steps asks = record {
-  steps = λ bytes held. (bytes, steps bytes held, held);
+  steps = λ marks bytes held. (bytes, steps marks bytes held, held);
   asks = asks;
   holds = holds;
-  keeps = λ kept entry keeps. keeps;
+  keeps = λ entry keeps. keeps;
+  marks = λ mark accepted. still_keeps mark memory.state accepted;
 }
 
 no_name : {P : Type 0} (q : ℕ) (p : Place) → finite.get (finite.empty {X = Place} {R = nat_cmp}) q ≡ Some p → P
@@ -276,16 +284,6 @@ no_bytes_held memory bytes = record { each = λ q p at. no_name q p at }
 pub none_kept : (memory : Memory) → Keeps memory memory finite.empty
 none_kept memory = record { kept = record { used = λ addr used. used; bytes = λ addr used. refl }; beside = λ q p at. no_name q p at }
 
-pub serves_reset : (old new : Memory) (names : Held) (source : Source) → new.state ≡ reset old.state → new.statistics ≡ uncounted → IsValid new.state
-    → Serves Reset Done (view old source) (view new source) names finite.empty
-unfolding step placed_anew
-serves_reset old new names source same statistics valid = record {
-  steps = λ bytes held. (finite.empty, rw same refl, no_bytes_held new finite.empty);
-  asks = record { asked = λ bytes. asked_none source; statistics = λ bytes. statistics };
-  holds = holds_none new.state valid;
-  keeps = λ kept. absurd (cc);
-}
-
 pub none_of : {X : Type 0} → (o : Option X) → false ≡ is_some o → o ≡ None
 none_of None test = refl
 none_of (Some x) test = cc
@@ -295,13 +293,13 @@ none_of (Some x) test = cc
 pub readable_at : (state : State) (names : Held) (name : ℕ) (p : Place) → Holds state names → finite.get names name ≡ Some p → IsTrue (is_readable state (block_at state.generation p))
 readable_at state names name p holds found = rw (eq-eqb state.generation state.generation refl) (holds.each name p found).used
 
-pub found_at : (old : Memory) (names : Held) (bytes : Contents) (name k : ℕ) (b : Place) (go : Place → List ℕ → Option Next) → HoldsBytes old names bytes → finite.get names name ≡ Some b
-    → at_name (machine_of old names bytes) name k go ≡ go b (bytes_from (image old) b.addr b.size)
-found_at old names bytes name k b go held found = rw (found, held.each name b found) refl
+pub found_at : (old : Memory) (names : Held) (marks : Marks) (bytes : Contents) (name k : ℕ) (b : Place) (go : Place → List ℕ → Option Next) → HoldsBytes old names bytes → finite.get names name ≡ Some b
+    → at_name (machine_of old names marks bytes) name k go ≡ go b (bytes_from (image old) b.addr b.size)
+found_at old names marks bytes name k b go held found = rw (found, held.each name b found) refl
 
-pub absent_at : (memory : Memory) (names : Held) (bytes : Contents) (name : ℕ) (go : Place → List ℕ → Option Next) → finite.get names name ≡ None
-    → at_name (machine_of memory names bytes) name 0 go ≡ Some (NoSuchName, machine_of memory names bytes)
-absent_at memory names bytes name go none = rw none refl
+pub absent_at : (memory : Memory) (names : Held) (marks : Marks) (bytes : Contents) (name : ℕ) (go : Place → List ℕ → Option Next) → finite.get names name ≡ None
+    → at_name (machine_of memory names marks bytes) name 0 go ≡ Some (NoSuchName, machine_of memory names marks bytes)
+absent_at memory names marks bytes name go none = rw none refl
 
 -- Bytes are written in a name's block.
 pub serves_write : (old new : Memory) (names : Held) (name at : ℕ) (list : List ℕ) (b : Place) (source : Source) → Holds old.state names → finite.get names name ≡ Some b
@@ -320,13 +318,14 @@ serves_write old new names name at list b source holds found within wrote =
       beside = λ addr used beside. beside;
       rest = λ q other. refl;
       own = λ p is. (same_Some b p (sym found ∙ is), holds.each name b found);
+      marks = λ mark accepted. still_keeps mark old.state accepted;
     }) within same writes in
-    serves_changed old new names names name b b holds change (Write name at list) Done source source (λ bytes held. record {
+    serves_changed old new names names name b b holds change (Write name at list) Done source source (λ marks bytes held. record {
       next = finite.insert bytes name (splice (bytes_from (image old) b.addr b.size) at list);
-      step = found_at old names bytes name 0 b _ held found ∙ rw (range, same) refl;
+      step = found_at old names marks bytes name 0 b _ held found ∙ rw (range, same) refl;
       rest = λ q other. get-insert_other bytes name q _ other;
       own = λ _. get-inserted bytes name _ ∙ ap Some (sym (bytes_spliced (image old) (image new) b.addr b.size at list within writes));
-    }) (asks_none (Write name at list) Done old new names source refl wrote.statistics (λ bytes. refl) (λ bytes. refl))
+    }) (asks_none (Write name at list) Done old new names source refl wrote.statistics (λ marks bytes. refl) (λ marks bytes. refl))
 
 -- A name's block is given back.
 pub serves_dealloc : (old new : Memory) (names : Held) (name : ℕ) (b : Place) (source : Source) → Holds old.state names → finite.get names name ≡ Some b
@@ -348,26 +347,27 @@ serves_dealloc old new names name b source holds found gives =
       beside = λ addr used beside. beside;
       rest = λ q other. get-remove_other names name q other;
       own = λ p is. absurd (none p is);
-    }) (Dealloc name) Done source source (λ bytes held. record {
+      marks = λ mark accepted. subst (KeepsMark mark old.state) (sym same) (dealloc_keeps_mark mark old.state b.addr b.size accepted);
+    }) (Dealloc name) Done source source (λ marks bytes held. record {
       next = finite.remove bytes name;
-      step = found_at old names bytes name 0 b _ held found ∙ rw same refl;
+      step = found_at old names marks bytes name 0 b _ held found ∙ rw same refl;
       rest = λ q other. get-remove_other bytes name q other;
       own = λ is. absurd (none b is);
-    }) (asks_none (Dealloc name) Done old new names source refl (ap (λ (w : Memory). w.statistics) gives.memory) (λ bytes. refl) (λ bytes. refl))
+    }) (asks_none (Dealloc name) Done old new names source refl (ap (λ (w : Memory). w.statistics) gives.memory) (λ marks bytes. refl) (λ marks bytes. refl))
 
 -- ---- Calls that place a block for a name
 
 -- The name holds a place, with what stands there.
 serves_placed : (call : Call) (k : ℕ) (old new : Memory) (names : Held) (name : ℕ) (a b : Place) (before later : Source) → Holds old.state names
     → IsChange old new names (finite.insert names name b) name a b
-    → ((bytes : Contents) → HoldsBytes old names bytes → step call k (machine_of old names bytes)
-    ≡ Some (Placed b.addr k, machine_of new (finite.insert names name b) (finite.insert bytes name (bytes_from (image new) b.addr b.size))))
+    → ((marks : Marks) (bytes : Contents) → HoldsBytes old names bytes → step call k (machine_of old names marks bytes)
+    ≡ Some (Placed b.addr k, machine_of new (finite.insert names name b) marks (finite.insert bytes name (bytes_from (image new) b.addr b.size))))
     → Asks call (Placed b.addr k) (view old before) (view new later) names
     → Serves call (Placed b.addr k) (view old before) (view new later) names (finite.insert names name b)
 serves_placed call k old new names name a b before later holds change steps asks =
-    serves_changed old new names (finite.insert names name b) name a b holds change call (Placed b.addr k) before later (λ bytes held. record {
+    serves_changed old new names (finite.insert names name b) name a b holds change call (Placed b.addr k) before later (λ marks bytes held. record {
       next = finite.insert bytes name (bytes_from (image new) b.addr b.size);
-      step = steps bytes held;
+      step = steps marks bytes held;
       rest = λ q other. get-insert_other bytes name q _ other;
       own = λ _. get-inserted bytes name _;
     }) asks
@@ -395,19 +395,21 @@ serves_alloc old mid new names name size align fill k block before later holds n
     let zero : size - 0 ≡ size = omega arith in
     let sized = length-replicate size fill in
     let moved = moved_anew old.state nothing size align k (record { answer = Some p; state = mid.state }) holds.valid (layout_power size align (sym good)) placed.step in
-    let change = change_placed old mid names name size align p nothing [] (block ∷ []) holds (λ filled. absurd (omega (arith, nothing_padded old.state.min_align positive))) good moved places.valid.exit placed.frame (λ addr n beside. tt) in
+    let change = change_placed old mid names name size align p nothing [] (block ∷ []) holds (λ filled. absurd (omega (arith, nothing_padded old.state.min_align positive))) good moved places.valid.exit placed.frame (λ addr n beside. tt)
+    (λ mark accepted. alloc_keeps mark old.state size align k (record { answer = Some p; state = mid.state }) accepted placed.step) in
     serves_placed (Alloc name size align fill) k old new names name nothing b before later holds
     (change_written old mid new names _ name nothing b 0 (replicate size fill) holds.valid change (omega (arith, sized)) same writes)
-    (λ bytes held. rw (none, ← good, placed.step, bytes_filled (image mid) (image new) p size 0 fill (omega arith) (rw zero writes), no_bytes (image mid) p 0 refl, zero, same) refl)
-    (record { asked = λ bytes. rw (none, ← good) placed.asked; statistics = λ bytes. wrote.statistics ∙ placed.statistics })
+    (λ marks bytes held. rw (none, ← good, placed.step, bytes_filled (image mid) (image new) p size 0 fill (omega arith) (rw zero writes), no_bytes (image mid) p 0 refl, zero, same) refl)
+    (record { asked = λ marks bytes. rw (none, ← good) placed.asked; statistics = λ marks bytes. wrote.statistics ∙ placed.statistics })
 
 -- a block in place of the name's
 change_moved : (old new : Memory) (names : Held) (name size align p : ℕ) (a : Place) (blocks : List Block) → Holds old.state names → finite.get names name ≡ Some a
     → true ≡ is_layout size align → IsMovedBlock old.state a size align p new.state → IsValid new.state → Frame old new (block_at old.state.generation a ∷ []) blocks
+    → ((mark : Point) → IsTrue (accepts mark old.state) → KeepsMark mark old.state new.state)
     → IsChange old new names (finite.insert names name (record { addr = p; size = size; align = align })) name a (record { addr = p; size = size; align = align })
-change_moved old new names name size align p a blocks holds found good moved valid frame =
+change_moved old new names name size align p a blocks holds found good moved valid frame marks =
     change_placed old new names name size align p a (block_at old.state.generation a ∷ []) blocks holds (λ filled. found) good moved valid frame
-    (λ addr n beside. (beside_apart old.state.min_align a addr n (min_align_positive old.state.min_align holds.valid.min_align) beside, tt))
+    (λ addr n beside. (beside_apart old.state.min_align a addr n (min_align_positive old.state.min_align holds.valid.min_align) beside, tt)) marks
 
 pub serves_grow : (old mid new : Memory) (names : Held) (name size align fill k : ℕ) (a : Place) (block : Block) (before later : Source) → Holds old.state names
     → finite.get names name ≡ Some a → true ≡ is_layout size align → a.size ≤ size
@@ -429,10 +431,12 @@ serves_grow old mid new names name size align fill k a block before later holds 
     let moved = grow_moved old.state a size align k (record { answer = Some p; state = mid.state }) holds.valid (holds.each name a found) (layout_power size align (sym good)) resized.step in
     serves_placed (Grow name size align fill) k old new names name a b before later holds
     (change_written old mid new names _ name a b a.size (replicate (size - a.size) fill) holds.valid
-    (change_moved old mid names name size align p a (block ∷ []) holds found good moved resizes.valid.exit resized.frame) (omega arith) same writes)
-    (λ bytes held. found_at old names bytes name k a _ held found
+    (change_moved old mid names name size align p a (block ∷ []) holds found good moved resizes.valid.exit resized.frame
+    (λ mark accepted. resize_keeps mark (growing old.state a.addr a.size a.align size align) old.state a.addr size align k (record { answer = Some p; state = mid.state }) accepted resized.step))
+    (omega arith) same writes)
+    (λ marks bytes held. found_at old names marks bytes name k a _ held found
     ∙ rw (← good, range, resized.step, bytes_filled (image mid) (image new) p size a.size fill larger writes, kept, same) refl)
-    (record { asked = λ bytes. rw (found, ← good, range) resized.asked; statistics = λ bytes. wrote.statistics ∙ rw found resized.statistics })
+    (record { asked = λ marks bytes. rw (found, ← good, range) resized.asked; statistics = λ marks bytes. wrote.statistics ∙ rw found resized.statistics })
 
 pub serves_shrink : (old new : Memory) (names : Held) (name size align k : ℕ) (a : Place) (block : Block) (before later : Source) → Holds old.state names
     → finite.get names name ≡ Some a → true ≡ is_layout size align → size ≤ a.size
@@ -449,6 +453,7 @@ serves_shrink old new names name size align k a block before later holds found g
     let kept : bytes_from (image new) p size ≡ bytes_from (image old) a.addr size = rw all at resized.bytes in
     let moved = shrink_moved old.state a size align k (record { answer = Some p; state = new.state }) holds.valid (holds.each name a found) smaller (layout_power size align (sym good)) resized.step in
     serves_placed (Shrink name size align) k old new names name a b before later holds
-    (change_moved old new names name size align p a (block ∷ []) holds found good moved resizes.valid.exit resized.frame)
-    (λ bytes held. found_at old names bytes name k a _ held found ∙ rw (← good, range, resized.step, kept, take_bytes (image old) a.addr a.size size smaller) refl)
-    (record { asked = λ bytes. rw (found, ← good, range) resized.asked; statistics = λ bytes. rw found resized.statistics })
+    (change_moved old new names name size align p a (block ∷ []) holds found good moved resizes.valid.exit resized.frame
+    (λ mark accepted. resize_keeps mark (shrinking old.state a.addr a.size a.align size align) old.state a.addr size align k (record { answer = Some p; state = new.state }) accepted resized.step))
+    (λ marks bytes held. found_at old names marks bytes name k a _ held found ∙ rw (← good, range, resized.step, kept, take_bytes (image old) a.addr a.size size smaller) refl)
+    (record { asked = λ marks bytes. rw (found, ← good, range) resized.asked; statistics = λ marks bytes. rw found resized.statistics })

@@ -1,5 +1,7 @@
 pub mod Memory
 pub mod Source
+pub mod Telling
+pub mod Asking
 pub mod Frame
 pub mod Answers
 pub mod BlockCalls
@@ -8,7 +10,13 @@ pub mod Resizes
 pub mod Runs
 pub mod Replies
 pub mod Stored
+pub mod Chunks
+pub mod Table
+pub mod Copies
+pub mod Finding
+pub mod Checkpoints
 pub mod PlaceCode
+pub mod Marks
 pub mod Serving
 pub mod Creating
 pub mod Walks

@@ -2,8 +2,9 @@
 use Rattle.std.specs.Prelude.{◌≡◌, ◌≢◌, ℕ, false, Some, IsTrue}
 use Rattle.std.specs.FinMap as finite
 use Rattle.placement.specs.State.{State, IsValid, is_used, AreApart}
+use Rattle.placement.specs.Back.{Point, accepts, KeepsMark}
 use Rattle.placement.specs.Blocks.{IsBlock, padded_size}
-use Rattle.placement.specs.Machine.{Machine, Held, Contents, step, refused_of, is_reset}
+use Rattle.placement.specs.Machine.{Machine, Held, Contents, Marks, step, refused_of, is_reset}
 use Rattle.placement.specs.Requests.{call_requests, takes_memory}
 use Rattle.placement.specs.Statistics.{call_statistics}
 use Rattle.placement.specs.declared.place.Place.{Place}
@@ -12,10 +13,11 @@ use Rattle.placement.specs.declared.calls.Reply.{Reply}
 use Rattle.arena_chunks.specs.Memory.{Memory, KeepsUsed}
 use Rattle.arena_chunks.specs.Source.{View, IsAsked}
 use Rattle.arena_chunks.specs.Runs.{HoldsBytes}
+use Rattle.arena_chunks.specs.Marks.{Noted, named, Tracks, KeepEntry}
 
--- the machine that an arena, its names and some bytes are
-abbrev pub machine_of : Memory → Held → Contents → Machine
-machine_of memory names bytes = record { state = memory.state; held = names; bytes = bytes }
+-- the machine that an arena, its names, their bytes and some marks are
+abbrev pub machine_of : Memory → Held → Marks → Contents → Machine
+machine_of memory names marks bytes = record { state = memory.state; held = names; bytes = bytes; marks = marks }
 
 -- The names' blocks are aligned and in use, and no two have an address in common. That they lie at multiples of the least
 -- alignment, too, keeps a cursor that moves up from passing one.
@@ -36,25 +38,40 @@ pub record Keeps (entry memory : Memory) (names : Held) : Type 0 where
       → IsBeside memory.state.min_align p addr 1
 
 -- In a call the source refused k requests, and was asked for what the rules ask for; and the arena counted what they count:
--- whichever bytes the names have.
+-- whichever bytes the names have, and whichever marks there are.
 pub record Asks (call : Call) (reply : Reply) (old new : View) (names : Held) : Type 0 where
-  pub asked : (bytes : Contents)
-      → IsAsked old.source new.source (refused_of reply) (call_requests call (refused_of reply) (machine_of old.memory names bytes))
-  pub statistics : (bytes : Contents)
-      → new.memory.statistics ≡ call_statistics call reply (machine_of old.memory names bytes) old.memory.statistics
+  pub asked : (marks : Marks) (bytes : Contents)
+      → IsAsked old.source new.source (refused_of reply) (call_requests call (refused_of reply) (machine_of old.memory names marks bytes))
+  pub statistics : (marks : Marks) (bytes : Contents)
+      → new.memory.statistics ≡ call_statistics call reply (machine_of old.memory names marks bytes) old.memory.statistics
 
--- The call is the machine's step, whichever bytes the arena holds for its names; the blocks stay sound, and what was kept
--- since any entry is kept, unless all blocks are given back.
+-- The call, on no mark, is the machine's step, whichever bytes the arena holds for its names and whichever marks there are; the
+-- blocks stay sound, what was kept since any entry is kept, and marks are.
 pub record Serves (call : Call) (reply : Reply) (old new : View) (names held : Held) : Type 0 where
-  pub steps : (bytes : Contents) → HoldsBytes old.memory names bytes
+  pub steps : (marks : Marks) (bytes : Contents) → HoldsBytes old.memory names bytes
       → (next : Contents)
-      × (step call (refused_of reply) (machine_of old.memory names bytes) ≡ Some (reply, machine_of new.memory held next))
+      × (step call (refused_of reply) (machine_of old.memory names marks bytes) ≡ Some (reply, machine_of new.memory held marks next))
       × HoldsBytes new.memory held next
   pub asks : Asks call reply old new names
   pub holds : Holds new.memory.state held
-  pub keeps : is_reset call ≡ false → (entry : Memory) → Keeps entry old.memory names → Keeps entry new.memory held
+  pub keeps : (entry : Memory) → Keeps entry old.memory names → Keeps entry new.memory held
+  pub marks : (mark : Point) → IsTrue (accepts mark old.memory.state) → KeepsMark mark old.memory.state new.memory.state
+
+-- The call of a run is the machine's step, with the marks that there are; and what going back to these needs stays known. What
+-- was kept since any entry is kept, and lies in each mark's part, unless all blocks are given back.
+pub record ServesRun (call : Call) (reply : Reply) (old new : View) (names held : Held) (noted later : Noted) : Type 0 where
+  pub steps : (bytes : Contents) → HoldsBytes old.memory names bytes
+      → (next : Contents)
+      × (step call (refused_of reply) (machine_of old.memory names (named noted.marks) bytes)
+      ≡ Some (reply, machine_of new.memory held (named later.marks) next))
+      × HoldsBytes new.memory held next
+  pub asks : Asks call reply old new names
+  pub holds : Holds new.memory.state held
+  pub tracks : Tracks new.memory.state held later
+  pub keeps : is_reset call ≡ false → (entry : Memory) → Keeps entry old.memory names → KeepEntry entry.state old.memory.state noted.marks
+      → Keeps entry new.memory held × KeepEntry entry.state new.memory.state later.marks
 
 -- Memory was wanting for a call that takes some. Nothing changed.
-pub record Wants (call : Call) (old new : View) (names : Held) : Type 0 where
-  pub takes : (bytes : Contents) → IsTrue (takes_memory call (machine_of old.memory names bytes))
+pub record Wants (call : Call) (old new : View) (names : Held) (marks : Marks) : Type 0 where
+  pub takes : (bytes : Contents) → IsTrue (takes_memory call (machine_of old.memory names marks bytes))
   pub same : new ≡ old

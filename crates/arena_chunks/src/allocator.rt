@@ -1,5 +1,5 @@
 // An arena with its source of chunks.
-ghost use Rattle.std.specs.Prelude.{◌≡◌, ◌+◌, ◌-◌, ◌%◌, ◌≤◌, [], ◌∷◌, Some, Ok, Err, IfOk, IfErr, IsOk, ℕ, List, IsTrue, length, take};
+ghost use Rattle.std.specs.Prelude.{◌≡◌, ◌+◌, ◌-◌, ◌*◌, ◌^◌, ◌%◌, ◌≤◌, [], ◌∷◌, Some, Ok, Err, IfOk, IfErr, IsOk, ℕ, List, IsTrue, length, take};
 ghost use Rattle.std.specs.Borrow.{sem};
 ghost use Rattle.placement.specs.State.{IsValid, used_bytes, allocated_bytes, top_of};
 ghost use Rattle.placement.specs.Moves.{reset};
@@ -17,16 +17,18 @@ mod block_alloc;
 mod over_arena;
 mod text;
 
-use crate::arena::{Arena, RawErr};
+use crate::arena::{Arena, Checkpoint, RawErr};
 use crate::block::{ArenaErr, Block};
 use crate::chunks::{ChunkSource, Edit};
 pub use alloc::Alloc;
+use arena_bases::Steps;
 use arena_place::Layout;
 use arena_region::Region;
 pub use block_alloc::BlockAlloc;
 pub use over_arena::OverArena;
 use std::alloc::Global;
 use std::marker::Model;
+use std::sync::ledger::Ledger;
 pub use text::Str;
 
 /// An arena of least alignment 1 together with the source of its chunks. Contracts see the arena's memory and what the source
@@ -47,6 +49,8 @@ impl<C: ChunkSource> Model for Allocator<C> {
 
 impl<C: ChunkSource> Allocator<C> {
     ghost use Rattle.arena_chunks.specs.Lends.{LendsBlockOf, with_block};
+    ghost use Rattle.arena_chunks.specs.Checkpoints.{checkpoint_of, is_accepted, sent_back, GoesBack};
+    ghost use Rattle.arena_chunks.specs.Finding.{chunk_number};
 
     /// An allocator over an empty arena that grows. Takes no memory.
     pub fn new(alloc: Global, chunks: C) -> Allocator<C>
@@ -85,7 +89,7 @@ impl<C: ChunkSource> Allocator<C> {
     /// An allocator whose arena doesn't grow, with one chunk: the region but for its last 48 bytes. It is always made.
     pub fn from_raw_parts(
         alloc: Global,
-        region: Region,
+        region: Vec<u8>,
         chunks: C,
     ) -> Result<Allocator<C>, (RawErr, C)>
         requires units { length region.items % 16 ≡ 0 }
@@ -99,6 +103,17 @@ impl<C: ChunkSource> Allocator<C> {
             Ok(arena) => Ok(Allocator::of(arena, chunks)),
             Err(e) => Err((e, chunks)),
         }
+    }
+
+    /// The same over a region, whose memory may be untouched yet.
+    pub fn from_region(alloc: Global, region: Region, chunks: C) -> Allocator<C>
+        requires units { length region.items % 16 ≡ 0 }
+        requires room { 48 ≤ length region.items }
+        ensures { let size = length region.items - 48 in
+            result ≡ view (uncounted_memory (fixed_state 1 size) (take size region.items ∷ []))
+            (C.source chunks) }
+    {
+        Allocator::of(Arena::from_region(alloc, region), chunks)
     }
 
     /// Both parts. `of` joins them again.
@@ -134,6 +149,38 @@ impl<C: ChunkSource> Allocator<C> {
         ensures valid { IsValid self.new.memory.state }
     {
         self.arena.reset();
+    }
+
+    /// A mark of the present state, as the arena's `checkpoint` makes it. Takes no memory.
+    pub fn checkpoint(&self) -> Checkpoint
+        ensures { result ≡ checkpoint_of self.now.memory.state }
+    {
+        self.arena.checkpoint()
+    }
+
+    /// Whether the arena can go back to a mark, as its `accepts` tells.
+    pub fn accepts(&self, c: Checkpoint) -> bool
+        ensures { result ≡ is_accepted c self.now.memory.state }
+    {
+        self.arena.accepts(c)
+    }
+
+    /// Goes back to a mark, as the arena's `rewind` does.
+    pub fn rewind(&mut self, c: Checkpoint)
+        requires { IsTrue (is_accepted c self.old.memory.state) }
+        ensures memory { self.new.memory ≡ sent_back c self.old.memory }
+        ensures source { self.new.source ≡ self.old.source }
+        ensures back { GoesBack self.old.memory self.new.memory }
+    {
+        self.arena.rewind(c);
+    }
+
+    /// The number of the chunk that has an address, as the arena's `find_chunk` tells.
+    pub fn find_chunk<L: Ledger>(&self, addr: u64, steps: &mut Steps<L>) -> Option<u64>
+        ensures number { result ≡ chunk_number addr self.now.memory.state.chunks }
+        ensures cost { 2 ^ (steps.new - steps.old) ≤ 2 * length self.now.memory.state.chunks + 1 }
+    {
+        self.arena.find_chunk(addr, steps)
     }
 
     /// How many bytes the chunks have.

@@ -3,17 +3,21 @@ ghost use Rattle.std.specs.Prelude.{◌≡◌, ◌≢◌, ◌-◌, ◌%◌, ◌�
 
 mod access;
 mod create;
+mod find;
 mod iter;
 mod moves;
 mod realloc;
 mod resize;
+mod rewind;
 
 use crate::block::Block;
 use crate::chunks::chunk::{NOWHERE, StoredChunk};
+use crate::chunks::table::Table;
 use arena_place::CHUNK_FOOTER_SIZE;
 pub use create::RawErr;
 pub use iter::{ChunkIter, ChunkRawIter};
 use placement::Place;
+pub use rewind::Checkpoint;
 use std::marker::Model;
 
 /// A bump arena, which places blocks downwards in its newest chunk. The least alignment of its blocks is MIN_ALIGN:
@@ -23,7 +27,7 @@ pub struct Arena<const MIN_ALIGN: usize> {
     // The newest chunk, in which blocks are placed. A base of 16 stands for none: then there are no older ones either.
     pub(crate) newest: StoredChunk,
     // The other chunks, oldest first, so that their bases rise.
-    pub(crate) older: Vec<StoredChunk>,
+    pub(crate) older: Table,
     // Whether further chunks are asked for.
     pub(crate) is_growing: bool,
     // How often all blocks were given back, as far as 2^64 - 1.
@@ -58,11 +62,7 @@ impl<const MIN_ALIGN: usize> Arena<MIN_ALIGN> {
         ensures value { result ≡ used_bytes self.now.state }
         ensures valid { IsValid self.now.state }
     {
-        let mut used = self.newest.used();
-        for chunk in &self.older {
-            used += chunk.used();
-        }
-        used
+        self.newest.used() + self.older.used()
     }
 
     /// How many bytes the chunks have.
@@ -70,11 +70,7 @@ impl<const MIN_ALIGN: usize> Arena<MIN_ALIGN> {
         ensures value { result ≡ allocated_bytes self.now.state }
         ensures valid { IsValid self.now.state }
     {
-        let mut allocated = self.newest.size();
-        for chunk in &self.older {
-            allocated += chunk.size();
-        }
-        allocated
+        self.newest.size() + self.older.size()
     }
 
     /// How many bytes of the newest chunk are not used: all that can still be placed in it.

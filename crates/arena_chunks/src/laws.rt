@@ -1,11 +1,13 @@
 //! What the records of calls on blocks mean for a layer above, as facts. A layer that has a value in an arena needs these
 //! alone, and opens neither chunks nor cursors. Each is a call that does nothing: made in a body, it gives its facts there.
+mod asking;
 mod blocks;
 mod calls;
 mod framing;
 mod used;
 
-pub use blocks::{apart, bytes, readable};
+pub use asking::{asks, full, starved};
+pub use blocks::{all_apart, apart, bytes, readable};
 pub use calls::{given_back, placed, resized, written};
 pub use framing::frames;
 pub use used::{doubling, used_by_giving_back, used_by_placing, used_by_resizing};

@@ -1,4 +1,5 @@
 // Runs of calls by name.
+mod marks;
 mod names;
 mod replies;
 mod run;

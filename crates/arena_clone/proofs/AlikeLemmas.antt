@@ -1,10 +1,10 @@
 -- Options, lists and maps that are alike.
 use Rattle.std.proofs.Common.{◌≡◌, ℕ, zero, suc, ◌↔◌, ap, sym, ◌∙◌, refl, arith, Option, Some, None, List, [], ◌∷◌}
-use Rattle.std.specs.Prelude.{slice_get}
+use Rattle.std.specs.Prelude.{is_some, slice_get}
 use Rattle.arena_chunks.specs.Memory.{Memory}
 use Rattle.std.proofs.Math.Path.{fun_ext}
 use Rattle.arena_hash.specs.Contents.{Kind as MapTypes}
-use Rattle.arena_hash.specs.Finite.{value_of}
+use Rattle.arena_hash.specs.Finite.{has, value_of}
 use Rattle.arena_hash.specs.Maps.{map_in}
 use Rattle.arena_hash.specs.declared.map.HashMap.{HashMap}
 use Rattle.arena_clone.specs.Alike.{AreOptionsAlike, AreListsAlike, AreMapsAlike}
@@ -60,15 +60,35 @@ module _ {K V S : Type 0} (k : MapTypes K V S) (keys : Kind K) (values : Kind V)
   found_means m None = refl
   found_means m (Some p) = refl
 
-  -- Two maps mean what copies mean where what is found under each content does.
+  -- Two maps mean what copies mean where they have one hasher, and what is found under each content does.
   pub maps_alike : (v w : HashMap K V S) → AreAlike (map_of k keys values) ids a v c w ↔ AreMapsAlike k values ids a v c w
   maps_alike v w = (
-    (λ same q. (found q).0 (sym (found_means c (map_in k c w q)) ∙ ap (λ (is : List ℕ → Option values.Whole). is q) same
-        ∙ ap (of_some (values.by_ids ids)) (found_means a (map_in k a v q)))),
-    (λ alike. fun_ext (λ q. found_means c (map_in k c w q) ∙ (found q).1 (alike q)
-        ∙ ap (of_some (values.by_ids ids)) (sym (found_means a (map_in k a v q))))),
+    (λ same. record {
+      hasher = ap (λ (is : S × (List ℕ → Option values.Whole)). is.0) same;
+      each = λ q. (found q).0 (sym (found_means c (map_in k c w q))
+          ∙ ap (λ (is : S × (List ℕ → Option values.Whole)). is.1 q) same
+          ∙ ap (of_some (values.by_ids ids)) (found_means a (map_in k a v q)));
+    }),
+    (λ alike i. (
+      alike.hasher i,
+      fun_ext (λ q. found_means c (map_in k c w q) ∙ (found q).1 (alike.each q)
+          ∙ ap (of_some (values.by_ids ids)) (sym (found_means a (map_in k a v q)))) i,
+    )),
   )
     where
       found : (q : List ℕ) → AreAlike (option_of values) ids a (value_of (map_in k a v q)) c (value_of (map_in k c w q))
           ↔ AreOptionsAlike values ids a (value_of (map_in k a v q)) c (value_of (map_in k c w q))
       found q = options_alike values ids a c (value_of (map_in k a v q)) (value_of (map_in k c w q))
+
+  some_of : {A B : Type 0} (f : A → B) (o : Option A) → is_some (of_some f o) ≡ is_some o
+  some_of f None = refl
+  some_of f (Some x) = refl
+
+  -- The same contents are keys of both then.
+  pub alike_keys : (v w : HashMap K V S) → AreAlike (map_of k keys values) ids a v c w
+      → (q : List ℕ) → has (map_in k a v) q ≡ has (map_in k c w) q
+  alike_keys v w same q =
+      sym (some_of (values.by_ids ids) (of_some (λ (p : K × V). values.whole a p.1) (map_in k a v q))
+      ∙ some_of (λ (p : K × V). values.whole a p.1) (map_in k a v q))
+      ∙ ap (λ (is : S × (List ℕ → Option values.Whole)). is_some (is.1 q)) (sym same)
+      ∙ some_of (λ (p : K × V). values.whole c p.1) (map_in k c w q)

@@ -1,4 +1,5 @@
 mod AsksLemmas
+mod AskBytesLemmas
 mod CopyLemmas
 mod FlatLemmas
 mod RowLemmas

@@ -69,6 +69,7 @@ table_empty places = record {
   len = places.len;
   room = omega arith;
   block = refl;
+  hasher = refl;
 }
 
 -- ---- A map of copies
@@ -166,9 +167,10 @@ module _ {K V S : Type 0} (k : MapTypes K V S) (keys : Kind K) (values : Kind V)
     map_pair_refused {err} puts = record { blocks = e.table.block ∷ puts.row.blocks; placed = map_placed (Err err) puts; made = tt }
 
     -- or all are copied.
-    pub map_made : {w : HashMap K V S} → IsMapIn k source h → PutsCopies k keys values ids source mid new e (pairs_in k source h) (Ok w)
+    pub map_made : {w : HashMap K V S} → IsMapIn k source h → e.hasher ≡ h.hasher
+        → PutsCopies k keys values ids source mid new e (pairs_in k source h) (Ok w)
         → Copies (map_of k keys values) ids source old new h (Ok w)
-    map_made {w} held puts =
+    map_made {w} held hasher puts =
         let holds = puts.map in
         let row = puts.row.made in
         let ys = puts.ys in
@@ -186,9 +188,12 @@ module _ {K V S : Type 0} (k : MapTypes K V S) (keys : Kind K) (values : Kind V)
           placed = map_placed (Ok w) puts;
           made = record {
             held = (holds.held, all_in_order ((pair_of keys values).is_held new.memory) ys zs same row.held);
-            means = fun_ext (λ q.
-                ap (λ (f : List ℕ → Option (K × V)). of_some (λ (p : K × V). values.whole new.memory p.1) (f q)) holds.map_is
-                ∙ values_alike k keys values ids source new.memory q (pairs_in k source h) ys holds.contents row.means);
+            means = λ i. (
+              (holds.hasher ∙ hasher) i,
+              fun_ext (λ q.
+                  ap (λ (f : List ℕ → Option (K × V)). of_some (λ (p : K × V). values.whole new.memory p.1) (f q)) holds.map_is
+                  ∙ values_alike k keys values ids source new.memory q (pairs_in k source h) ys holds.contents row.means) i,
+            );
             trim = (
               copy_fits k places holds held.count,
               all_in_order ((pair_of keys values).is_trim new.memory) ys zs same row.trim,

@@ -89,6 +89,7 @@ module _ {K V S : Type 0} (k : MapTypes K V S) {keys : Kind K} {values : Kind V}
         len = holds.len;
         room = holds.room;
         block = holds.block;
+        hasher = holds.hasher;
       }
 
 -- ---- The pairs in the first slots
@@ -241,6 +242,7 @@ module _ {K V S : Type 0} {k : MapTypes K V S} {keys : Kind K} {values : Kind V}
               len = put.len ∙ rw absent (omega (arith, holds.len, long));
               room = omega (arith, holds.room, paid.spare, long);
               block = block;
+              hasher = put.hasher ∙ holds.hasher;
             });
           }
 

@@ -125,8 +125,11 @@ module _ {K V S : Type 0} (k : MapTypes K V S) (keys : Kind K) (values : Kind V)
         let row = row_made (pair_of keys values) ids pairs_flat a c (pairs_in k c (in_block h b)) in
         record {
           held = (block_held is place, row.held);
-          means = fun_ext (λ q. ap (λ (f : List ℕ → Option (K × V)). of_some (λ (p : K × V). values.whole c p.1) (f q)) (sym map_same)
-              ∙ alike (map_in k a h q));
+          means = λ i. (
+            h.hasher,
+            fun_ext (λ q. ap (λ (f : List ℕ → Option (K × V)). of_some (λ (p : K × V). values.whole c p.1) (f q)) (sym map_same)
+                ∙ alike (map_in k a h q)) i,
+          );
           trim = (full_fits h.table.slots h.len is.handle.ring is.within full, row.trim);
           deep = IsPermutation-cons b ((row_of (pair_of keys values)).deep c (pairs_in k c (in_block h b))) [] row.deep;
         }

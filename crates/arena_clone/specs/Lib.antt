@@ -1,7 +1,10 @@
 pub mod Asks
+pub mod AskBytes
 pub mod Kinds
 pub mod FlatLaws
 pub mod KindLaws
+pub mod EitherKind
+pub mod EitherLaws
 pub mod Alike
 pub mod Copies
 pub mod Rows

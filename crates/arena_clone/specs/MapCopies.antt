@@ -23,6 +23,7 @@ pub record HoldsCopies {K V S : Type 0} (k : MapTypes K V S) (source new : Memor
   pub len : w.len ≡ length xs
   pub room : spare_of m ≤ spare_of w + length xs
   pub block : w.table.block ≡ m.table.block
+  pub hasher : w.hasher ≡ m.hasher
 
 -- Copies of pairs were put into an empty map, or one was refused.
 pub record PutsCopies {K V S : Type 0} (k : MapTypes K V S) (keys : Kind K) (values : Kind V) (ids : CloneInSemanticIds) (source : Memory)

@@ -108,9 +108,9 @@ module _ {K V S : Type 0} (k : MapTypes K V S) (keys : Kind K) (values : Kind V)
     );
     deep = λ a c h agree. ap (λ bs. h.table.block ∷ bs) (ap ((row_of (pair_of keys values)).deep c) (sym (pairs_same a c h agree))
         ∙ pairs_lawful.deep a c (pairs_in k a h) agree.1);
-    whole = λ a c h agree. fun_ext (meanings a c h agree);
+    whole = λ a c h agree i. (h.hasher, fun_ext (meanings a c h agree) i);
     asks = λ a c h agree. ap (λ xs. table_ask k h.len ∷ xs) (ap ((row_of (pair_of keys values)).asks c) (sym (pairs_same a c h agree))
         ∙ pairs_lawful.asks a c (pairs_in k a h) agree.1);
-    kept = λ is. fun_ext (λ q. (option_lawful values two).kept (is q));
+    kept = λ is i. (is.0, fun_ext (λ q. (option_lawful values two).kept (is.1 q)) i);
     flat = λ ids moved. absurd (false≢true moved);
   }

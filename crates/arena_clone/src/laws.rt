@@ -1,20 +1,24 @@
 // What becomes of values and of their copies while an arena is used. Each law is a call that does nothing: made in a body, it
 // gives its facts there.
-ghost use Rattle.std.specs.Prelude.{◌≡◌, ◌*◌, ◌↔◌, Option, List, [], ◌∷◌};
+ghost use Rattle.std.specs.Prelude.{◌≡◌, ◌+◌, ◌*◌, ◌≤◌, ◌↔◌, Option, Some, None, List, [], ◌∷◌};
 ghost use Rattle.arena_chunks.specs.Memory.{Memory};
+ghost use Rattle.arena_chunks.specs.Source.{View};
 ghost use Rattle.arena_chunks.specs.Frame.{Frame, AreAllApart};
 ghost use Rattle.arena_chunks.specs.declared.block.Block.{Block};
-ghost use Rattle.arena_clone.specs.Asks.{vector_ask};
+ghost use Rattle.arena_clone.specs.Asks.{Ask, AsksFor, vector_ask};
+ghost use Rattle.arena_clone.specs.AskBytes.{have_layouts, least_bytes, most_bytes, used};
 ghost use Rattle.arena_clone.specs.Asks.Ask.{Room};
 ghost use Rattle.arena_clone.specs.Kinds.{AreAlike, option_of, box_of, slice_of, vec_of};
 ghost use Rattle.arena_clone.specs.Alike.{AreOptionsAlike, AreListsAlike, AreMapsAlike};
 ghost use Rattle.arena_clone.specs.Copies.{IsMade, StaysWhole};
 ghost use Rattle.arena_clone.specs.MapKind.{map_of, table_ask};
 ghost use Rattle.arena_hash.specs.Contents.{kind};
+ghost use Rattle.arena_hash.specs.Maps.{IsMapIn};
 ghost use Rattle.arena_hash.specs.declared.map.HashMap.{HashMap};
 ghost use Rattle.arena_vec.specs.declared.vec.Vec.{Vec};
 ghost use Rattle.arena_vec.specs.Vecs.{vec_list};
 ghost use Rattle.arena_items.specs.Values.{box_value, slice_list};
+ghost use Rattle.arena_items.specs.declared.room.AllocError.{AllocError};
 ghost use Rattle.arena_items.specs.declared.boxes.Box.{Box};
 ghost use Rattle.arena_items.specs.declared.slices.BoxSlice.{BoxSlice};
 ghost use Rattle.arena_clone.specs.declared.ids.CloneInSemanticIds.{CloneInSemanticIds};
@@ -22,7 +26,7 @@ ghost use Rattle.arena_clone.specs.declared.ids.CloneInSemanticIds.TheVariants.{
 
 use crate::clone_in::CloneIn;
 use crate::keys::CloneKey;
-use arena_hash::KeyHasher;
+use arena_hash::{KeyHasher, lengths_law};
 use arena_items::Item;
 
 /// When values that are made of others are alike by the rule for ids, whichever memory each stands in: options where both are
@@ -42,13 +46,18 @@ pub fn alike_law<T: CloneIn + Item>()
         ↔ AreListsAlike T.kind ids a (vec_list T.Item a v) c (vec_list T.Item c w) }
 {}
 
-/// When two maps are alike by the rule for ids: the same contents are keys of both, and the values of each
-/// are alike.
+/// When two maps are alike by the rule for ids: both have the same hasher, the same contents are keys of both,
+/// and the values of each are alike. Then they have one length.
 pub fn maps_alike_law<K: CloneKey, V: CloneIn + Item, S: KeyHasher>()
-    ensures { (ids : CloneInSemanticIds) (a c : Memory) (v w : HashMap K V S)
+    ensures alike { (ids : CloneInSemanticIds) (a c : Memory) (v w : HashMap K V S)
         → AreAlike (map_of (kind K.Item K.key V.Item S.hash_of) K.kind V.kind) ids a v c w
         ↔ AreMapsAlike (kind K.Item K.key V.Item S.hash_of) V.kind ids a v c w }
-{}
+    ensures lengths { (ids : CloneInSemanticIds) (a c : Memory) (v w : HashMap K V S)
+        → IsMapIn (kind K.Item K.key V.Item S.hash_of) a v → IsMapIn (kind K.Item K.key V.Item S.hash_of) c w
+        → AreAlike (map_of (kind K.Item K.key V.Item S.hash_of) K.kind V.kind) ids a v c w → v.len ≡ w.len }
+{
+    lengths_law::<K, V, S>();
+}
 
 /// The frame law at every depth. A call on some blocks leaves every value whose blocks lie apart from them: it is held, names
 /// the same blocks, means the same, and its blocks lie apart from those that the call has then.
@@ -89,4 +98,16 @@ pub fn one_table_law<K: CloneKey, V: CloneIn + Item, S: KeyHasher>()
         → (m : Memory) (h : HashMap K V S)
         → (map_of (kind K.Item K.key V.Item S.hash_of) K.kind V.kind).asks m h
         ≡ table_ask (kind K.Item K.key V.Item S.hash_of) h.len ∷ [] }
+{}
+
+/// What a copy brings into use, by what it asks of its arena: at least the bytes of its blocks, and with the padding before
+/// them at most so many. Refused, a copy that asks for one block alone leaves the arena's state as it was.
+pub fn asks_law()
+    ensures least { (asks : List Ask) (old new : View) (blocks : List Block) → have_layouts asks
+        → AsksFor asks old new blocks None → used old + least_bytes asks ≤ used new }
+    ensures most { (asks : List Ask) (old new : View) (blocks : List Block) (end : Option AllocError)
+        → have_layouts asks → AsksFor asks old new blocks end → used new ≤ used old + most_bytes asks }
+    ensures refused { (ask : Ask) (old new : View) (blocks : List Block) (e : AllocError)
+        → have_layouts (ask ∷ []) → AsksFor (ask ∷ []) old new blocks (Some e)
+        → new.memory.state ≡ old.memory.state }
 {}

@@ -115,6 +115,7 @@ module _ {K V S : Type 0} (k : Kind K V S) (keys : IsItemLayout k.keys.SIZE k.ke
   pub free-costs : (old new : View) (m w : HashMap K V S) → SamePlaces old new → w.table.slots ≡ m.table.slots → w.len ≤ m.len
       → IsFree k old new m w
   free-costs old new m w same slots fewer = record {
+    places = same;
     bytes = same-used old new same;
     credit = rw slots (credit-falls (unit_of k) m.table.slots w.len m.len fewer);
     spare = rw slots (omega (arith, fewer));
@@ -226,6 +227,7 @@ module _ {K V S : Type 0} (k : Kind K V S) (keys : IsItemLayout k.keys.SIZE k.ke
           room = λ is some. (
             refl,
             record {
+              places = made.1;
               bytes = same-used old new made.1;
               credit = rw (slots, len) (credit-rises (unit_of k) m.table.slots m.len);
               spare = rw (slots, len) (omega arith);

@@ -45,16 +45,16 @@ module _ {K V : Type 0} (content : K → List ℕ) where
         ∙ (has-member ps q ∙ ap is_some (sym (cond-false (bytes_eq (content p.0) q) (Some p) (first_of content ps q) t)))
   ]
 
-  -- pairs whose contents another list has are at most as many
-  pub few-pairs : (xs ys : List (K × V)) → AreOnce content xs
-      → ((q : List ℕ) → has (first_of content xs) q ≡ true → has (first_of content ys) q ≡ true)
-      → length xs ≤ length ys
-  few-pairs xs ys once within =
-      let l : length (map (λ p. content p.0) xs) ≤ length (map (λ p. content p.0) ys) =
-      length-le_from_is_member bytes-equivalence (map (λ p. content p.0) xs) (map (λ p. content p.0) ys) once
-      (λ q e. has-member ys q ∙ within q (sym (has-member xs q) ∙ e)) in
-      omega (arith, l, length-map xs (λ p. content p.0), length-map ys (λ p. content p.0))
+-- Pairs whose contents another list has are at most as many, whatever tells the contents of each list.
+pub few-contents : {K V : Type 0} (one other : K → List ℕ) (xs ys : List (K × V)) → AreOnce one xs
+    → ((q : List ℕ) → has (first_of one xs) q ≡ true → has (first_of other ys) q ≡ true) → length xs ≤ length ys
+few-contents one other xs ys once within =
+    let l : length (map (λ p. one p.0) xs) ≤ length (map (λ p. other p.0) ys) =
+    length-le_from_is_member bytes-equivalence (map (λ p. one p.0) xs) (map (λ p. other p.0) ys) once
+    (λ q e. has-member other ys q ∙ within q (sym (has-member one xs q) ∙ e)) in
+    omega (arith, l, length-map xs (λ p. one p.0), length-map ys (λ p. other p.0))
 
+module _ {K V : Type 0} (content : K → List ℕ) where
   -- where they are as many, the other list has no more
   pub no-more-pairs : (xs ys : List (K × V)) → AreOnce content xs → length ys ≤ length xs
       → ((q : List ℕ) → has (first_of content xs) q ≡ true → has (first_of content ys) q ≡ true)
@@ -62,13 +62,13 @@ module _ {K V : Type 0} (content : K → List ℕ) where
   no-more-pairs xs ys once few within q e = elim (cases_Bool (has (first_of content xs) q)) [
     | inl t ↦ t
     | inr t ↦
-        let none : is_member bytes_eq (map (λ p. content p.0) xs) q ≡ false = has-member xs q ∙ t in
+        let none : is_member bytes_eq (map (λ p. content p.0) xs) q ≡ false = has-member content xs q ∙ t in
         let l : length (q ∷ map (λ p. content p.0) xs) ≤ length (map (λ p. content p.0) ys) =
         length-le_from_is_member bytes-equivalence (q ∷ map (λ p. content p.0) xs) (map (λ p. content p.0) ys)
         (IsDistinct-cons bytes_eq q (map (λ p. content p.0) xs) (none-member (map (λ p. content p.0) xs) q none) once)
         (λ r m. elim (or_cases (bytes_eq r q) (is_member bytes_eq (map (λ p. content p.0) xs) r) m) [
-          | inl s ↦ has-member ys r ∙ (ap (has (first_of content ys)) ((bytes_eq-Decides r q).0 s) ∙ e)
-          | inr s ↦ has-member ys r ∙ within r (sym (has-member xs r) ∙ s)
+          | inl s ↦ has-member content ys r ∙ (ap (has (first_of content ys)) ((bytes_eq-Decides r q).0 s) ∙ e)
+          | inr s ↦ has-member content ys r ∙ within r (sym (has-member content xs r) ∙ s)
         ]) in
         absurd (omega (arith, l, few, length-map xs (λ p. content p.0), length-map ys (λ p. content p.0)))
   ]
@@ -85,9 +85,9 @@ module _ {K V : Type 0} (content : K → List ℕ) where
         → length xs ≡ length ys
     equal-length one other equal =
         let l : length xs ≤ length ys =
-        few-pairs xs ys one (λ q e. sym (both-has (first_of content xs q) (first_of content ys q) (equal q)) ∙ e) in
+        few-contents content content xs ys one (λ q e. sym (both-has (first_of content xs q) (first_of content ys q) (equal q)) ∙ e) in
         let m : length ys ≤ length xs =
-        few-pairs ys xs other (λ q e. both-has (first_of content xs q) (first_of content ys q) (equal q) ∙ e) in
+        few-contents content content ys xs other (λ q e. both-has (first_of content xs q) (first_of content ys q) (equal q) ∙ e) in
         omega arith
 
     -- Maps with as many pairs are equal where each pair of one list has its content in the other, with an equal value.
@@ -166,6 +166,6 @@ module _ {K V : Type 0} (content : K → List ℕ) (eq : V → V → Bool) (m : 
 pub same-length : {K V : Type 0} (content : K → List ℕ) (xs ys : List (K × V)) → AreOnce content xs → AreOnce content ys
     → first_of content xs ≡ first_of content ys → length xs ≡ length ys
 same-length content xs ys one other same =
-    let l : length xs ≤ length ys = few-pairs content xs ys one (λ q e. ap (λ m. has m q) (sym same) ∙ e) in
-    let k : length ys ≤ length xs = few-pairs content ys xs other (λ q e. ap (λ m. has m q) same ∙ e) in
+    let l : length xs ≤ length ys = few-contents content content xs ys one (λ q e. ap (λ m. has m q) (sym same) ∙ e) in
+    let k : length ys ≤ length xs = few-contents content content ys xs other (λ q e. ap (λ m. has m q) same ∙ e) in
     omega arith

@@ -157,3 +157,11 @@ credit-falls u slots a b h = mul-le-mul_left u (fewer a b (slots / 4 + 1) h)
 -- an empty table has nothing saved up
 pub credit-none : (u slots : ℕ) → credit u slots 0 ≡ 0
 credit-none u slots = ap (λ n. u * n) (let none : 0 - (slots / 4 + 1) ≡ 0 = omega arith in none) ∙ omega arith
+
+-- a table for so many pairs, with them in it, has half as much saved up at most
+pub full-credit : (u pairs slots : ℕ) → IsSlotsFor pairs slots → 2 * credit u slots pairs ≤ u * pairs
+full-credit u pairs slots is =
+    let past : 2 * (pairs - (slots / 4 + 1)) ≤ pairs = omega (arith, is.1) in
+    let a : u * (2 * (pairs - (slots / 4 + 1))) ≤ u * pairs = mul-le-mul_left u past in
+    let b : 2 * (u * (pairs - (slots / 4 + 1))) ≡ u * (2 * (pairs - (slots / 4 + 1))) = omega arith in
+    omega (arith, a, b)

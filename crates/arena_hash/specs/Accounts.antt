@@ -4,7 +4,7 @@ use Rattle.placement.specs.State.{used_bytes}
 use Rattle.arena_chunks.specs.Source.{View}
 use Rattle.arena_chunks.specs.BlockCalls.{PlacesBlock}
 use Rattle.arena_chunks.specs.declared.block.Block.{Block}
-use Rattle.arena_items.specs.Room.{RoomAnswer, Took}
+use Rattle.arena_items.specs.Room.{RoomAnswer, SamePlaces, Took}
 use Rattle.arena_items.specs.declared.room.AllocError.{AllocError}
 use Rattle.arena_hash.specs.Contents.{Kind}
 use Rattle.arena_hash.specs.Policy.{table_align, unit, spare, credit}
@@ -23,14 +23,16 @@ credit_of k m = credit (unit_of k) m.table.slots m.len
 abbrev pub used : View → ℕ
 used a = used_bytes a.memory.state
 
--- A call took no bytes, and no number is the worse for it.
+-- A call took no bytes and moved no cursor, and no number is the worse for it.
 pub record IsFree {K V S : Type 0} (k : Kind K V S) (old new : View) (m w : HashMap K V S) : Type 0 where
+  pub places : SamePlaces old new
   pub bytes : used new ≡ used old
   pub credit : credit_of k w ≤ credit_of k m
   pub spare : spare_of m ≤ spare_of w
 
--- A call took no bytes, raised credit by at most a unit and lowered spare by at most one.
+-- A call took no bytes and moved no cursor, raised credit by at most a unit and lowered spare by at most one.
 pub record IsPaid {K V S : Type 0} (k : Kind K V S) (old new : View) (m w : HashMap K V S) : Type 0 where
+  pub places : SamePlaces old new
   pub bytes : used new ≡ used old
   pub credit : credit_of k w ≤ credit_of k m + unit_of k
   pub spare : spare_of m ≤ spare_of w + 1

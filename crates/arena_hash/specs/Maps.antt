@@ -37,3 +37,11 @@ pub record IsMapIn {K V S : Type 0} (k : Kind K V S) (memory : Memory) (m : Hash
   pub once : AreOnce (content_in k.key memory) (pairs_in k memory m)
   pub count : m.len ≡ length (pairs_in k memory m)
   pub within : m.len ≤ limit m.table.slots
+
+-- After a call that has other blocks then, the map is held, names the same blocks and means the same, and its blocks lie apart from the
+-- call's.
+pub record StaysMap {K V S : Type 0} (k : Kind K V S) (old new : Memory) (after : List Block) (m : HashMap K V S) : Type 0 where
+  pub held : IsMapIn k new m
+  pub blocks : footprint k new m ≡ footprint k old m
+  pub means : map_in k new m ≡ map_in k old m
+  pub apart : AreAllApart (footprint k new m) after

@@ -4,7 +4,7 @@ ghost use Rattle.std.specs.Int.{w32, w64, from_le_bytes};
 ghost use Rattle.arena_hash.specs.Fx.{factor, mixed, number_of, folded, fx_of};
 
 /// Hashes contents. Nothing is promised of a hash but that it is a function of the hasher and of the
-/// content.
+/// content. A map is right under every hasher; it is fast where few keys have one hash.
 pub trait KeyHasher: Default {
     // The hash of a content.
     ghost hash_of: { Self → List ℕ → ℕ };
@@ -14,7 +14,9 @@ pub trait KeyHasher: Default {
         ensures { result ≡ hash_of self.now content.now };
 }
 
-/// A fixed hasher, by words of eight bytes.
+/// A fixed hasher, by words of eight bytes. Its hashes may change from version to version. It has no secret:
+/// who chooses the keys can choose many that hash alike, and then each look-up of such a key takes time in
+/// their number. Where that matters, take a hasher with a seed of your own.
 #[derive(Clone, Copy, Default, PartialEq, Eq, Debug)]
 pub struct FxHasher {}
 
@@ -56,12 +58,13 @@ pub(crate) fn word_of(bytes: &[u8]) -> u64
 fn number_of(bytes: &[u8]) -> u64
     ensures { result ≡ number_of bytes.now }
 {
-    bytes.iter().fold(0u64, |number, byte| {
+    bytes.iter().fold(FACTOR, |number, byte| {
         number.wrapping_mul(256).wrapping_add(*byte as u64)
     })
 }
 
-// The hash of any content, word after word.
+// The hash of any content, word after word. The factor is added to each word, so that a hash that became 0
+// doesn't stay 0 over words of 0, nor where nothing is left.
 fn folded(content: &[u8]) -> u64
     ensures { result ≡ folded
         (mixed (bit_xor (length content.now) factor)) (length content.now / 8) content.now }
@@ -69,7 +72,8 @@ fn folded(content: &[u8]) -> u64
     let mut hash = mixed(content.len() as u64 ^ FACTOR);
     let words = content.len() / 8;
     for i in 0..words {
-        hash = mixed(hash ^ word_of(&content[8 * i..8 * i + 8]));
+        let word = word_of(&content[8 * i..8 * i + 8]).wrapping_add(FACTOR);
+        hash = mixed(hash ^ word);
     }
     mixed(hash ^ number_of(&content[8 * words..]))
 }

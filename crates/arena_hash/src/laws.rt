@@ -2,15 +2,16 @@
 ghost use Rattle.std.specs.Prelude.{◌≡◌, ◌+◌, ◌-◌, ◌*◌, ◌<◌, ◌≤◌, ◌↔◌, ℕ, List, Bool, Option, Some, Result};
 ghost use Rattle.std.specs.List.{Contains};
 ghost use Rattle.arena_chunks.specs.Memory.{Memory};
+ghost use Rattle.arena_chunks.specs.Frame.{Frame, AreAllApart};
 ghost use Rattle.arena_chunks.specs.Source.{View};
 ghost use Rattle.arena_chunks.specs.declared.block.Block.{Block};
 ghost use Rattle.arena_items.specs.declared.room.AllocError.{AllocError};
 ghost use Rattle.arena_hash.specs.Accounts.{used, credit_of, unit_of};
 ghost use Rattle.arena_hash.specs.Changes.{Becomes, Puts, is_new, is_value};
 ghost use Rattle.arena_hash.specs.Contents.{kind, content_in};
-ghost use Rattle.arena_hash.specs.Finite.{Finite};
-ghost use Rattle.arena_hash.specs.Maps.{IsMapIn, map_in, texts_in};
-ghost use Rattle.arena_hash.specs.Policy.{slot_size, table_align, IsSlotsFor};
+ghost use Rattle.arena_hash.specs.Finite.{Finite, has};
+ghost use Rattle.arena_hash.specs.Maps.{IsMapIn, StaysMap, footprint, map_in, texts_in};
+ghost use Rattle.arena_hash.specs.Policy.{credit, slot_size, table_align, IsSlotsFor};
 ghost use Rattle.arena_hash.specs.declared.map.HashMap.{HashMap};
 
 use crate::hasher::KeyHasher;
@@ -18,13 +19,36 @@ use crate::key::ArenaKey;
 use arena_items::Item;
 
 /// A map's block has at least the bytes of its pairs. A new map's table for so many pairs takes a unit for each at
-/// most, with the padding before it.
+/// most, with the padding before it, and once they are in it the map has half as much credit at most.
 pub fn bytes_law<K: ArenaKey, V: Item, S: KeyHasher>()
     ensures pairs { (memory : Memory) (m : HashMap K V S) → IsMapIn (kind K.Item K.key V.Item S.hash_of) memory m
         → (K.SIZE + V.SIZE) * m.len ≤ m.table.block.size }
     ensures table { (pairs slots : ℕ) → 0 < pairs → IsSlotsFor pairs slots
         → slots * slot_size K.SIZE V.SIZE + (table_align K.ALIGN V.ALIGN - 1)
         ≤ unit_of (kind K.Item K.key V.Item S.hash_of) * pairs }
+    ensures full { (pairs slots : ℕ) → IsSlotsFor pairs slots
+        → 2 * credit (unit_of (kind K.Item K.key V.Item S.hash_of)) slots pairs
+        ≤ unit_of (kind K.Item K.key V.Item S.hash_of) * pairs }
+{}
+
+/// The frame law of maps under every hasher, also of one that isn't `Copy`, whose maps and sets
+/// `arena_items::laws::frame_law` doesn't take. A call on some blocks leaves a map whose footprint lies apart from
+/// them: it is held, names the same blocks, means the same, and its footprint lies apart from the blocks that the
+/// call has then. For a set take the law of its map, whose values are `()`.
+pub fn map_frame_law<K: ArenaKey, V: Item, S: KeyHasher>()
+    ensures { (old new : Memory) (before after : List Block) (m : HashMap K V S) → Frame old new before after
+        → IsMapIn (kind K.Item K.key V.Item S.hash_of) old m
+        → AreAllApart (footprint (kind K.Item K.key V.Item S.hash_of) old m) before
+        → StaysMap (kind K.Item K.key V.Item S.hash_of) old new after m }
+{}
+
+/// Two maps of the same contents have one length, whatever arenas, tables and hashers they have.
+pub fn lengths_law<K: ArenaKey, V: Item, S: KeyHasher>()
+    ensures { (a c : Memory) (m w : HashMap K V S)
+        → IsMapIn (kind K.Item K.key V.Item S.hash_of) a m → IsMapIn (kind K.Item K.key V.Item S.hash_of) c w
+        → ((q : List ℕ) → has (map_in (kind K.Item K.key V.Item S.hash_of) a m) q
+        ≡ has (map_in (kind K.Item K.key V.Item S.hash_of) c w) q)
+        → m.len ≡ w.len }
 {}
 
 /// What a map knows of its keys: each stands under its content, and the map's texts are those of its keys.

@@ -3,6 +3,7 @@
 
 mod collect;
 mod compare;
+mod far;
 mod gap;
 mod handle;
 mod hasher;
@@ -21,8 +22,8 @@ mod whole;
 
 pub use hasher::{FxHasher, KeyHasher};
 pub use key::ArenaKey;
-pub use laws::{bytes_law, costs_law, texts_law};
-pub use map::HashMap;
-pub use set::{HashSet, SetIter};
+pub use laws::{bytes_law, costs_law, lengths_law, map_frame_law, texts_law};
+pub use map::{ArenaHashMap, HashMap};
+pub use set::{ArenaHashSet, HashSet, SetIter};
 pub use table::Table;
 pub use walk::{IntoKeys, IntoValues, Iter};

@@ -36,6 +36,9 @@ pub struct HashMap<K, V, S = FxHasher> {
     pub hasher: S,
 }
 
+/// The name by which users of the Rust crate know it.
+pub type ArenaHashMap<K, V, S = FxHasher> = HashMap<K, V, S>;
+
 // The hash of a content, and where the search for it ended.
 #[derive(Clone, Copy)]
 pub(crate) struct Look {
@@ -119,6 +122,29 @@ impl<K: ArenaKey, V: Item, S: KeyHasher> HashMap<K, V, S> {
         self.hasher.hash(key.content(a, &mut room))
     }
 
+    // Looks for a content.
+    #[inline(always)]
+    pub(crate) fn look_by<C: ChunkSource>(&self, a: &Allocator<C>, wanted: &[u8]) -> Look
+        requires keys_small { K.SIZE ≤ 2 ^ 24 }
+        requires values_small { V.SIZE ≤ 2 ^ 24 }
+        requires held { IsTableIn
+            (kind K.Item K.key V.Item S.hash_of) a.now.memory self.now.hasher self.now.table }
+        requires free { 0 < self.now.table.slots → HasFree K.Item V.Item a.now.memory self.now.table }
+        ensures hash { result.hash ≡ S.hash_of self.now.hasher wanted.now }
+        ensures ends { Ends (λ p. home_of self.now.table.slots (pair_hash
+            (kind K.Item K.key V.Item S.hash_of) a.now.memory self.now.hasher p))
+            self.now.table.slots (slots_in K.Item V.Item a.now.memory self.now.table)
+            (λ p. content_in K.key a.now.memory p.0) wanted.now result.hash result.spot }
+    {
+        let hash = self.hasher.hash(wanted);
+        let spot = if self.table.slots == 0 {
+            Spot::Open { at: 0, mark: 0 }
+        } else {
+            find(a, self.table, hash, wanted)
+        };
+        Look { hash, spot }
+    }
+
     // Looks for a key.
     #[inline(always)]
     pub(crate) fn look<C: ChunkSource>(&self, a: &Allocator<C>, key: K) -> Look
@@ -137,13 +163,7 @@ impl<K: ArenaKey, V: Item, S: KeyHasher> HashMap<K, V, S> {
     {
         let mut room = [0u8; 16];
         let wanted = key.content(a, &mut room);
-        let hash = self.hasher.hash(wanted);
-        let spot = if self.table.slots == 0 {
-            Spot::Open { at: 0, mark: 0 }
-        } else {
-            find(a, self.table, hash, wanted)
-        };
-        Look { hash, spot }
+        self.look_by(a, wanted)
     }
 
     // The value in a slot.
@@ -186,6 +206,21 @@ impl<K: ArenaKey, V: Item, S: KeyHasher> HashMap<K, V, S> {
             (content_in K.key a.now.memory key)) }
     {
         match self.look(a, key).spot {
+            Spot::Taken { at } => Some(self.value(a, at)),
+            Spot::Open { .. } => None,
+        }
+    }
+
+    /// The value of the key with this content, so that a text need not be placed to be looked for.
+    #[inline(always)]
+    pub fn get_by<C: ChunkSource>(&self, a: &Allocator<C>, content: &[u8]) -> Option<V>
+        requires keys_small { K.SIZE ≤ 2 ^ 24 }
+        requires values_small { V.SIZE ≤ 2 ^ 24 }
+        requires held { IsMapIn (kind K.Item K.key V.Item S.hash_of) a.now.memory self.now }
+        ensures { result ≡ value_of (map_in (kind K.Item K.key V.Item S.hash_of) a.now.memory self.now
+            content.now) }
+    {
+        match self.look_by(a, content).spot {
             Spot::Taken { at } => Some(self.value(a, at)),
             Spot::Open { .. } => None,
         }

@@ -11,12 +11,13 @@ ghost use Rattle.arena_hash.specs.Changes.{Puts, is_value};
 ghost use Rattle.arena_hash.specs.Contents.{kind, content_in};
 ghost use Rattle.arena_hash.specs.Maps.{IsMapIn};
 ghost use Rattle.arena_hash.specs.Policy.{limit, most_pairs, next_slots, slot_size, table_align};
-ghost use Rattle.arena_hash.specs.Searches.{IsPassed, IsSpotFor};
+ghost use Rattle.arena_hash.specs.Searches.{IsSpotFor};
 ghost use Rattle.arena_hash.specs.Slots.{items, Closed, IsAway, IsPlaceFor, Lacks, Moved, Settled};
 ghost use Rattle.arena_hash.specs.Tables.{home_of, mark_of, marks_in, pair_hash, slots_in, HasFree};
 ghost use Rattle.arena_hash.specs.Tables.{IsReadBeside, IsTableIn, IsTextBeside};
 ghost use Rattle.arena_hash.specs.Walks.{front_of, AreFree, CarriesNext, IsScan};
 
+use crate::far::{far_spot, hash_at};
 use crate::gap::{CloseGap, PullBack, is_near};
 use crate::hasher::KeyHasher;
 use crate::key::ArenaKey;
@@ -30,60 +31,6 @@ use crate::walk::{Scan, start, step};
 use arena_chunks::{Allocator, ChunkSource};
 use arena_items::{AllocError, Grown, Item};
 use std::marker::PhantomData;
-
-// The hash of the key in a slot.
-fn hash_at<K: ArenaKey, V: Item, S: KeyHasher, C: ChunkSource>(
-    a: &Allocator<C>,
-    table: Table<K, V>,
-    hasher: &S,
-    i: u64,
-) -> u64
-    requires keys_small { K.SIZE ≤ 2 ^ 24 }
-    requires values_small { V.SIZE ≤ 2 ^ 24 }
-    requires held { IsTableIn (kind K.Item K.key V.Item S.hash_of) a.now.memory hasher.now table }
-    requires taken { (x : K × V) × (slice_get (slots_in K.Item V.Item a.now.memory table) i ≡ Some
-        (Some x)) }
-    ensures { (x : K × V) → slice_get (slots_in K.Item V.Item a.now.memory table) i ≡ Some (Some x)
-        → result ≡ pair_hash (kind K.Item K.key V.Item S.hash_of) a.now.memory hasher.now x }
-{
-    let key = key_at::<K, V>(a.read(table.block), table.slots, i);
-    let mut room = [0u8; 16];
-    hasher.hash(key.content(a, &mut room))
-}
-
-// The first slot, from the one that marks tell on, whose pair is nearer to its home than one with this hash
-// would be there.
-#[cold]
-#[inline(never)]
-fn far_spot<K: ArenaKey, V: Item, S: KeyHasher, C: ChunkSource>(
-    a: &Allocator<C>,
-    table: Table<K, V>,
-    hasher: &S,
-    hash: u64,
-) -> u64
-    requires keys_small { K.SIZE ≤ 2 ^ 24 }
-    requires values_small { V.SIZE ≤ 2 ^ 24 }
-    requires held { IsTableIn (kind K.Item K.key V.Item S.hash_of) a.now.memory hasher.now table }
-    requires free { HasFree K.Item V.Item a.now.memory table }
-    requires passed { IsPassed (λ p. home_of table.slots (pair_hash
-        (kind K.Item K.key V.Item S.hash_of) a.now.memory hasher.now p)) table.slots
-        (slots_in K.Item V.Item a.now.memory table) (home_of table.slots hash) 14 }
-    ensures { (d : ℕ) × (14 ≤ d) × IsPlaceFor (λ p. home_of table.slots (pair_hash
-        (kind K.Item K.key V.Item S.hash_of) a.now.memory hasher.now p)) table.slots
-        (slots_in K.Item V.Item a.now.memory table) (home_of table.slots hash) result d }
-{
-    let mut at = ring(table.slots, hash.wrapping_add(14));
-    'slots: for far in 14..table.slots {
-        if a.read(table.block)[at as usize] < FAR {
-            return at;
-        }
-        if distance(table.slots, hash_at(a, table, hasher, at), at) < far {
-            return at;
-        }
-        at = ring(table.slots, at + 1);
-    }
-    at
-}
 
 // The mark of the pair of a slot when it has moved back by one.
 fn mark_back<K: ArenaKey, V: Item, S: KeyHasher, C: ChunkSource>(

@@ -27,8 +27,11 @@ pub struct HashSet<T, S = FxHasher> {
     pub map: HashMap<T, (), S>,
 }
 
+/// The name by which users of the Rust crate know it.
+pub type ArenaHashSet<T, S = FxHasher> = HashSet<T, S>;
+
 impl<T: ArenaKey, S: KeyHasher> HashSet<T, S> {
-    /// An empty set with the default hasher. It places nothing.
+    /// An empty set with `S::default()` as its hasher. It places nothing.
     pub fn new_in() -> HashSet<T, S>
         ensures { IsNew (set_kind T.Item T.key S.hash_of) result.map.hasher result.map }
     {
@@ -46,7 +49,7 @@ impl<T: ArenaKey, S: KeyHasher> HashSet<T, S> {
         }
     }
 
-    /// An empty set with room for so many items, and the default hasher.
+    /// An empty set with room for so many items, and `S::default()` as its hasher.
     ///
     /// # Errors
     ///

@@ -160,7 +160,7 @@ impl<K: ArenaKey, V: Item, S: KeyHasher> HashMap<K, V, S> {
         ))
     }
 
-    /// The keys, each once, in the order of `iter`.
+    /// The keys, each once, in an open order.
     pub fn into_keys<'a, C: ChunkSource>(self, a: &'a Allocator<C>) -> IntoKeys<'a, K, V, C>
     where
         S: Drop,
@@ -175,7 +175,7 @@ impl<K: ArenaKey, V: Item, S: KeyHasher> HashMap<K, V, S> {
         }
     }
 
-    /// The value of each pair once, in the order of `iter`.
+    /// The value of each pair once, in an open order.
     pub fn into_values<'a, C: ChunkSource>(self, a: &'a Allocator<C>) -> IntoValues<'a, K, V, C>
     where
         S: Drop,

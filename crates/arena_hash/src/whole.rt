@@ -14,7 +14,7 @@ use arena_chunks::{Allocator, ChunkSource};
 use arena_items::{AllocError, Grown, Item};
 
 impl<K: ArenaKey, V: Item, S: KeyHasher> HashMap<K, V, S> {
-    /// An empty map with the default hasher. It places nothing.
+    /// An empty map with `S::default()` as its hasher. It places nothing.
     pub fn new_in() -> HashMap<K, V, S>
         ensures { IsNew (kind K.Item K.key V.Item S.hash_of) result.hasher result }
     {
@@ -32,7 +32,7 @@ impl<K: ArenaKey, V: Item, S: KeyHasher> HashMap<K, V, S> {
         }
     }
 
-    /// An empty map with room for so many pairs, and the default hasher.
+    /// An empty map with room for so many pairs, and `S::default()` as its hasher.
     ///
     /// # Errors
     ///

@@ -1,5 +1,6 @@
 -- The lemmas that a crate above cites: sizes of types, what blocks of values need, and what becomes of boxes beside a call.
-use Rattle.std.proofs.Common.{◌≡◌, ℕ, ◌+◌, ◌*◌, ◌^◌, ◌<◌, ◌≤◌, max, ap, refl, subst, arith, List, [], ◌∷◌, length, replicate}
+use Rattle.std.proofs.Common.{◌≡◌, ℕ, ◌+◌, ◌*◌, ◌^◌, ◌<◌, ◌≤◌, max, ap, refl, subst, ◌∙◌, arith, List, [], ◌∷◌, Some, length, replicate, take, drop, take_all}
+use Rattle.std.specs.Prelude.{slice_get}
 use Rattle.std.proofs.lemmas.Bool.Decides.{nat_tests}
 use Rattle.std.specs.Array.{FillsFrom}
 use Rattle.placement.specs.Rounding.{up}
@@ -18,8 +19,10 @@ use Rattle.arena_items.specs.declared.boxes.Box.{Box}
 pub use Rattle.arena_items.proofs.HeldLemmas.{placed_held, written_held}
 pub use Rattle.arena_items.proofs.ArrayLemmas.{array_layout, array_held, Yields-push}
 pub use Rattle.arena_items.proofs.ElementLemmas.{rows_before, length-elements, elements-empty, elements-get, elements-set, elements-same, elements-append, elements-push, elements-all}
-pub use Rattle.arena_items.proofs.RowLemmas.{elements-cut, elements-drop, elements-front, elements-over, moved_values, copied_values}
-pub use Rattle.arena_items.proofs.RoomLemmas.{zero_or_more, row_is_layout, front_readable, fronts_kept, values_kept, taken_held, taken_frame, taken_front, refused_same, wanting_same, same_then, wrote_same, room_then, room_refused}
+pub use Rattle.arena_items.proofs.RowLemmas.{elements-cut, elements-drop, elements-front, elements-over, moved_values, copied_values, drop_item}
+pub use Rattle.arena_items.proofs.RoomLemmas.{zero_or_more, row_is_layout, front_readable, fronts_kept, values_kept, taken_held, taken_frame, taken_front, refused_same, wanting_same, same_then, wrote_same, room_then, room_refused, grown_as, refused_as}
+pub use Rattle.arena_items.proofs.CostLemmas.{taken_brings, taken_refused, stays_brings, room_brings, room_refused_as}
+pub use Rattle.arena_items.proofs.CostRules.{costs_nothing, room_costs, costs_weaken, costs_ok, costs_then}
 pub use Rattle.arena_items.proofs.AddressLemmas.{new_address, no_dummy}
 pub use Rattle.arena_items.proofs.FootprintLemmas.{stays_readable, stays_agree, stays_apart}
 
@@ -86,3 +89,20 @@ fills_same R s v same i (x ∷ xs) t (u, step, run) =
     let is = same i x u step in
     let rest = fills_same R s v same (i + 1) xs t (subst (λ w. FillsFrom R w (i + 1) xs t) is.1 run) in
     λ p. is.0 p ∷ rest p
+
+-- Where it gives the items of a list at their indices, and changes no capture, it gives that list.
+fills_items : {S A : Type 0} (R : S → ℕ → A → S → Type 0) (s : S) (all : List A)
+    → ((i : ℕ) (x : A) (t : S) → i < length all → R s i x t → (slice_get all i ≡ Some x) × (t ≡ s))
+    → (i : ℕ) (xs : List A) (t : S) → i + length xs ≤ length all → FillsFrom R s i xs t → xs ≡ take (length xs) (drop i all)
+fills_items R s all item i [] t within run = refl
+fills_items {S} {A} R s all item i (x ∷ xs) t within (u, step, run) =
+    let is = item i x u (omega arith) step in
+    let rest =
+    fills_items R s all item (i + 1) xs t (omega arith) (subst (λ (w : S). FillsFrom R w (i + 1) xs t) is.1 run) in
+    rw (drop_item all i x is.0) (ap (λ (ys : List A). x ∷ ys) rest)
+
+pub fills_list : {S A : Type 0} (R : S → ℕ → A → S → Type 0) (s : S) (all : List A)
+    → ((i : ℕ) (x : A) (t : S) → i < length all → R s i x t → (slice_get all i ≡ Some x) × (t ≡ s)) → (xs : List A) (t : S)
+    → FillsFrom R s 0 xs t → length xs ≡ length all → xs ≡ all
+fills_list {S} {A} R s all item xs t run same =
+    fills_items R s all item 0 xs t (omega arith) run ∙ ap (λ (n : ℕ). take n all) same ∙ take_all (length all) all (omega arith)

@@ -1,6 +1,6 @@
 -- Blocks of collections that grow: the one call of the arena, what it leaves, and calls that write afterwards.
-use Rattle.std.proofs.Common.{◌≡◌, ℕ, zero, suc, ◌-◌, ◌*◌, ◌^◌, ◌<◌, ◌≤◌, ◌⊎◌, inl, inr, ap, sym, ◌∙◌, List, [], ◌∷◌, Ok, Err, refl, take, arith, true, IsTrue}
-use Rattle.std.specs.Prelude.{nat_le, min}
+use Rattle.std.proofs.Common.{◌≡◌, ℕ, Result, zero, suc, ◌-◌, ◌*◌, ◌^◌, ◌<◌, ◌≤◌, ◌⊎◌, inl, inr, ap, sym, ◌∙◌, List, [], ◌∷◌, Ok, Err, refl, take, arith, true, IsTrue}
+use Rattle.std.specs.Prelude.{nat_le, min, OnErr}
 use Rattle.std.proofs.Math.Nat.{mul-le-mul_left}
 use Rattle.std.proofs.lemmas.Bool.{eq-eqb, or_left}
 use Rattle.std.proofs.lemmas.Bool.Decides.{nat_tests}
@@ -8,15 +8,21 @@ use Rattle.placement.specs.State.{State}
 use Rattle.placement.specs.Rounding.{up, is_layout}
 use Rattle.arena_chunks.specs.Memory.{Memory, image, bytes_from, is_readable}
 use Rattle.arena_chunks.specs.Source.{View}
+use Rattle.arena_chunks.specs.Answers.{Answer, answer_by, answer_of}
 use Rattle.arena_chunks.specs.Answers.Answer.{Placed, Refused, Wanting}
 use Rattle.arena_chunks.specs.BlockCalls.{WritesBlock}
 use Rattle.arena_chunks.specs.Frame.{Frame}
 use Rattle.arena_chunks.specs.declared.block.Block.{Block}
+use Rattle.arena_chunks.specs.declared.block.ArenaErr.{ArenaErr}
+use Rattle.arena_chunks.specs.declared.block.ArenaErr.TheVariants.{AllocErr as NoPlace, OutOfMemory as NoTable}
 use Rattle.arena_chunks.proofs.Layers.{empty_before, take_bytes, in_use}
 use Rattle.arena_items.specs.Layout.{IsItemLayout}
 use Rattle.arena_items.specs.LayoutLaws.{IsAlign-bounds, up-is}
 use Rattle.arena_items.specs.Values.{bytes_of, elements, IsHeld}
-use Rattle.arena_items.specs.Room.{TakesRoom, MakesRoom, SamePlaces}
+use Rattle.arena_items.specs.Placing.{Answers}
+use Rattle.arena_items.specs.Room.{TakesRoom, MakesRoom, SamePlaces, RoomAnswer, growth_answer, growth_error}
+use Rattle.arena_items.specs.declared.placing.ItemErr.{ItemErr}
+use Rattle.arena_items.specs.declared.placing.ItemErr.TheVariants.{AllocErr as NotPlaced, OutOfMemory as NoMemory, TooFew}
 use Rattle.arena_items.specs.declared.room.Growth.{Growth}
 use Rattle.arena_items.specs.declared.room.Growth.TheVariants.{Stays, GrowsTo, Overflows}
 use Rattle.arena_items.specs.declared.room.AllocError.{AllocError}
@@ -120,7 +126,28 @@ wanting_same old new b cap size align takes = elim (zero_or_more cap) [
   | inr some ↦ ap (λ v. v.memory) (takes.grown some).1.outcome.1.same
 ]
 
-pub ruleset refusals = (refused_same, wanting_same)
+-- ---- Answers
+
+-- What is so of the arena's answer is so of that which the growth's answer stands for.
+pub grown_as : {X : Type 0} (f : X → Block) (answer : Result X ArenaErr) (P : Answer → Type 0) → P (answer_by f answer)
+    → RoomAnswer f (growth_answer answer) P
+grown_as f (Ok x) P holds = holds
+grown_as f (Err (NoPlace refused)) P holds = holds
+grown_as f (Err NoTable) P holds = holds
+
+-- So it is where a value was not placed.
+pub refused_as : {X Y : Type 0} (f : X → Block) (g : Y → Block) (e : ItemErr) (P : Answer → Type 0) → Answers {X = X} f (Err e) P
+    → RoomAnswer {X = Y} g (Err (growth_error e)) P
+refused_as f g (NotPlaced refused) P holds = holds
+refused_as f g NoMemory P holds = holds
+refused_as f g (TooFew taken) P holds = absurd holds
+
+-- Where none was taken the arena is as it was.
+pub none_taken : (old new : View) (b : Block) (cap size align : ℕ) (answer : Result Block ArenaErr)
+    → TakesRoom old new b cap size align (answer_of answer) → OnErr (growth_answer answer) (new.memory ≡ old.memory)
+none_taken old new b cap size align (Ok c) takes = tt
+none_taken old new b cap size align (Err (NoPlace refused)) takes = refused_same old new b cap size align refused takes
+none_taken old new b cap size align (Err NoTable) takes = wanting_same old new b cap size align takes
 
 -- ---- Places
 

@@ -1,7 +1,8 @@
 -- Values that stand one after another, of which some are moved or replaced at once.
-use Rattle.std.proofs.Common.{◌≡◌, ℕ, ◌+◌, ◌-◌, ◌*◌, ◌≤◌, List, ◌++◌, length, take, drop, sym, ap, ◌∙◌, arith, refl}
+use Rattle.std.proofs.Common.{◌≡◌, ℕ, zero, suc, ◌+◌, ◌-◌, ◌*◌, ◌≤◌, List, [], ◌∷◌, ◌++◌, Some, length, take, drop, sym, ap, ◌∙◌, arith, add-one, refl}
+use Rattle.std.specs.Prelude.{slice_get}
 use Rattle.std.proofs.lemmas.Grind.{common_steps}
-use Rattle.std.proofs.lemmas.List.{take_at, drop_at}
+use Rattle.std.proofs.lemmas.List.{take_at, drop_at, length-drop}
 use Rattle.std.proofs.Math.Nat.{add-mul, mul-le-mul_right}
 use Rattle.placement.specs.Machine.{splice}
 use Rattle.arena_chunks.specs.Memory.{Memory, image, bytes_from}
@@ -100,3 +101,33 @@ module _ {T : Type 0} (size : ℕ) (dec : List ℕ → T) where
       ap (elements size dec (to + n)) (wrote_part old new c (to * size) list writes fits)
       ∙ elements-push size dec to n (bytes_of old c) list (drop from (elements size dec (from + n) (bytes_of old b)))
       (omega (arith, length-bytes (image old) c.addr c.size)) (λ rest. elements-before n list rest sized ∙ part)
+
+-- ---- Lists that are walked
+
+-- nothing is left at the end
+pub drop_whole : {T : Type 0} (xs : List T) (i : ℕ) → i ≡ length xs → drop i xs ≡ []
+drop_whole [] zero e = refl
+drop_whole [] (suc i) e = refl
+drop_whole (x ∷ xs) zero e = absurd (omega arith)
+drop_whole (x ∷ xs) (suc i) e = drop_whole xs i (omega arith)
+
+-- the item at an index is the first of those from it on
+pub drop_item : {T : Type 0} (xs : List T) (i : ℕ) (x : T) → slice_get xs i ≡ Some x → drop i xs ≡ x ∷ drop (i + 1) xs
+drop_item xs i x e = rw add-one (here xs i x e)
+  where
+    same : {T : Type 0} (x y : T) → Some x ≡ Some y → x ≡ y
+    same x y e = cc
+
+    here : {T : Type 0} (xs : List T) (i : ℕ) (x : T) → slice_get xs i ≡ Some x → drop i xs ≡ x ∷ drop (suc i) xs
+    here [] i x e = cc
+    here (y ∷ xs) zero x e = ap (λ z. z ∷ xs) (same y x e)
+    here (y ∷ xs) (suc i) x e = here xs i x e
+
+-- how many are left
+pub count_left : {T : Type 0} (size : ℕ) (dec : List ℕ → T) (n i : ℕ) (bs : List ℕ) (left : List T) → drop i (elements size dec n bs) ≡ left
+    → n - i ≡ length left
+count_left {T} size dec n i bs left is =
+    omega (arith, ap (λ (xs : List T). length xs) is, length-drop i (elements size dec n bs), length-elements size dec n bs)
+
+-- for automatic proof
+pub ruleset walk_laws = (drop_whole, drop_item, length-elements)

@@ -1,5 +1,6 @@
 -- What a call on other blocks leaves of a value.
-use Rattle.std.specs.Prelude.{◌≡◌, List}
+use Rattle.std.specs.Prelude.{◌≡◌, ℕ, List, IsTrue}
+use Rattle.placement.specs.State.{State, is_range_used}
 use Rattle.arena_chunks.specs.Memory.{Memory}
 use Rattle.arena_chunks.specs.Frame.{AreAllApart}
 use Rattle.arena_chunks.specs.declared.block.Block.{Block}
@@ -12,3 +13,8 @@ pub record StaysHeld {V : Type 0} (old new : Memory) (after : List Block) (kind 
   pub footprint : kind.footprint new v ≡ kind.footprint old v
   pub means : kind.means new v ≡ kind.means old v
   pub apart : AreAllApart (kind.footprint new v) after
+
+-- What was in use at the start, and is before an arena goes back, is in use afterwards.
+pub record StaysInUse (start old new : State) : Type 0 where
+  pub used : (addr n : ℕ) → IsTrue (is_range_used start.chunks addr n) → IsTrue (is_range_used old.chunks addr n)
+      → IsTrue (is_range_used new.chunks addr n)

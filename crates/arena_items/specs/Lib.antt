@@ -13,6 +13,7 @@ pub mod Values
 pub mod Placing
 pub mod Typed
 pub mod Room
+pub mod Costs
 pub mod Rows
 pub mod Footprint
 pub mod FootprintLaws

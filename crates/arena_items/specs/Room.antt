@@ -5,6 +5,10 @@ use Rattle.arena_chunks.specs.Answers.{Answer}
 use Rattle.arena_chunks.specs.Answers.Answer.{Placed, Refused, Wanting}
 use Rattle.arena_chunks.specs.BlockCalls.{PlacesBlock, GrowsBlock}
 use Rattle.arena_chunks.specs.declared.block.Block.{Block}
+use Rattle.arena_chunks.specs.declared.block.ArenaErr.{ArenaErr}
+use Rattle.arena_chunks.specs.declared.block.ArenaErr.TheVariants.{AllocErr as NoPlace, OutOfMemory as NoTable}
+use Rattle.arena_items.specs.declared.placing.ItemErr.{ItemErr}
+use Rattle.arena_items.specs.declared.placing.ItemErr.TheVariants.{AllocErr as NotPlaced, OutOfMemory as NoMemory, TooFew}
 use Rattle.arena_items.specs.declared.room.Growth.{Growth}
 use Rattle.arena_items.specs.declared.room.Growth.TheVariants.{Stays, GrowsTo, Overflows}
 use Rattle.arena_items.specs.declared.room.AllocError.{AllocError}
@@ -16,6 +20,18 @@ RoomAnswer block (Ok x) P = P (Placed (block x))
 RoomAnswer block (Err (AllocErr refused)) P = P (Refused refused)
 RoomAnswer block (Err OutOfMemory) P = P Wanting
 RoomAnswer block (Err CapacityOverflow) P = ⊥
+
+-- what the arena answered, as calls tell it that may grow a collection
+abbrev pub growth_answer : {X : Type 0} → Result X ArenaErr → Result X AllocError
+growth_answer (Ok x) = Ok x
+growth_answer (Err (NoPlace refused)) = Err (AllocErr refused)
+growth_answer (Err NoTable) = Err OutOfMemory
+
+-- why a value was not placed, told so: an iterator that ended early is a refusal with no request
+abbrev pub growth_error : ItemErr → AllocError
+growth_error (NotPlaced refused) = AllocErr refused
+growth_error NoMemory = OutOfMemory
+growth_error (TooFew taken) = AllocErr 0
 
 -- A block of this layout is taken for a collection: placed where the capacity was 0, and else grown.
 pub record TakesRoom (old new : View) (block : Block) (cap size align : ℕ) (answer : Answer) : Type 0 where

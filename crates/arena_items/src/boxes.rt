@@ -1,5 +1,5 @@
 // Boxes: the handles of single values in an arena, and their byte form.
-ghost use Rattle.std.specs.Prelude.{◌≡◌, ℕ, ◌^◌, ◌≤◌, List, IfOk, length, refl};
+ghost use Rattle.std.specs.Prelude.{◌≡◌, ℕ, ◌^◌, ◌≤◌, ◌↔◌, List, IfOk, IsTrue, length, refl};
 ghost use Rattle.arena_chunks.specs.BlockCalls.{PlacesBlock, WritesBlock};
 ghost use Rattle.arena_items.specs.ByteForms.{IsBlockValue, block_bytes, block_of};
 ghost use Rattle.arena_items.specs.LayoutLaws.{plain_32_8};
@@ -43,6 +43,14 @@ impl<T: Item> Box<T> {
             block,
             of: PhantomData,
         })
+    }
+
+    /// Whether the arena holds the box: its block may be read there, and has the type's size and alignment.
+    #[inline]
+    pub fn is_held<C: ChunkSource>(&self, a: &Allocator<C>) -> bool
+        ensures { IsTrue result ↔ IsBoxIn T.Item a.now.memory self.now }
+    {
+        a.is_held_place(self.block) && self.block.size == T::SIZE && self.block.align == T::ALIGN
     }
 
     /// The value.

@@ -5,20 +5,33 @@ ghost use Rattle.placement.specs.State.{State, IsValid};
 ghost use Rattle.arena_chunks.specs.Memory.{Memory, is_readable};
 ghost use Rattle.arena_chunks.specs.Source.{View};
 ghost use Rattle.arena_chunks.specs.Answers.Answer.{Placed};
+ghost use Rattle.arena_chunks.specs.Checkpoints.{GoesBack};
 ghost use Rattle.arena_chunks.specs.Frame.{Frame, AreAllApart};
 ghost use Rattle.arena_chunks.specs.BlockCalls.{PlacesBlock};
 ghost use Rattle.arena_chunks.specs.declared.block.Block.{Block};
-ghost use Rattle.arena_items.specs.Footprint.{Agree};
-ghost use Rattle.arena_items.specs.FrameLaw.{StaysHeld};
+ghost use Rattle.arena_items.specs.Footprint.{Agree, AreReadable};
+ghost use Rattle.arena_items.specs.FrameLaw.{StaysHeld, StaysInUse};
+
+mod costs;
 
 use crate::address::Address;
 use crate::values::InArena;
+pub use costs::{costs_law, room_law};
 
 /// The frame law. A call on some blocks leaves every value whose footprint lies apart from them: it is held, names the same
 /// blocks, means the same, and its footprint lies apart from the blocks that the call has then.
 pub fn frame_law<V: InArena>()
     ensures { (old new : Memory) (before after : List Block) (v : V) → Frame old new before after
         → V.is_held old v → AreAllApart (V.footprint old v) before → StaysHeld old new after V.InArena v }
+{}
+
+/// To go back to a mark leaves every value whose footprint may still be read: it is held, names the same blocks and means the
+/// same. So it leaves one whose footprint may be read at the mark, if what is in use there stays in use.
+pub fn back_law<V: InArena>()
+    ensures readable { (old new : Memory) (v : V) → GoesBack old new → V.is_held old v
+        → AreReadable new.state (V.footprint old v) → StaysHeld old new [] V.InArena v }
+    ensures marked { (start old new : Memory) (v : V) → GoesBack old new → StaysInUse start.state old.state new.state
+        → V.is_held old v → AreReadable start.state (V.footprint old v) → StaysHeld old new [] V.InArena v }
 {}
 
 /// A value means the same in two arenas that agree on its footprint.

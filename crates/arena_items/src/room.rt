@@ -2,8 +2,9 @@
 ghost use Rattle.std.specs.Prelude.{◌≡◌, ◌<◌, ◌≤◌, OnErr, IsTrue};
 ghost use Rattle.arena_chunks.specs.Memory.{is_readable};
 ghost use Rattle.arena_chunks.specs.Answers.{answer_of};
-ghost use Rattle.arena_items.specs.Room.{RoomAnswer, TakesRoom};
+ghost use Rattle.arena_items.specs.Room.{RoomAnswer, TakesRoom, growth_answer};
 
+use crate::placing::ItemErr;
 use arena_chunks::{Allocator, ArenaErr, Block, BlockAlloc, ChunkSource};
 use arena_place::Layout;
 use std::error::Error;
@@ -40,6 +41,38 @@ impl fmt::Display for AllocError {
 
 impl Error for AllocError {}
 
+/// So that a function which places a value and makes a collection grow has one error. An iterator that ended early is told
+/// as a refusal with no request.
+impl From<ItemErr> for AllocError {
+    ghost use Rattle.arena_items.specs.Room.{growth_error};
+
+    ghost from_gives = { λ e result. result ≡ growth_error e };
+
+    fn from(e: ItemErr) -> AllocError {
+        match e {
+            ItemErr::AllocErr { refused } => AllocError::AllocErr { refused },
+            ItemErr::OutOfMemory => AllocError::OutOfMemory,
+            ItemErr::TooFew { .. } => AllocError::AllocErr { refused: 0 },
+        }
+    }
+}
+
+/// What the arena answered, as calls tell it that may grow a collection.
+///
+/// # Errors
+///
+/// The arena's own. `CapacityOverflow` is none of them.
+#[inline(always)]
+pub fn grown<X>(answer: Result<X, ArenaErr>) -> Grown<X>
+    ensures { result ≡ growth_answer answer }
+{
+    match answer {
+        Ok(x) => Ok(x),
+        Err(ArenaErr::AllocErr { refused }) => Err(AllocError::AllocErr { refused }),
+        Err(ArenaErr::OutOfMemory) => Err(AllocError::OutOfMemory),
+    }
+}
+
 /// What a call that makes room does with the capacity.
 #[derive(Clone, Copy)]
 pub enum Growth {
@@ -75,7 +108,6 @@ fn place_or_grow<C: ChunkSource>(
 /// # Errors
 ///
 /// As of the arena's `alloc_layout` or `grow`. Nothing changes.
-#[tactic(auto, using(crate::proofs::RoomLemmas::refusals))]
 #[inline(always)]
 pub fn take_room<C: ChunkSource>(
     a: &mut Allocator<C>,
@@ -89,9 +121,5 @@ pub fn take_room<C: ChunkSource>(
         (TakesRoom a.old a.new block cap layout.size layout.align) }
     ensures err { OnErr result (a.new.memory ≡ a.old.memory) }
 {
-    match place_or_grow(a, block, cap, layout) {
-        Ok(block) => Ok(block),
-        Err(ArenaErr::AllocErr { refused }) => Err(AllocError::AllocErr { refused }),
-        Err(ArenaErr::OutOfMemory) => Err(AllocError::OutOfMemory),
-    }
+    grown(place_or_grow(a, block, cap, layout))
 }

@@ -1,5 +1,5 @@
 // Boxed slices: the handles of values that stand one after another in an arena, and their byte form.
-ghost use Rattle.std.specs.Prelude.{◌≡◌, ℕ, ◌*◌, ◌^◌, ◌<◌, ◌≤◌, List, [], Some, slice_get, slice_set, length, take, drop, refl};
+ghost use Rattle.std.specs.Prelude.{◌≡◌, ℕ, ◌*◌, ◌^◌, ◌<◌, ◌≤◌, ◌↔◌, List, [], IsTrue, Some, slice_get, slice_set, length, take, drop, refl};
 ghost use Rattle.std.specs.Int.{w64, from_le_bytes};
 ghost use Rattle.arena_chunks.specs.Memory.{Memory};
 ghost use Rattle.arena_chunks.specs.BlockCalls.{WritesBlock};
@@ -7,12 +7,15 @@ ghost use Rattle.arena_items.specs.ByteForms.{IsBlockValue, block_of, slice_byte
 ghost use Rattle.arena_items.specs.LayoutLaws.{plain_40_8};
 ghost use Rattle.arena_items.specs.NumberLaws.{bytes_back};
 ghost use Rattle.arena_items.specs.HandleLaws.{block_back};
-ghost use Rattle.arena_items.specs.Values.{IsSliceIn, slice_list};
+ghost use Rattle.arena_items.specs.Values.{IsSliceIn, bytes_of, elements, slice_list};
+
+mod walk;
 
 use crate::elements::{item_at, put_item};
 use crate::item::Item;
 use arena_chunks::{Allocator, Block, ChunkSource};
 use std::marker::PhantomData;
+pub use walk::SliceIter;
 
 /// The handle of values of one type that stand one after another in an arena. It is a name: two of them may name the
 /// same values.
@@ -62,6 +65,27 @@ impl<T: Item> BoxSlice<T> {
         ensures { result ≡ self }
     {
         self
+    }
+
+    /// Whether the arena holds the slice: its block may be read there, and has the size of its values and their alignment.
+    #[inline]
+    pub fn is_held<C: ChunkSource>(&self, a: &Allocator<C>) -> bool
+        ensures { IsTrue result ↔ IsSliceIn T.Item a.now.memory self.now }
+    {
+        let size = self.block.size;
+        let Some(needed) = self.length.checked_mul(T::SIZE) else {
+            return false;
+        };
+        a.is_held_place(self.block) && size == needed && self.block.align == T::ALIGN
+    }
+
+    /// The bytes of the values, one after another.
+    pub fn as_slice<'x, C: ChunkSource>(self, a: &'x Allocator<C>) -> &'x [u8]
+        requires { IsSliceIn T.Item a.now.memory self }
+        ensures bytes { result.now ≡ bytes_of a.now.memory self.block }
+        ensures list { elements T.SIZE T.decoded self.length result.now ≡ slice_list T.Item a.now.memory self }
+    {
+        a.read(self.block)
     }
 
     /// The value at an index.

@@ -1,7 +1,7 @@
 // Calls that place values.
 ghost use Rattle.std.specs.Prelude.{◌≡◌, ◌^◌, ◌≤◌, length, replicate};
-ghost use Rattle.std.specs.Iterator.{size, Yields};
-ghost use Rattle.std.specs.Array.{FillsFrom};
+ghost use Rattle.std.specs.Iterator.{size, Yields, CallableAtEachTurn};
+ghost use Rattle.std.specs.Array.{FillsFrom, index_steps};
 ghost use Rattle.std.specs.List.{All};
 ghost use Rattle.arena_chunks.specs.Source.{View};
 ghost use Rattle.arena_chunks.specs.Answers.Answer.{Placed};
@@ -77,7 +77,8 @@ pub trait ArenaItems: OverArena {
         F: Drop,
         requires small { T.SIZE ≤ 2 ^ 24 }
         requires callable { (new : View) (b : Block)
-            → PlacesArray (Self.view self.old) new T.SIZE T.ALIGN len (Placed b) → F.IsAlwaysCallable f }
+            → PlacesArray (Self.view self.old) new T.SIZE T.ALIGN len (Placed b)
+            → CallableAtEachTurn (index_steps len) (λ p x q. (y : T) × F.step p x y q) F.pre 0 f }
         ensures { PlacesSlice T.Item (Self.view self.old) (Self.view self.new) len
             (λ list. (last : F) × FillsFrom F.step f 0 list last) result };
 

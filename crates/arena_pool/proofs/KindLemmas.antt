@@ -13,7 +13,7 @@ use Rattle.arena_chunks.specs.Resizes.{NoneReadable}
 use Rattle.arena_chunks.proofs.Layers.{reset_keeps_bytes, unused_unreadable}
 use Rattle.arena_pool.specs.declared.kind.PoolKind.{PoolKind}
 use Rattle.arena_pool.specs.declared.kind.PoolKind.TheVariants.{Standard, FixedSize}
-use Rattle.arena_pool.specs.Kinds.{is_fixed, HasRegions, IsOfKind, IsUnused, IsNew, new_memory, reset_view}
+use Rattle.arena_pool.specs.Kinds.{is_fixed, HasRegions, IsOfKind, IsUnused, IsFresh, IsNew, new_memory, reset_view}
 
 -- a kind with regions is that of arenas that don't grow
 pub still : (kind : PoolKind) (bytes : ℕ) (state : State) → IsOfKind kind state → kind ≡ FixedSize bytes → state.is_growing ≡ false
@@ -49,10 +49,10 @@ zeroed_region bytes room = rw (length-replicate {A = ℕ} bytes 0, take-replicat
 
 -- A region of zeros makes a new arena.
 pub region_is_new : (bytes : ℕ) (items : List ℕ) (arena : View) (source : Source) → HasRegions (FixedSize bytes) → items ≡ replicate bytes 0
-    → arena ≡ view (region_memory items) source → source.refusals ≡ 0 → IsNew (FixedSize bytes) arena
+    → arena ≡ view (region_memory items) source → IsFresh source → IsNew (FixedSize bytes) arena
 region_is_new bytes items arena source regions zeros is fresh = record {
   memory = ap (λ (a : View). a.memory) is ∙ (ap region_memory zeros ∙ zeroed_region bytes regions.1);
-  refusals = ap (λ (a : View). a.source.refusals) is ∙ fresh;
+  source = subst IsFresh (sym (ap (λ (a : View). a.source) is)) fresh;
 }
 
 -- No block of some bytes of an unused arena can be read.

@@ -1,11 +1,11 @@
 -- The two kinds of arenas that pools have, and arenas as they are stored and lent.
-use Rattle.std.specs.Prelude.{◌≡◌, ℕ, ◌-◌, ◌≤◌, ◌%◌, Bool, true, false, not, Option, None, Some, is_some, take}
+use Rattle.std.specs.Prelude.{◌≡◌, ℕ, ◌-◌, ◌≤◌, ◌%◌, Bool, true, false, not, Option, None, Some, is_some, IfSome, [], take}
 use Rattle.placement.specs.State.{State, IsValid, used_bytes, allocated_bytes}
 use Rattle.placement.specs.Moves.{reset}
 use Rattle.placement.specs.Creation.{empty_state, fixed_state}
 use Rattle.placement.specs.Statistics.{uncounted}
 use Rattle.arena_chunks.specs.Memory.{Memory}
-use Rattle.arena_chunks.specs.Source.{View}
+use Rattle.arena_chunks.specs.Source.{Source, View}
 use Rattle.arena_chunks.specs.Creating.{zeroed_memory}
 use Rattle.arena_pool.specs.declared.kind.PoolKind.{PoolKind}
 use Rattle.arena_pool.specs.declared.kind.PoolKind.TheVariants.{Standard, FixedSize}
@@ -45,10 +45,15 @@ abbrev pub new_memory : PoolKind → Memory
 new_memory Standard = zeroed_memory (empty_state 1)
 new_memory (FixedSize bytes) = zeroed_memory (fixed_state 1 (bytes - 48))
 
--- the same with a source that has refused nothing
+-- a source that has refused nothing, and of which nothing was asked, as far as it tells
+pub record IsFresh (source : Source) : Type 0 where
+  pub refusals : source.refusals ≡ 0
+  pub asked : IfSome source.asked (λ made. made ≡ [])
+
+-- a new arena with such a source
 pub record IsNew (kind : PoolKind) (arena : View) : Type 0 where
   pub memory : arena.memory ≡ new_memory kind
-  pub refusals : arena.source.refusals ≡ 0
+  pub source : IsFresh arena.source
 
 -- an arena after a reset
 abbrev pub reset_view : View → View

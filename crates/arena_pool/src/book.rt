@@ -4,9 +4,9 @@ ghost use Rattle.arena_pool.specs.Kinds.{HasId, IsOfKind};
 ghost use Rattle.arena_pool.specs.Pool.{Begins, Gets, IsPool, IsPooled, put, give_up};
 ghost use Rattle.arena_pool.specs.declared.kind.PoolKind.TheVariants.{Standard, FixedSize};
 
-use crate::holder::{Bare, Stored};
 use crate::kind::{PoolKind, empty};
 use crate::maker::ChunkMaker;
+use crate::packing::{Bare, Stored};
 use crate::stock::Stock;
 use arena_chunks::{Allocator, OutOfMemory};
 use std::alloc::Global;

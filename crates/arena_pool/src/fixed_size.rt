@@ -4,11 +4,11 @@ ghost use Rattle.arena_pool.specs.Kinds.{is_fixed, IsOfKind, IsUnused};
 ghost use Rattle.arena_pool.specs.Names.{IsBlankOf};
 ghost use Rattle.arena_pool.specs.declared.kind.PoolKind.TheVariants.{FixedSize};
 
-use crate::holder::Bare;
 use crate::kind::{PoolKind, empty};
 use crate::lending::Loan;
 use crate::maker::ChunkMaker;
 use crate::name::PoolName;
+use crate::packing::Bare;
 use crate::shared::Shared;
 use crate::stock::Stock;
 use arena_chunks::{Allocator, OutOfMemory};
@@ -48,7 +48,8 @@ impl<K: ChunkMaker, L: PoolName> FixedSizeAllocatorPool<K, L> {
         Ok(FixedSizeAllocatorPool { pool })
     }
 
-    /// Borrows an arena of which nothing is used. Waits while none is stored. Never refuses.
+    /// Borrows an arena of which nothing is used, as `AllocatorPool::get` does. Waits while none is stored: without end once all
+    /// were given up. Never refuses.
     ///
     /// # Errors
     ///
@@ -69,7 +70,7 @@ impl<K: ChunkMaker, L: PoolName> FixedSizeAllocatorPool<K, L> {
         self.pool.add(rt, a, loan);
     }
 
-    /// The arena of the loan doesn't come back.
+    /// The arena of the loan doesn't come back. Once none is left who asks waits without end.
     pub fn forget<R: Wait>(&self, rt: &R, loan: Loan<L>) {
         self.pool.forget(rt, loan);
     }

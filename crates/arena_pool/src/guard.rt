@@ -22,7 +22,7 @@ pub struct FixedSizeAllocatorMetadata {
 }
 
 /// A lent arena. Contracts see it as the arena with its id. It is spent by `put_back` or by `give_up`, and can't be
-/// dropped.
+/// dropped. So it can't go into a closure either, which may be dropped: who works in a thread borrows there.
 pub struct AllocatorGuard<'a, K: ChunkMaker, L: PoolName> {
     pool: &'a AllocatorPool<K, L>,
     arena: Box<Allocator<K::Chunks>, Global>,
@@ -81,7 +81,8 @@ impl<'a, K: ChunkMaker, L: PoolName> AllocatorGuard<'a, K, L> {
         pool.shared.add(rt, arena, loan);
     }
 
-    /// Keeps the arena, as it stands. It doesn't come back to the pool.
+    /// Keeps the arena, as it stands. It doesn't come back to the pool: a fixed one whose arenas were all given up lends none
+    /// any more, and who asks it waits without end.
     pub fn give_up<R: Wait>(self, rt: &R) -> Allocator<K::Chunks>
         ensures { result ≡ self.entry.0 }
     {

@@ -9,7 +9,7 @@ use std::sync::ledger;
 use std::sync::ledger::{Blank, Share};
 
 /// What a lent arena leaves with its borrower: its id, and one part of the pool's ledger. It is spent where the arena is
-/// given back or given up, to a pool of the same name, and can't be dropped.
+/// given back or given up, to a pool of the same name, and can't be dropped, nor go into a closure.
 pub struct Loan<L: PoolName> {
     id: Option<u32>,
     share: Share<L>,
@@ -31,7 +31,7 @@ impl<L: PoolName> Loan<L> {
 // How many arenas are lent: as many as loans are about. Contracts see the number.
 #[derive(Drop)]
 pub(crate) struct Lending<L: PoolName> {
-    book: ledger::Book<L>,
+    ledger: ledger::Book<L>,
     spare: Share<L>,
 }
 
@@ -41,9 +41,9 @@ impl<L: PoolName> Model for Lending<L> {
 
     ghost Value = { ℕ };
 
-    ghost view = { λ l. l.book.total };
+    ghost view = { λ l. l.ledger.total };
 
-    ghost invariant = { λ l. (l.spare.amount ≡ 0) × (l.spare.parts + l.book.total ≡ most_lent) };
+    ghost invariant = { λ l. (l.spare.amount ≡ 0) × (l.spare.parts + l.ledger.total ≡ most_lent) };
 }
 
 impl<L: PoolName> Lending<L> {
@@ -52,8 +52,8 @@ impl<L: PoolName> Lending<L> {
         requires { IsBlankOf L.name L.parts blank }
         ensures { result ≡ 0 }
     {
-        let (book, spare) = blank.open::<L>();
-        Lending { book, spare }
+        let (ledger, spare) = blank.open::<L>();
+        Lending { ledger, spare }
     }
 
     // A loan for an arena with this id.
@@ -64,7 +64,7 @@ impl<L: PoolName> Lending<L> {
         ensures counted { self.new ≡ self.old + 1 }
         ensures id { result.id ≡ id }
     {
-        self.book.add(&mut self.spare, 1);
+        self.ledger.add(&mut self.spare, 1);
         Loan {
             id,
             share: self.spare.split_off(1, 1),
@@ -79,8 +79,8 @@ impl<L: PoolName> Lending<L> {
         ensures kind { HasId L.kind result }
     {
         let Loan { id, mut share } = loan;
-        self.book.audit(&mut share);
-        self.book.sub(&mut share, 1);
+        self.ledger.audit(&mut share);
+        self.ledger.sub(&mut share, 1);
         self.spare.merge(share);
         id
     }

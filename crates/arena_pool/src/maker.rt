@@ -1,5 +1,6 @@
 // Where the sources of new arenas come from.
 ghost use Rattle.std.specs.Prelude.{◌≡◌, None};
+ghost use Rattle.arena_pool.specs.Kinds.{IsFresh};
 
 use arena_chunks::{ChunkSource, MemoryChunks};
 use std::alloc::Global;
@@ -9,9 +10,9 @@ pub trait ChunkMaker {
     /// The sources that it makes.
     type Chunks: ChunkSource + Drop + Send;
 
-    /// A source that has refused nothing.
+    /// A source that has refused nothing, and of which nothing was asked, as far as it tells.
     fn make(&mut self) -> Self::Chunks
-        ensures { (Self.Chunks.source result).refusals ≡ 0 };
+        ensures { IsFresh (Self.Chunks.source result) };
 }
 
 /// Makes sources of memory, each with the same budget of bytes.

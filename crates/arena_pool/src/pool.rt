@@ -6,10 +6,10 @@ ghost use Rattle.arena_pool.specs.declared.kind.PoolKind.TheVariants.{Standard, 
 
 use crate::book::Counts;
 use crate::guard::AllocatorGuard;
-use crate::holder::InBoxes;
 use crate::kind::PoolKind;
 use crate::maker::ChunkMaker;
 use crate::name::PoolName;
+use crate::packing::InBoxes;
 use crate::shared::Shared;
 use crate::stock::Stock;
 use arena_chunks::OutOfMemory;
@@ -73,7 +73,8 @@ impl<K: ChunkMaker, L: PoolName> AllocatorPool<K, L> {
     }
 
     /// Borrows an arena of which nothing is used. Waits while none is stored and no new one can be made, and while as many
-    /// are lent as can be.
+    /// are lent as can be: without end over a fixed pool whose arenas were all given up. What an earlier borrower wrote stays
+    /// in the arena, and a block shows it until it is written.
     ///
     /// # Errors
     ///

@@ -6,11 +6,11 @@ ghost use Rattle.arena_pool.specs.Names.{IsBlankOf};
 ghost use Rattle.arena_pool.specs.Pool.{can_take};
 
 use crate::book::Counts;
-use crate::held::Held;
-use crate::holder::Holder;
+use crate::lender::Lender;
 use crate::lending::{Lending, Loan};
 use crate::maker::ChunkMaker;
 use crate::name::PoolName;
+use crate::packing::Packing;
 use crate::stock::Stock;
 use arena_chunks::{Allocator, OutOfMemory};
 use std::sync::ledger::Blank;
@@ -18,21 +18,21 @@ use std::sync::{Condvar, Mutex, MutexGuard, Wait};
 
 // Arenas that threads borrow and give back, each with a loan.
 #[derive(Drop)]
-pub(crate) struct Shared<K: ChunkMaker, L: PoolName, H: Holder<Allocator<K::Chunks>>> {
-    held: Mutex<Held<K, L, H>>,
+pub(crate) struct Shared<K: ChunkMaker, L: PoolName, P: Packing<Allocator<K::Chunks>>> {
+    lender: Mutex<Lender<K, L, P>>,
     freed: Condvar,
 }
 
-impl<K: ChunkMaker, L: PoolName, H: Holder<Allocator<K::Chunks>>> Shared<K, L, H> {
+impl<K: ChunkMaker, L: PoolName, P: Packing<Allocator<K::Chunks>>> Shared<K, L, P> {
     // Over a new stock.
-    pub(crate) fn over(stock: Stock<K, H>, blank: Blank) -> Shared<K, L, H>
+    pub(crate) fn over(stock: Stock<K, P>, blank: Blank) -> Shared<K, L, P>
         requires blank { IsBlankOf L.name L.parts blank }
         requires kind { stock.kind ≡ L.kind }
         requires none_lent { stock.lent ≡ 0 }
     {
         let pair = (stock, Lending::open(blank));
         Shared {
-            held: Mutex::new(Held { pair, waiting: 0 }),
+            lender: Mutex::new(Lender { pair, waiting: 0 }),
             freed: Condvar::new(),
         }
     }
@@ -44,13 +44,13 @@ impl<K: ChunkMaker, L: PoolName, H: Holder<Allocator<K::Chunks>>> Shared<K, L, H
 
     // An arena with its loan.
     #[inline]
-    pub(crate) fn lend<R: Wait>(&self, rt: &R) -> Result<(H::Held, Loan<L>), OutOfMemory>
-        ensures unused { IfOk result (λ lent. IsUnused L.kind (H.held lent.0)) }
+    pub(crate) fn lend<R: Wait>(&self, rt: &R) -> Result<(P::Packed, Loan<L>), OutOfMemory>
+        ensures unused { IfOk result (λ lent. IsUnused L.kind (P.unpacked lent.0)) }
         ensures fixed { IsTrue (is_fixed L.kind) → IsOk result }
     {
-        let mut held = self.ready(rt);
-        let lent = held.take();
-        drop(held);
+        let mut lender = self.ready(rt);
+        let lent = lender.take();
+        drop(lender);
         if lent.is_err() {
             // Nothing was taken: another that waits may find the memory.
             self.freed.notify_one();
@@ -60,23 +60,23 @@ impl<K: ChunkMaker, L: PoolName, H: Holder<Allocator<K::Chunks>>> Shared<K, L, H
 
     // Takes the lock. Where it is free that is one step, in line.
     #[inline]
-    fn lock<R: Wait>(&self, rt: &R) -> MutexGuard<'_, Held<K, L, H>> {
-        match self.held.try_lock() {
-            Some(held) => held,
-            None => self.held.lock(rt),
+    fn lock<R: Wait>(&self, rt: &R) -> MutexGuard<'_, Lender<K, L, P>> {
+        match self.lender.try_lock() {
+            Some(lender) => lender,
+            None => self.lender.lock(rt),
         }
     }
 
     // Takes the lock, once an arena can be lent.
     #[inline]
-    fn ready<R: Wait>(&self, rt: &R) -> MutexGuard<'_, Held<K, L, H>>
+    fn ready<R: Wait>(&self, rt: &R) -> MutexGuard<'_, Lender<K, L, P>>
         ensures { IsTrue (can_take (mutex_guard_value result)) }
     {
-        let held = self.lock(rt);
-        if held.can_take() {
-            return held;
+        let lender = self.lock(rt);
+        if lender.can_take() {
+            return lender;
         }
-        self.wait(rt, held)
+        self.wait(rt, lender)
     }
 
     // Waits until an arena can be lent. Those that wait are counted, so that who gives back wakes one only where there is one.
@@ -85,22 +85,24 @@ impl<K: ChunkMaker, L: PoolName, H: Holder<Allocator<K::Chunks>>> Shared<K, L, H
     fn wait<'b, R: Wait>(
         &self,
         rt: &R,
-        held: MutexGuard<'b, Held<K, L, H>>,
-    ) -> MutexGuard<'b, Held<K, L, H>>
+        lender: MutexGuard<'b, Lender<K, L, P>>,
+    ) -> MutexGuard<'b, Lender<K, L, P>>
         ensures { IsTrue (can_take (mutex_guard_value result)) }
     {
-        let mut held = held;
-        held.begin_wait();
-        let mut held = self.freed.wait_while(rt, held, |held| !held.can_take());
-        held.end_wait();
-        held
+        let mut lender = lender;
+        lender.begin_wait();
+        let mut lender = self
+            .freed
+            .wait_while(rt, lender, |lender| !lender.can_take());
+        lender.end_wait();
+        lender
     }
 
     // Lets the lock go, and wakes one that waits.
     #[inline]
-    fn wake_one(&self, held: MutexGuard<'_, Held<K, L, H>>) {
-        let is_awaited = held.is_awaited();
-        drop(held);
+    fn wake_one(&self, lender: MutexGuard<'_, Lender<K, L, P>>) {
+        let is_awaited = lender.is_awaited();
+        drop(lender);
         if is_awaited {
             self.freed.notify_one();
         }
@@ -108,18 +110,18 @@ impl<K: ChunkMaker, L: PoolName, H: Holder<Allocator<K::Chunks>>> Shared<K, L, H
 
     // Stores an arena of which nothing is used, and wakes one that waits.
     #[inline]
-    pub(crate) fn add<R: Wait>(&self, rt: &R, arena: H::Held, loan: Loan<L>)
-        requires { IsUnused L.kind (H.held arena) }
+    pub(crate) fn add<R: Wait>(&self, rt: &R, arena: P::Packed, loan: Loan<L>)
+        requires { IsUnused L.kind (P.unpacked arena) }
     {
-        let mut held = self.lock(rt);
-        held.keep(arena, loan);
-        self.wake_one(held);
+        let mut lender = self.lock(rt);
+        lender.keep(arena, loan);
+        self.wake_one(lender);
     }
 
     // An arena doesn't come back. One that waits for its part of the ledger is woken.
     pub(crate) fn forget<R: Wait>(&self, rt: &R, loan: Loan<L>) {
-        let mut held = self.lock(rt);
-        held.forget(loan);
-        self.wake_one(held);
+        let mut lender = self.lock(rt);
+        lender.forget(loan);
+        self.wake_one(lender);
     }
 }

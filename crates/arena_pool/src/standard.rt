@@ -4,11 +4,11 @@ ghost use Rattle.arena_pool.specs.Kinds.{IsOfKind, IsUnused};
 ghost use Rattle.arena_pool.specs.Names.{IsBlankOf};
 ghost use Rattle.arena_pool.specs.declared.kind.PoolKind.TheVariants.{Standard};
 
-use crate::holder::Bare;
 use crate::kind::{PoolKind, empty};
 use crate::lending::Loan;
 use crate::maker::ChunkMaker;
 use crate::name::PoolName;
+use crate::packing::Bare;
 use crate::shared::Shared;
 use crate::stock::Stock;
 use arena_chunks::{Allocator, OutOfMemory};

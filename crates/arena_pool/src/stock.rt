@@ -1,22 +1,22 @@
-// The arenas that a pool stores, however it holds them, and its counts.
+// The arenas that a pool stores, however it packs them, and its counts.
 ghost use Rattle.std.specs.Prelude.{◌≡◌, ◌+◌, ◌<◌, IfOk};
 ghost use Rattle.arena_pool.specs.Kinds.{is_fixed, HasId, HasRegions, IsNew, IsUnused};
 ghost use Rattle.arena_pool.specs.Pool.{Begins, Gets, LendsStored, IsPool, IsPooled, store, give_up};
 
 use crate::book::{Counts, PoolErr};
-use crate::holder::{Holder, Stored};
 use crate::kind::PoolKind;
 use crate::maker::ChunkMaker;
+use crate::packing::{Packing, Stored};
 use arena_chunks::{Allocator, OutOfMemory};
 use arena_region::Region;
 use std::alloc::Global;
 use std::marker::Model;
 
-// The arenas that are stored, newest last, and the counts of a pool: what a book is, over either way to hold arenas.
+// The arenas that are stored, newest last, and the counts of a pool: what a book is, over either way to pack arenas.
 #[derive(Drop)]
-pub(crate) struct Stock<K: ChunkMaker, H: Holder<Allocator<K::Chunks>>> {
+pub(crate) struct Stock<K: ChunkMaker, P: Packing<Allocator<K::Chunks>>> {
     kind: PoolKind,
-    stack: Vec<Stored<K, H>>,
+    stack: Vec<Stored<K, P>>,
     made: u64,
     lent: u64,
     given_up: u64,
@@ -24,7 +24,7 @@ pub(crate) struct Stock<K: ChunkMaker, H: Holder<Allocator<K::Chunks>>> {
     maker: K,
 }
 
-impl<K: ChunkMaker, H: Holder<Allocator<K::Chunks>>> Model for Stock<K, H> {
+impl<K: ChunkMaker, P: Packing<Allocator<K::Chunks>>> Model for Stock<K, P> {
     ghost use Rattle.std.specs.Prelude.{◌≡◌, ◌+◌, ◌≤◌, All, vec_len, vec_capacity};
     ghost use Rattle.arena_pool.specs.Pool.{Pool, IsPooled};
 
@@ -60,36 +60,33 @@ fn new_arena<K: ChunkMaker>(
             let Ok(region) = Region::zeros(alloc, bytes as usize) else {
                 return Err(OutOfMemory);
             };
-            match Allocator::from_raw_parts(alloc, region, maker.make()) {
-                Ok(arena) => Ok(arena),
-                Err(_) => unreachable!(),
-            }
+            Ok(Allocator::from_region(alloc, region, maker.make()))
         }
     }
 }
 
-// The same, held.
-fn new_held<K: ChunkMaker, H: Holder<Allocator<K::Chunks>>>(
+// The same, packed.
+fn new_packed<K: ChunkMaker, P: Packing<Allocator<K::Chunks>>>(
     alloc: Global,
     kind: PoolKind,
     maker: &mut K,
-) -> Result<H::Held, OutOfMemory>
+) -> Result<P::Packed, OutOfMemory>
     requires { HasRegions kind }
-    ensures new { IfOk result (λ h. IsNew kind (H.held h)) }
-    ensures unused { IfOk result (λ h. IsUnused kind (H.held h)) }
+    ensures new { IfOk result (λ p. IsNew kind (P.unpacked p)) }
+    ensures unused { IfOk result (λ p. IsUnused kind (P.unpacked p)) }
 {
     let arena = new_arena(alloc, kind, maker)?;
-    H::hold(alloc, arena)
+    P::pack(alloc, arena)
 }
 
-impl<K: ChunkMaker, H: Holder<Allocator<K::Chunks>>> Stock<K, H> {
+impl<K: ChunkMaker, P: Packing<Allocator<K::Chunks>>> Stock<K, P> {
     // A pool with so many new arenas.
     pub(crate) fn of_kind(
         alloc: Global,
         kind: PoolKind,
         count: u32,
         maker: K,
-    ) -> Result<Stock<K, H>, OutOfMemory>
+    ) -> Result<Stock<K, P>, OutOfMemory>
     where
         K: Drop,
         requires { HasRegions kind }
@@ -100,7 +97,7 @@ impl<K: ChunkMaker, H: Holder<Allocator<K::Chunks>>> Stock<K, H> {
             return Err(OutOfMemory);
         };
         for i in 0..count {
-            let arena = new_held::<K, H>(alloc, kind, &mut maker)?;
+            let arena = new_packed::<K, P>(alloc, kind, &mut maker)?;
             stack.push_reserved(Stored {
                 arena,
                 id: kind.first_id(i),
@@ -119,7 +116,7 @@ impl<K: ChunkMaker, H: Holder<Allocator<K::Chunks>>> Stock<K, H> {
 
     // Lends the newest that is stored, or where none is stored a new one, as `Book::take` does.
     #[inline]
-    pub(crate) fn take(&mut self) -> Result<Stored<K, H>, PoolErr>
+    pub(crate) fn take(&mut self) -> Result<Stored<K, P>, PoolErr>
         ensures gets { Gets self.old result self.new }
         ensures lent { IfOk result (IsPooled self.old.kind) }
     {
@@ -131,7 +128,7 @@ impl<K: ChunkMaker, H: Holder<Allocator<K::Chunks>>> Stock<K, H> {
 
     // Lends the newest that is stored.
     #[inline]
-    fn take_stored(&mut self) -> Stored<K, H>
+    fn take_stored(&mut self) -> Stored<K, P>
         requires { 0 < self.old.stored }
         ensures lends { LendsStored self.old result self.new }
         ensures lent { IsPooled self.old.kind result }
@@ -143,7 +140,7 @@ impl<K: ChunkMaker, H: Holder<Allocator<K::Chunks>>> Stock<K, H> {
     // Lends a new one, where none is stored.
     #[cold]
     #[inline(never)]
-    fn take_new(&mut self) -> Result<Stored<K, H>, PoolErr>
+    fn take_new(&mut self) -> Result<Stored<K, P>, PoolErr>
         requires { self.old.stored ≡ 0 }
         ensures gets { Gets self.old result self.new }
         ensures lent { IfOk result (IsPooled self.old.kind) }
@@ -157,7 +154,7 @@ impl<K: ChunkMaker, H: Holder<Allocator<K::Chunks>>> Stock<K, H> {
         if self.stack.reserve(self.lent as usize + 1).is_err() {
             return Err(PoolErr::OutOfMemory);
         }
-        let Ok(arena) = new_held::<K, H>(self.alloc, PoolKind::Standard, &mut self.maker) else {
+        let Ok(arena) = new_packed::<K, P>(self.alloc, PoolKind::Standard, &mut self.maker) else {
             return Err(PoolErr::OutOfMemory);
         };
         self.made += 1;
@@ -167,11 +164,11 @@ impl<K: ChunkMaker, H: Holder<Allocator<K::Chunks>>> Stock<K, H> {
 
     // Stores one that was lent and of which nothing is used.
     #[inline]
-    pub(crate) fn keep(&mut self, arena: H::Held, id: Option<u32>)
+    pub(crate) fn keep(&mut self, arena: P::Packed, id: Option<u32>)
         requires lent { 0 < self.old.lent }
-        requires unused { IsUnused self.old.kind (H.held arena) }
+        requires unused { IsUnused self.old.kind (P.unpacked arena) }
         requires id { HasId self.old.kind id }
-        ensures { self.new ≡ store self.old (H.held arena, id) }
+        ensures { self.new ≡ store self.old (P.unpacked arena, id) }
     {
         self.stack.push_reserved(Stored { arena, id });
         self.lent -= 1;

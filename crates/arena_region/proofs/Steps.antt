@@ -1,5 +1,5 @@
 -- Steps that the walks over a block's memory share. Assumes `Logic`.
-use Rattle.std.proofs.Common.{◌≡◌, List, [], ◌∷◌, ◌++◌, refl, subst}
+use Rattle.std.proofs.Common.{◌≡◌, List, [], ◌∷◌, ◌++◌, refl, sym, ap, subst}
 use seplogic.Ra.Ura.{Ura}
 use lib.Dec.{T, lit<}
 use mir.Val.{Val, vstruct, vcons, vnil, of_list, has_ty, WT}
@@ -67,6 +67,16 @@ three u v w = vstruct (vcons u (vcons v (vcons w vnil)))
 pub word-good : (p : Ptr) → T (has_ty (layout Pointer) (word p)) × WT (word p)
 word-good (block_ptr b o) = (tt, (tt, tt))
 word-good null_ptr = (tt, (record { fits = lit< tt }, tt))
+
+-- the machine values of all parameters, in one list
+abbrev pub flat : List (List Val) → List Val
+flat [] = []
+flat (us ∷ uss) = us ++ flat uss
+
+module _ {M : Type 1} {𝓤 : Ura M} {𝓛 : Logic 𝓤} {K : Type 0} {Γ : List (Item 𝓤)} where
+  -- a function runs with the values that its parameters are known to have
+  pub passed : K → (F : List Val → Goal 𝓤 𝓛.H) (uss vss : List (List Val)) → uss ≡ vss → Step K 𝓛 Γ (F (flat vss)) Γ (F (flat uss))
+  passed t F uss vss e = step (λ s. subst (λ (g : Goal 𝓤 𝓛.H). Seq K 𝓛 Γ g) (ap (λ ws. F (flat ws)) (sym e)) s)
 
 module _ {M : Type 1} {𝓤 : Ura M} {𝓛 : Logic 𝓤} {K : Type 0} {Γ : List (Item 𝓤)} {G : Goal 𝓤 𝓛.H} where
   pub word_had : K → (p : Ptr) (vs : List Val) → (vs ≡ word p ∷ [] → Seq K 𝓛 Γ G) → Seq K 𝓛 (‵ (Pointer.own_val (p, tt) vs) ∷ Γ) G

@@ -1,5 +1,6 @@
 // How room is made ready. The loops write nothing else, so that they become one move of memory.
 ghost use Rattle.std.specs.Prelude.{◌≡◌, ◌-◌, ◌≤◌, ◌++◌, length, replicate};
+ghost use Rattle.std.specs.Vec.{vec_len, vec_capacity};
 
 use crate::store::{Base, Store};
 
@@ -32,4 +33,19 @@ pub(crate) fn copy(store: &mut Store, base: Base, list: &[u8])
         at -= 1;
         store.put(base, at, list[at]);
     }
+}
+
+// A vector whose room is filled up with zeros.
+pub(crate) fn filled(list: Vec<u8>) -> Vec<u8>
+    ensures full { vec_len result ≡ vec_capacity result }
+    ensures items { result.items ≡ list.items ++ replicate (vec_capacity list - vec_len list) 0 }
+{
+    let mut vec = list;
+    let size = vec.capacity();
+    let mut at = vec.len();
+    while at < size {
+        vec.push_reserved(0);
+        at += 1;
+    }
+    vec
 }

@@ -1,6 +1,6 @@
 -- Texts that grow, and texts that are made: the one call of the arena, and the handle then.
 use Rattle.std.proofs.Common.{◌≡◌, ℕ, ◌*◌, ◌^◌, ◌<◌, ◌≤◌, ◌+◌, ◌-◌, Bool, true, false, IsTrue, Ok, refl, arith, ◌∙◌}
-use Rattle.std.specs.Prelude.{nat_le, if◌then◌else◌}
+use Rattle.std.specs.Prelude.{nat_le, max, if◌then◌else◌}
 use Rattle.std.proofs.lemmas.Bool.Decides.{nat_tests}
 use Rattle.placement.specs.Rounding.{up, is_layout, is_power_among}
 use Rattle.placement.proofs.RoundingLemmas.{up_same}
@@ -12,7 +12,7 @@ use Rattle.arena_items.specs.Room.{TakesRoom, MakesRoom, capacity_after}
 use Rattle.arena_items.specs.declared.room.Growth.{Growth}
 use Rattle.arena_items.specs.declared.room.Growth.TheVariants.{Stays, GrowsTo, Overflows}
 use Rattle.arena_items.proofs.Layers.{taken_held, taken_frame, taken_front}
-use Rattle.arena_text.specs.Growth.{growth_to, amortised_growth, new_growth, Suffices}
+use Rattle.arena_text.specs.Growth.{growth_to, amortised, amortised_growth, new_growth, asked_by, IsRoomFor, Suffices}
 use Rattle.arena_text.specs.Builders.{IsBuilderIn}
 use Rattle.arena_text.specs.Changes.{IsGrown}
 use Rattle.arena_text.specs.declared.text.StringBuilder.{StringBuilder}
@@ -70,6 +70,45 @@ new_capacity old new b room f t made = go (nat_le room 0) (nat_le room (2 ^ 63 -
 pub room_there : (cap len n : ℕ) → len + n ≤ cap → amortised_growth cap len n ≡ Stays
 unfolding growth_to
 room_there cap len n fits = grind (arith, nat_tests)
+
+-- Where bytes are put there is room for no more than twice the bytes and eight.
+pub room_pushed : (cap len n : ℕ) → len ≤ cap → IsRoomFor len cap → IsRoomFor (len + n) (capacity_after (amortised_growth cap len n) cap)
+unfolding growth_to amortised
+room_pushed cap len n within room = go (nat_le (len + n) cap) (nat_le (len + n) (2 ^ 63 - 1)) (nat_le more (2 ^ 63 - 1)) refl refl refl
+  where
+    more : ℕ
+    more = cap + max n (max cap 8)
+
+    growth : Bool → Bool → Bool → Growth
+    growth there few fits = if there then Stays else (if few then GrowsTo (if fits then more else len + n) else Overflows)
+
+    go : (there few fits : Bool) → nat_le (len + n) cap ≡ there → nat_le (len + n) (2 ^ 63 - 1) ≡ few → nat_le more (2 ^ 63 - 1) ≡ fits
+        → IsRoomFor (len + n) (capacity_after (growth there few fits) cap)
+    go true few fits is small all = omega arith
+    go false true true is small all = grind (arith, nat_tests)
+    go false true false is small all = omega arith
+    go false false fits is small all = omega arith
+
+-- And all blocks that were asked for have together no more than twice the bytes of the last.
+pub asked_pushed : (cap len n asked : ℕ) → len ≤ cap → asked ≤ 2 * cap → capacity_after (amortised_growth cap len n) cap < 2 ^ 62
+    → asked + asked_by (amortised_growth cap len n) ≤ 2 * capacity_after (amortised_growth cap len n) cap
+unfolding growth_to amortised
+asked_pushed cap len n asked within few below =
+    go (nat_le (len + n) cap) (nat_le (len + n) (2 ^ 63 - 1)) (nat_le more (2 ^ 63 - 1)) refl refl refl below
+  where
+    more : ℕ
+    more = cap + max n (max cap 8)
+
+    growth : Bool → Bool → Bool → Growth
+    growth there small fits = if there then Stays else (if small then GrowsTo (if fits then more else len + n) else Overflows)
+
+    go : (there small fits : Bool) → nat_le (len + n) cap ≡ there → nat_le (len + n) (2 ^ 63 - 1) ≡ small → nat_le more (2 ^ 63 - 1) ≡ fits
+        → capacity_after (growth there small fits) cap < 2 ^ 62
+        → asked + asked_by (growth there small fits) ≤ 2 * capacity_after (growth there small fits) cap
+    go true small fits is most all below = omega arith
+    go false true true is most all below = omega arith
+    go false true false is most all below = absurd (grind (arith, nat_tests))
+    go false false fits is most all below = omega arith
 
 -- More than the greatest capacity overflows.
 pub too_many : (n : ℕ) → 2 ^ 63 ≤ n → new_growth n ≡ Overflows

@@ -19,11 +19,11 @@ use Rattle.arena_items.specs.declared.room.Growth.TheVariants.{Stays}
 use Rattle.arena_items.specs.declared.room.AllocError.{AllocError}
 use Rattle.arena_items.specs.declared.room.AllocError.TheVariants.{CapacityOverflow}
 use Rattle.arena_items.proofs.Layers.{front_readable, same_then, wrote_same, room_then, room_refused}
-use Rattle.arena_text.specs.Growth.{new_growth, amortised_growth}
+use Rattle.arena_text.specs.Growth.{new_growth, amortised_growth, IsRoomFor}
 use Rattle.arena_text.specs.Builders.{IsBuilderIn, builder_bytes, no_block}
 use Rattle.arena_text.specs.Changes.{Becomes, Grows, Makes, IsGrown}
 use Rattle.arena_text.specs.declared.text.StringBuilder.{StringBuilder}
-use Rattle.arena_text.proofs.RoomLemmas.{new_capacity, too_many, room_there}
+use Rattle.arena_text.proofs.RoomLemmas.{new_capacity, too_many, room_there, room_pushed}
 
 -- ---- Bytes
 
@@ -284,6 +284,12 @@ grown_within old mid new t u v growth n first list (Ok x) one fits two =
       err = tt;
       frame = frame_then old.memory mid.memory new.memory (t.block ∷ []) (u.block ∷ []) (v.block ∷ []) one.frame two.frame;
     }
+
+-- Where bytes were put to a text its room is no more than twice its bytes and eight, if it was so before.
+pub pushed_room : (old new : View) (t u : StringBuilder) (n : ℕ) (list : List ℕ) → IsBuilderIn old.memory t → IsRoomFor t.len t.cap
+    → length list ≡ t.len + n → Grows old new t (amortised_growth t.cap t.len n) list u (Ok tt) → IsRoomFor u.len u.cap
+pushed_room old new t u n list held room long is =
+    omega (arith, is.len, is.cap, long, room_pushed t.cap t.len n held.within room)
 
 -- ---- Texts that are read
 

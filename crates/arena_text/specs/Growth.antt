@@ -1,5 +1,5 @@
 -- How a text's capacity grows.
-use Rattle.std.specs.Prelude.{ℕ, ◌+◌, ◌-◌, ◌^◌, ◌<◌, ◌≤◌, nat_le, max, if◌then◌else◌}
+use Rattle.std.specs.Prelude.{ℕ, ◌+◌, ◌-◌, ◌*◌, ◌^◌, ◌<◌, ◌≤◌, nat_le, max, if◌then◌else◌}
 use Rattle.arena_items.specs.declared.room.Growth.{Growth}
 use Rattle.arena_items.specs.declared.room.Growth.TheVariants.{Stays, GrowsTo, Overflows}
 
@@ -22,6 +22,16 @@ amortised_growth cap len additional = growth_to cap (len + additional) (amortise
 -- the growth of a new text, to just this many bytes
 abbrev pub new_growth : ℕ → Growth
 new_growth room = growth_to 0 room room
+
+-- how many bytes a growth asks for
+abbrev pub asked_by : Growth → ℕ
+asked_by Stays = 0
+asked_by (GrowsTo more) = more
+asked_by Overflows = 0
+
+-- room for no more than twice so many bytes, and eight
+abbrev pub IsRoomFor : ℕ → ℕ → Type 0
+IsRoomFor len cap = cap ≤ 2 * len + 8
 
 -- What a growth says of the numbers: what is required is there then, a layout has it, and there is no less room than before.
 abbrev pub Suffices : ℕ → ℕ → Growth → Type 0

@@ -1,11 +1,11 @@
 // The growth rule, calls within a text's room, and what is UTF-8, as facts. A law is a call that does nothing: made in a body,
 // it gives its facts there.
-ghost use Rattle.std.specs.Prelude.{◌≡◌, ℕ, ◌+◌, ◌^◌, ◌<◌, ◌≤◌, List, [], ◌∷◌, ◌++◌, length, max, replicate, encode_utf8, slice_index, slice_set, IsUtf8, Result, Ok, Err, IsOk};
+ghost use Rattle.std.specs.Prelude.{◌≡◌, ℕ, ◌+◌, ◌*◌, ◌^◌, ◌<◌, ◌≤◌, List, [], ◌∷◌, ◌++◌, length, max, replicate, encode_utf8, slice_index, slice_set, IsUtf8, Result, Ok, Err, IsOk};
 ghost use Rattle.std.specs.Char.{IsScalar};
 ghost use Rattle.arena_chunks.specs.Memory.{Memory};
 ghost use Rattle.arena_chunks.specs.Source.{View};
-ghost use Rattle.arena_items.specs.Room.{SamePlaces};
-ghost use Rattle.arena_text.specs.Growth.{amortised_growth, new_growth};
+ghost use Rattle.arena_items.specs.Room.{SamePlaces, capacity_after};
+ghost use Rattle.arena_text.specs.Growth.{amortised_growth, new_growth, asked_by, IsRoomFor};
 ghost use Rattle.arena_text.specs.Builders.{IsBuilderIn, builder_bytes};
 ghost use Rattle.arena_text.specs.Changes.{Grows, Makes};
 ghost use Rattle.arena_text.specs.declared.text.StringBuilder.{StringBuilder};
@@ -36,6 +36,21 @@ pub fn room_rule()
     ensures none { new_growth 0 ≡ Growth.Stays }
     ensures some { (room : ℕ) → 0 < room → room < 2 ^ 63 → new_growth room ≡ Growth.GrowsTo room }
     ensures overflows { (room : ℕ) → 2 ^ 63 ≤ room → new_growth room ≡ Growth.Overflows }
+{}
+
+/// A text to which bytes are put has room for no more than twice its bytes and eight, as a new one has. And all blocks that
+/// it asked for, one after another, have together no more than twice the bytes of the last, as long as that has less than
+/// 2^62.
+pub fn pushed_rule()
+    ensures text { (old new : View) (t u : StringBuilder) (n : ℕ) (list : List ℕ) → IsBuilderIn old.memory t
+        → IsRoomFor t.len t.cap → length list ≡ t.len + n
+        → Grows old new t (amortised_growth t.cap t.len n) list u (Ok tt) → IsRoomFor u.len u.cap }
+    ensures room { (cap len n : ℕ) → len ≤ cap → IsRoomFor len cap
+        → IsRoomFor (len + n) (capacity_after (amortised_growth cap len n) cap) }
+    ensures asked { (cap len n asked : ℕ) → len ≤ cap → asked ≤ 2 * cap
+        → capacity_after (amortised_growth cap len n) cap < 2 ^ 62
+        → asked + asked_by (amortised_growth cap len n)
+        ≤ 2 * capacity_after (amortised_growth cap len n) cap }
 {}
 
 /// Where there is room for n bytes a call that puts so many isn't refused, and takes no memory. It and the call before

@@ -95,6 +95,16 @@ impl StringBuilder {
         Ok(text)
     }
 
+    /// Whether the handle is well formed and may be read here.
+    pub fn is_held<C: ChunkSource>(&self, a: &Allocator<C>) -> bool
+        ensures { IsTrue result ↔ IsBuilderIn a.now.memory self.now }
+    {
+        self.len <= self.cap
+            && self.block.size == self.cap
+            && self.block.align == 1
+            && a.is_held_place(self.block)
+    }
+
     /// How many bytes there are.
     #[inline]
     pub fn len(&self) -> u64

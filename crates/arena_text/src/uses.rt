@@ -1,5 +1,5 @@
 // Callers of texts.
-ghost use Rattle.std.specs.Prelude.{◌≡◌, ◌+◌, ◌<◌, ◌≤◌, ◌++◌, ◌⊎◌, [], ◌∷◌, length, replicate, chars, encode_utf8, Err, IsOk, IfOk, IsUtf8};
+ghost use Rattle.std.specs.Prelude.{◌≡◌, ◌+◌, ◌*◌, ◌<◌, ◌≤◌, ◌++◌, ◌⊎◌, [], ◌∷◌, length, replicate, chars, encode_utf8, Err, IsOk, IfOk, IsUtf8};
 ghost use Rattle.std.specs.Result.{result_map_both};
 ghost use Rattle.std.specs.Fmt.{decimal};
 ghost use Rattle.placement.specs.State.{used_bytes};
@@ -9,7 +9,7 @@ ghost use Rattle.arena_text.specs.Growth.{amortised_growth};
 ghost use Rattle.arena_text.specs.Builders.{IsBuilderIn, builder_bytes};
 ghost use Rattle.arena_text.specs.Changes.{Grows, Makes};
 
-use crate::laws::{utf8_rule, within_room};
+use crate::laws::{pushed_rule, utf8_rule, within_room};
 use crate::text::StringBuilder;
 use arena_chunks::{Allocator, ChunkSource};
 use arena_items::laws::frame_law;
@@ -28,6 +28,25 @@ pub fn rule_of<C: ChunkSource>(byte: u8, n: u64, a: &mut Allocator<C>) -> Grown<
     within_room();
     let mut text = StringBuilder::with_capacity_in(n, a)?;
     text.push_ascii_byte_repeat(a, byte, n)?;
+    Ok(text)
+}
+
+/// Makes a text of ASCII bytes, put one after another. Its room is no more than twice its bytes and eight.
+///
+/// # Errors
+///
+/// As of `push_ascii_byte`. What was made stays in the arena.
+pub fn row_of<C: ChunkSource>(byte: u8, n: u64, a: &mut Allocator<C>) -> Grown<StringBuilder>
+    requires { byte < 128 }
+    ensures held { IfOk result (IsBuilderIn a.new.memory) }
+    ensures bytes { IfOk result (λ t. builder_bytes a.new.memory t ≡ replicate n byte) }
+    ensures room { IfOk result (λ t. t.cap ≤ 2 * n + 8) }
+{
+    pushed_rule();
+    let mut text = StringBuilder::new_in();
+    for _i in 0..n {
+        text.push_ascii_byte(a, byte)?;
+    }
     Ok(text)
 }
 

@@ -1,6 +1,8 @@
 -- Walks in which a test takes some values for the last one kept.
-use Rattle.std.proofs.Common.{List, [], ◌∷◌, refl, Bool, true, false}
+use Rattle.std.proofs.Common.{List, [], ◌∷◌, refl, ap, Bool, true, false}
+use Rattle.std.specs.List.{FoldsTo}
 use Rattle.std.specs.List.Retain.{DedupsFrom, IsDeduped}
+use Rattle.arena_vec.specs.Calling.{DedupTurn, CallableInDedup}
 
 -- The walk's state is the test's and the last value kept.
 abbrev pub LeavesOne : {S X : Type 0} → (S → X → X → Bool → S → X → X → Type 0) → S × X → List X → List X → Type 0
@@ -27,3 +29,17 @@ module _ {S U X : Type 0} (R : S → X → X → Bool → S → X → X → Type
   pub deduped_same : (s : S) (xs ys : List X) → IsDeduped R s xs ys → IsDeduped Q (as_other s) xs ys
   deduped_same s [] ys h = record { told = h.told }
   deduped_same s (x ∷ xs) ys h = record { told = from_same s x xs ys h.told }
+
+  turns_same : (s t : S) (k last : X) (xs : List X) → FoldsTo {P = S × X} (DedupTurn R) (s, k) xs (t, last)
+      → FoldsTo {P = U × X} (DedupTurn Q) (as_other s, k) xs (as_other t, last)
+  turns_same s t k last [] same = ap (λ p. (as_other p.0, p.1)) same
+  turns_same s t k last (x ∷ xs) ((u, z), (b, y, kept, told, is), more) =
+      ((as_other u, z), (b, y, kept, same s u x k y kept b told, is), turns_same u t z last xs more)
+
+  -- Where one can be called as often as the other, it can be called at each value if that can.
+  pub callable_same : (Can : S → X → X → Type 0) (CanOther : U → X → X → Type 0)
+      → ((s : S) (x k : X) → CanOther (as_other s) x k → Can s x k)
+      → (s : S) (xs : List X) → CallableInDedup Q CanOther xs (as_other s) → CallableInDedup R Can xs s
+  callable_same Can CanOther can s xs h = λ x rest first. record {
+    at = λ zs t q y u a b c. can q.0 y q.1 ((h x rest first).at zs t (as_other q.0, q.1) y u a (turns_same s q.0 x q.1 zs b) c);
+  }

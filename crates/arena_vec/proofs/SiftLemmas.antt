@@ -5,11 +5,14 @@ use Rattle.std.proofs.lemmas.Grind.{common_steps}
 use Rattle.std.proofs.lemmas.List.{drop_all}
 use Rattle.std.proofs.lemmas.Option.{slice_get_within, get_or_from_slice_get}
 use Rattle.std.specs.Prelude.{slice_get}
+use Rattle.std.specs.Array.{list_steps}
+use Rattle.std.specs.Iterator.{CallableAtEachTurn}
 use Rattle.placement.specs.Machine.{splice}
 use Rattle.arena_items.specs.Values.{elements}
 use mir.Val.{bool_byte}
 use borrow.Rule.Slice.PartMut.{put_mid}
 use Rattle.arena_items.proofs.Layers.{rows_before, length-elements, elements-get, elements-set, elements-empty}
+use Rattle.arena_vec.proofs.TurnLemmas.{turn_on}
 
 -- for automatic proof: the values of bytes
 pub ruleset list_laws = (rows_before, elements-get, length-elements, elements-empty)
@@ -27,7 +30,7 @@ module _ {X : Type 0} (xs : List X) (i : ℕ) (y : X) where
   rest_of_set k h = grind (arith, common_steps)
 
 -- the value at an index, and those behind it
-rest_at : {X : Type 0} (xs : List X) (k : ℕ) (x : X) → slice_get xs k ≡ Some x → drop k xs ≡ x ∷ drop (k + 1) xs
+pub rest_at : {X : Type 0} (xs : List X) (k : ℕ) (x : X) → slice_get xs k ≡ Some x → drop k xs ≡ x ∷ drop (k + 1) xs
 rest_at xs k x got =
     let next : suc k ≡ k + 1 = omega arith in
     drop-cons xs k x (slice_get_within xs k x got) ∙ rw (get_or_from_slice_get xs k x x got, next) refl
@@ -85,3 +88,10 @@ put_sets size dec n i bs ys v long back less room =
     let inner = rows_before i n size less in
     let spliced : put_mid (i * size) (i * size + size - i * size) bs ys ≡ splice bs (i * size) ys = grind (arith, common_steps) in
     ap (elements size dec n) spliced ∙ elements-set size dec n bs i ys less room long ∙ ap (set (elements size dec n bs) i) back
+
+-- A closure that can be called at each value from an index on can then be called at those behind it, also where one was put in front.
+pub turn_sifts : {X P : Type 0} {R : P → X → P → Type 0} {Q : P → X → Type 0} {p q : P} {kept k : ℕ} {x : X} (xs : List X) (y : X)
+    → CallableAtEachTurn list_steps R Q (drop k xs) p → slice_get xs k ≡ Some x → kept ≤ k → R p x q
+    → CallableAtEachTurn list_steps R Q (drop (k + 1) (set xs kept y)) q
+turn_sifts {kept = kept} {k} {x} xs y h got order r =
+    rw (rest_of_set xs kept y (k + 1) (omega (arith, order))) (turn_on (rest_at xs k x got) h _ r)

@@ -1,14 +1,14 @@
 -- What calls do to a vector.
-use Rattle.std.proofs.Common.{◌≡◌, ℕ, ◌+◌, ◌-◌, ◌*◌, ◌≤◌, List, [], ◌∷◌, ◌++◌, length, take, drop, refl, sym, ap, ◌∙◌, arith, Ok, Err, set}
-use Rattle.std.proofs.Math.Nat.{mul-le-mul_right}
+use Rattle.std.proofs.Common.{◌≡◌, ℕ, ◌+◌, ◌-◌, ◌*◌, ◌%◌, ◌^◌, ◌<◌, ◌≤◌, List, [], ◌∷◌, ◌++◌, length, take, drop, refl, sym, ap, ◌∙◌, arith, Ok, Err, set}
+use Rattle.std.proofs.Math.Nat.{mul-le-mul_left, mul-le-mul_right, mod-eq_of_lt}
 use Rattle.std.specs.List.{insert, remove_range}
-use Rattle.arena_chunks.specs.Memory.{Memory}
+use Rattle.arena_chunks.specs.Memory.{Memory, image}
 use Rattle.arena_chunks.specs.Source.{View}
 use Rattle.arena_chunks.specs.Frame.{Frame}
-use Rattle.arena_chunks.proofs.Layers.{frame_then, frame_reflexive}
+use Rattle.arena_chunks.proofs.Layers.{frame_then, frame_reflexive, take_bytes}
 use Rattle.arena_items.specs.declared.item.Item.{Ghosts}
-use Rattle.arena_items.specs.Values.{elements, bytes_of}
-use Rattle.arena_items.proofs.Layers.{rows_before, elements-empty, length-elements, written_held, elements-cut, wrote_same, room_then, room_refused}
+use Rattle.arena_items.specs.Values.{elements, bytes_of, IsHeld}
+use Rattle.arena_items.proofs.Layers.{rows_before, elements-empty, length-elements, written_held, elements-cut, elements-front, front_readable, wrote_same, room_then, room_refused}
 use Rattle.arena_vec.specs.Growth.{empty_capacity, new_growth}
 use Rattle.arena_vec.specs.Held.{raw_values, empty_block}
 use Rattle.arena_items.specs.Room.{MakesRoom, SamePlaces}
@@ -29,17 +29,23 @@ pub room_of : {T : Type 0} (item : Ghosts T) (m : Memory) (v : Vec T) (n : ℕ) 
     → n * item.SIZE ≤ v.raw.block.size
 room_of item m v n held within = omega (arith, held.place.of_size, mul-le-mul_right item.SIZE within)
 
+-- As long as no cursor moves it is held, with as many values as there is room for.
+pub still_held : {T : Type 0} (item : Ghosts T) (old new : View) (v : Vec T) (n : ℕ) → IsVecIn item old.memory v → n ≤ v.raw.cap
+    → SamePlaces old new
+    → IsVecIn item new.memory (record { raw = record { block = v.raw.block; len = n; cap = v.raw.cap; of = v.raw.of } })
+still_held item old new v n held within same = record {
+  place = record { readable = rw same.state held.place.readable; of_size = held.place.of_size; of_align = held.place.of_align };
+  within = within;
+  no_bytes = held.no_bytes;
+}
+
 -- Bytes of the block were written, so that the first n values are this list.
 pub becomes : {T : Type 0} (item : Ghosts T) (old new : View) (v : Vec T) (n : ℕ) (list : List T)
     → IsVecIn item old.memory v → n ≤ v.raw.cap → SamePlaces old new → Frame old.memory new.memory (v.raw.block ∷ []) (v.raw.block ∷ [])
     → raw_values item new.memory v.raw n ≡ list
     → Becomes item old new v list (record { raw = record { block = v.raw.block; len = n; cap = v.raw.cap; of = v.raw.of } })
 becomes item old new v n list held within same frame values = record {
-  held = record {
-    place = record { readable = rw same.state held.place.readable; of_size = held.place.of_size; of_align = held.place.of_align };
-    within = within;
-    no_bytes = held.no_bytes;
-  };
+  held = still_held item old new v n held within same;
   list_is = values;
   len = sym (length-elements item.SIZE item.decoded n _) ∙ ap length values;
   block = refl;
@@ -144,6 +150,26 @@ module _ {T : Type 0} (item : Ghosts T) (old new : Memory) (v : Vec T) (growth :
   -- as a front of the values where more are looked at.
   pub same_front : (n : ℕ) → raw.len ≤ n → take raw.len (raw_values item new raw n) ≡ vec_list item old v
   same_front n more = sym (elements-cut item.SIZE item.decoded raw.len n (bytes_of new raw.block) more) ∙ same_list
+
+-- 64 bits hold the bytes of as many values as 32 bits count.
+pub whole_bytes : (n size : ℕ) → n < 2 ^ 32 → size ≤ 2 ^ 24 → n * size % 2 ^ 64 ≡ n * size
+whole_bytes n size few small = mod-eq_of_lt (omega (arith, mul-le-mul_left n small, few))
+
+-- A front of the block is a boxed slice of as many values.
+module _ {T : Type 0} (item : Ghosts T) (m : Memory) (v : Vec T) (held : IsVecIn item m v) where
+  pub slice_held : IsHeld (v.raw.len * item.SIZE) item.ALIGN m.state (record v.raw.block { size = v.raw.len * item.SIZE })
+  slice_held = record {
+    readable = front_readable m.state v.raw.block (v.raw.len * item.SIZE) held.place.readable (room_of item m v v.raw.len held held.within);
+    of_size = refl;
+    of_align = held.place.of_align;
+  }
+
+  pub slice_same : elements item.SIZE item.decoded v.raw.len (bytes_of m (record v.raw.block { size = v.raw.len * item.SIZE }))
+      ≡ vec_list item m v
+  slice_same =
+      ap (elements item.SIZE item.decoded v.raw.len)
+      (sym (take_bytes (image m) v.raw.block.addr v.raw.block.size (v.raw.len * item.SIZE) (room_of item m v v.raw.len held held.within)))
+      ∙ elements-front item.SIZE item.decoded v.raw.len (bytes_of m v.raw.block)
 
 -- what stands behind a range moved down
 pub closed : {T : Type 0} (size : ℕ) (dec : List ℕ → T) (n start end : ℕ) (old new : List ℕ) → start ≤ end → end ≤ n

@@ -2,6 +2,8 @@
 use Rattle.std.proofs.Common.{◌≡◌, ℕ, suc, ◌+◌, ◌-◌, ◌*◌, ◌<◌, ◌≤◌, List, [], ◌∷◌, ◌++◌, drop, refl, sym, ap, subst, ◌∙◌, arith, Some, set, Bool, true, false, cond, append_assoc}
 use Rattle.std.proofs.lemmas.Grind.{common_steps}
 use Rattle.std.specs.Prelude.{slice_get}
+use Rattle.std.specs.Array.{list_steps}
+use Rattle.std.specs.Iterator.{CallableAtEachTurn}
 use Rattle.std.specs.List.Retain.{IsFiltered, RetainsInTurn}
 use Rattle.arena_chunks.specs.Frame.{Frame}
 use Rattle.arena_chunks.specs.Source.{View}
@@ -13,6 +15,7 @@ use Rattle.arena_items.specs.declared.item.Item.{Ghosts}
 use Rattle.arena_items.proofs.Layers.{elements-empty, elements-drop, wrote_same, same_then}
 use Rattle.arena_items.specs.Room.{SamePlaces}
 use Rattle.arena_vec.proofs.Windows.{left_first_at}
+use Rattle.arena_vec.proofs.TurnLemmas.{turn_now, turn_on}
 
 -- What is behind a value that is replaced is as it was.
 drop_of_set : {X : Type 0} (xs : List X) (k n : ℕ) (y : X) → k < n → drop n (set xs k y) ≡ drop n xs
@@ -51,6 +54,26 @@ values_whole item a block n =
 pub values_next : {T : Type 0} (item : Ghosts T) (a : View) (block : Block) (n k : ℕ) (x : T) → k < n
     → slice_get (front_of item a block n) k ≡ Some x → values_from item a block n k ≡ x ∷ values_from item a block n (k + 1)
 values_next item a block n k x more got = left_first_at item.SIZE item.decoded n k n (bytes_of a.memory block) x more (omega arith) got
+
+-- A closure that can be called at each value from an index on can be called there,
+module _ {T P : Type 0} {R : P → T → P → Type 0} {Q : P → T → Type 0} (item : Ghosts T) (now : View) (block : Block) (n k : ℕ) {p : P}
+    {x : T} (h : CallableAtEachTurn list_steps R Q (values_from item now block n k) p) (more : k < n)
+    (got : slice_get (front_of item now block n) k ≡ Some x) where
+  pub walk_takes : Q p x
+  walk_takes = turn_now (values_next item now block n k x more got) h
+
+  -- and then at each behind it,
+  pub walk_goes : (q : P) → R p x q → CallableAtEachTurn list_steps R Q (values_from item now block n (k + 1)) q
+  walk_goes q r = turn_on (values_next item now block n k x more got) h q r
+
+  -- also where one was put in front.
+  pub walk_goes_put : (new : View) (kept : ℕ) (y : T) (q : P) → R p x q → kept ≤ k
+      → front_of item new block n ≡ set (front_of item now block n) kept y
+      → CallableAtEachTurn list_steps R Q (values_from item new block n (k + 1)) q
+  walk_goes_put new kept y q r order put =
+      let behind = behind_put item.SIZE item.decoded n kept (k + 1) (bytes_of now.memory block) (bytes_of new.memory block) y
+      (omega (arith, order)) (omega (arith, more)) put in
+      subst (λ l. CallableAtEachTurn list_steps R Q l q) (sym behind) (walk_goes q r)
 
 -- A walk from `old` on has come to the value k of n, and the first `kept` stay. With what it leaves of the rest they are the whole.
 pub record IsWalking {T S : Type 0} (item : Ghosts T) (old now : View) (block : Block) (n : ℕ)

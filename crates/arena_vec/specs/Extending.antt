@@ -74,14 +74,19 @@ BuildsOn {T} item steps left iter old new (Ok v) (Err e) = (w : Vec T)
     × TakesSome item steps left iter old new v w e
 BuildsOn item steps left iter old new (Err e) result = (result ≡ Err e) × (new ≡ old)
 
--- A new vector, with the room that the iterator's hints give, took its items.
+-- A new vector, with this room at first, took an iterator's items.
+pub record BuildsWith {T I : Type 0} (item : Ghosts T) (steps : I → Option T → I → Type 0) (left : I → Count) (iter : I) (old new : View)
+    (room : ℕ) (result : Result (Vec T) AllocError) : Type 0 where
+  pub between : View
+  pub empty : Result (Vec T) AllocError
+  pub makes : Makes {X = Vec T} item (λ v. v.raw) old between room [] empty
+  pub taken : BuildsOn item steps left iter between new empty result
+
+-- It was the room that hints of the iterator give.
 pub record BuildsFrom {T I : Type 0} (item : Ghosts T) (steps : I → Option T → I → Type 0) (left : I → Count) (iter : I) (old new : View)
     (result : Result (Vec T) AllocError) : Type 0 where
   pub least : ℕ
   pub most : Option ℕ
   pub lower : IsWithinCount least (left iter)
   pub upper : IfSome most (UpTo (left iter))
-  pub between : View
-  pub empty : Result (Vec T) AllocError
-  pub makes : Makes {X = Vec T} item (λ v. v.raw) old between (first_room item.SIZE least most) [] empty
-  pub taken : BuildsOn item steps left iter between new empty result
+  pub builds : BuildsWith item steps left iter old new (first_room item.SIZE least most) result

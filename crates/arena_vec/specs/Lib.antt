@@ -4,6 +4,8 @@ pub mod Storage
 pub mod Rows
 pub mod Vecs
 pub mod Changes
+pub mod Calling
+pub mod Credit
 pub mod Extending
 pub mod Draining
 pub mod Filtering

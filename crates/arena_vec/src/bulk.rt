@@ -217,3 +217,25 @@ impl<T: Item> Vec<T> {
         self.into_boxed_slice()
     }
 }
+
+impl<T: Item> From<Vec<T>> for BoxSlice<T> {
+    ghost from_gives = { λ v s. (s.length ≡ v.raw.len)
+        × (T.SIZE ≤ 2 ^ 24 → s.block ≡ record v.raw.block { size = v.raw.len * T.SIZE })
+        × (T.SIZE ≤ 2 ^ 24 → (memory : Memory) → IsVecIn T.Item memory v
+        → IsSliceIn T.Item memory s × (slice_list T.Item memory s ≡ vec_list T.Item memory v)) };
+
+    fn from(vec: Vec<T>) -> BoxSlice<T> {
+        let block = vec.raw.block;
+        let length = vec.raw.len as u64;
+        BoxSlice {
+            block: Block {
+                generation: block.generation,
+                addr: block.addr,
+                size: length.wrapping_mul(T::SIZE),
+                align: block.align,
+            },
+            length,
+            of: PhantomData,
+        }
+    }
+}

@@ -6,6 +6,7 @@ ghost use Rattle.std.specs.List.Retain.{IsDeduped};
 ghost use Rattle.arena_chunks.specs.Memory.{is_readable};
 ghost use Rattle.arena_chunks.specs.Frame.{Frame};
 ghost use Rattle.arena_items.specs.Values.{bytes_of, elements};
+ghost use Rattle.arena_vec.specs.Calling.{CallableInDedup, TakesAtPairMut, TakesTwice};
 ghost use Rattle.arena_vec.specs.Vecs.{IsVecIn, vec_list};
 ghost use Rattle.arena_items.specs.Room.{SamePlaces};
 ghost use Rattle.arena_vec.specs.Changes.{Becomes};
@@ -27,7 +28,8 @@ where
     requires small { T.SIZE ≤ 2 ^ 24 }
     requires readable { IsTrue (is_readable a.old.memory.state block) }
     requires room { len * T.SIZE ≤ block.size }
-    requires callable { F.IsAlwaysCallable f }
+    requires callable { CallableInDedup (CalledAtPairMut F.FnMut) (TakesAtPairMut F.FnMut)
+        (elements T.SIZE T.decoded len (bytes_of a.old.memory block)) f }
     ensures fewer { result ≤ len }
     ensures list { IsDeduped (CalledAtPairMut F.FnMut) f
         (elements T.SIZE T.decoded len (bytes_of a.old.memory block))
@@ -59,14 +61,13 @@ fn have_same_key<T: Item, K: PartialEq + Drop, F: FnMut(&mut T) -> K>(
     x: &mut T,
     y: &mut T,
 ) -> bool
-    requires { F.IsAlwaysCallable key.old }
-    ensures called { ComparesKeys F.FnMut K.eq key.old x.old y.old result key.new x.new y.new }
-    ensures callable { F.IsAlwaysCallable key.new }
+    requires { TakesTwice F.FnMut key.old x.old y.old }
+    ensures { ComparesKeys F.FnMut K.eq key.old x.old y.old result key.new x.new y.new }
 {
     key(x) == key(y)
 }
 
-#[tactic(auto, using(crate::proofs::VecLemmas::vec_laws, crate::proofs::VecLemmas::becomes))]
+#[tactic(auto, using(crate::proofs::VecLemmas::vec_laws, crate::proofs::VecLemmas::becomes, crate::proofs::VecLemmas::still_held))]
 impl<T: Item> Vec<T> {
     /// Takes out each value that a test says is the same as the last one kept. The test sees the value first
     /// and that one second, and both stay as it left them.
@@ -79,10 +80,14 @@ impl<T: Item> Vec<T> {
         F: Drop,
         requires small { T.SIZE ≤ 2 ^ 24 }
         requires held { IsVecIn T.Item a.old.memory self.old }
-        requires callable { F.IsAlwaysCallable f }
-        ensures { (list : List T) × IsDeduped (CalledAtPairMut F.FnMut) f
+        requires callable { CallableInDedup (CalledAtPairMut F.FnMut) (TakesAtPairMut F.FnMut)
+            (vec_list T.Item a.old.memory self.old) f }
+        ensures becomes { (list : List T) × IsDeduped (CalledAtPairMut F.FnMut) f
             (vec_list T.Item a.old.memory self.old) list
             × Becomes T.Item a.old a.new self.old list self.new }
+        ensures held { IsVecIn T.Item a.new.memory self.new }
+        ensures places { SamePlaces a.old a.new }
+        ensures frame { Frame a.old.memory a.new.memory (self.old.raw.block ∷ []) (self.new.raw.block ∷ []) }
     {
         self.raw.len = merge(a, self.raw.block, self.raw.len, f);
     }
@@ -97,18 +102,21 @@ impl<T: Item> Vec<T> {
         F: Drop,
         requires small { T.SIZE ≤ 2 ^ 24 }
         requires held { IsVecIn T.Item a.old.memory self.old }
-        requires callable { F.IsAlwaysCallable key }
-        ensures { (list : List T) × IsDeduped (ComparesKeys F.FnMut K.eq) key
+        requires callable { CallableInDedup (ComparesKeys F.FnMut K.eq) (TakesTwice F.FnMut)
+            (vec_list T.Item a.old.memory self.old) key }
+        ensures becomes { (list : List T) × IsDeduped (ComparesKeys F.FnMut K.eq) key
             (vec_list T.Item a.old.memory self.old) list
             × Becomes T.Item a.old a.new self.old list self.new }
+        ensures held { IsVecIn T.Item a.new.memory self.new }
+        ensures places { SamePlaces a.old a.new }
+        ensures frame { Frame a.old.memory a.new.memory (self.old.raw.block ∷ []) (self.new.raw.block ∷ []) }
     {
         let mut key = key;
         self.dedup_by(
             a,
             |x, y|
-                requires { F.IsAlwaysCallable key }
-                ensures called { ComparesKeys F.FnMut K.eq key.entry x.old y.old result key.exit x.new y.new }
-                ensures callable { F.IsAlwaysCallable key.exit }
+                requires { TakesTwice F.FnMut key x.old y.old }
+                ensures { ComparesKeys F.FnMut K.eq key.entry x.old y.old result key.exit x.new y.new }
             { have_same_key(&mut key, x, y) },
         );
     }

@@ -16,12 +16,18 @@ use std::iter::FusedIterator;
 /// A range of a vector on its way out. Its values are taken from both ends, and `finish` takes the range out.
 #[derive(Drop)]
 pub struct Drain<'s, T: Item, C: ChunkSource> {
-    vec: &'s mut Vec<T>,
-    arena: &'s mut Allocator<C>,
-    start: u32,
-    end: u32,
-    front: u32,
-    back: u32,
+    /// The vector.
+    pub vec: &'s mut Vec<T>,
+    /// The arena that it is in.
+    pub arena: &'s mut Allocator<C>,
+    /// Where the range starts.
+    pub start: u32,
+    /// Where it ends.
+    pub end: u32,
+    /// Where what is left of it starts.
+    pub front: u32,
+    /// Where that ends.
+    pub back: u32,
 }
 
 #[tactic(auto, using(crate::proofs::Windows::drain_laws))]

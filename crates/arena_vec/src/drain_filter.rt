@@ -8,6 +8,7 @@ ghost use Rattle.arena_chunks.specs.Frame.{Frame};
 ghost use Rattle.arena_items.specs.Values.{bytes_of, elements};
 ghost use Rattle.arena_items.specs.Room.{SamePlaces};
 ghost use Rattle.arena_vec.specs.Vecs.{IsVecIn, vec_list};
+ghost use Rattle.arena_vec.specs.Calling.{CallableOnListMut};
 ghost use Rattle.arena_vec.specs.Filtering.{IsFilter, untested, stayed, Filters, Stays};
 ghost use Rattle.std.specs.List.Retain.{RetainsInTurn};
 ghost use Rattle.arena_vec.specs.Changes.{Becomes};
@@ -19,11 +20,16 @@ use arena_items::{Item, item_at, put_item};
 /// A vector of which a test picks the values that go. They are taken in order, and `finish` takes out the rest of them.
 #[derive(Drop)]
 pub struct DrainFilter<'s, T: Item, C: ChunkSource, F: Drop> {
-    vec: &'s mut Vec<T>,
-    arena: &'s mut Allocator<C>,
-    pred: F,
-    front: u32,
-    kept: u32,
+    /// The vector.
+    pub vec: &'s mut Vec<T>,
+    /// The arena that it is in.
+    pub arena: &'s mut Allocator<C>,
+    /// The test, which picks by `true`.
+    pub pred: F,
+    /// How many values were tested.
+    pub front: u32,
+    /// How many of those stay. They stand first.
+    pub kept: u32,
 }
 
 impl<T: Item> Vec<T> {
@@ -37,13 +43,13 @@ impl<T: Item> Vec<T> {
     ) -> DrainFilter<'s, T, C, F>
         requires small { T.SIZE ≤ 2 ^ 24 }
         requires held { IsVecIn T.Item a.old.memory self.old }
-        requires callable { F.IsAlwaysCallable pred }
+        requires callable { CallableOnListMut F.FnMut (vec_list T.Item a.old.memory self.old) pred }
         ensures same_vec { result.vec.ghost_name ≡ self.entry.ghost_name }
         ensures same_arena { result.arena.ghost_name ≡ a.entry.ghost_name }
         ensures vec { result.vec.now ≡ self.old }
         ensures arena { result.arena.now ≡ a.old }
         ensures pred { result.pred ≡ pred }
-        ensures filters { IsFilter T.Item F.IsAlwaysCallable result }
+        ensures filters { IsFilter T.Item (CallableOnListMut F.FnMut) result }
         ensures untested { untested T.Item result ≡ vec_list T.Item a.old.memory self.old }
         ensures stayed { stayed T.Item result ≡ [] }
     {
@@ -71,7 +77,8 @@ fn drop_rest<T: Item, C: ChunkSource, F: FnMut(&mut T) -> bool + Drop>(
     requires room { len * T.SIZE ≤ block.size }
     requires order { kept ≤ front }
     requires within { front ≤ len }
-    requires callable { F.IsAlwaysCallable pred }
+    requires callable { CallableOnListMut F.FnMut
+        (elements T.SIZE T.decoded (len - front) (drop (front * T.SIZE) (bytes_of a.old.memory block))) pred }
     ensures fewer { result ≤ len }
     ensures list { (rest : List T) × RetainsInTurn (Stays (CalledAtMut F.FnMut)) pred
         (elements T.SIZE T.decoded (len - front) (drop (front * T.SIZE) (bytes_of a.old.memory block))) rest
@@ -95,11 +102,15 @@ fn drop_rest<T: Item, C: ChunkSource, F: FnMut(&mut T) -> bool + Drop>(
 impl<'s, T: Item, C: ChunkSource, F: FnMut(&mut T) -> bool + Drop> DrainFilter<'s, T, C, F> {
     /// Takes out the rest of the values that the test picks. The others stay, as the test left them.
     pub fn finish(self)
-        requires { IsFilter T.Item F.IsAlwaysCallable self }
-        ensures { (rest : List T) × RetainsInTurn (Stays (CalledAtMut F.FnMut)) self.entry.pred
+        requires { IsFilter T.Item (CallableOnListMut F.FnMut) self }
+        ensures becomes { (rest : List T) × RetainsInTurn (Stays (CalledAtMut F.FnMut)) self.entry.pred
             (untested T.Item self.entry) rest
             × Becomes T.Item self.entry.arena.now self.exit.1.0.now self.entry.vec.now
             (stayed T.Item self.entry ++ rest) self.exit.0.now }
+        ensures held { IsVecIn T.Item self.exit.1.0.now.memory self.exit.0.now }
+        ensures places { SamePlaces self.entry.arena.now self.exit.1.0.now }
+        ensures frame { Frame self.entry.arena.now.memory self.exit.1.0.now.memory (self.entry.vec.now.raw.block ∷ [])
+            (self.exit.0.now.raw.block ∷ []) }
     {
         let DrainFilter {
             vec,
@@ -116,9 +127,9 @@ impl<'s, T: Item, C: ChunkSource, F: FnMut(&mut T) -> bool + Drop> Iterator
     for DrainFilter<'s, T, C, F> {
     type Item = T;
 
-    ghost can_next = { IsFilter T.Item F.IsAlwaysCallable };
+    ghost can_next = { IsFilter T.Item (CallableOnListMut F.FnMut) };
 
-    ghost next_gives = { Filters T.Item F.IsAlwaysCallable (CalledAtMut F.FnMut) };
+    ghost next_gives = { Filters T.Item (CallableOnListMut F.FnMut) (CalledAtMut F.FnMut) };
 
     ghost remaining = { λ s. at_most (s.vec.now.raw.len - s.front) };
 

@@ -6,7 +6,7 @@ ghost use Rattle.arena_chunks.specs.Frame.{Frame};
 ghost use Rattle.arena_vec.specs.Growth.{amortised_growth};
 ghost use Rattle.arena_vec.specs.Vecs.{IsVecIn, vec_list};
 ghost use Rattle.arena_vec.specs.Changes.{Grows};
-ghost use Rattle.arena_vec.specs.Extending.{hinted_growth, first_room, TakesAll, TakesSome, BuildsFrom};
+ghost use Rattle.arena_vec.specs.Extending.{hinted_growth, first_room, TakesAll, TakesSome, BuildsWith, BuildsFrom};
 
 use crate::growth::has_room;
 use crate::vec::Vec;
@@ -104,12 +104,38 @@ impl<T: Item> Vec<T> {
         Ok(())
     }
 
-    /// A vector of an iterator's items. Room is made at once for the greatest number that the iterator says are to come,
-    /// or else for the least, if they fit.
+    /// A vector of an iterator's items, with room at first for exactly so many. Where more come it grows, as by `extend`.
     ///
     /// # Errors
     ///
-    /// As of `extend`. What was placed stays.
+    /// As of `with_capacity_in`, and then as of `extend`. What was placed stays.
+    pub fn from_iter_with_room_in<C: ChunkSource, I: Iterator<Item = T>>(
+        iter: I,
+        room: u64,
+        a: &mut Allocator<C>,
+    ) -> Grown<Vec<T>>
+    where
+        I: Drop,
+        requires small { T.SIZE ≤ 2 ^ 24 }
+        requires can { I.can_next iter }
+        requires ends { IsFinite (I.remaining iter) }
+        ensures held { IfOk result (IsVecIn T.Item a.new.memory) }
+        ensures frame { IfOk result (λ v. Frame a.old.memory a.new.memory [] (v.raw.block ∷ [])) }
+        ensures beside { OnErr result (Frame a.old.memory a.new.memory [] []) }
+        ensures builds { BuildsWith T.Item I.next_gives I.remaining iter a.old a.new room result }
+    {
+        let mut vec = Vec::with_capacity_in(room, a)?;
+        vec.extend(a, iter)?;
+        Ok(vec)
+    }
+
+    /// A vector of an iterator's items, by `from_iter_with_room_in` with the room that the iterator's hints give: for the
+    /// greatest number that it says are to come, or else for the least, if they fit. Nothing bounds the greatest number from
+    /// above but the iterator.
+    ///
+    /// # Errors
+    ///
+    /// As of `from_iter_with_room_in`.
     pub fn from_iter_in<C: ChunkSource, I: Iterator<Item = T>>(
         iter: I,
         a: &mut Allocator<C>,
@@ -125,9 +151,7 @@ impl<T: Item> Vec<T> {
         ensures builds { BuildsFrom T.Item I.next_gives I.remaining iter a.old a.new result }
     {
         let (least, most) = iter.size_hint();
-        let first = room_at_first(T::SIZE, least as u64, most);
-        let mut vec = Vec::with_capacity_in(first, a)?;
-        vec.extend(a, iter)?;
-        Ok(vec)
+        let room = room_at_first(T::SIZE, least as u64, most);
+        Vec::from_iter_with_room_in(iter, room, a)
     }
 }

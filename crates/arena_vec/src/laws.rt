@@ -6,8 +6,10 @@ ghost use Rattle.arena_vec.specs.Growth.{amortised, growth_to};
 ghost use Rattle.arena_items.specs.declared.room.Growth.{Growth};
 
 mod compare;
+mod growth;
 
 pub use compare::{equality_law, hash_law, order_law, partial_equality_law};
+pub use growth::{growth_costs, vector_costs};
 
 /// When a growth does nothing, when it overflows, and what capacity else there is then. Amortised growth doubles where
 /// twice the capacity fits and is enough, and else takes what is required.

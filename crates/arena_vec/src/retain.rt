@@ -5,6 +5,7 @@ ghost use Rattle.std.specs.List.Retain.{IsFiltered, RetainsInTurn};
 ghost use Rattle.arena_chunks.specs.Memory.{is_readable};
 ghost use Rattle.arena_chunks.specs.Frame.{Frame};
 ghost use Rattle.arena_items.specs.Values.{bytes_of, elements};
+ghost use Rattle.arena_vec.specs.Calling.{CallableOnList, CallableOnListMut};
 ghost use Rattle.arena_vec.specs.Vecs.{IsVecIn, vec_list};
 ghost use Rattle.arena_items.specs.Room.{SamePlaces};
 ghost use Rattle.arena_vec.specs.Changes.{Becomes};
@@ -22,7 +23,7 @@ where
     F: Drop,
     requires small { T.SIZE ≤ 2 ^ 24 }
     requires room { len * T.SIZE ≤ length bytes.old }
-    requires callable { F.IsAlwaysCallable f }
+    requires callable { CallableOnList F.FnMut (elements T.SIZE T.decoded len bytes.old) f }
     ensures fewer { result ≤ len }
     ensures list { IsFiltered (CalledAt F.FnMut) f
         (elements T.SIZE T.decoded len bytes.old) (elements T.SIZE T.decoded result bytes.new) }
@@ -44,7 +45,7 @@ where
     F: Drop,
     requires small { T.SIZE ≤ 2 ^ 24 }
     requires room { len * T.SIZE ≤ length bytes.old }
-    requires callable { F.IsAlwaysCallable f }
+    requires callable { CallableOnListMut F.FnMut (elements T.SIZE T.decoded len bytes.old) f }
     ensures fewer { result ≤ len }
     ensures list { RetainsInTurn (CalledAtMut F.FnMut) f
         (elements T.SIZE T.decoded len bytes.old) (elements T.SIZE T.decoded result bytes.new) }
@@ -74,7 +75,7 @@ where
     requires small { T.SIZE ≤ 2 ^ 24 }
     requires readable { IsTrue (is_readable a.old.memory.state block) }
     requires room { len * T.SIZE ≤ block.size }
-    requires callable { F.IsAlwaysCallable f }
+    requires callable { CallableOnList F.FnMut (elements T.SIZE T.decoded len (bytes_of a.old.memory block)) f }
     ensures fewer { result ≤ len }
     ensures list { IsFiltered (CalledAt F.FnMut) f
         (elements T.SIZE T.decoded len (bytes_of a.old.memory block))
@@ -99,7 +100,7 @@ where
     requires small { T.SIZE ≤ 2 ^ 24 }
     requires readable { IsTrue (is_readable a.old.memory.state block) }
     requires room { len * T.SIZE ≤ block.size }
-    requires callable { F.IsAlwaysCallable f }
+    requires callable { CallableOnListMut F.FnMut (elements T.SIZE T.decoded len (bytes_of a.old.memory block)) f }
     ensures fewer { result ≤ len }
     ensures list { RetainsInTurn (CalledAtMut F.FnMut) f
         (elements T.SIZE T.decoded len (bytes_of a.old.memory block))
@@ -110,7 +111,7 @@ where
     sift_mut(a.read_mut(block), len, f)
 }
 
-#[tactic(auto, using(crate::proofs::VecLemmas::vec_laws, crate::proofs::VecLemmas::becomes))]
+#[tactic(auto, using(crate::proofs::VecLemmas::vec_laws, crate::proofs::VecLemmas::becomes, crate::proofs::VecLemmas::still_held))]
 impl<T: Item> Vec<T> {
     /// Keeps the values that a test picks, as it left them.
     #[inline]
@@ -123,10 +124,13 @@ impl<T: Item> Vec<T> {
         F: Drop,
         requires small { T.SIZE ≤ 2 ^ 24 }
         requires held { IsVecIn T.Item a.old.memory self.old }
-        requires callable { F.IsAlwaysCallable f }
-        ensures { (list : List T) × RetainsInTurn (CalledAtMut F.FnMut) f
+        requires callable { CallableOnListMut F.FnMut (vec_list T.Item a.old.memory self.old) f }
+        ensures becomes { (list : List T) × RetainsInTurn (CalledAtMut F.FnMut) f
             (vec_list T.Item a.old.memory self.old) list
             × Becomes T.Item a.old a.new self.old list self.new }
+        ensures held { IsVecIn T.Item a.new.memory self.new }
+        ensures places { SamePlaces a.old a.new }
+        ensures frame { Frame a.old.memory a.new.memory (self.old.raw.block ∷ []) (self.new.raw.block ∷ []) }
     {
         self.raw.len = keep_mut(a, self.raw.block, self.raw.len, f);
     }
@@ -138,10 +142,13 @@ impl<T: Item> Vec<T> {
         F: Drop,
         requires small { T.SIZE ≤ 2 ^ 24 }
         requires held { IsVecIn T.Item a.old.memory self.old }
-        requires callable { F.IsAlwaysCallable f }
-        ensures { (list : List T) × IsFiltered (CalledAt F.FnMut) f
+        requires callable { CallableOnList F.FnMut (vec_list T.Item a.old.memory self.old) f }
+        ensures becomes { (list : List T) × IsFiltered (CalledAt F.FnMut) f
             (vec_list T.Item a.old.memory self.old) list
             × Becomes T.Item a.old a.new self.old list self.new }
+        ensures held { IsVecIn T.Item a.new.memory self.new }
+        ensures places { SamePlaces a.old a.new }
+        ensures frame { Frame a.old.memory a.new.memory (self.old.raw.block ∷ []) (self.new.raw.block ∷ []) }
     {
         self.raw.len = keep(a, self.raw.block, self.raw.len, f);
     }

@@ -16,18 +16,23 @@ use crate::vec::Vec;
 use arena_chunks::{Allocator, ChunkSource};
 use arena_items::{Grown, Item, copy_items, move_items, put_item};
 
-mod uses;
-
 /// A range of a vector on its way out, in whose place an iterator's items come. Its values are taken from both ends, and
 /// `finish` puts the items there.
 pub struct Splice<'s, T: Item, C: ChunkSource, I: Drop> {
-    vec: &'s mut Vec<T>,
-    arena: &'s mut Allocator<C>,
-    with: I,
-    start: u32,
-    end: u32,
-    front: u32,
-    back: u32,
+    /// The vector.
+    pub vec: &'s mut Vec<T>,
+    /// The arena that it is in.
+    pub arena: &'s mut Allocator<C>,
+    /// The iterator whose items come in the range's place.
+    pub with: I,
+    /// Where the range starts.
+    pub start: u32,
+    /// Where it ends.
+    pub end: u32,
+    /// Where what is left of it starts.
+    pub front: u32,
+    /// Where that ends.
+    pub back: u32,
 }
 
 impl<'s, T: Item, C: ChunkSource, I: Drop> Drop for Splice<'s, T, C, I> {

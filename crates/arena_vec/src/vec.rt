@@ -23,6 +23,9 @@ pub struct Vec<T> {
     pub raw: RawVec<T>,
 }
 
+/// The name by which users of the Rust crate know it.
+pub type ArenaVec<T> = Vec<T>;
+
 #[tactic(auto, using(crate::proofs::VecLemmas::vec_laws))]
 impl<T: Item> Vec<T> {
     /// No values and no storage.

@@ -10,7 +10,6 @@ mod rust_cases;
 mod trees;
 
 use arena_chunks::{Allocator, MemoryChunks};
-use arena_region::Region;
 use std::alloc::Global;
 use std::process::Abort;
 
@@ -23,7 +22,7 @@ fn fixed(rt: &impl Abort, alloc: Global, size: usize) -> Allocator<MemoryChunks>
     requires few { size ≤ 4096 }
     requires whole { size % 16 ≡ 0 }
 {
-    let region = Region::zeros(alloc, size + 48).expect(rt, "a region");
+    let region = vec![in alloc; 0; size + 48].expect(rt, "bytes");
     match Allocator::from_raw_parts(alloc, region, MemoryChunks::new(alloc, 0)) {
         Ok(a) => a,
         Err(_) => panic!(rt; "no arena"),

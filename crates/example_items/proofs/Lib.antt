@@ -1,1 +1,4 @@
 mod ChainLemmas
+mod CostLemmas
+mod RowLemmas
+mod TryLemmas

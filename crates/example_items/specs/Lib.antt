@@ -1,3 +1,4 @@
 pub mod TwoCalls
 pub mod Chains
 pub mod ChainLaws
+pub mod Rows

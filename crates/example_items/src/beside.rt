@@ -1,6 +1,7 @@
 // Values beside others, and the laws on them.
 ghost use Rattle.std.specs.Prelude.{◌≡◌, ◌≢◌, ◌+◌, ◌^◌, ◌<◌, ◌≤◌, IfOk, [], ◌∷◌};
 ghost use Rattle.arena_chunks.specs.Frame.{Frame, AreBlocksApart};
+ghost use Rattle.arena_items.specs.ByteForms.{pair_item};
 ghost use Rattle.arena_items.specs.Footprint.{Agree};
 ghost use Rattle.arena_items.specs.Typed.{PlacesBox};
 ghost use Rattle.arena_items.specs.Values.{IsBoxIn, box_value};
@@ -114,7 +115,8 @@ pub fn place_pair<T: Item, A: ArenaItems>(
     n: u64,
 ) -> Result<Box<(T, u64)>, ItemErr>
     requires { T.SIZE + 40 ≤ 2 ^ 24 }
-    ensures { PlacesBox ⟦<(T, u64) as Item>⟧ (A.view a.old) (A.view a.new) (λ p. p ≡ (value, n)) result }
+    ensures { PlacesBox (pair_item T.Item ⟦<u64 as Item>⟧) (A.view a.old) (A.view a.new)
+        (λ p. p ≡ (value, n)) result }
 {
     a.alloc((value, n))
 }

@@ -12,9 +12,5 @@ pub fn get_checked<T: Item, C: ChunkSource>(a: &Allocator<C>, b: Box<T>) -> Opti
     ensures some { IfSome result (λ v. IsBoxIn T.Item a.now.memory b) }
     ensures none { IfNone result (IsBoxIn T.Item a.now.memory b → ⊥) }
 {
-    if a.is_held_place(b.block) && b.block.size == T::SIZE && b.block.align == T::ALIGN {
-        Some(b.get(a))
-    } else {
-        None
-    }
+    if b.is_held(a) { Some(b.get(a)) } else { None }
 }

@@ -1,5 +1,5 @@
 // Values that closures and iterators give.
-ghost use Rattle.std.specs.Prelude.{◌≡◌, ◌*◌, ◌/◌, ◌≤◌, ℕ, Ok, Err, IfOk, IfErr, IfSome, IfNone, replicate, ⊤};
+ghost use Rattle.std.specs.Prelude.{◌≡◌, ◌*◌, ◌/◌, ◌≤◌, ℕ, Ok, Err, IfOk, IfErr, IfSome, IfNone, length, replicate, ⊤};
 ghost use Rattle.std.specs.Iterator.{size, Yields};
 ghost use Rattle.arena_items.specs.Placing.{EndsEarly, Abandons};
 ghost use Rattle.arena_items.specs.Typed.{PlacesBox, PlacesSlice};
@@ -59,4 +59,17 @@ where
         Err(ItemErr::TooFew { .. }) => Ok(None),
         Err(refused) => Err(refused),
     }
+}
+
+/// Places copies of values by their indices.
+///
+/// # Errors
+///
+/// As of `alloc_slice_fill_with`. Nothing changes.
+pub fn place_copy<A: ArenaItems>(a: &mut A, src: &[u32]) -> Result<BoxSlice<u32>, ItemErr>
+    ensures { PlacesSlice ⟦<u32 as Item>⟧ (A.view a.old) (A.view a.new) (length src.now)
+        (λ list. list ≡ src.now) result }
+{
+    let copies = a.alloc_slice_fill_with(src.len() as u64, |i| src[i as usize])?;
+    Ok(copies)
 }

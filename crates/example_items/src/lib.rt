@@ -5,13 +5,17 @@
 mod beside;
 mod checked;
 mod closures;
+mod growing;
 mod lender;
 mod linked;
 mod metres;
+mod tries;
 
 pub use beside::{place_another, place_pair, place_two, read_either, set_beside};
 pub use checked::get_checked;
-pub use closures::{fill_with_size, place_all_or_none, place_quotient};
+pub use closures::{fill_with_size, place_all_or_none, place_copy, place_quotient};
+pub use growing::begin_row;
 pub use lender::{Guard, put, put_guarded};
 pub use linked::{Chain, set_last_beside};
 pub use metres::Metres;
+pub use tries::try_beside;

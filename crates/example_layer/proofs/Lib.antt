@@ -1,3 +1,5 @@
 mod BlockLemmas
 mod GrowthLemmas
 mod BufferLemmas
+mod AccountLemmas
+mod TryLemmas

@@ -1,3 +1,4 @@
 pub mod Blocks
 pub mod TwoCalls
 pub mod Buffers
+pub mod Accounts

@@ -11,6 +11,6 @@ mod threads;
 
 pub use borrow::{put_in, read_back, take_out, through};
 pub use claims::{claim_all, claim_by_two};
-pub use loans::{through_fixed, through_standard};
+pub use loans::{all_through_fixed, all_through_standard, through_fixed, through_standard};
 pub use owners::{alone, freed, freed_by_two};
 pub use threads::{all_through, over_fixed, over_standard};

@@ -1,2 +1,3 @@
 mod SortingLemmas
 mod TakingLemmas
+mod PushingLemmas

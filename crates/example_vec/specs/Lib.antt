@@ -1,1 +1,2 @@
 pub mod Ranking
+pub mod Pushing

@@ -4,11 +4,15 @@
 #![tactic(auto)]
 
 mod comparing;
+mod pushing;
+mod ranges;
 mod ranking;
 mod sorting;
 mod taking;
 
 pub use comparing::{earlier, feed_alike, is_same};
+pub use pushing::{push_below, push_beside, push_copies, sum_of};
+pub use ranges::{cut_out, exchange, look, look_before};
 pub use ranking::split_lowest;
 pub use sorting::{insert_sorted, place_of, sorted_of};
 pub use taking::{keep_from, put_numbers, take_front};

@@ -2,18 +2,20 @@
 use Rattle.std.proofs.Common.{◌≡◌, ℕ, ◌+◌, ◌-◌, ◌*◌, ◌^◌, ◌≤◌, refl, subst, arith, IsTrue, Some, None, Option, List, [], ◌∷◌, length, true, false, Bool}
 use Rattle.std.specs.Prelude.{◌==◌, ◌&&◌, not, nat_lt, if◌then◌else◌, replicate, take, ◌++◌}
 use Rattle.std.specs.FinMap as finite
-use Rattle.std.specs.Option.{option_map}
+use Rattle.std.specs.Option.{is_some, option_map}
 use Rattle.std.proofs.lemmas.Bool.{and_parts}
 use Rattle.std.proofs.lemmas.Option.{none-some, same_Some, cond_some, option_and_then_some}
 use Rattle.placement.specs.Rounding.{is_layout}
 use Rattle.placement.specs.State.{State, used_bytes, allocated_bytes}
-use Rattle.placement.specs.Moves.{Outcome, alloc, grow, growing, shrink, shrinking, anew, dealloc, reset}
-use Rattle.placement.specs.Machine.{Machine, Next, step, run, run_from, reply_first, settles, answers, at_found, fresh, Contents, lets_go, splice}
+use Rattle.placement.specs.Moves.{Outcome, alloc, growing, shrinking, anew, dealloc, reset}
+use Rattle.placement.specs.Machine.{Machine, Next, step, run, run_from, reply_first, settles, answers, at_found, fresh, Contents, lets_go, splice, mark_named, at_mark, goes_back}
+use Rattle.placement.specs.Back.{Point, mark_of}
+use Rattle.placement.proofs.BackLemmas.{back_doubling}
 use Rattle.placement.specs.Requests.{placed_anew}
 use Rattle.placement.specs.Doubling.{IsDoubling, call_made_first, made_first_from, made_first}
 use Rattle.placement.specs.declared.place.Place.{Place}
 use Rattle.placement.specs.declared.calls.Call.{Call}
-use Rattle.placement.specs.declared.calls.Call.TheVariants.{Alloc, Grow, Shrink, Dealloc, Write, Read, Reset, Used, Allocated}
+use Rattle.placement.specs.declared.calls.Call.TheVariants.{Alloc, Grow, Shrink, Dealloc, Write, Read, Mark, Back, Reset, Used, Allocated}
 use Rattle.placement.specs.declared.calls.Reply.{Reply}
 use Rattle.placement.specs.declared.calls.Reply.TheVariants.{Done, Bytes, Number, NoSuchName, NameTaken, BadLayout, OutOfRange}
 use Rattle.placement.proofs.DoublingLemmas.{Doubles, IsMadeFirst, doubling_sum, doubling_emptied, alloc_doubling, grow_doubling, shrink_doubling, dealloc_doubling}
@@ -58,35 +60,33 @@ alloc_called z k name size align fill m next small double false true made at =
     settled z k name size align (replicate size fill) m (alloc m.state size align k) next
     (λ outcome step. alloc_doubling z m.state size align k outcome small double made step) at
 
--- A grow of a block, by whether the layout is one and too small.
-grow_called : (z k name size align fill : ℕ) (m : Machine) (next : Next) → z ≤ 16320 → IsDoubling z m.state.chunks → (p : Place) (bs : List ℕ) (fine shorter : Bool)
-    → IsMadeFirst m.state k (if fine && not shorter then anew (growing m.state p.addr p.size p.align size align) (size, align) else None)
-    → (if not fine then answers k BadLayout m else (if shorter then answers k OutOfRange m
-    else option_map (λ (o : Outcome). settles m k name size align (bs ++ replicate (size - p.size) fill) o.state o.answer) (grow m.state p.addr p.size p.align size align k))) ≡ Some next
+-- A layout for a block, by whether it is one and its size on the wrong side.
+layout_given : (z k name size align : ℕ) (m : Machine) (next : Next) (bytes : List ℕ) (o : Option Outcome) (layout : Option (ℕ × ℕ)) → IsDoubling z m.state.chunks
+    → (IsMadeFirst m.state k layout → (outcome : Outcome) → o ≡ Some outcome → Doubles z outcome) → (fine wrong : Bool)
+    → IsMadeFirst m.state k (if fine && not wrong then layout else None)
+    → (if not fine then answers k BadLayout m else (if wrong then answers k OutOfRange m
+    else option_map (λ (o : Outcome). settles m k name size align bytes o.state o.answer) o)) ≡ Some next
     → DoublesNext z next
-grow_called z k name size align fill m next small double p bs false shorter made at = answered z k BadLayout m next double at
-grow_called z k name size align fill m next small double p bs true true made at = answered z k OutOfRange m next double at
-grow_called z k name size align fill m next small double p bs true false made at =
-    settled z k name size align (bs ++ replicate (size - p.size) fill) m (grow m.state p.addr p.size p.align size align k) next
-    (λ outcome step. grow_doubling z m.state p.addr p.size p.align size align k outcome small double made step) at
-
--- A shrink of a block, by whether the layout is one and too large.
-shrink_called : (z k name size align : ℕ) (m : Machine) (next : Next) → z ≤ 16320 → IsDoubling z m.state.chunks → (p : Place) (bs : List ℕ) (fine longer : Bool)
-    → IsMadeFirst m.state k (if fine && not longer then anew (shrinking m.state p.addr p.size p.align size align) (size, align) else None)
-    → (if not fine then answers k BadLayout m else (if longer then answers k OutOfRange m
-    else option_map (λ (o : Outcome). settles m k name size align (take size bs) o.state o.answer) (shrink m.state p.addr p.size p.align size align k))) ≡ Some next
-    → DoublesNext z next
-shrink_called z k name size align m next small double p bs false longer made at = answered z k BadLayout m next double at
-shrink_called z k name size align m next small double p bs true true made at = answered z k OutOfRange m next double at
-shrink_called z k name size align m next small double p bs true false made at =
-    settled z k name size align (take size bs) m (shrink m.state p.addr p.size p.align size align k) next
-    (λ outcome step. shrink_doubling z m.state p.addr p.size p.align size align k outcome small double made step) at
+layout_given z k name size align m next bytes o layout double each false wrong made at = answered z k BadLayout m next double at
+layout_given z k name size align m next bytes o layout double each true true made at = answered z k OutOfRange m next double at
+layout_given z k name size align m next bytes o layout double each true false made at = settled z k name size align bytes m o next (each made) at
 
 -- A write to a block, by whether it is too long.
 write_called : (z k : ℕ) (m : Machine) (next : Next) (bytes : Contents) (longer : Bool) → IsDoubling z m.state.chunks
     → (if longer then answers k OutOfRange m else answers k Done (record m { bytes = bytes })) ≡ Some next → DoublesNext z next
 write_called z k m next bytes true double is = answered z k OutOfRange m next double is
 write_called z k m next bytes false double is = answered z k Done (record m { bytes = bytes }) next double is
+
+-- a call on marks
+mark_called : (z k name : ℕ) (m : Machine) (next : Next) (taken : Bool) → IsDoubling z m.state.chunks
+    → (if taken then answers k NameTaken m else answers k Done (record m { marks = (name, mark_of m.state) ∷ m.marks })) ≡ Some next → DoublesNext z next
+mark_called z k name m next true double at = answered z k NameTaken m next double at
+mark_called z k name m next false double at = answered z k Done (record m { marks = (name, mark_of m.state) ∷ m.marks }) next double at
+
+back_called : (z k name : ℕ) (m : Machine) (next : Next) (o : Option Point) → IsDoubling z m.state.chunks
+    → at_mark o (answers k NoSuchName m) (λ mark. answers k Done (goes_back m mark name)) ≡ Some next → DoublesNext z next
+back_called z k name m next None double at = answered z k NoSuchName m next double at
+back_called z k name m next (Some mark) double at = answered z k Done (goes_back m mark name) next (back_doubling z mark m.state double) at
 
 -- Each call leaves doubling chunks, if it makes no chunk or makes it first.
 pub step_doubling : (z : ℕ) (call : Call) (k : ℕ) (m : Machine) (next : Next) → z ≤ 16320 → IsDoubling z m.state.chunks → IsTrue (call_made_first call k m)
@@ -96,10 +96,12 @@ step_doubling z (Alloc name size align fill) k m next small double made at =
     alloc_called z k name size align fill m next small double (finite.contains_key m.held name) (is_layout size align) made at
 step_doubling z (Grow name size align fill) k m next small double made at =
     found z k m (finite.get m.held name) (finite.get m.bytes name) _ next double
-    (λ p bs is. grow_called z k name size align fill m next small double p bs (is_layout size align) (nat_lt size p.size) (rw is at made)) at
+    (λ p bs is. layout_given z k name size align m next (bs ++ replicate (size - p.size) fill) _ (anew (growing m.state p.addr p.size p.align size align) (size, align)) double
+    (λ first outcome. grow_doubling z m.state p.addr p.size p.align size align k outcome small double first) (is_layout size align) (nat_lt size p.size) (rw is at made)) at
 step_doubling z (Shrink name size align) k m next small double made at =
     found z k m (finite.get m.held name) (finite.get m.bytes name) _ next double
-    (λ p bs is. shrink_called z k name size align m next small double p bs (is_layout size align) (nat_lt p.size size) (rw is at made)) at
+    (λ p bs is. layout_given z k name size align m next (take size bs) _ (anew (shrinking m.state p.addr p.size p.align size align) (size, align)) double
+    (λ first outcome. shrink_doubling z m.state p.addr p.size p.align size align k outcome small double first) (is_layout size align) (nat_lt p.size size) (rw is at made)) at
 step_doubling z (Dealloc name) k m next small double made at =
     found z k m (finite.get m.held name) (finite.get m.bytes name) _ next double
     (λ p bs is. answered z k Done (lets_go m (dealloc m.state p.addr p.size) name) next (dealloc_doubling z p.addr p.size m.state double)) at
@@ -108,6 +110,8 @@ step_doubling z (Write name at new) k m next small double made is =
     (λ p bs held. write_called z k m next (finite.insert m.bytes name (splice bs at new)) (nat_lt p.size (at + length new)) double) is
 step_doubling z (Read name) k m next small double made at =
     found z k m (finite.get m.held name) (finite.get m.bytes name) _ next double (λ p bs is. answered z k (Bytes bs) m next double) at
+step_doubling z (Mark name) k m next small double made at = mark_called z k name m next (is_some (mark_named m.marks name)) double at
+step_doubling z (Back name) k m next small double made at = back_called z k name m next (mark_named m.marks name) double at
 step_doubling z Reset k m next small double made at = answered z k Done (fresh (reset m.state)) next (doubling_emptied z m.state.chunks double) at
 step_doubling z Used k m next small double made at = answered z k (Number (used_bytes m.state)) m next double at
 step_doubling z Allocated k m next small double made at = answered z k (Number (allocated_bytes m.state)) m next double at

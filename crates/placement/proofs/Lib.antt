@@ -16,6 +16,9 @@ pub mod ResetLemmas
 pub mod CreationLemmas
 pub mod RefusalLemmas
 pub mod CauseLemmas
+pub mod AskedSizeLemmas
+pub mod GrownLemmas
+pub mod AskingLemmas
 pub mod DoublingLemmas
 pub mod DoublingRunLemmas
 mod Rows
@@ -28,3 +31,5 @@ pub mod ReplyByteLemmas
 pub mod DecisionLemmas
 pub mod TextRows
 pub mod MapLemmas
+pub mod BackLemmas
+pub mod MarkLemmas

@@ -1,22 +1,23 @@
 -- The replies of a run have bytes, where the calls have.
-use Rattle.std.proofs.Common.{◌≡◌, ℕ, zero, suc, ◌-◌, ◌+◌, Bool, true, false, cond, Option, Some, None, List, [], ◌∷◌, ◌++◌, length, take, drop, refl, subst, Ok}
+use Rattle.std.proofs.Common.{◌≡◌, ℕ, zero, suc, ◌-◌, ◌+◌, Bool, true, false, cond, Option, Some, None, List, [], ◌∷◌, ◌++◌, length, take, drop, refl, subst, Ok, sym, ap, ◌∙◌}
 use Rattle.std.specs.Prelude.{replicate, not, nat_lt, ◌==◌, if◌then◌else◌}
 use Rattle.std.specs.List.{AllByRecursion}
-use Rattle.std.specs.Option.{option_map}
+use Rattle.std.specs.Option.{is_some, option_map}
 use Rattle.std.specs.Ordering.{nat_cmp, eq_by_cmp}
 use Rattle.std.specs.Cmp.{nat_cmp_total}
 use Rattle.std.specs.FinMap as finite
-use Rattle.std.specs.FinMap.{get-empty, get-insert, get-remove}
+use Rattle.std.specs.FinMap.{get-empty, get-insert, get-remove, get-retain_keys, nat_cmp-IsAntisymmetric}
 use Rattle.std.proofs.lemmas.Option.{none-some, same_Some, cond_some, option_and_then_some}
 use Rattle.placement.specs.Rounding.{is_layout}
 use Rattle.placement.specs.State.{State, used_bytes, allocated_bytes}
 use Rattle.placement.specs.Moves.{Outcome, alloc, dealloc, reset}
-use Rattle.placement.specs.Machine.{Machine, Next, Contents, step, run, run_from, reply_first, settles, answers, at_found, fresh, lets_go, splice}
+use Rattle.placement.specs.Machine.{Machine, Next, Contents, step, run, run_from, reply_first, settles, answers, at_found, fresh, lets_go, splice, mark_named, at_mark, goes_back, is_left}
+use Rattle.placement.specs.Back.{Point, mark_of, back}
 use Rattle.placement.specs.Grammar.{IsByte, Fits, AreCalls, CallsOf, lines_of}
 use Rattle.placement.specs.Replies.{HasBytes, text_of}
 use Rattle.placement.specs.declared.place.Place.{Place}
 use Rattle.placement.specs.declared.calls.Call.{Call}
-use Rattle.placement.specs.declared.calls.Call.TheVariants.{Alloc, Grow, Shrink, Dealloc, Write, Read, Reset, Used, Allocated}
+use Rattle.placement.specs.declared.calls.Call.TheVariants.{Alloc, Grow, Shrink, Dealloc, Write, Read, Mark, Back, Reset, Used, Allocated}
 use Rattle.placement.specs.declared.calls.Reply.{Reply}
 use Rattle.placement.specs.declared.calls.Reply.TheVariants.{Done, Bytes, Number, NoSuchName, NameTaken, BadLayout, OutOfRange}
 use Rattle.placement.proofs.TextLemmas.{same_replies}
@@ -69,6 +70,14 @@ holds_less contents name held other bs found = go (eq_by_cmp nat_cmp other name)
     go : (b : Bool) → cond b None (finite.get contents other) ≡ Some bs → AreBytes bs
     go true same = absurd (none-some bs same)
     go false same = held other bs same
+
+holds_some : (contents : Contents) (test : ℕ → Bool) → HoldsBytes contents → HoldsBytes (finite.retain_keys contents test)
+holds_some contents test held other bs found =
+    go (test other) (get-retain_keys contents test other (λ x same. ap test (sym (nat_cmp-IsAntisymmetric other x same)))) found
+  where
+    go : (b : Bool) → finite.get (finite.retain_keys contents test) other ≡ cond b (finite.get contents other) None → finite.get (finite.retain_keys contents test) other ≡ Some bs → AreBytes bs
+    go true is same = held other bs (sym is ∙ same)
+    go false is same = absurd (none-some bs (sym is ∙ same))
 
 -- ---- One call
 
@@ -127,6 +136,17 @@ write_called : (k : ℕ) (m : Machine) (next : Next) (bytes : Contents) (longer 
 write_called k m next bytes true held new is = answered k OutOfRange m next tt held is
 write_called k m next bytes false held new is = answered k Done (record m { bytes = bytes }) next tt new is
 
+-- a call on marks
+mark_called : (k name : ℕ) (m : Machine) (next : Next) (taken : Bool) → HoldsBytes m.bytes
+    → (if taken then answers k NameTaken m else answers k Done (record m { marks = (name, mark_of m.state) ∷ m.marks })) ≡ Some next → GivesBytes next
+mark_called k name m next true held at = answered k NameTaken m next tt held at
+mark_called k name m next false held at = answered k Done (record m { marks = (name, mark_of m.state) ∷ m.marks }) next tt held at
+
+back_called : (k name : ℕ) (m : Machine) (next : Next) (o : Option Point) → HoldsBytes m.bytes
+    → at_mark o (answers k NoSuchName m) (λ mark. answers k Done (goes_back m mark name)) ≡ Some next → GivesBytes next
+back_called k name m next None held at = answered k NoSuchName m next tt held at
+back_called k name m next (Some mark) held at = answered k Done (goes_back m mark name) next tt (holds_some m.bytes (is_left (back mark m.state) m.held) held) at
+
 -- Each call whose numbers fit gives a reply with bytes, and leaves bytes.
 step_bytes : (call : Call) (k : ℕ) (m : Machine) (next : Next) → Fits call → HoldsBytes m.bytes → step call k m ≡ Some next → GivesBytes next
 unfolding step
@@ -148,6 +168,8 @@ step_bytes (Write name at new) k m next fits held is =
     (holds_more m.bytes name (splice bs at new) held (spliced bs new at are fits.2))) is
 step_bytes (Read name) k m next fits held at =
     found k name m (finite.get m.held name) _ next held (λ p bs are. answered k (Bytes bs) m next are held) at
+step_bytes (Mark name) k m next fits held at = mark_called k name m next (is_some (mark_named m.marks name)) held at
+step_bytes (Back name) k m next fits held at = back_called k name m next (mark_named m.marks name) held at
 step_bytes Reset k m next fits held at = answered k Done (fresh (reset m.state)) next tt holds_none at
 step_bytes Used k m next fits held at = answered k (Number (used_bytes m.state)) m next tt held at
 step_bytes Allocated k m next fits held at = answered k (Number (allocated_bytes m.state)) m next tt held at

@@ -5,6 +5,8 @@ pub mod Moves
 pub mod Creation
 pub mod Blocks
 pub mod Causes
+pub mod Source
+pub mod Asking
 pub mod Machine
 pub mod Requests
 pub mod Statistics
@@ -14,3 +16,4 @@ pub mod Grammar
 pub mod Replies
 pub mod Bits
 pub mod PrintedBits
+pub mod Back

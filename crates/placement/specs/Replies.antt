@@ -28,11 +28,4 @@ text_of replies = flat_map with_feed replies
 -- a reply's bytes are from 0 to 255
 abbrev pub HasBytes : Reply → Type 0
 HasBytes (Bytes bytes) = AllByRecursion IsByte bytes
-HasBytes (Placed addr refused) = Unit {0}
-HasBytes Done = Unit {0}
-HasBytes (Number n) = Unit {0}
-HasBytes (AllocErr refused) = Unit {0}
-HasBytes NoSuchName = Unit {0}
-HasBytes NameTaken = Unit {0}
-HasBytes BadLayout = Unit {0}
-HasBytes OutOfRange = Unit {0}
+HasBytes reply = Unit {0}

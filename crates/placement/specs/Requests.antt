@@ -1,15 +1,15 @@
 -- What calls by name place anew, and so what they ask the source for.
-use Rattle.std.specs.Prelude.{ℕ, nat_lt, Bool, false, ◌&&◌, ◌||◌, not, if◌then◌else◌, Option, Some, None, List, [], ◌∷◌, ◌++◌}
+use Rattle.std.specs.Prelude.{ℕ, nat_lt, Bool, false, ◌&&◌, ◌||◌, not, if◌then◌else◌, Option, Some, None, List, [], ◌∷◌, ◌++◌, length}
 use Rattle.std.specs.FinMap as map
-use Rattle.std.specs.Option.{is_some, option_and_then, option_map_or}
+use Rattle.std.specs.Option.{is_some, is_none, option_and_then, option_map_or}
 use Rattle.placement.specs.Rounding.{is_layout}
 use Rattle.placement.specs.State.{State}
 use Rattle.placement.specs.Search.{alloc_requests}
 use Rattle.placement.specs.Moves.{Resizing, growing, shrinking, anew}
-use Rattle.placement.specs.Machine.{Machine, Next, step, fresh}
+use Rattle.placement.specs.Machine.{Machine, Next, step, fresh, mark_named}
 use Rattle.placement.specs.declared.place.Place.{Place}
 use Rattle.placement.specs.declared.calls.Call.{Call}
-use Rattle.placement.specs.declared.calls.Call.TheVariants.{Alloc, Grow, Shrink, Dealloc, Write, Read, Reset, Used, Allocated}
+use Rattle.placement.specs.declared.calls.Call.TheVariants.{Alloc, Grow, Shrink, Read, Mark}
 
 -- the requests for this layout, if any, where k are refused
 abbrev pub requests_anew : Option (ℕ × ℕ) → State → ℕ → List (ℕ × ℕ)
@@ -20,24 +20,19 @@ requests_anew (Some layout) state k = alloc_requests state layout.0 layout.1 k
 abbrev pub resize_requests : Resizing → State → ℕ → ℕ → ℕ → List (ℕ × ℕ)
 resize_requests way state size align k = requests_anew (anew way (size, align)) state k
 
+-- the layout that a call gives a block, unless its size is on the wrong side of the block's
+abbrev pub resized_anew : Resizing → ℕ → ℕ → Bool → Option (ℕ × ℕ)
+resized_anew way size align wrong = if is_layout size align && not wrong then anew way (size, align) else None
+
 -- the layout that a call places by an allocation, if any
 unfoldable pub placed_anew : Call → Machine → Option (ℕ × ℕ)
 placed_anew (Alloc name size align fill) m =
     if map.contains_key m.held name then None else (if is_layout size align then Some (size, align) else None)
 placed_anew (Grow name size align fill) m = option_and_then {U = ℕ × ℕ} (λ (p : Place).
-    if is_layout size align && not (nat_lt size p.size)
-    then anew (growing m.state p.addr p.size p.align size align) (size, align) else None)
-    (map.get m.held name)
+    resized_anew (growing m.state p.addr p.size p.align size align) size align (nat_lt size p.size)) (map.get m.held name)
 placed_anew (Shrink name size align) m = option_and_then {U = ℕ × ℕ} (λ (p : Place).
-    if is_layout size align && not (nat_lt p.size size)
-    then anew (shrinking m.state p.addr p.size p.align size align) (size, align) else None)
-    (map.get m.held name)
-placed_anew (Dealloc name) m = None
-placed_anew (Write name at bytes) m = None
-placed_anew (Read name) m = None
-placed_anew Reset m = None
-placed_anew Used m = None
-placed_anew Allocated m = None
+    resized_anew (shrinking m.state p.addr p.size p.align size align) size align (nat_lt p.size size)) (map.get m.held name)
+placed_anew call m = None
 
 -- the requests of a call, where k are refused
 abbrev pub call_requests : Call → ℕ → Machine → List (ℕ × ℕ)
@@ -57,15 +52,21 @@ requests_of state calls ks = requests_from (fresh state) calls ks
 -- a call that answers the bytes of a block
 abbrev pub reads : Call → Machine → Bool
 reads (Read name) m = map.contains_key m.held name
-reads (Alloc name size align fill) m = false
-reads (Grow name size align fill) m = false
-reads (Shrink name size align) m = false
-reads (Dealloc name) m = false
-reads (Write name at bytes) m = false
-reads Reset m = false
-reads Used m = false
-reads Allocated m = false
+reads call m = false
 
--- A call for which memory can be wanting: one that places a block by an allocation, or answers bytes.
+-- a call that gives a block another size
+abbrev pub resizes : Call → Machine → Bool
+resizes (Grow name size align fill) m =
+    option_map_or (λ (p : Place). is_layout size align && not (nat_lt size p.size)) (map.get m.held name) false
+resizes (Shrink name size align) m =
+    option_map_or (λ (p : Place). is_layout size align && not (nat_lt p.size size)) (map.get m.held name) false
+resizes call m = false
+
+-- A call that notes something beside the arena: one that sets a mark, or gives a block another size while there is a mark.
+abbrev pub notes : Call → Machine → Bool
+notes (Mark name) m = is_none (mark_named m.marks name)
+notes call m = nat_lt 0 (length m.marks) && resizes call m
+
+-- A call for which memory can be wanting: one that places a block by an allocation, answers bytes, or notes something.
 abbrev pub takes_memory : Call → Machine → Bool
-takes_memory call m = is_some (placed_anew call m) || reads call m
+takes_memory call m = is_some (placed_anew call m) || reads call m || notes call m

@@ -9,9 +9,9 @@ use Rattle.placement.specs.Machine.{Machine, Next, step, fresh, is_reset}
 use Rattle.placement.specs.Causes.{counted}
 use Rattle.placement.specs.declared.place.Place.{Place}
 use Rattle.placement.specs.declared.calls.Call.{Call}
-use Rattle.placement.specs.declared.calls.Call.TheVariants.{Alloc, Grow, Shrink, Dealloc, Write, Read, Reset, Used, Allocated}
+use Rattle.placement.specs.declared.calls.Call.TheVariants.{Alloc, Grow, Shrink}
 use Rattle.placement.specs.declared.calls.Reply.{Reply}
-use Rattle.placement.specs.declared.calls.Reply.TheVariants.{Placed, Done, Bytes, Number, AllocErr, NoSuchName, NameTaken, BadLayout, OutOfRange}
+use Rattle.placement.specs.declared.calls.Reply.TheVariants.{Placed}
 
 pub record Statistics : Type 0 where
   pub allocations : ℕ
@@ -51,24 +51,12 @@ placed_by (Grow name size align fill) m s =
     option_map_or (λ (p : Place). resized (growing m.state p.addr p.size p.align size align) s) (map.get m.held name) s
 placed_by (Shrink name size align) m s =
     option_map_or (λ (p : Place). resized (shrinking m.state p.addr p.size p.align size align) s) (map.get m.held name) s
-placed_by (Dealloc name) m s = s
-placed_by (Write name at bytes) m s = s
-placed_by (Read name) m s = s
-placed_by Reset m s = s
-placed_by Used m s = s
-placed_by Allocated m s = s
+placed_by call m s = s
 
 -- the reply tells a place
 abbrev pub is_placed : Reply → Bool
 is_placed (Placed addr refused) = true
-is_placed (AllocErr refused) = false
-is_placed Done = false
-is_placed (Bytes bytes) = false
-is_placed (Number n) = false
-is_placed NoSuchName = false
-is_placed NameTaken = false
-is_placed BadLayout = false
-is_placed OutOfRange = false
+is_placed reply = false
 
 -- A call that answers a place counts its block, and one that gives all blocks back begins anew.
 abbrev pub call_statistics : Call → Reply → Machine → Statistics → Statistics

@@ -1,4 +1,6 @@
 // What the definitions mean, in words and as facts.
+mod asking;
+mod back;
 mod chunks;
 mod moves;
 mod numbers;
@@ -6,6 +8,8 @@ mod resizes;
 mod texts;
 mod used;
 
+pub use asking::{asked_together, starved_together};
+pub use back::{kept_marks, sent_back};
 pub use chunks::{doubling, doubling_moves};
 pub use moves::{
     all_given_back, first_states, given_back, moved_block, new_block, refusals, valid_moves,

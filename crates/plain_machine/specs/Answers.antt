@@ -1,5 +1,5 @@
 -- A state, and answers and replies with what they leave.
-use Rattle.std.specs.Prelude.{ℕ, ◌+◌, ◌≤◌, Option, List, [], Vec, true, IfSome}
+use Rattle.std.specs.Prelude.{ℕ, ◌+◌, ◌<◌, ◌≤◌, Option, List, [], Vec, true, IfSome}
 use Rattle.std.specs.declared.alloc.Global.{Global}
 use Rattle.std.specs.Option.{option_map}
 use Rattle.placement.specs.State.{State, Chunk}
@@ -20,9 +20,9 @@ first_state min_align = growing_state min_align 0 []
 abbrev pub leaves : State → Option (Option ℕ) → Option Outcome
 leaves state answer = option_map {T = Option ℕ} {U = Outcome} (λ a. record { answer = a; state = state }) answer
 
--- a block that is answered ends there or before
+-- a block of some bytes that is answered ends there or before
 abbrev pub EndsWithin : ℕ → Option (Option ℕ) → ℕ → Type 0
-EndsWithin size answer top = IfSome answer (λ a. IfSome a (λ p. p + size ≤ top))
+EndsWithin size answer top = IfSome answer (λ a. IfSome a (λ p. 0 < size → p + size ≤ top))
 
 -- a reply, if there is a step, with the machine after it
 abbrev pub gives : Machine → Option Reply → Option Next

@@ -1,8 +1,10 @@
 -- A machine as a value, and what is true of the blocks that it holds.
-use Rattle.std.specs.Prelude.{◌≡◌, ℕ, ◌+◌, ◌≤◌, Some}
+use Rattle.std.specs.Prelude.{◌≡◌, ℕ, ◌+◌, ◌<◌, ◌≤◌, Some, [], ◌∷◌, IsTrue}
 use Rattle.std.specs.FinMap as map
 use Rattle.std.specs.Coded.{Coded, coded_ℕ, coded_list}
-use Rattle.placement.specs.Machine.{Held, Contents}
+use Rattle.placement.specs.State.{State}
+use Rattle.placement.specs.Back.{accepts}
+use Rattle.placement.specs.Machine.{Held, Contents, Marks}
 use Rattle.placement.specs.declared.place.Place.{Place}
 use Rattle.placement.specs.contracts.place.Place as place
 
@@ -13,6 +15,11 @@ held_code = map.code coded_ℕ place.the_row.coded
 abbrev pub contents_code : Coded Contents
 contents_code = map.code coded_ℕ (coded_list coded_ℕ)
 
--- Each held block ends there or before.
+-- Each held block of some bytes ends there or before.
 abbrev pub EndBelow : ℕ → Held → Type 0
-EndBelow top held = (name : ℕ) (p : Place) → map.get held name ≡ Some p → p.addr + p.size ≤ top
+EndBelow top held = (name : ℕ) (p : Place) → map.get held name ≡ Some p → 0 < p.size → p.addr + p.size ≤ top
+
+-- The state accepts each mark. The newest has so many chunks or fewer, and none has more than a newer one.
+abbrev pub AreMarks : State → ℕ → Marks → Type 0
+AreMarks state n [] = Unit {0}
+AreMarks state n (mark ∷ older) = (mark.1.chunks ≤ n) × IsTrue (accepts mark.1 state) × AreMarks state mark.1.chunks older

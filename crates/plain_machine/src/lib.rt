@@ -5,6 +5,7 @@
 mod bytes;
 mod chunk;
 mod machine;
+mod marks;
 mod names;
 mod resize;
 mod run;

@@ -1,12 +1,13 @@
 // The machine: calls by name, one after another.
 #![tactic(auto, unfolding(placement::specs::Machine::step))]
 
-ghost use Rattle.std.specs.Prelude.{◌≡◌, ◌==◌, ◌+◌, ◌≤◌, IfOk, OnOk, IfNone, IsTrue, if◌then◌else◌};
+ghost use Rattle.std.specs.Prelude.{◌≡◌, ◌==◌, ◌+◌, ◌<◌, ◌≤◌, IfOk, OnOk, IfNone, IsTrue, if◌then◌else◌};
 ghost use Rattle.placement.specs.State.{is_min_align, top_of};
 ghost use Rattle.placement.specs.Machine as machine;
 ghost use Rattle.plain_machine.specs.Answers.{first_state, gives};
 
 use crate::bytes::{filled, grown, is_past, shrunk, splice};
+use crate::marks::PlainPoint;
 use crate::names::Names;
 use crate::state::PlainState;
 use crate::unasked::unasked;
@@ -18,28 +19,32 @@ use std::marker::Model;
 /// The machine of the definitions.
 #[derive(Drop, Debug)]
 pub struct PlainMachine {
-    state: PlainState,
-    held: Names<Place>,
-    bytes: Names<Bytes>,
+    pub(crate) state: PlainState,
+    pub(crate) held: Names<Place>,
+    pub(crate) bytes: Names<Bytes>,
+    // newest first
+    pub(crate) marks: Vec<(u32, PlainPoint)>,
 }
 
 impl Model for PlainMachine {
     ghost use Rattle.placement.specs.State.{top_of};
     ghost use Rattle.placement.specs.Machine.{Machine};
-    ghost use Rattle.plain_machine.specs.Holding.{EndBelow, held_code, contents_code};
+    ghost use Rattle.plain_machine.specs.Holding.{EndBelow, AreMarks, held_code, contents_code};
     ghost use Rattle.std.specs.Coded.{codes};
+    ghost use Rattle.std.specs.Prelude.{length};
 
     ghost Value = { Machine };
 
     ghost coded = { Prim.hlevel (codes, held_code, contents_code) };
 
-    ghost view = { λ m. record { state = m.state; held = m.held; bytes = m.bytes } };
+    ghost view = { λ m. record { state = m.state; held = m.held; bytes = m.bytes; marks = m.marks.items } };
 
-    ghost invariant = { λ m. EndBelow (top_of m.state.chunks) m.held };
+    ghost invariant = { λ m. EndBelow (top_of m.state.chunks) m.held
+        × AreMarks m.state (length m.state.chunks) m.marks.items };
 }
 
 impl PlainMachine {
-    /// A machine with no chunk that holds no name.
+    /// A machine with no chunk that holds no name and has no mark.
     pub fn new(alloc: Global, min_align: u64) -> PlainMachine
         requires { IsTrue (is_min_align min_align) }
         ensures { result ≡ machine.fresh (first_state min_align) }
@@ -48,6 +53,7 @@ impl PlainMachine {
             state: PlainState::new(alloc, min_align),
             held: Names::new(alloc),
             bytes: Names::new(alloc),
+            marks: Vec::new(alloc),
         }
     }
 
@@ -81,6 +87,8 @@ impl PlainMachine {
             Call::Dealloc { name } => Ok(self.dealloc(*name, refused)),
             Call::Write { name, at, bytes } => self.write(alloc, *name, *at, bytes, refused),
             Call::Read { name } => self.read(alloc, *name, refused),
+            Call::Mark { name } => self.mark(*name, refused),
+            Call::Back { name } => Ok(self.back(*name, refused)),
             Call::Reset => Ok(self.reset(refused)),
             Call::Used => Ok(self.used(refused)),
             Call::Allocated => Ok(self.allocated(refused)),
@@ -257,6 +265,7 @@ impl PlainMachine {
         self.state.reset();
         self.held.clear();
         self.bytes.clear();
+        self.marks.clear();
         Some(Reply::Done)
     }
 
@@ -280,7 +289,7 @@ impl PlainMachine {
         bytes: Bytes,
         refused: u32,
     ) -> Result<Reply, OutOfMemory>
-        requires { place.addr + place.size ≤ top_of self.old.state.chunks }
+        requires { 0 < place.size → place.addr + place.size ≤ top_of self.old.state.chunks }
         ensures reply { IfOk result (λ reply. reply ≡ Reply.Placed place.addr refused) }
         ensures machine { OnOk result (self.new ≡ machine.holds self.old self.old.state name place bytes) }
     {

@@ -3,8 +3,10 @@ ghost use Rattle.std.specs.Prelude.{◌≡◌, OnOk, OnErr};
 ghost use Rattle.std.specs.Ordering.{nat_cmp};
 ghost use Rattle.std.specs.Option.{option_copied};
 ghost use Rattle.std.specs.FinMap as map;
+ghost use Rattle.placement.specs.Machine as machine;
 
-use placement::OutOfMemory;
+use crate::state::PlainState;
+use placement::{Bytes, OutOfMemory, Place};
 use std::alloc::Global;
 use std::collections::BTreeMap;
 use std::marker::Model;
@@ -69,5 +71,33 @@ impl<V: Drop> Names<V> {
         ensures { self.new ≡ map.empty }
     {
         self.values.clear();
+    }
+}
+
+impl Names<Place> {
+    // Whether the name's block has no bytes, or lies in the used part of one chunk.
+    fn is_left(&self, state: &PlainState, name: u32) -> bool
+        ensures { result ≡ machine.is_left state.now self.now name }
+    {
+        match self.get(name) {
+            Some(place) => state.is_place_used(*place),
+            None => false,
+        }
+    }
+
+    /// The names stay whose blocks have no bytes, or lie in the used part of one chunk.
+    pub(crate) fn keep_used(&mut self, state: &PlainState)
+        ensures { self.new ≡ map.retain_keys self.old (machine.is_left state.now self.old) }
+    {
+        self.values.retain(|_, place| state.is_place_used(*place));
+    }
+}
+
+impl Names<Bytes> {
+    /// The names stay whose blocks have no bytes, or lie in the used part of one chunk.
+    pub(crate) fn keep_left(&mut self, held: &Names<Place>, state: &PlainState)
+        ensures { self.new ≡ map.retain_keys self.old (machine.is_left state.now held.now) }
+    {
+        self.values.retain(|name, _| held.is_left(state, *name));
     }
 }

@@ -23,7 +23,7 @@ impl PlainState {
         refused: u32,
     ) -> Result<Option<Answer>, OutOfMemory>
         requires size { block.size ≤ layout.size }
-        requires end { block.addr + block.size ≤ top_of self.old.chunks }
+        requires end { 0 < block.size → block.addr + block.size ≤ top_of self.old.chunks }
         ensures step { IfOk result (λ answer. leaves self.new answer
             ≡ moves.grow self.old block.addr block.size block.align layout.size layout.align refused) }
         ensures err { OnErr result (self.new ≡ self.old) }
@@ -49,7 +49,7 @@ impl PlainState {
         requires align { layout.align ≤ block.align }
         requires at { block.addr ≡ cursor_of self.old.chunks }
         requires size { block.size ≤ layout.size }
-        requires end { block.addr + block.size ≤ top_of self.old.chunks }
+        requires end { 0 < block.size → block.addr + block.size ≤ top_of self.old.chunks }
         ensures step { IfOk result (λ answer. leaves self.new answer
             ≡ moves.grow self.old block.addr block.size block.align layout.size layout.align refused) }
         ensures err { OnErr result (self.new ≡ self.old) }
@@ -84,7 +84,7 @@ impl PlainState {
         refused: u32,
     ) -> Result<Option<Answer>, OutOfMemory>
         requires size { layout.size ≤ block.size }
-        requires end { block.addr + block.size ≤ top_of self.old.chunks }
+        requires end { 0 < block.size → block.addr + block.size ≤ top_of self.old.chunks }
         ensures step { IfOk result (λ answer. leaves self.new answer
             ≡ moves.shrink self.old block.addr block.size block.align layout.size layout.align refused) }
         ensures err { OnErr result (self.new ≡ self.old) }
@@ -108,7 +108,7 @@ impl PlainState {
     fn shrink_here(&mut self, block: Place, layout: Layout) -> u64
         requires align { layout.align ≤ block.align }
         requires size { layout.size ≤ block.size }
-        requires end { block.addr + block.size ≤ top_of self.old.chunks }
+        requires end { 0 < block.size → block.addr + block.size ≤ top_of self.old.chunks }
         ensures step { leaves self.new (Some (Some result))
             ≡ moves.shrink self.old block.addr block.size block.align layout.size layout.align 0 }
         ensures top { top_of self.new.chunks ≡ top_of self.old.chunks }

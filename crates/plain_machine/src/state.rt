@@ -2,17 +2,20 @@
 ghost use Rattle.std.specs.Prelude.{◌≡◌, ◌+◌, ◌^◌, ◌<◌, ◌≤◌, IfOk, OnErr, IfSome, IfNone, IsTrue, Some, None, true, All, sum, map};
 ghost use Rattle.std.specs.Option.{option_map, option_map_or};
 ghost use Rattle.placement.specs.Rounding.{is_power};
-ghost use Rattle.placement.specs.State.{IsValid, is_min_align, start_of, cursor_of, newest_size, used_bytes, allocated_bytes, floor_of, top_of, with_cursor, data_end, used_length};
+ghost use Rattle.placement.specs.State.{IsValid, is_min_align, start_of, cursor_of, newest_size, used_bytes, allocated_bytes, floor_of, top_of, with_cursor, data_end, used_length, is_range_used};
+ghost use Rattle.placement.specs.Back.{mark_of, accepts, back};
+ghost use Rattle.placement.specs.Machine as machine;
 ghost use Rattle.placement.specs.Search.{place, asked};
 ghost use Rattle.placement.specs.Moves as moves;
 ghost use Rattle.plain_machine.specs.Answers.{first_state, leaves, EndsWithin};
 
 use crate::chunk::PlainChunk;
+use crate::marks::{PlainPoint, keep_first, raise};
 use crate::search::{entries, entry_at};
 use arena_place::{
     CHUNK_ALIGN, DEFAULT_CHUNK_SIZE_WITHOUT_FOOTER, Layout, next_base, place, round_up_to_unchecked,
 };
-use placement::OutOfMemory;
+use placement::{OutOfMemory, Place};
 use std::alloc::Global;
 use std::marker::Model;
 
@@ -229,7 +232,7 @@ impl PlainState {
 
     /// A block is given back.
     pub(crate) fn dealloc(&mut self, addr: u64, size: u64)
-        requires { addr + size ≤ top_of self.old.chunks }
+        requires { 0 < size → addr + size ≤ top_of self.old.chunks }
         ensures { self.new ≡ moves.dealloc self.old addr size }
     {
         if addr == self.cursor() {
@@ -244,6 +247,34 @@ impl PlainState {
     {
         self.generation = self.generation.saturating_add(1);
         keep_newest(&mut self.chunks);
+    }
+
+    /// A mark of the present state.
+    pub(crate) fn mark(&self) -> PlainPoint
+        ensures value { result ≡ mark_of self.now }
+        ensures accepted { IsTrue (accepts (mark_of self.now) self.now) }
+    {
+        PlainPoint {
+            chunks: self.chunks.len() as u64,
+            cursor: self.cursor(),
+        }
+    }
+
+    /// The chunks that there were, and the cursor where it was or above.
+    pub(crate) fn back(&mut self, mark: PlainPoint)
+        requires { IsTrue (accepts mark self.old) }
+        ensures state { self.new ≡ back mark self.old }
+        ensures valid { IsValid self.new }
+    {
+        keep_first(&mut self.chunks, mark.chunks);
+        raise(&mut self.chunks, mark.cursor);
+    }
+
+    /// Whether the block has no bytes, or lies in the used part of one chunk.
+    pub(crate) fn is_place_used(&self, place: Place) -> bool
+        ensures { result ≡ machine.is_place_used self.now place }
+    {
+        place.size == 0 || is_range_used(&self.chunks, place.addr, place.size)
     }
 
     pub(crate) fn used_bytes(&self) -> u64
@@ -268,6 +299,17 @@ fn keep_newest(chunks: &mut Vec<PlainChunk>)
     if let Some(newest) = chunks.first_mut() {
         newest.cursor = newest.base + newest.size;
     }
+}
+
+// The addresses from this one on, so many, lie in the used part of one chunk.
+fn is_range_used(chunks: &[PlainChunk], addr: u64, n: u64) -> bool
+    requires { All (λ c. (c.cursor ≤ data_end c) × (data_end c < 2 ^ 64)) chunks.now }
+    ensures { result ≡ is_range_used chunks.now addr n }
+{
+    let Some(end) = addr.checked_add(n) else {
+        return false;
+    };
+    chunks.iter().any(|chunk| chunk.cursor <= addr && end <= chunk.base + chunk.size)
 }
 
 fn sum_of_used(chunks: &[PlainChunk]) -> u64

@@ -1,5 +1,7 @@
 // What tests of pools share.
+ghost use Rattle.std.specs.Prelude.{◌≡◌};
 ghost use Rattle.arena_pool.specs.Kinds.{IsOfKind};
+ghost use Rattle.arena_pool.specs.Names.{IsBlankOf};
 ghost use Rattle.arena_pool.specs.declared.kind.PoolKind.{PoolKind};
 
 mod books;
@@ -11,11 +13,41 @@ mod threads;
 use arena_chunks::{Allocator, ChunkSource};
 use arena_place::Layout;
 use arena_pool::laws::kinds;
+use arena_pool::{AllocatorPool, MemoryMaker, PoolKind, PoolName};
+use std::alloc::Global;
+use std::process::Abort;
+use std::sync::Wait;
+use std::sync::ledger::Blank;
 use std::test::*;
 use std::thread;
 
 /// How many bytes a borrower writes.
 const MARKED: u64 = 32;
+
+/// Arenas over regions in which 64 bytes have a place.
+const SMALL: PoolKind = PoolKind::FixedSize { bytes: 112 };
+
+// A pool that is named, of so many arenas of a kind.
+fn pool_of<L: PoolName, R: Wait + Abort>(
+    rt: &R,
+    alloc: Global,
+    kind: PoolKind,
+    arenas: u32,
+    blank: Blank,
+) -> AllocatorPool<MemoryMaker, L>
+    requires blank { IsBlankOf L.name L.parts blank }
+    requires kind { L.kind ≡ kind }
+{
+    let maker = MemoryMaker::new(alloc, 1 << 20);
+    let pool = match kind {
+        PoolKind::Standard => AllocatorPool::new(alloc, arenas, maker, blank),
+        PoolKind::FixedSize { bytes } => {
+            assert!(rt; bytes % 16 == 0 && bytes >= 48);
+            AllocatorPool::new_fixed_size(alloc, arenas, bytes, maker, blank)
+        }
+    };
+    pool.ok().expect(rt, "a pool")
+}
 
 // Whether an arena begins with nothing used, and a block in it still holds its own bytes once other threads had a turn.
 #[tactic(auto, using(arena_pool::proofs::Layers::kind_laws))]

@@ -6,5 +6,4 @@ mod TextLemmas
 mod ReadingLemmas
 mod OneReadingLemmas
 mod SomeReadingLemmas
-mod StarvedLemmas
 mod Rows

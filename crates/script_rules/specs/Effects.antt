@@ -30,38 +30,23 @@ free (Some object) go = Tells NameTaken
 -- the object is of a kind
 abbrev pub a_list : Object → (List ℕ → Effect) → Effect
 a_list (AList items) go = go items
-a_list (AText bytes) go = Tells WrongKind
-a_list (ASet capacity bits) go = Tells WrongKind
-a_list (AMap pairs) go = Tells WrongKind
-a_list (AValue value) go = Tells WrongKind
+a_list object go = Tells WrongKind
 
 abbrev pub a_text : Object → (List ℕ → Effect) → Effect
-a_text (AList items) go = Tells WrongKind
 a_text (AText bytes) go = go bytes
-a_text (ASet capacity bits) go = Tells WrongKind
-a_text (AMap pairs) go = Tells WrongKind
-a_text (AValue value) go = Tells WrongKind
+a_text object go = Tells WrongKind
 
 abbrev pub a_set : Object → (ℕ → Bits → Effect) → Effect
-a_set (AList items) go = Tells WrongKind
-a_set (AText bytes) go = Tells WrongKind
 a_set (ASet capacity bits) go = go capacity bits
-a_set (AMap pairs) go = Tells WrongKind
-a_set (AValue value) go = Tells WrongKind
+a_set object go = Tells WrongKind
 
 abbrev pub a_map : Object → (Entries ℕ → Effect) → Effect
-a_map (AList items) go = Tells WrongKind
-a_map (AText bytes) go = Tells WrongKind
-a_map (ASet capacity bits) go = Tells WrongKind
 a_map (AMap pairs) go = go pairs
-a_map (AValue value) go = Tells WrongKind
+a_map object go = Tells WrongKind
 
 abbrev pub a_value : Object → (ℕ → Effect) → Effect
-a_value (AList items) go = Tells WrongKind
-a_value (AText bytes) go = Tells WrongKind
-a_value (ASet capacity bits) go = Tells WrongKind
-a_value (AMap pairs) go = Tells WrongKind
 a_value (AValue value) go = go value
+a_value object go = Tells WrongKind
 
 -- the test fails
 abbrev pub unless : Bool → ScriptReply → Effect → Effect

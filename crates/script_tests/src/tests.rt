@@ -2,13 +2,15 @@
 mod commands;
 mod examples;
 mod refusals;
-mod types;
 
+use commands::{BITS, LISTS, MAPS_AND_VALUES, TEXTS};
+use examples::{A_LARGE_SET, A_LIST_AND_A_TEXT, BITS_AND_A_MAP};
 use placement::{Bytes, OutOfMemory};
 use plain_scripts::PlainScripts;
+use refusals::{OF_KINDS, OF_NAMES, OF_PLACES_AND_BYTES};
 use script_rules::{Command, Numbers, ScriptReply};
 use std::alloc::Global;
-use std::process::Abort;
+use std::test::Fail;
 
 /// A command with its name, and what it has of numbers, or bytes, in the order of its line.
 #[derive(Clone, Copy)]
@@ -122,15 +124,34 @@ fn reply(alloc: Global, says: Says) -> Result<ScriptReply, OutOfMemory> {
     })
 }
 
-// Each command has the reply and the cost beside it.
-fn expect(rt: &impl Abort, alloc: Global, rows: &[(Does, Says, u64)]) -> Result<(), OutOfMemory> {
-    let mut machine = PlainScripts::new(alloc);
-    for (i, (does, says, cost)) in rows.iter().enumerate() {
-        let command = command(alloc, *does)?;
-        let wanted = reply(alloc, *says)?;
-        let answered = machine.step(alloc, &command)?;
-        assert!(rt; answered.reply == wanted, "reply {i}");
-        assert!(rt; answered.cost == *cost, "cost {i}");
+// A command with its reply and its cost.
+type Row = (Does, Says, u64);
+
+const TABLES: &[&[Row]] = &[
+    LISTS,
+    TEXTS,
+    BITS,
+    MAPS_AND_VALUES,
+    A_LIST_AND_A_TEXT,
+    BITS_AND_A_MAP,
+    A_LARGE_SET,
+    OF_NAMES,
+    OF_KINDS,
+    OF_PLACES_AND_BYTES,
+];
+
+// Each table from no objects.
+#[test]
+fn each_command_has_its_reply_and_its_cost(rt: HostRuntime) -> Result<(), Fail> {
+    let alloc = rt.alloc();
+    for (n, rows) in TABLES.iter().enumerate() {
+        let mut machine = PlainScripts::new(alloc);
+        for (i, (does, says, cost)) in rows.iter().enumerate() {
+            let wanted = reply(alloc, *says)?;
+            let answered = machine.step(alloc, &command(alloc, *does)?)?;
+            assert!(rt; answered.reply == wanted, "reply {i} of table {n}");
+            assert!(rt; answered.cost == *cost, "cost {i} of table {n}");
+        }
     }
     Ok(())
 }

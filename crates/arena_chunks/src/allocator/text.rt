@@ -1,4 +1,4 @@
-// Texts in an arena.
+// Texts and bytes in an arena.
 ghost use Rattle.std.specs.Prelude.{◌≡◌, ◌-◌, ◌^◌, ◌<◌, ◌≤◌, [], Ok, IfOk, IfSome, IfNone, IsTrue, length};
 ghost use Rattle.std.specs.List.{flat_map};
 ghost use Rattle.std.specs.Str.{IsUtf8};
@@ -38,15 +38,28 @@ impl<C: ChunkSource> Allocator<C> {
     /// # Errors
     ///
     /// As of `alloc_layout`.
-    #[tactic(auto, using(crate::proofs::BlockCallLemmas::places_written))]
     pub fn alloc_str(&mut self, src: &str) -> Result<Str, ArenaErr>
         ensures placed { PlacesBlock self.old self.new (length src.now) 1 (answer_by (λ s. s.block) result) }
         ensures text { IfOk result (λ s. bytes_from (image self.new.memory) s.block.addr
             (length src.now) ≡ src.now) }
     {
-        let block = self.alloc_bytes(src.len() as u64)?;
-        self.write(block, 0, src.as_bytes());
+        let block = self.alloc_bytes(src.as_bytes())?;
         Ok(Str { block })
+    }
+
+    /// Places bytes in a block of their length, of alignment 1.
+    ///
+    /// # Errors
+    ///
+    /// As of `alloc_layout`.
+    #[tactic(auto, using(crate::proofs::BlockCallLemmas::places_written))]
+    pub fn alloc_bytes(&mut self, bytes: &[u8]) -> Result<Block, ArenaErr>
+        ensures placed { PlacesBlock self.old self.new (length bytes.now) 1 (answer_of result) }
+        ensures bytes { IfOk result (λ b. bytes_from (image self.new.memory) b.addr (length bytes.now) ≡ bytes.now) }
+    {
+        let block = self.alloc_unaligned(bytes.len() as u64)?;
+        self.write(block, 0, bytes);
+        Ok(block)
     }
 
     /// Places texts, one after another, in one block of their whole length, of alignment 1. Where that length is 0
@@ -77,14 +90,14 @@ impl<C: ChunkSource> Allocator<C> {
             let block = Block::empty(1);
             return Ok(Str { block });
         }
-        let block = self.alloc_bytes(size)?;
+        let block = self.alloc_unaligned(size)?;
         self.write_strings(block, &strings);
         Ok(Str { block })
     }
 
     // A block of so many bytes, of alignment 1.
     #[tactic(auto, using(crate::proofs::TextLemmas::few_bytes, crate::proofs::TextLemmas::many_bytes))]
-    fn alloc_bytes(&mut self, size: u64) -> Result<Block, ArenaErr>
+    fn alloc_unaligned(&mut self, size: u64) -> Result<Block, ArenaErr>
         ensures refused { 2 ^ 63 - 1 < size → Refuses self.old self.new (answer_of result) }
         ensures placed { size ≤ 2 ^ 63 - 1 → PlacesBlock self.old self.new size 1 (answer_of result) }
     {

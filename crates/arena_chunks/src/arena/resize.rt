@@ -5,8 +5,7 @@ use crate::arena::Arena;
 use crate::arena::moves::SlowAnswer;
 use crate::block::{ArenaErr, Block};
 use crate::chunks::ChunkSource;
-use crate::chunks::chunk::find_chunk;
-use crate::chunks::edit::{copy_across, move_within};
+use crate::chunks::edit::{put_at, shift_in};
 use arena_place::{Layout, is_aligned_to, place, round_down_to, round_up_to_unchecked};
 
 // One fewer, unless the count stands at its last value.
@@ -338,8 +337,8 @@ impl<const MIN_ALIGN: usize> Arena<MIN_ALIGN> {
         if from >= self.newest.base {
             self.move_in_newest(from, to, n);
         } else {
-            let i = find_chunk(&self.older, from);
-            copy_across(&self.older[i], &mut self.newest, from, to, n);
+            let i = self.older.find(from);
+            put_at(&mut self.newest, to, self.older.part(i, from, n));
         }
     }
 
@@ -356,6 +355,6 @@ impl<const MIN_ALIGN: usize> Arena<MIN_ALIGN> {
         if n == 0 {
             return;
         }
-        move_within(&mut self.newest, from, to, n);
+        shift_in(&mut self.newest, from, to, n);
     }
 }

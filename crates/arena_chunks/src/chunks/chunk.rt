@@ -5,18 +5,16 @@ ghost use Rattle.std.specs.List.{All, list_any, count_by};
 ghost use Rattle.placement.specs.State.{used_length, is_used_by};
 ghost use Rattle.arena_region.specs.Bytes.{bytes, written_from};
 ghost use Rattle.arena_chunks.specs.Lends.{LendsPart};
-ghost use Rattle.arena_chunks.specs.Stored.{stored_chunk, floor_in, part_of, IsOrdered, IsMadeReady, IsSearchable, IsLastBelow};
+ghost use Rattle.arena_chunks.specs.Stored.{stored_chunk, floor_in, part_of, IsOrdered, IsMadeReady, IsTopmost};
 
 use crate::block::Block;
+use crate::chunks::table::Table;
 use arena_region::Region;
 use std::alloc::Global;
 use std::mem;
 
 // Where what stands for no chunk begins and ends.
 pub(crate) const NOWHERE: u64 = 16;
-
-// How many older chunks are few.
-const FEW: usize = 64;
 
 // As many bytes as are made ready at once: an eighth of those that are, but at least a page, so that this is rare, and no
 // more than stay in the fastest cache until they are written.
@@ -139,28 +137,12 @@ impl StoredChunk {
     }
 }
 
-// Whether the block's bytes lie in the used part of one of these chunks.
-pub(crate) fn some_has(chunks: &[StoredChunk], block: Block) -> bool
-    requires { All IsOrdered chunks.now }
-    ensures { result ≡ list_any (λ c. is_used_by block.addr block.size (stored_chunk c)) chunks.now }
-{
-    for chunk in chunks {
-        if chunk.has(block) {
-            return true;
-        }
-    }
-    false
-}
-
 // A granted chunk becomes the newest, with nothing used in it. What was the newest, if there was one, goes into the
 // table, which has room for it.
-pub(crate) fn install(
-    newest: &mut StoredChunk,
-    older: &mut Vec<StoredChunk>,
-    base: u64,
-    bytes: Region,
-)
-    requires room { vec_len older.old < vec_capacity older.old }
+pub(crate) fn install(newest: &mut StoredChunk, older: &mut Table, base: u64, bytes: Region)
+    requires room { 1 ≤ older.old.spare }
+    requires ordered { IsOrdered newest.old }
+    requires above { IsTopmost newest.old.base older.old.items }
     requires fits { base + length bytes.items < 2 ^ 64 }
     ensures newest { newest.new ≡ record { base = base; cursor = base + length bytes.items; bytes = bytes } }
     ensures ready { floor_in newest.new ≤ newest.new.cursor }
@@ -171,44 +153,7 @@ pub(crate) fn install(
     if last.base == NOWHERE {
         return;
     }
-    match older.push(last) {
-        Ok(()) => {}
-        Err(_) => unreachable!(),
-    }
-}
-
-// How many of these chunks begin at or below the address. No branch depends on the address.
-fn count_below(chunks: &[StoredChunk], addr: u64) -> usize
-    ensures { result ≡ count_by (λ c. nat_le c.base addr) chunks.now }
-{
-    let mut n = 0;
-    for chunk in chunks {
-        n += (chunk.base <= addr) as usize;
-    }
-    n
-}
-
-// The last of these chunks that begins at or below the address; the first does so in any case. In few chunks a count is
-// faster than a search, each of whose branches may be mispredicted.
-#[inline]
-pub(crate) fn last_below(older: &[StoredChunk], addr: u64) -> usize
-    requires { IsSearchable older.now addr }
-    ensures { IsLastBelow older.now addr result }
-{
-    if older.len() <= FEW {
-        return count_below(&older[1..], addr);
-    }
-    older.partition_point(|chunk| chunk.base <= addr) - 1
-}
-
-// The same, kept out of the callers, so that a write in the newest chunk is small enough to be inlined.
-#[cold]
-#[inline(never)]
-pub(crate) fn find_chunk(older: &[StoredChunk], addr: u64) -> usize
-    requires { IsSearchable older.now addr }
-    ensures { IsLastBelow older.now addr result }
-{
-    last_below(older, addr)
+    older.push(last);
 }
 
 // The part of a chunk's bytes at these addresses, which are ready.

@@ -1,9 +1,9 @@
 // Changes of the bytes that stand in one place.
 ghost use Rattle.std.specs.Prelude.{◌≡◌, ℕ, ◌+◌, ◌-◌, ◌≤◌, List, length, take, drop, replicate};
 ghost use Rattle.placement.specs.Machine.{splice};
-ghost use Rattle.arena_chunks.specs.Stored.{floor_in, IsEdited, EditsPart, part_of, HasPart, CopiesPart};
+ghost use Rattle.arena_chunks.specs.Stored.{floor_in, IsEdited, EditsPart, part_of};
 
-use crate::chunks::chunk::{StoredChunk, part_at};
+use crate::chunks::chunk::StoredChunk;
 use crate::chunks::shift::shift;
 
 /// A change of the bytes of a place, which keeps their number. What is written there may be encoded straight into the place,
@@ -32,27 +32,19 @@ pub(crate) fn edit_at<E: Edit>(chunk: &mut StoredChunk, addr: u64, size: u64, e:
     e.edit(chunk.bytes.part_mut(from, size as usize));
 }
 
-// Copies bytes of a chunk into another.
+// Puts a list in the place of a chunk's bytes at these addresses, which are ready.
 #[tactic(auto, using(crate::proofs::EditLemmas::put_edited, crate::proofs::EditLemmas::part_length))]
-pub(crate) fn copy_across(
-    source: &StoredChunk,
-    target: &mut StoredChunk,
-    from: u64,
-    to: u64,
-    size: u64,
-)
-    requires low { (floor_in source.now ≤ from) × (floor_in target.old ≤ to) }
-    requires source { from - source.now.base + size ≤ length source.now.bytes.items }
-    requires target { to - target.old.base + size ≤ length target.old.bytes.items }
-    ensures { IsEdited target.old target.new to size (part_of source.now from size) }
+pub(crate) fn put_at(target: &mut StoredChunk, to: u64, bytes: &[u8])
+    requires low { floor_in target.old ≤ to }
+    requires high { to - target.old.base + length bytes.now ≤ length target.old.bytes.items }
+    ensures { IsEdited target.old target.new to (length bytes.now) bytes.now }
 {
-    let bytes = part_at(source, from, size);
-    edit_at(target, to, size, &Put { bytes });
+    edit_at(target, to, bytes.len() as u64, &Put { bytes });
 }
 
 // Moves bytes of a chunk to another place in it. The two may overlap.
 #[inline(always)]
-pub(crate) fn move_within(chunk: &mut StoredChunk, from: u64, to: u64, size: u64)
+pub(crate) fn shift_in(chunk: &mut StoredChunk, from: u64, to: u64, size: u64)
     requires ready { floor_in chunk.old ≤ chunk.old.cursor }
     requires low { (chunk.old.cursor ≤ from) × (chunk.old.cursor ≤ to) }
     requires source { from - chunk.old.base + size ≤ length chunk.old.bytes.items }
@@ -64,30 +56,6 @@ pub(crate) fn move_within(chunk: &mut StoredChunk, from: u64, to: u64, size: u64
     let start = (from - chunk.cursor) as usize;
     let target = (to - chunk.cursor) as usize;
     shift(place, start, target, size as usize);
-}
-
-// Copies bytes of one chunk of a table into another or the same. The two ranges may overlap.
-pub(crate) fn copy_in_table(
-    chunks: &mut [StoredChunk],
-    i: usize,
-    j: usize,
-    from: u64,
-    to: u64,
-    size: u64,
-)
-    requires source { HasPart chunks.old i from size }
-    requires target { HasPart chunks.old j to size }
-    ensures { CopiesPart chunks.old chunks.new i j from to size }
-{
-    if i == j {
-        move_within(&mut chunks[j], from, to, size);
-    } else if i < j {
-        let (low, high) = chunks.split_at_mut(j);
-        copy_across(&low[i], &mut high[0], from, to, size);
-    } else {
-        let (low, high) = chunks.split_at_mut(i);
-        copy_across(&high[0], &mut low[j], from, to, size);
-    }
 }
 
 /// Puts these bytes in the place of others.

@@ -1,9 +1,11 @@
 // A source that refuses when it is told to, for tests of what an arena does then.
-ghost use Rattle.std.specs.Prelude.{◌≡◌, ℕ, List, [], ◌∷◌, Option, Some, None, if◌then◌else◌, true, false, IsTrue, IsSome, IsNone, IfSome, IfNone, OnSome, replicate};
+ghost use Rattle.std.specs.Prelude.{◌≡◌, ℕ, ◌+◌, ◌-◌, ◌^◌, ◌<◌, List, [], ◌∷◌, Option, Some, None, IsTrue, IsSome, IsNone, IfSome, IfNone, OnSome, false, replicate};
 ghost use Rattle.std.specs.List.{Contains};
 ghost use Rattle.placement.specs.Causes.{counted, TellsRequests};
+ghost use Rattle.arena_chunks.specs.Telling.{told, Notes};
 
 use crate::chunks::ChunkSource;
+use crate::chunks::source::zeros;
 use arena_region::Region;
 use std::alloc::Global;
 
@@ -16,9 +18,10 @@ pub struct RefusingChunks {
     pub refuse: Vec<u64>,
     /// How many requests there were, up to 2^64 - 1.
     pub count: u64,
-    refused: u64,
-    notes: Vec<(u64, u64)>,
-    is_telling: bool,
+    /// How many requests were refused, up to 2^64 - 1.
+    pub refused: u64,
+    /// All requests so far, as size and alignment, or none where one couldn't be noted.
+    pub notes: Option<Vec<(u64, u64)>>,
 }
 
 impl RefusingChunks {
@@ -34,59 +37,78 @@ impl RefusingChunks {
             refuse,
             count: 0,
             refused: 0,
-            notes: Vec::new(alloc),
-            is_telling: true,
+            notes: Some(Vec::new(alloc)),
         }
     }
 
     /// All requests so far, as size and alignment, or none where one couldn't be noted.
     pub fn requests(&self) -> Option<&[(u64, u64)]>
-        ensures told { IfSome result (λ all. (⟦<RefusingChunks as ChunkSource>⟧.source self.now).asked
-            ≡ Some all.now) }
-        ensures untold { IfNone result ((⟦<RefusingChunks as ChunkSource>⟧.source self.now).asked ≡ None) }
+        ensures told { IfSome result (λ all. told self.now.notes ≡ Some all.now) }
+        ensures untold { IfNone result (self.now.notes ≡ None) }
     {
-        if self.is_telling {
-            Some(self.notes.as_slice())
-        } else {
-            None
+        match &self.notes {
+            Some(notes) => Some(notes.as_slice()),
+            None => None,
         }
     }
 
     // Notes a request, and answers whether it is to be served.
+    #[tactic(auto, using(crate::proofs::TellingLemmas::notes_tell))]
     fn notes_and_serves(&mut self, size: u64, align: u64) -> bool
         ensures refused { self.new.refused ≡ self.old.refused }
-        ensures told { TellsRequests (⟦<RefusingChunks as ChunkSource>⟧.source self.old).asked
-            (⟦<RefusingChunks as ChunkSource>⟧.source self.new).asked ((size, align) ∷ []) }
+        ensures notes { Notes self.old.notes self.new.notes (size, align) }
+        ensures told { TellsRequests (told self.old.notes) (told self.new.notes) ((size, align) ∷ []) }
         ensures listed { Contains self.old.refuse.items (counted self.old.count 1) → result ≡ false }
-        ensures noted { IsTrue result → self.new.is_telling ≡ self.old.is_telling }
+        ensures noted { IsTrue result → IsSome self.old.notes → IsSome self.new.notes }
         ensures count { self.new.count ≡ counted self.old.count 1 }
         ensures refuse { self.new.refuse ≡ self.old.refuse }
     {
         self.count = self.count.saturating_add(1);
-        if self.notes.push((size, align)).is_err() {
-            self.is_telling = false;
-            return false;
+        if let Some(mut notes) = self.notes.take() {
+            if notes.push((size, align)).is_err() {
+                return false;
+            }
+            self.notes = Some(notes);
         }
         !self.refuse.contains(&self.count)
     }
 }
 
 impl ChunkSource for RefusingChunks {
-    ghost source = { λ c. record {
-      refusals = c.refused;
-      asked = if c.is_telling then Some c.notes.items else None;
-    } };
+    ghost source = { λ c. record { refusals = c.refused; asked = told c.notes } };
 
-    fn request(&mut self, size: u64, align: u64) -> Option<Region>
+    fn request(&mut self, size: u64, align: u64) -> Option<Vec<u8>>
         ensures zeros { IfSome result (λ chunk. chunk.items ≡ replicate size 0) }
         ensures granted { OnSome result (self.new.refused ≡ self.old.refused) }
         ensures refused { IfNone result (self.new.refused ≡ counted self.old.refused 1) }
-        ensures told { TellsRequests (⟦<RefusingChunks as ChunkSource>⟧.source self.old).asked
-            (⟦<RefusingChunks as ChunkSource>⟧.source self.new).asked ((size, align) ∷ []) }
-        // A listed request is refused, and one that is granted was noted, if those before it were.
+        ensures bounded { IfNone result (self.new.refused < 2 ^ 64) }
+        ensures told { TellsRequests (told self.old.notes) (told self.new.notes) ((size, align) ∷ []) }
+        // The request is noted, unless there is no room for it: then it is refused.
+        ensures notes { Notes self.old.notes self.new.notes (size, align) }
+        ensures noted { OnSome result (IsSome self.old.notes → IsSome self.new.notes) }
         ensures listed { Contains self.old.refuse.items (counted self.old.count 1) → IsNone result }
-        ensures noted { OnSome result (IsSome (⟦<RefusingChunks as ChunkSource>⟧.source self.old).asked
-            → IsSome (⟦<RefusingChunks as ChunkSource>⟧.source self.new).asked) }
+        ensures count { self.new.count ≡ counted self.old.count 1 }
+        ensures refuse { self.new.refuse ≡ self.old.refuse }
+    {
+        if self.notes_and_serves(size, align)
+            && let Ok(chunk) = zeros(self.alloc, size as usize)
+        {
+            return Some(chunk);
+        }
+        self.refused = self.refused.saturating_add(1);
+        None
+    }
+
+    fn request_region(&mut self, size: u64, align: u64) -> Option<Region>
+        ensures zeros { IfSome result (λ chunk. chunk.items ≡ replicate size 0) }
+        ensures granted { OnSome result (self.new.refused ≡ self.old.refused) }
+        ensures refused { IfNone result (self.new.refused ≡ counted self.old.refused 1) }
+        ensures bounded { IfNone result (self.new.refused < 2 ^ 64) }
+        ensures told { TellsRequests (told self.old.notes) (told self.new.notes) ((size, align) ∷ []) }
+        // The request is noted, unless there is no room for it: then it is refused.
+        ensures notes { Notes self.old.notes self.new.notes (size, align) }
+        ensures noted { OnSome result (IsSome self.old.notes → IsSome self.new.notes) }
+        ensures listed { Contains self.old.refuse.items (counted self.old.count 1) → IsNone result }
         ensures count { self.new.count ≡ counted self.old.count 1 }
         ensures refuse { self.new.refuse ≡ self.old.refuse }
     {

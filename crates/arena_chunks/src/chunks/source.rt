@@ -1,26 +1,42 @@
 // Where an arena's chunks come from.
-ghost use Rattle.std.specs.Prelude.{◌≡◌, ℕ, ◌+◌, ◌-◌, ◌^◌, ◌<◌, ◌≤◌, List, [], ◌∷◌, Option, None, IsTrue, IsNone, IfSome, IfNone, OnSome, replicate};
+ghost use Rattle.std.specs.Prelude.{◌≡◌, ℕ, ◌+◌, ◌-◌, ◌^◌, ◌<◌, ◌≤◌, List, [], ◌∷◌, Option, None, IsTrue, IsNone, IfSome, IfNone, OnSome, IfOk, replicate};
 ghost use Rattle.placement.specs.Rounding.{is_layout};
 ghost use Rattle.placement.specs.Causes.{counted, TellsRequests};
-ghost use Rattle.arena_chunks.specs.Source.{Source};
+ghost use Rattle.placement.specs.Source.{Source};
 
 use arena_region::Region;
-use std::alloc::Global;
+use std::alloc::{AllocError, Global};
 
 /// A source of chunks. It may refuse a request, and counts that: its count stands where it grants, and rises by exactly
-/// one where it refuses, up to 2^64 - 1.
+/// one where it refuses, up to 2^64 - 1, which it doesn't pass.
 pub trait ChunkSource {
     // What it shows: how often it has refused, and its requests, if it tells them.
     ghost source: { Self → Source };
 
     /// A chunk of `size` zeros for an address that is a multiple of `align`, or none, which is a refusal. With 48
     /// bytes more the two are still a layout.
-    fn request(&mut self, size: u64, align: u64) -> Option<Region>
+    fn request(&mut self, size: u64, align: u64) -> Option<Vec<u8>>
         requires { IsTrue (is_layout (size + 48) align) }
         ensures zeros { IfSome result (λ chunk. chunk.items ≡ replicate size 0) }
         ensures granted { OnSome result ((source self.new).refusals ≡ (source self.old).refusals) }
         ensures refused { IfNone result ((source self.new).refusals ≡ counted (source self.old).refusals 1) }
+        ensures bounded { IfNone result ((source self.new).refusals < 2 ^ 64) }
         ensures told { TellsRequests (source self.old).asked (source self.new).asked ((size, align) ∷ []) };
+
+    /// The same as a region. A source that can answer one whose memory isn't touched yet does so here.
+    fn request_region(&mut self, size: u64, align: u64) -> Option<Region>
+        requires { IsTrue (is_layout (size + 48) align) }
+        ensures zeros { IfSome result (λ chunk. chunk.items ≡ replicate size 0) }
+        ensures granted { OnSome result ((source self.new).refusals ≡ (source self.old).refusals) }
+        ensures refused { IfNone result ((source self.new).refusals ≡ counted (source self.old).refusals 1) }
+        ensures bounded { IfNone result ((source self.new).refusals < 2 ^ 64) }
+        ensures told { TellsRequests (source self.old).asked (source self.new).asked ((size, align) ∷ []) }
+    {
+        match self.request(size, align) {
+            Some(chunk) => Some(Region::from_vec(chunk)),
+            None => None,
+        }
+    }
 }
 
 /// Chunks from memory, up to a budget of bytes. It doesn't tell its requests. Chunks that an arena gives up aren't
@@ -47,15 +63,52 @@ impl MemoryChunks {
             refused: 0,
         }
     }
+
+    // Takes a chunk's bytes from the budget.
+    fn take(&mut self, size: u64)
+        requires { size ≤ self.old.left }
+        ensures { self.new ≡ record self.old { left = self.old.left - size } }
+    {
+        self.left -= size;
+    }
+
+    // Counts a refusal.
+    fn refuse(&mut self)
+        ensures counted { self.new ≡ record self.old { refused = counted self.old.refused 1 } }
+        ensures bounded { self.new.refused < 2 ^ 64 }
+    {
+        self.refused = self.refused.saturating_add(1);
+    }
 }
 
 impl ChunkSource for MemoryChunks {
     ghost source = { λ c. record { refusals = c.refused; asked = None } };
 
-    fn request(&mut self, size: u64, align: u64) -> Option<Region>
+    fn request(&mut self, size: u64, align: u64) -> Option<Vec<u8>>
         ensures zeros { IfSome result (λ chunk. chunk.items ≡ replicate size 0) }
         ensures granted { OnSome result (self.new.refused ≡ self.old.refused) }
         ensures refused { IfNone result (self.new.refused ≡ counted self.old.refused 1) }
+        ensures bounded { IfNone result (self.new.refused < 2 ^ 64) }
+        ensures budget { self.old.left < size → IsNone result }
+        ensures within { OnSome result (self.new.left + size ≡ self.old.left) }
+        ensures kept { IfNone result (self.new.left ≡ self.old.left) }
+    {
+        let _ = align;
+        if size <= self.left
+            && let Ok(chunk) = zeros(self.alloc, size as usize)
+        {
+            self.take(size);
+            return Some(chunk);
+        }
+        self.refuse();
+        None
+    }
+
+    fn request_region(&mut self, size: u64, align: u64) -> Option<Region>
+        ensures zeros { IfSome result (λ chunk. chunk.items ≡ replicate size 0) }
+        ensures granted { OnSome result (self.new.refused ≡ self.old.refused) }
+        ensures refused { IfNone result (self.new.refused ≡ counted self.old.refused 1) }
+        ensures bounded { IfNone result (self.new.refused < 2 ^ 64) }
         ensures budget { self.old.left < size → IsNone result }
         ensures within { OnSome result (self.new.left + size ≡ self.old.left) }
         ensures kept { IfNone result (self.new.left ≡ self.old.left) }
@@ -65,10 +118,19 @@ impl ChunkSource for MemoryChunks {
         if size <= self.left
             && let Ok(chunk) = Region::zeros(self.alloc, size as usize)
         {
-            self.left -= size;
+            self.take(size);
             return Some(chunk);
         }
-        self.refused = self.refused.saturating_add(1);
+        self.refuse();
         None
     }
+}
+
+// A vector of zeros.
+pub(crate) fn zeros(alloc: Global, size: usize) -> Result<Vec<u8>, AllocError>
+    ensures { IfOk result (λ v. v.items ≡ replicate size 0) }
+{
+    let mut vec = Vec::new(alloc);
+    vec.resize(size, 0)?;
+    Ok(vec)
 }

@@ -1,5 +1,6 @@
 // Blocks that lie apart, that may be read, and their bytes.
-ghost use Rattle.std.specs.Prelude.{◌≡◌, ℕ, ◌+◌, ◌^◌, ◌<◌, ◌≤◌, ◌↔◌, IsTrue, List, ◌∷◌, [], ◌++◌, length, take, drop};
+ghost use Rattle.std.specs.Prelude.{◌≡◌, ℕ, ◌+◌, ◌^◌, ◌<◌, ◌≤◌, ◌↔◌, IsTrue, List, ◌∷◌, [], ◌++◌, length, take, drop, sum, map};
+ghost use Rattle.std.specs.List.{AllByRecursion, Contains};
 ghost use Rattle.placement.specs.State.{State, IsValid, used_bytes};
 ghost use Rattle.placement.specs.Moves.{reset};
 ghost use Rattle.arena_chunks.specs.Memory.{Memory, is_readable, image, bytes_from};
@@ -23,9 +24,24 @@ pub fn apart()
         → ArePairwiseApart (xs ++ ys) }
 {}
 
+/// Blocks of one list lie apart from those of another, if each does. So they do from no blocks, from the blocks of two lists
+/// where they do from those of each, and so do the blocks of two lists together.
+pub fn all_apart()
+    ensures from_none { (bs : List Block) → AreAllApart bs [] }
+    ensures from_both { (bs xs ys : List Block)
+        → AreAllApart bs (xs ++ ys) ↔ (AreAllApart bs xs × AreAllApart bs ys) }
+    ensures of_both { (xs ys others : List Block)
+        → AreAllApart (xs ++ ys) others ↔ (AreAllApart xs others × AreAllApart ys others) }
+    ensures among { (bs others : List Block) (b : Block) → AreAllApart bs others → Contains bs b
+        → IsApart b.addr b.size others }
+    ensures each { (bs others : List Block) → ((b : Block) → Contains bs b → IsApart b.addr b.size others)
+        → AreAllApart bs others }
+{}
+
 /// An empty block is readable in every state. A block of some bytes is exactly where it is of the arena's generation
 /// and its bytes lie in the used part of one chunk; it lies at 4096 or above, and below 2^64. None has more than
-/// 2^63 - 64 bytes. Where no byte is in use, as once all blocks are given back, none of some bytes is readable.
+/// 2^63 - 64 bytes. Where no byte is in use, as once all blocks are given back, none of some bytes is readable. Readable
+/// blocks that lie pairwise apart have together no more bytes than are in use.
 pub fn readable()
     ensures empty { (state : State) (b : Block) → b.size ≡ 0 → IsTrue (is_readable state b) }
     ensures filled { (state : State) (b : Block) → 0 < b.size
@@ -38,6 +54,9 @@ pub fn readable()
         → b.size + 64 ≤ 2 ^ 63 }
     ensures unused { (state : State) → used_bytes state ≡ 0 → NoneReadable state }
     ensures ended { (state : State) → NoneReadable (reset state) }
+    ensures together { (state : State) (bs : List Block)
+        → AllByRecursion (λ (b : Block). IsTrue (is_readable state b)) bs → ArePairwiseApart bs
+        → sum (map (λ (b : Block). b.size) bs) ≤ used_bytes state }
 {}
 
 /// A block has as many bytes as its size; they are the same in two arenas that have the same bytes at its addresses; and

@@ -5,15 +5,20 @@ ghost use Rattle.arena_chunks.specs.Memory.{Memory, is_readable};
 ghost use Rattle.arena_chunks.specs.Frame.{IsApart, AreAllApart, Frame, Stays};
 ghost use Rattle.arena_chunks.specs.declared.block.Block.{Block};
 
-/// Frames compose: of one call after another, with blocks of the caller's beside, and of more blocks before and fewer
-/// after. A readable block that lies apart from those that a call had stays, with its bytes, and lies apart from those that
-/// the call answers. Blocks of no bytes don't matter.
+/// Frames compose: of one call after another, with blocks of the caller's beside, before them or behind, and of more blocks
+/// before and fewer after. A call on the last of some blocks and then one on the first are one on all. A readable block
+/// that lies apart from those that a call had stays, with its bytes, and lies apart from those that the call answers.
+/// Blocks of no bytes don't matter.
 pub fn frames()
     ensures reflexive { (memory : Memory) (blocks : List Block) → Frame memory memory blocks blocks }
     ensures then { (old mid new : Memory) (before between after : List Block) → Frame old mid before between
         → Frame mid new between after → Frame old new before after }
     ensures beside { (old new : Memory) (before after others : List Block) → Frame old new before after
         → Frame old new (before ++ others) (after ++ others) }
+    ensures behind { (old new : Memory) (before after others : List Block) → Frame old new before after
+        → Frame old new (others ++ before) (others ++ after) }
+    ensures both { (old mid new : Memory) (first last first' last' : List Block) → Frame old mid last last'
+        → Frame mid new first first' → Frame old new (first ++ last) (first' ++ last') }
     ensures weaken { (old new : Memory) (before more after fewer : List Block)
         → ((addr n : ℕ) → 0 < n → IsApart addr n more → IsApart addr n before)
         → ((addr n : ℕ) → 0 < n → IsApart addr n more → IsApart addr n after → IsApart addr n fewer)

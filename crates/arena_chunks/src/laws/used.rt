@@ -32,7 +32,8 @@ pub fn used_by_placing()
 
 /// A block that grows in place brings into use what it grows by, or more: less than the least alignment for its end, and
 /// less than a unit for its place. One that shrinks in place gives back no more than it shrinks by, and half of itself or
-/// more. One that is placed anew is a new block, and one that stays brings nothing into use.
+/// more. One that is placed anew is a new block, and one that stays brings nothing into use. So whichever way a block grows,
+/// it brings its new size into use at most, with the padding of its end and of its place.
 pub fn used_by_resizing()
     ensures grown_least { (old new : View) (block b : Block) (size align q : ℕ)
         → GrowsBlock old new block size align (Placed b) → growing_of old.memory block size align ≡ Moves q
@@ -46,6 +47,10 @@ pub fn used_by_resizing()
         → block.addr % block.align ≡ 0 → size % old.memory.state.min_align ≡ 0
         → (size - block.size) % unit_of old.memory.state block.align ≡ 0
         → used_bytes new.memory.state ≡ used_bytes old.memory.state + (size - block.size) }
+    ensures grown { (old new : View) (block b : Block) (size align : ℕ) → IsTrue (is_layout size align)
+        → block.align ≤ align → GrowsBlock old new block size align (Placed b)
+        → used_bytes new.memory.state ≤ used_bytes old.memory.state + size
+        + (old.memory.state.min_align - 1) + (unit_of old.memory.state align - 1) }
     ensures shrunk { (old new : View) (block b : Block) (size align q : ℕ)
         → IsTrue (is_readable old.memory.state block)
         → ShrinksBlock old new block size align (Placed b)

@@ -2,8 +2,10 @@
 ghost use Rattle.std.specs.Prelude.{◌≡◌, OnOk, OnErr, IfOk, IsSome, IsOk};
 ghost use Rattle.std.specs.Ordering.{nat_cmp};
 ghost use Rattle.std.specs.FinMap as map;
+ghost use Rattle.placement.specs.Machine.{is_left};
 ghost use Rattle.arena_chunks.specs.Runs.{held_blocks};
 
+use crate::arena::Arena;
 use crate::block::Block;
 use placement::{OutOfMemory, Place};
 use std::alloc::Global;
@@ -54,6 +56,16 @@ impl Names {
             return Err(OutOfMemory);
         };
         Ok(())
+    }
+
+    // Whether a name holds a block that is in use, or empty.
+    pub(crate) fn is_held<const M: usize>(&self, arena: &Arena<M>, name: u32) -> bool
+        ensures { result ≡ is_left arena.now.state self.now name }
+    {
+        match self.get(name) {
+            Some(place) => arena.is_held_place(arena.block_at(place)),
+            None => false,
+        }
     }
 
     // Lets a name go, and answers the place that it had.

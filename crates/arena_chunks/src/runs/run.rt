@@ -8,6 +8,7 @@ ghost use Rattle.arena_chunks.specs.Runs.{Runs, Stops, StopsWith};
 use crate::arena::Arena;
 use crate::block::Block;
 use crate::chunks::ChunkSource;
+use crate::runs::marks::Marks;
 use crate::runs::names::Names;
 use crate::runs::replies::{Listed, Replies};
 use crate::runs::serve::serve_into;
@@ -28,14 +29,14 @@ pub enum Stopped {
     OutOfMemory { done: u64 },
 }
 
-/// Runs calls over an arena, one after another, beginning with no names, and gives each reply to what takes the
+/// Runs calls over an arena, one after another, beginning with no names and no marks, and gives each reply to what takes the
 /// replies. Answers the blocks that names hold at the end, by ascending name.
 ///
 /// # Errors
 ///
 /// `OutOfMemory` where memory is wanting, which leaves the arena as after a first part of the calls, its blocks sound
 /// and with their bytes; the replies of these calls were taken. That is before the first call, after the last, or at
-/// one that places a block anew or answers bytes.
+/// one that places a block anew, answers bytes or sets a mark, or that gives a block another size while there is a mark.
 pub fn run_calls_into<const M: usize, C: ChunkSource, R: Replies>(
     alloc: Global,
     arena: &mut Arena<M>,
@@ -54,13 +55,16 @@ pub fn run_calls_into<const M: usize, C: ChunkSource, R: Replies>(
     // A run begins with a valid state, which the contract of this call tells.
     let _valid = arena.cursor();
     let mut names = Names::new(alloc);
+    let mut marks = Marks::new(alloc);
     // All room for the replies is made first, so that no call is run whose reply has no place.
     let Ok(()) = replies.reserve(calls.len()) else {
         return Err(Stopped::OutOfMemory { done: 0 });
     };
     for (done, call) in calls.iter().enumerate() {
         let left = calls.len() - done - 1;
-        let Ok(()) = serve_into(alloc, arena, chunks, &mut names, call, left, replies) else {
+        let Ok(()) = serve_into(
+            alloc, arena, chunks, &mut names, &mut marks, call, left, replies,
+        ) else {
             return Err(Stopped::OutOfMemory { done: done as u64 });
         };
     }
@@ -72,12 +76,13 @@ pub fn run_calls_into<const M: usize, C: ChunkSource, R: Replies>(
     }
 }
 
-/// Runs calls over an arena, one after another, beginning with no names.
+/// Runs calls over an arena, one after another, beginning with no names and no marks.
 ///
 /// # Errors
 ///
 /// `OutOfMemory` where memory is wanting, which leaves the arena as after a first part of the calls, its blocks sound and
-/// with their bytes. That is before the first call, after the last, or at one that places a block anew or answers bytes.
+/// with their bytes. That is before the first call, after the last, or at one that places a block anew, answers bytes or
+/// sets a mark, or that gives a block another size while there is a mark.
 pub fn run_calls<const M: usize, C: ChunkSource>(
     alloc: Global,
     arena: &mut Arena<M>,

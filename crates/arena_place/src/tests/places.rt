@@ -1,16 +1,151 @@
 // Where blocks are placed: in both halves of the address space, at its ends, for each least alignment, and at the
 // largest sizes.
+use super::MAX;
 use crate::{CHUNK_ALIGN, Layout, place};
 use std::process::Abort;
 
 // The lowest address with the top bit set.
 const TOP: u64 = 1 << 63;
 
-// The largest size of a layout.
-const MAX: u64 = (1 << 63) - 1;
-
 // A name, the start, the cursor, the size and the alignment of a block, and its place.
 type Case = (&'static str, u64, u64, (u64, u64), Option<u64>);
+
+// Cases at a least alignment. All addresses are taken so many higher, once for each of these.
+struct Table {
+    name: &'static str,
+    min_align: u64,
+    at: &'static [u64],
+    cases: &'static [Case],
+}
+
+const TABLES: &[Table] = &[
+    Table {
+        name: "at alignment 1",
+        min_align: 1,
+        at: &[0, TOP],
+        cases: &[
+            ("enough room", 0x1000, 0x2000, (32, 1), Some(0x1fe0)),
+            ("an exact fit", 0x1000, 0x1020, (32, 1), Some(0x1000)),
+            ("not enough room", 0x1000, 0x1010, (32, 1), None),
+            ("no room", 0x1000, 0x1000, (1, 1), None),
+            ("one byte", 0x1000, 0x1001, (1, 1), Some(0x1000)),
+            ("one byte short", 0x1000, 0x101f, (32, 1), None),
+            ("one to spare", 0x1000, 0x1021, (32, 1), Some(0x1001)),
+            ("no bytes", 0x1000, 0x1000, (0, 1), Some(0x1000)),
+            ("past the cursor", 0x100, 0x200, (0x1000, 1), None),
+        ],
+    },
+    Table {
+        name: "at a greater alignment than the least",
+        min_align: 1,
+        at: &[0, TOP],
+        cases: &[
+            ("enough room", 0x1000, 0x1037, (16, 8), Some(0x1020)),
+            ("not enough room", 0x1000, 0x1017, (32, 8), None),
+            ("below the start", 0x1010, 0x1013, (4, 16), None),
+            ("below the first unit", 0x10, 0x13, (4, 16), None),
+            ("32 bytes", 0x1000, 0x1100, (32, 8), Some(0x10e0)),
+            ("aligned already", 0x1000, 0x1040, (16, 8), Some(0x1030)),
+            ("no bytes", 0x1000, 0x1037, (0, 8), Some(0x1030)),
+            ("at the start", 0x1000, 0x1003, (0, 16), Some(0x1000)),
+        ],
+    },
+    Table {
+        name: "at least alignment 8",
+        min_align: 8,
+        at: &[0, TOP],
+        cases: &[
+            ("twice the least", 0x1000, 0x2008, (8, 16), Some(0x2000)),
+            ("once more", 0x1000, 0x2000, (8, 16), Some(0x1ff0)),
+            ("3 bytes are 8", 0x1000, 0x1100, (3, 1), Some(0x10f8)),
+            ("32 bytes at 1", 0x1000, 0x1100, (32, 1), Some(0x10e0)),
+            ("32 bytes at 8", 0x1000, 0x1100, (32, 8), Some(0x10e0)),
+            ("not enough room", 0x1000, 0x1010, (32, 8), None),
+        ],
+    },
+    Table {
+        name: "at least alignment 16",
+        min_align: 16,
+        at: &[0, TOP],
+        cases: &[
+            ("48 bytes", 0x1000, 0x1100, (48, 16), Some(0x10d0)),
+            ("5 bytes are 16", 0x1000, 0x1100, (5, 1), Some(0x10f0)),
+            ("32 bytes", 0x1000, 0x1100, (32, 16), Some(0x10e0)),
+        ],
+    },
+    Table {
+        name: "the largest sizes, by 1",
+        min_align: 1,
+        at: &[0, TOP],
+        cases: &[
+            ("the largest", 0x1000, 0x2000, (MAX, 1), None),
+            ("the largest at 8", 0x1000, 0x2000, (MAX - 7, 8), None),
+            ("the most padding", 0xf0, 0xf0, (MAX - 255, 256), None),
+        ],
+    },
+    Table {
+        name: "the largest sizes, by 8",
+        min_align: 8,
+        at: &[0, TOP],
+        cases: &[
+            ("the largest", 0x1000, 0x2000, (MAX, 1), None),
+            ("a multiple of 8", 0x1000, 0x2000, (MAX - 7, 1), None),
+            ("rounded to one", 0x1000, 0x2000, (MAX - 8, 1), None),
+        ],
+    },
+    Table {
+        name: "the largest sizes, by 16",
+        min_align: 16,
+        at: &[0, TOP],
+        cases: &[
+            ("the largest", 0x1000, 0x2000, (MAX, 1), None),
+            ("2^63 with padding", 0x1000, 0x1000, (MAX - 14, 1), None),
+        ],
+    },
+    Table {
+        name: "never at address 0",
+        min_align: 1,
+        at: &[0],
+        cases: &[
+            ("by its size", 16, 0x1000, (0x1000, 1), None),
+            ("by its alignment", 16, 0x30, (4, 64), None),
+        ],
+    },
+    Table {
+        name: "never at address 0, by 16",
+        min_align: 16,
+        at: &[0],
+        cases: &[("by the least", 16, 16, (1, 1), None)],
+    },
+    Table {
+        name: "over the middle",
+        min_align: 1,
+        at: &[TOP - 0x1000],
+        cases: &[
+            ("enough room", 0xf00, 0x1100, (16, 1), Some(0x10f0)),
+            ("not enough room", 0xff0, 0x1010, (64, 1), None),
+            ("from the middle", 0x1000, 0x1010, (0x20, 1), None),
+        ],
+    },
+    Table {
+        name: "at the last addresses",
+        min_align: 1,
+        at: &[u64::MAX - 0xfff],
+        cases: &[
+            ("enough room", 0xef0, 0xff0, (16, 1), Some(0xfe0)),
+            ("not enough room", 0xfd0, 0xff0, (64, 1), None),
+        ],
+    },
+    Table {
+        name: "at the first addresses",
+        min_align: 1,
+        at: &[0],
+        cases: &[
+            ("enough room", 0x10, 0x110, (32, 1), Some(0xf0)),
+            ("not enough room", 0x10, 0x20, (32, 1), None),
+        ],
+    },
+];
 
 // Where the block of a case is placed, with the start and the cursor `at` addresses higher. There they must be those of
 // a chunk.
@@ -27,163 +162,56 @@ fn place_of(rt: &impl Abort, at: u64, min_align: u64, case: Case) -> Option<u64>
         matches!(min_align, 1 | 2 | 4 | 8 | 16),
         "the least alignment: {name}"
     );
-    assert!(rt; cursor % min_align == 0, "the cursor: {name}");
     let layout = Layout::new(size, align).expect(rt, "a layout");
     place(start, cursor, layout, min_align)
 }
 
-// The block of each case is placed where it says, with all addresses `at` higher.
-fn are_placed(rt: &impl Abort, at: u64, min_align: u64, cases: &[Case]) {
-    for &case in cases {
-        let (name, _, _, _, wanted) = case;
-        let wanted = wanted.and_then(|p| at.checked_add(p));
-        let addr = place_of(rt, at, min_align, case);
-        assert_eq!(rt; addr, wanted, "{name}, at {at}");
+#[test]
+fn where_they_are_placed(rt: HostRuntime) {
+    for table in TABLES {
+        for &at in table.at {
+            for &case in table.cases {
+                let (name, _, _, _, wanted) = case;
+                let wanted = wanted.and_then(|p| at.checked_add(p));
+                let addr = place_of(&rt, at, table.min_align, case);
+                assert_eq!(rt; addr, wanted, "{}: {name}, at {at}", table.name);
+            }
+        }
     }
 }
 
-#[test]
-fn at_alignment_1(rt: HostRuntime) {
-    let cases: [Case; 9] = [
-        ("enough room", 0x1000, 0x2000, (32, 1), Some(0x1fe0)),
-        ("an exact fit", 0x1000, 0x1020, (32, 1), Some(0x1000)),
-        ("not enough room", 0x1000, 0x1010, (32, 1), None),
-        ("no room", 0x1000, 0x1000, (1, 1), None),
-        ("one byte", 0x1000, 0x1001, (1, 1), Some(0x1000)),
-        ("one byte short", 0x1000, 0x101f, (32, 1), None),
-        ("one to spare", 0x1000, 0x1021, (32, 1), Some(0x1001)),
-        ("no bytes", 0x1000, 0x1000, (0, 1), Some(0x1000)),
-        ("past the cursor", 0x100, 0x200, (0x1000, 1), None),
-    ];
-    are_placed(&rt, 0, 1, &cases);
-    are_placed(&rt, TOP, 1, &cases);
-}
-
-#[test]
-fn at_a_greater_alignment_than_the_least(rt: HostRuntime) {
-    let cases: [Case; 8] = [
-        ("enough room", 0x1000, 0x1037, (16, 8), Some(0x1020)),
-        ("not enough room", 0x1000, 0x1017, (32, 8), None),
-        ("below the start", 0x1010, 0x1013, (4, 16), None),
-        ("below the first unit", 0x10, 0x13, (4, 16), None),
-        ("32 bytes", 0x1000, 0x1100, (32, 8), Some(0x10e0)),
-        ("aligned already", 0x1000, 0x1040, (16, 8), Some(0x1030)),
-        ("no bytes", 0x1000, 0x1037, (0, 8), Some(0x1030)),
-        ("at the start", 0x1000, 0x1003, (0, 16), Some(0x1000)),
-    ];
-    are_placed(&rt, 0, 1, &cases);
-    are_placed(&rt, TOP, 1, &cases);
-    let cases: [Case; 2] = [
-        ("twice the least", 0x1000, 0x2008, (8, 16), Some(0x2000)),
-        ("once more", 0x1000, 0x2000, (8, 16), Some(0x1ff0)),
-    ];
-    are_placed(&rt, 0, 8, &cases);
-    are_placed(&rt, TOP, 8, &cases);
-}
-
-#[test]
-fn at_least_alignment_8(rt: HostRuntime) {
-    let cases: [Case; 4] = [
-        ("3 bytes are 8", 0x1000, 0x1100, (3, 1), Some(0x10f8)),
-        ("32 bytes at 1", 0x1000, 0x1100, (32, 1), Some(0x10e0)),
-        ("32 bytes at 8", 0x1000, 0x1100, (32, 8), Some(0x10e0)),
-        ("not enough room", 0x1000, 0x1010, (32, 8), None),
-    ];
-    are_placed(&rt, 0, 8, &cases);
-    are_placed(&rt, TOP, 8, &cases);
-}
-
-#[test]
-fn at_least_alignment_16(rt: HostRuntime) {
-    let cases: [Case; 3] = [
-        ("48 bytes", 0x1000, 0x1100, (48, 16), Some(0x10d0)),
-        ("5 bytes are 16", 0x1000, 0x1100, (5, 1), Some(0x10f0)),
-        ("32 bytes", 0x1000, 0x1100, (32, 16), Some(0x10e0)),
-    ];
-    are_placed(&rt, 0, 16, &cases);
-    are_placed(&rt, TOP, 16, &cases);
-}
-
-#[test]
-fn of_the_largest_sizes(rt: HostRuntime) {
-    let one: [Case; 3] = [
-        ("the largest", 0x1000, 0x2000, (MAX, 1), None),
-        ("the largest at 8", 0x1000, 0x2000, (MAX - 7, 8), None),
-        ("the most padding", 0xf0, 0xf0, (MAX - 255, 256), None),
-    ];
-    let eight: [Case; 3] = [
-        ("the largest", 0x1000, 0x2000, (MAX, 1), None),
-        ("a multiple of 8", 0x1000, 0x2000, (MAX - 7, 1), None),
-        ("rounded to one", 0x1000, 0x2000, (MAX - 8, 1), None),
-    ];
-    let sixteen: [Case; 2] = [
-        ("the largest", 0x1000, 0x2000, (MAX, 1), None),
-        ("2^63 with padding", 0x1000, 0x1000, (MAX - 14, 1), None),
-    ];
-    for at in [0, TOP] {
-        are_placed(&rt, at, 1, &one);
-        are_placed(&rt, at, 8, &eight);
-        are_placed(&rt, at, 16, &sixteen);
-    }
-}
-
-#[test]
-fn never_at_address_0(rt: HostRuntime) {
-    let cases: [Case; 2] = [
-        ("by its size", 16, 0x1000, (0x1000, 1), None),
-        ("by its alignment", 16, 0x30, (4, 64), None),
-    ];
-    are_placed(&rt, 0, 1, &cases);
-    let cases: [Case; 1] = [("by the least", 16, 16, (1, 1), None)];
-    are_placed(&rt, 0, 16, &cases);
-}
-
-#[test]
-fn over_the_middle_of_the_addresses(rt: HostRuntime) {
-    let cases: [Case; 3] = [
-        ("enough room", 0xf00, 0x1100, (16, 1), Some(0x10f0)),
-        ("not enough room", 0xff0, 0x1010, (64, 1), None),
-        ("from the middle", 0x1000, 0x1010, (0x20, 1), None),
-    ];
-    are_placed(&rt, TOP - 0x1000, 1, &cases);
-}
-
-#[test]
-fn at_the_ends_of_the_addresses(rt: HostRuntime) {
-    let cases: [Case; 2] = [
-        ("enough room", 0xef0, 0xff0, (16, 1), Some(0xfe0)),
-        ("not enough room", 0xfd0, 0xff0, (64, 1), None),
-    ];
-    are_placed(&rt, u64::MAX - 0xfff, 1, &cases);
-    let cases: [Case; 2] = [
-        ("enough room", 0x10, 0x110, (32, 1), Some(0xf0)),
-        ("not enough room", 0x10, 0x20, (32, 1), None),
-    ];
-    are_placed(&rt, 0, 1, &cases);
-}
-
-// Blocks like that of a case are placed one after another, each at the cursor that the one before left.
-fn are_placed_in_turn(rt: &impl Abort, min_align: u64, first: Case, places: &[Option<u64>]) {
-    let mut case = first;
-    for &wanted in places {
-        let addr = place_of(rt, 0, min_align, case);
-        assert_eq!(rt; addr, wanted);
-        case.2 = addr.unwrap_or(case.2);
-    }
-}
+// A least alignment, a first block, and the places of blocks like it, each at the cursor that the one before left.
+const IN_TURN: &[(u64, Case, &[Option<u64>])] = &[
+    (
+        1,
+        ("three blocks", 0x1000, 0x1100, (32, 1), None),
+        &[Some(0x10e0), Some(0x10c0), Some(0x10a0)],
+    ),
+    (
+        8,
+        ("two blocks", TOP + 0x1000, TOP + 0x1100, (32, 8), None),
+        &[Some(TOP + 0x10e0), Some(TOP + 0x10c0)],
+    ),
+    (
+        1,
+        ("until it is full", 0x1000, 0x1040, (16, 1), None),
+        &[Some(0x1030), Some(0x1020), Some(0x1010), Some(0x1000), None],
+    ),
+    (
+        8,
+        ("at twice the least", 0x1000, 0x2008, (8, 16), None),
+        &[Some(0x2000), Some(0x1ff0)],
+    ),
+];
 
 #[test]
 fn one_after_another(rt: HostRuntime) {
-    let three = ("three blocks", 0x1000, 0x1100, (32, 1), None);
-    let places = [Some(0x10e0), Some(0x10c0), Some(0x10a0)];
-    are_placed_in_turn(&rt, 1, three, &places);
-    let two = ("two blocks", TOP + 0x1000, TOP + 0x1100, (32, 8), None);
-    let places = [Some(TOP + 0x10e0), Some(TOP + 0x10c0)];
-    are_placed_in_turn(&rt, 8, two, &places);
-    let full = ("until it is full", 0x1000, 0x1040, (16, 1), None);
-    let places = [Some(0x1030), Some(0x1020), Some(0x1010), Some(0x1000), None];
-    are_placed_in_turn(&rt, 1, full, &places);
-    let twice = ("at twice the least", 0x1000, 0x2008, (8, 16), None);
-    let places = [Some(0x2000), Some(0x1ff0)];
-    are_placed_in_turn(&rt, 8, twice, &places);
+    for &(min_align, first, places) in IN_TURN {
+        let mut case = first;
+        for &wanted in places {
+            let addr = place_of(&rt, 0, min_align, case);
+            assert_eq!(rt; addr, wanted);
+            case.2 = addr.unwrap_or(case.2);
+        }
+    }
 }

@@ -1,66 +1,7 @@
-// The engine beside the plain program of the definitions, which is told how many requests were refused in each call.
-use super::refusing;
-use arena_chunks::{Arena, Block, Bytes, Call, MemoryChunks, OutOfMemory, Ran, Reply, run_calls};
-use plain_machine::PlainMachine;
-use std::alloc::Global;
-use std::process::Abort;
+// The engine beside the plain program of the definitions, which is told how many requests were refused in each call: tables
+// with every case of every call, and calls that are drawn.
+use super::runs::{Row, replies_of};
 use std::test::Fail;
-
-// A call: the name, and what it has of a size, an alignment, a fill byte, an index and bytes, in this order.
-#[derive(Clone, Copy)]
-enum Row {
-    Alloc(u32, u64, u64, u8),
-    Grow(u32, u64, u64, u8),
-    Shrink(u32, u64, u64),
-    Dealloc(u32),
-    Write(u32, u64, &'static [u8]),
-    Read(u32),
-    Reset,
-    Used,
-    Allocated,
-}
-
-fn call(alloc: Global, row: Row) -> Result<Call, OutOfMemory> {
-    Ok(match row {
-        Row::Alloc(name, size, align, fill) => Call::Alloc {
-            name,
-            size,
-            align,
-            fill,
-        },
-        Row::Grow(name, size, align, fill) => Call::Grow {
-            name,
-            size,
-            align,
-            fill,
-        },
-        Row::Shrink(name, size, align) => Call::Shrink { name, size, align },
-        Row::Dealloc(name) => Call::Dealloc { name },
-        Row::Write(name, at, bytes) => {
-            let bytes = Bytes::of(alloc, bytes)?;
-            Call::Write { name, at, bytes }
-        }
-        Row::Read(name) => Call::Read { name },
-        Row::Reset => Call::Reset,
-        Row::Used => Call::Used,
-        Row::Allocated => Call::Allocated,
-    })
-}
-
-fn calls(alloc: Global, rows: &[Row]) -> Result<Vec<Call>, Fail> {
-    let mut calls = Vec::new(alloc);
-    for row in rows {
-        calls.push(call(alloc, *row)?)?;
-    }
-    Ok(calls)
-}
-
-fn refused_of(reply: &Reply) -> u32 {
-    match reply {
-        Reply::Placed { refused, .. } | Reply::AllocErr { refused } => *refused,
-        _ => 0,
-    }
-}
 
 // Every case of every call: names held and free, layouts good and bad, sizes of none, a place in the newest chunk and
 // none, requests granted at once, after a refusal and never, ranges within and past, blocks at the cursor and elsewhere.
@@ -192,110 +133,56 @@ const RESIZING_CALLS: &[Row] = &[
     Row::Allocated,
 ];
 
-// Three chunks and a reset.
-const GROWING_CALLS: &[Row] = &[
-    Row::Alloc(0, 64, 1, 0),
-    Row::Alloc(1, 64, 1, 0),
-    Row::Alloc(2, 16320, 1, 0),
-    Row::Used,
-    Row::Allocated,
-    Row::Alloc(3, 32640, 1, 0),
-    Row::Allocated,
-    Row::Reset,
-    Row::Allocated,
-    Row::Used,
-];
-
-// The replies are those of the plain program, where the requests of these numbers are refused.
-fn agree(rt: &impl Abort, alloc: Global, rows: &[Row], refuse: &[u64]) -> Result<(), Fail> {
-    let calls = calls(alloc, rows)?;
-    let mut arena = Arena::<1>::new(alloc);
-    let mut chunks = refusing(alloc, refuse)?;
-    let Ok(Ran { replies, .. }) = run_calls(alloc, &mut arena, &mut chunks, calls.as_slice()) else {
-        return Err(Fail::from("memory is ample"));
-    };
-    let mut refused = Vec::new(alloc);
-    for reply in &replies {
-        refused.push(refused_of(reply))?;
-    }
-    let Ok(Some(expected)) = PlainMachine::run(alloc, 1, calls.as_slice(), refused.as_slice())
-    else {
-        return Err(Fail::from("the machine has this run"));
-    };
-    assert!(rt;
-        replies.as_slice() == expected.as_slice(),
-        "refused: {refuse:?}"
-    );
-    Ok(())
-}
-
-// None, each first, each second, and a row of them.
+// None, each first, each second, a row of them, and all.
 const REFUSALS: &[&[u64]] = &[
     &[],
     &[1, 3, 5, 7, 9, 11],
     &[2, 4, 6, 8, 10, 12],
     &[2, 3, 4, 5, 6, 7, 8],
+    &[
+        1, 2, 3, 4, 5, 6, 7, 8, 9, 10, 11, 12, 13, 14, 15, 16, 17, 18, 19, 20, 21, 22, 23, 24, 25,
+        26, 27, 28, 29, 30, 31, 32, 33, 34, 35, 36, 37, 38, 39, 40,
+    ],
 ];
+
+// The call that a number draws: on one of a few names, mostly of little size.
+fn drawn(n: u64) -> Row {
+    let name = (n % 5) as u32;
+    let size = n / 5 % 300 * (n / 1500 % 40);
+    let align = 1 << (n / 60_000 % 7);
+    let fill = (n / 420_000 % 256) as u8;
+    match n / 107_520_000 % 19 {
+        0..4 => Row::Alloc(name, size, align, fill),
+        4..7 => Row::Grow(name, size, align, fill),
+        7..9 => Row::Shrink(name, size % 200, align),
+        9 => Row::Dealloc(name),
+        10 => Row::Write(name, size % 100, b"written"),
+        11 => Row::Read(name),
+        12 => Row::Used,
+        13 => Row::Allocated,
+        14..16 => Row::Mark(name),
+        16..18 => Row::Back(name),
+        _ => Row::Reset,
+    }
+}
 
 #[test]
 fn replies(rt: HostRuntime) -> Result<(), Fail> {
     for refuse in REFUSALS {
-        agree(&rt, rt.alloc(), CALLS, refuse)?;
-        agree(&rt, rt.alloc(), RESIZING_CALLS, refuse)?;
-    }
-    let mut all = Vec::new(rt.alloc());
-    for n in 1..200 {
-        all.push(n)?;
-        if n < 9 {
-            agree(&rt, rt.alloc(), GROWING_CALLS, &[n])?;
+        for rows in [CALLS, RESIZING_CALLS] {
+            replies_of::<1>(&rt, rt.alloc(), rows, refuse)?;
         }
     }
-    agree(&rt, rt.alloc(), CALLS, all.as_slice())?;
-    agree(&rt, rt.alloc(), RESIZING_CALLS, all.as_slice())
-}
-
-// A block of each name that is held at the end: its generation, address, size and alignment.
-type Held = (u32, u64, u64, u64, u64);
-
-// Blocks that are placed, refused, given back, shrunk and grown, before a reset and after.
-const HELD_CALLS: &[Row] = &[
-    Row::Alloc(9, 4, 1, 0),
-    Row::Reset,
-    Row::Alloc(7, 100, 4, 0),
-    Row::Alloc(8, 16384, 1, 0),
-    Row::Shrink(7, 50, 1),
-    Row::Alloc(3, 10, 1, 1),
-    Row::Grow(3, 11, 1, 2),
-    Row::Alloc(5, 2, 1, 66),
-    Row::Dealloc(5),
-    Row::Alloc(1, 0, 16, 0),
-];
-
-const HELD: &[Held] = &[
-    (1, 1, 20352, 0, 16),
-    (3, 1, 20355, 11, 1),
-    (7, 1, 20366, 50, 1),
-];
-
-#[test]
-fn held_blocks(rt: HostRuntime) -> Result<(), Fail> {
-    let alloc = rt.alloc();
-    let calls = calls(alloc, HELD_CALLS)?;
-    let mut arena = Arena::<1>::new(alloc);
-    let mut chunks = MemoryChunks::new(alloc, 20000);
-    let Ok(Ran { held, .. }) = run_calls(alloc, &mut arena, &mut chunks, calls.as_slice()) else {
-        return Err(Fail::from("memory is ample"));
-    };
-    assert_eq!(rt; held.len(), HELD.len());
-    for (held, wanted) in held.iter().zip(HELD) {
-        let (name, block) = *held;
-        let Block {
-            generation,
-            addr,
-            size,
-            align,
-        } = block;
-        assert_eq!(rt; (name, generation, addr, size, align), *wanted);
+    let mut n: u64 = 1;
+    for refuse in REFUSALS {
+        let mut rows = Vec::new(rt.alloc());
+        for _ in 0..200 {
+            n = n
+                .wrapping_mul(6_364_136_223_846_793_005)
+                .wrapping_add(1_442_695_040_888_963_407);
+            rows.push(drawn(n >> 20))?;
+        }
+        replies_of::<1>(&rt, rt.alloc(), rows.as_slice(), refuse)?;
     }
     Ok(())
 }

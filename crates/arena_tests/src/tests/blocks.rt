@@ -1,13 +1,7 @@
 // The bytes of blocks, which blocks are held, and cursors that are set.
-ghost use Rattle.std.specs.Prelude.{◌≤◌};
-ghost use Rattle.placement.specs.State.{start_of};
+use super::steps::{Case, Step};
 
-use super::layout;
-use super::steps::{Case, Step, all_hold};
-use arena_chunks::{Arena, Block, MemoryChunks};
-use std::process::Abort;
-
-const BYTES: &[Case] = &[
+pub(super) const BYTES: &[Case] = &[
     Case {
         name: "a write changes its range alone",
         refuse: &[],
@@ -28,16 +22,6 @@ const BYTES: &[Case] = &[
             Step::Read(1, b"heLLO"),
             Step::Read(0, &[1, 2]),
             Step::Read(2, &[3, 4]),
-        ],
-    },
-    Case {
-        name: "bytes that are set in their place",
-        refuse: &[],
-        steps: &[
-            Step::Alloc(5, 1, Ok(20411)),
-            Step::Write(0, 0, b"hello"),
-            Step::Set(0, 1, 3, b'.'),
-            Step::Read(0, b"h...o"),
         ],
     },
     Case {
@@ -93,12 +77,7 @@ const BYTES: &[Case] = &[
     },
 ];
 
-#[test]
-fn bytes(rt: HostRuntime) {
-    all_hold::<1>(&rt, rt.alloc(), BYTES);
-}
-
-const COPIES: &[Case] = &[
+pub(super) const COPIES: &[Case] = &[
     Case {
         name: "within the newest chunk",
         refuse: &[],
@@ -165,12 +144,7 @@ const COPIES: &[Case] = &[
     },
 ];
 
-#[test]
-fn bytes_that_are_copied_between_blocks(rt: HostRuntime) {
-    all_hold::<1>(&rt, rt.alloc(), COPIES);
-}
-
-const HELD: &[Case] = &[
+pub(super) const HELD: &[Case] = &[
     Case {
         name: "in its generation and in used parts",
         refuse: &[],
@@ -208,63 +182,26 @@ const HELD: &[Case] = &[
     },
 ];
 
-#[test]
-fn held_blocks(rt: HostRuntime) {
-    all_hold::<1>(&rt, rt.alloc(), HELD);
-}
-
-#[test]
-fn an_empty_block_is_held_in_every_arena(rt: HostRuntime) {
-    let none = Block::empty(8);
-    assert_eq!(rt; (none.generation, none.addr), (0, 8));
-    assert_eq!(rt; (none.size, none.align), (0, 8));
-    let mut arena = Arena::new(rt.alloc());
-    arena.reset();
-    assert!(rt; arena.is_held_place(none));
-    assert_eq!(rt; arena.read(none), [].as_slice());
-    assert_eq!(rt; arena.read_mut(none).len(), 0);
-    arena.dealloc(none);
-    assert_eq!(rt; arena.used_bytes(), 0);
-}
-
-// An address at which the newest chunk has begun.
-#[tactic(auto, using(placement::proofs::CursorLemmas::cursor_within))]
-fn least_address(arena: &Arena<1>) -> u64
-    ensures { start_of arena.now.state.chunks ≤ result }
-{
-    let _valid = arena.used_bytes();
-    arena.data_end() - arena.chunk_capacity()
-}
-
-// Moves the cursor of an arena, which must have a chunk that reaches there, and answers how many bytes are used then.
-fn set_cursor(rt: &impl Abort, arena: &mut Arena<1>, addr: u64) -> u64 {
-    let least = least_address(arena);
-    let end = arena.data_end();
-    let align = arena.min_align();
-    assert!(rt; end != 16, "a chunk");
-    assert!(rt; addr % align == 0, "an aligned address");
-    assert!(rt; least <= addr && addr <= end, "an address in the chunk");
-    arena.set_cursor(addr);
-    arena.used_bytes()
-}
-
-#[test]
-fn a_cursor_that_is_set_ends_the_blocks(rt: HostRuntime) {
-    let mut arena = Arena::new(rt.alloc());
-    let mut chunks = MemoryChunks::new(rt.alloc(), 1 << 20);
-    for (generation, wanted, addr, used) in [
-        (0, 20316, 20416, 0),
-        (1, 20316, 4296, 16120),
-        (2, 4196, 20400, 16),
-    ] {
-        let layout = layout(&rt, 100, 1);
-        let block = arena
-            .alloc_layout(&mut chunks, layout)
-            .expect(&rt, "a block");
-        assert_eq!(rt; (block.generation, block.addr), (generation, wanted));
-        assert_eq!(rt; set_cursor(&rt, &mut arena, addr), used);
-        assert!(rt; !arena.is_held_place(block));
-    }
-    assert_eq!(rt; arena.allocated_bytes(), 16320);
-    assert_eq!(rt; arena.get_allocation_stats(), (3, 0));
-}
+pub(super) const CURSORS: &[Case] = &[Case {
+    name: "a cursor that is set ends the blocks",
+    refuse: &[],
+    steps: &[
+        Step::Alloc(100, 1, Ok(20316)),
+        Step::HeldAt(0, 20316, 100, true),
+        Step::SetCursor(20416),
+        Step::Used(0),
+        Step::Held(0, false),
+        Step::Alloc(100, 1, Ok(20316)),
+        Step::HeldAt(1, 20316, 100, true),
+        Step::SetCursor(4296),
+        Step::Used(16120),
+        Step::Held(1, false),
+        Step::Alloc(100, 1, Ok(4196)),
+        Step::HeldAt(2, 4196, 100, true),
+        Step::SetCursor(20400),
+        Step::Used(16),
+        Step::Held(2, false),
+        Step::Allocated(16320),
+        Step::Statistics(3, 0),
+    ],
+}];

@@ -149,17 +149,6 @@ pub(super) fn takes<C: ChunkSource>(rt: &impl Abort, a: &mut Allocator<C>, row: 
     }
 }
 
-// The call of the row is refused, and so many requests were.
-pub(super) fn refuses<C: ChunkSource>(
-    rt: &impl Abort,
-    a: &mut Allocator<C>,
-    row: Row,
-    refused: u32,
-) {
-    let (name, call, _) = row;
-    takes(rt, a, (name, call, Wanted::Refused(refused)));
-}
-
 // These requests were made.
 pub(super) fn asked(
     rt: &impl Abort,

@@ -1,56 +1,95 @@
 // How arenas begin.
 use super::refusing;
-use super::steps::{Stage, Step};
-use arena_chunks::{Arena, ArenaErr, MemoryChunks};
-use arena_region::Region;
+use super::stage::Stage;
+use super::steps::Step;
+use arena_chunks::{Arena, ArenaErr, ChunkSource, MemoryChunks};
 use std::alloc::Global;
 use std::process::Abort;
 use std::test::Fail;
 
-fn is_empty<const M: usize>(rt: &impl Abort, arena: &Arena<M>) {
-    assert_eq!(rt; arena.allocated_bytes(), 0);
-    assert_eq!(rt; arena.used_bytes(), 0);
-    assert_eq!(rt; arena.chunk_capacity(), 0);
-    assert_eq!(rt; (arena.data_end(), arena.end()), (16, 16));
-    assert_eq!(rt; arena.get_allocation_stats(), (0, 0));
-    assert_eq!(rt; arena.min_align(), M as u64);
-    assert!(rt; arena.is_growing());
+// A capacity, and the bytes of the chunk that an arena of least alignment 1 begins with, or how many requests were refused.
+type Capacity = (u64, Result<u64, u32>);
+
+fn answers<C: ChunkSource>(rt: &impl Abort, alloc: Global, chunks: &mut C, rows: &[Capacity]) {
+    for &(capacity, wanted) in rows {
+        match (Arena::with_capacity(alloc, chunks, capacity), wanted) {
+            (Ok(arena), Ok(size)) => {
+                let end = if size == 0 {
+                    Some(16)
+                } else {
+                    size.checked_add(4096)
+                };
+                assert_eq!(rt; Some(arena.data_end()), end, "{capacity}");
+                let counts = (arena.allocated_bytes(), arena.chunk_capacity());
+                assert_eq!(rt; counts, (size, size), "{capacity}");
+                assert!(rt; arena.is_growing() && arena.used_bytes() == 0);
+            }
+            (Err(e), Err(refused)) => assert_eq!(rt;
+                e,
+                ArenaErr::AllocErr { refused },
+                "{capacity}"
+            ),
+            _ => panic!(rt; "an answer for {capacity}"),
+        }
+    }
 }
 
-#[test]
-fn empty_arenas(rt: HostRuntime) {
-    is_empty(&rt, &Arena::new(rt.alloc()));
-    is_empty(&rt, &Arena::<1>::with_min_align(rt.alloc()));
-    is_empty(&rt, &Arena::<2>::with_min_align(rt.alloc()));
-    is_empty(&rt, &Arena::<4>::with_min_align(rt.alloc()));
-    is_empty(&rt, &Arena::<8>::with_min_align(rt.alloc()));
-    is_empty(&rt, &Arena::<16>::with_min_align(rt.alloc()));
-}
+const CAPACITIES: &[Capacity] = &[
+    (0, Ok(0)),
+    (1, Ok(64)),
+    (10, Ok(64)),
+    (64, Ok(64)),
+    (65, Ok(192)),
+    (4032, Ok(4032)),
+    (4033, Ok(8128)),
+    (16320, Ok(16320)),
+    (20000, Ok(20416)),
+];
 
-// A capacity, and the bytes of the chunk that an arena of least alignment 1 begins with.
-const CAPACITIES: &[(u64, u64)] = &[
-    (0, 0),
-    (1, 64),
-    (10, 64),
-    (64, 64),
-    (65, 192),
-    (4032, 4032),
-    (4033, 8128),
-    (16320, 16320),
-    (20000, 20416),
+// The first, the second and the fourth request are refused; a first chunk is not halved, and capacities that no chunk has
+// are refused with no request.
+const REFUSALS: &[Capacity] = &[
+    (10, Err(1)),
+    (32704, Err(1)),
+    (10, Ok(64)),
+    (0, Ok(0)),
+    (1 << 63, Err(0)),
+    (u64::MAX, Err(0)),
+    ((1 << 63) - 1, Err(0)),
+    ((1 << 63) - 63, Err(0)),
+    ((1 << 63) - 64, Err(1)),
+];
+
+// From a budget of 256 bytes.
+const FROM_A_BUDGET: &[Capacity] = &[
+    (20000, Err(1)),
+    (65, Ok(192)),
+    (65, Err(1)),
+    (10, Ok(64)),
+    (10, Err(1)),
+    (0, Ok(0)),
 ];
 
 #[test]
-fn arenas_of_a_capacity(rt: HostRuntime) {
-    let mut chunks = MemoryChunks::new(rt.alloc(), 1 << 20);
-    for &(capacity, allocated) in CAPACITIES {
-        let arena = Arena::with_capacity(rt.alloc(), &mut chunks, capacity).expect(&rt, "an arena");
-        assert_eq!(rt; arena.allocated_bytes(), allocated);
-        assert_eq!(rt; arena.chunk_capacity(), allocated);
-        let end = if capacity == 0 { 16 } else { 4096 + allocated };
-        assert_eq!(rt; (arena.data_end(), arena.used_bytes()), (end, 0));
-        assert!(rt; arena.is_growing());
-    }
+fn arenas_of_a_capacity(rt: HostRuntime) -> Result<(), Fail> {
+    let alloc = rt.alloc();
+    answers(
+        &rt,
+        alloc,
+        &mut MemoryChunks::new(alloc, 1 << 20),
+        CAPACITIES,
+    );
+    answers(
+        &rt,
+        alloc,
+        &mut MemoryChunks::new(alloc, 64 + 192),
+        FROM_A_BUDGET,
+    );
+    let mut chunks = refusing(alloc, &[1, 2, 4])?;
+    answers(&rt, alloc, &mut chunks, REFUSALS);
+    let told = [(64, 16), (32704, 16), (64, 16), ((1 << 63) - 64, 16)];
+    assert_eq!(rt; chunks.requests(), Some(told.as_slice()));
+    Ok(())
 }
 
 // An arena made for 10 bytes has 64, and the next chunk follows the rule for growth.
@@ -62,76 +101,60 @@ const OF_10_BYTES: &[Step] = &[
     Step::Allocated(64 + 16320),
 ];
 
-fn has_64_bytes<const M: usize>(
+// An empty arena has nothing.
+const EMPTY: &[Step] = &[
+    Step::Allocated(0),
+    Step::Used(0),
+    Step::Capacity(0),
+    Step::Ends(16, 16),
+    Step::Statistics(0, 0),
+];
+
+fn takes<const M: usize>(
     rt: &impl Abort,
     alloc: Global,
     name: &'static str,
     arena: Result<Arena<M>, ArenaErr>,
+    steps: &[Step],
 ) {
     let arena = arena.expect(rt, name);
+    assert_eq!(rt; arena.min_align(), M as u64);
     let chunks = refusing(alloc, &[]).expect(rt, "memory");
-    Stage::of(alloc, arena, chunks).takes(rt, name, OF_10_BYTES);
+    Stage::of(alloc, arena, chunks).takes(rt, name, steps);
 }
 
 #[test]
-fn each_constructor_with_a_capacity(rt: HostRuntime) {
+fn each_constructor(rt: HostRuntime) {
     let alloc = rt.alloc();
     let mut chunks = MemoryChunks::new(alloc, 1 << 20);
     let arena = Arena::with_capacity(alloc, &mut chunks, 10);
-    has_64_bytes(&rt, alloc, "with_capacity", arena);
+    takes(&rt, alloc, "with_capacity", arena, OF_10_BYTES);
     let arena = Arena::try_with_capacity(alloc, &mut chunks, 10);
-    has_64_bytes(&rt, alloc, "try_with_capacity", arena);
+    takes(&rt, alloc, "try_with_capacity", arena, OF_10_BYTES);
     let arena = Arena::<16>::with_min_align_and_capacity(alloc, &mut chunks, 10);
-    has_64_bytes(&rt, alloc, "with_min_align_and_capacity", arena);
+    takes(
+        &rt,
+        alloc,
+        "with_min_align_and_capacity",
+        arena,
+        OF_10_BYTES,
+    );
     let arena = Arena::<8>::try_with_min_align_and_capacity(alloc, &mut chunks, 10);
-    has_64_bytes(&rt, alloc, "try_with_min_align_and_capacity", arena);
-}
-
-// A capacity, and how many requests are refused where there is no arena. The first, the second and the fifth request
-// are refused; a first chunk is not halved, and capacities that no chunk has are refused with no request.
-const REFUSALS: &[(u64, Option<u32>)] = &[
-    (10, Some(1)),
-    (32704, Some(1)),
-    (10, None),
-    (0, None),
-    (1 << 63, Some(0)),
-    (u64::MAX, Some(0)),
-    ((1 << 63) - 1, Some(0)),
-    ((1 << 63) - 63, Some(0)),
-    ((1 << 63) - 64, Some(1)),
-];
-
-#[test]
-fn refused_capacities(rt: HostRuntime) -> Result<(), Fail> {
-    let mut chunks = refusing(rt.alloc(), &[1, 2, 4])?;
-    for &(capacity, refused) in REFUSALS {
-        let wanted = refused.map(|refused| ArenaErr::AllocErr { refused });
-        let arena = Arena::with_capacity(rt.alloc(), &mut chunks, capacity);
-        assert_eq!(rt; arena.err(), wanted, "{capacity}");
-    }
-    let told = [(64, 16), (32704, 16), (64, 16), ((1 << 63) - 64, 16)];
-    assert_eq!(rt; chunks.requests(), Some(told.as_slice()));
-    Ok(())
-}
-
-// The same from a budget of 256 bytes.
-const FROM_A_BUDGET: &[(u64, Option<u32>)] = &[
-    (20000, Some(1)),
-    (65, None),
-    (65, Some(1)),
-    (10, None),
-    (10, Some(1)),
-    (0, None),
-];
-
-#[test]
-fn a_budget_serves_the_capacities_that_fit(rt: HostRuntime) {
-    let mut chunks = MemoryChunks::new(rt.alloc(), 64 + 192);
-    for &(capacity, refused) in FROM_A_BUDGET {
-        let wanted = refused.map(|refused| ArenaErr::AllocErr { refused });
-        let arena = Arena::with_capacity(rt.alloc(), &mut chunks, capacity);
-        assert_eq!(rt; arena.err(), wanted, "{capacity}");
-    }
+    takes(
+        &rt,
+        alloc,
+        "try_with_min_align_and_capacity",
+        arena,
+        OF_10_BYTES,
+    );
+    takes(&rt, alloc, "new", Ok(Arena::new(alloc)), EMPTY);
+    takes(
+        &rt,
+        alloc,
+        "by 16",
+        Ok(Arena::<16>::with_min_align(alloc)),
+        EMPTY,
+    );
 }
 
 // The bytes of a region, and steps on an arena of least alignment 16 over it, whose source is never asked.
@@ -159,6 +182,14 @@ const REGIONS: &[(usize, &[Step])] = &[
         ],
     ),
     (
+        112,
+        &[
+            Step::Alloc(64, 1, Ok(4096)),
+            Step::Alloc(1, 1, Err(0)),
+            Step::Alloc(0, 1, Ok(4096)),
+        ],
+    ),
+    (
         4096 + 48,
         &[
             Step::Alloc(4097, 1, Err(0)),
@@ -170,22 +201,37 @@ const REGIONS: &[(usize, &[Step])] = &[
             Step::Requests(&[]),
         ],
     ),
+    // Marks: one with no chunk is none of an arena that doesn't grow.
+    (
+        80,
+        &[
+            Step::Mark,
+            Step::Alloc(16, 1, Ok(4112)),
+            Step::Mark,
+            Step::Alloc(16, 1, Ok(4096)),
+            Step::Alloc(1, 1, Err(0)),
+            Step::AcceptsAt(0, 0, 16, false),
+            Step::Back(1),
+            Step::Used(16),
+            Step::Alloc(16, 1, Ok(4096)),
+            Step::Back(0),
+            Step::Used(0),
+            Step::Allocated(32),
+            Step::Requests(&[]),
+        ],
+    ),
 ];
 
-// An arena over a region of so many bytes, all 7.
-fn over_region(rt: &impl Abort, alloc: Global, size: usize) -> Arena<16> {
-    assert!(rt; size % 16 == 0 && size >= 48, "a region");
-    let bytes = vec![in alloc; 7; size].expect(rt, "memory");
-    let region = Region::from_slice(alloc, &bytes).expect(rt, "memory");
-    Arena::<16>::from_raw_parts(alloc, region).expect(rt, "an arena")
-}
-
+// Each vector is of sevens.
 #[test]
-fn regions(rt: HostRuntime) {
+fn regions(rt: HostRuntime) -> Result<(), Fail> {
+    let alloc = rt.alloc();
     for &(size, steps) in REGIONS {
-        let arena = over_region(&rt, rt.alloc(), size);
+        assert!(rt; size % 16 == 0 && size >= 48, "a region");
+        let bytes = vec![in alloc; 7; size]?;
+        let arena = Arena::<16>::from_raw_parts(alloc, bytes).expect(&rt, "an arena");
         assert!(rt; !arena.is_growing());
-        let chunks = refusing(rt.alloc(), &[]).expect(&rt, "memory");
-        Stage::of(rt.alloc(), arena, chunks).takes(&rt, "a region", steps);
+        takes(&rt, alloc, "a region", Ok(arena), steps);
     }
+    Ok(())
 }

@@ -6,18 +6,21 @@ use std::num::{
 };
 use std::process::Abort;
 
-// The type has this size and this alignment. Each value is written as these bytes and is read from them.
+// The value is written as these bytes and is read from them.
+fn has_form<T: Item + PartialEq>(rt: &impl Abort, value: T, form: &[u8]) {
+    assert_eq!(rt; form.len() as u64, T::SIZE);
+    assert!(rt; T::SIZE <= 48);
+    let mut out = [9; 48];
+    value.encode(&mut out[..form.len()]);
+    assert_eq!(rt; &out[..form.len()], form);
+    assert!(rt; T::decode(form) == value, "{form:?}");
+}
+
+// The type has this size and this alignment, and each value has the form beside it.
 pub(super) fn forms<T: Item + PartialEq>(rt: &impl Abort, layout: (u64, u64), rows: &[(T, &[u8])]) {
     assert_eq!(rt; (T::SIZE, T::ALIGN), layout);
-    assert!(rt; T::SIZE <= 48);
-    let size = T::SIZE as usize;
-    for (n, row) in rows.iter().enumerate() {
-        let (value, form) = *row;
-        assert_eq!(rt; form.len(), size, "row {n}");
-        let mut out = [9; 48];
-        value.encode(&mut out[..size]);
-        assert_eq!(rt; &out[..size], form, "row {n}");
-        assert!(rt; T::decode(form) == value, "row {n}");
+    for (value, form) in rows {
+        has_form(rt, *value, *form);
     }
 }
 
@@ -31,16 +34,6 @@ pub(super) fn reads<T: Item + PartialEq>(rt: &impl Abort, rows: &[(&[u8], T)]) {
     }
 }
 
-// The values are written as these bytes, one after another.
-fn several<T: Item>(rt: &impl Abort, values: &[T], form: &[u8]) {
-    assert!(rt; T::SIZE <= 16 && values.len() <= 3);
-    let size = values.len() * T::SIZE as usize;
-    assert_eq!(rt; form.len(), size);
-    let mut out = [9; 48];
-    T::encode_all(values, &mut out[..size]);
-    assert_eq!(rt; &out[..size], form);
-}
-
 // The numbers 1 to 16.
 pub(super) const UP: &[u8] = &[1, 2, 3, 4, 5, 6, 7, 8, 9, 10, 11, 12, 13, 14, 15, 16];
 
@@ -51,188 +44,77 @@ const GREATEST: &[u8] = &[
     255, 255, 255, 255, 255, 255, 255, 255, 255, 255, 255, 255, 255, 255, 255, 127,
 ];
 
+const MINUS_TWO: &[u8] = &[
+    254, 255, 255, 255, 255, 255, 255, 255, 255, 255, 255, 255, 255, 255, 255, 255,
+];
+
+const ONE: &[u8] = &[1, 0, 0, 0, 0, 0, 0, 0, 0, 0, 0, 0, 0, 0, 0, 0];
+
+const ONES: &[u8] = &[255; 16];
+
 #[test]
 fn unsigned(rt: HostRuntime) {
+    const LOW: u64 = 0x0807_0605_0403_0201;
     forms::<u8>(&rt, (1, 1), &[(0, &[0]), (1, &[1]), (255, &[255])]);
-    forms::<u16>(
-        &rt,
-        (2, 2),
-        &[(0, &[0, 0]), (0x0201, &[1, 2]), (u16::MAX, &[255; 2])],
-    );
+    forms::<u16>(&rt, (2, 2), &[(0x0201, &[1, 2]), (u16::MAX, &[255; 2])]);
     forms::<u32>(
         &rt,
         (4, 4),
-        &[
-            (0, &[0; 4]),
-            (123, &[0x7b, 0, 0, 0]),
-            (0x0403_0201, &[1, 2, 3, 4]),
-            (u32::MAX, &[255; 4]),
-        ],
+        &[(123, &[0x7b, 0, 0, 0]), (u32::MAX, &[255; 4])],
     );
-    let up = (0x0807_0605_0403_0201, &UP[..8]);
-    forms::<u64>(&rt, (8, 8), &[(0, &[0; 8]), up, (u64::MAX, &[255; 8])]);
-    let up = (0x0807_0605_0403_0201, &UP[..8]);
-    forms::<usize>(&rt, (8, 8), &[(0, &[0; 8]), up, (usize::MAX, &[255; 8])]);
+    forms::<u64>(&rt, (8, 8), &[(LOW, &UP[..8]), (u64::MAX, &[255; 8])]);
+    forms::<usize>(&rt, (8, 8), &[(0, &[0; 8]), (usize::MAX, &[255; 8])]);
     let up = (0x100f_0e0d_0c0b_0a09_0807_0605_0403_0201, UP);
-    forms::<u128>(&rt, (16, 16), &[(0, &[0; 16]), up, (u128::MAX, &[255; 16])]);
+    forms::<u128>(&rt, (16, 16), &[up, (u128::MAX, &[255; 16])]);
+}
+
+// The least number of a type of signed numbers, -2, and the greatest.
+fn signed_ends<T: Item + PartialEq>(rt: &impl Abort, least: T, minus_two: T, greatest: T) {
+    assert!(rt; T::SIZE <= 16 && T::ALIGN == T::SIZE);
+    let size = T::SIZE as usize;
+    has_form(rt, least, &LEAST[16 - size..]);
+    has_form(rt, minus_two, &MINUS_TWO[..size]);
+    has_form(rt, greatest, &GREATEST[16 - size..]);
 }
 
 #[test]
 fn signed(rt: HostRuntime) {
-    forms::<i8>(
-        &rt,
-        (1, 1),
-        &[(-128, &[128]), (-1, &[255]), (0, &[0]), (127, &[127])],
-    );
-    forms::<i16>(
-        &rt,
-        (2, 2),
-        &[
-            (i16::MIN, &[0, 128]),
-            (-2, &[254, 255]),
-            (i16::MAX, &[255, 127]),
-        ],
-    );
-    forms::<i32>(
-        &rt,
-        (4, 4),
-        &[
-            (i32::MIN, &LEAST[12..]),
-            (-2, &[254, 255, 255, 255]),
-            (i32::MAX, &GREATEST[12..]),
-        ],
-    );
+    signed_ends(&rt, i8::MIN, -2, i8::MAX);
+    signed_ends(&rt, i16::MIN, -2, i16::MAX);
+    signed_ends(&rt, i32::MIN, -2, i32::MAX);
+    signed_ends(&rt, i64::MIN, -2, i64::MAX);
+    signed_ends(&rt, isize::MIN, -2, isize::MAX);
+    signed_ends(&rt, i128::MIN, -2, i128::MAX);
+}
+
+// The least number of a type of numbers that aren't 0, which 0 is read as too, and the greatest.
+fn non_zero_ends<T: Item + PartialEq>(rt: &impl Abort, is_signed: bool, least: T, greatest: T) {
+    assert!(rt; T::SIZE <= 16 && T::ALIGN == T::SIZE);
+    let size = T::SIZE as usize;
+    if is_signed {
+        has_form(rt, least, &LEAST[16 - size..]);
+        has_form(rt, greatest, &GREATEST[16 - size..]);
+    } else {
+        has_form(rt, least, &ONE[..size]);
+        has_form(rt, greatest, &ONES[..size]);
+    }
+    assert!(rt; T::decode(&[0; 16][..size]) == least);
 }
 
 #[test]
-fn signed_of_64_bits_and_more(rt: HostRuntime) {
-    forms::<i64>(
-        &rt,
-        (8, 8),
-        &[
-            (i64::MIN, &LEAST[8..]),
-            (-1, &[255; 8]),
-            (i64::MAX, &GREATEST[8..]),
-        ],
-    );
-    forms::<isize>(
-        &rt,
-        (8, 8),
-        &[
-            (isize::MIN, &LEAST[8..]),
-            (-1, &[255; 8]),
-            (isize::MAX, &GREATEST[8..]),
-        ],
-    );
-    forms::<i128>(
-        &rt,
-        (16, 16),
-        &[(i128::MIN, LEAST), (-1, &[255; 16]), (i128::MAX, GREATEST)],
-    );
-}
-
-// 0 is read as the least.
-#[test]
-fn non_zero_unsigned(rt: HostRuntime) {
-    const ONE: &[u8] = &[1, 0, 0, 0, 0, 0, 0, 0, 0, 0, 0, 0, 0, 0, 0, 0];
-    forms(
-        &rt,
-        (1, 1),
-        &[(NonZeroU8::MIN, &ONE[..1]), (NonZeroU8::MAX, &[255])],
-    );
-    forms(
-        &rt,
-        (2, 2),
-        &[(NonZeroU16::MIN, &ONE[..2]), (NonZeroU16::MAX, &[255; 2])],
-    );
-    forms(
-        &rt,
-        (4, 4),
-        &[(NonZeroU32::MIN, &ONE[..4]), (NonZeroU32::MAX, &[255; 4])],
-    );
-    forms(
-        &rt,
-        (8, 8),
-        &[(NonZeroU64::MIN, &ONE[..8]), (NonZeroU64::MAX, &[255; 8])],
-    );
-    forms(
-        &rt,
-        (8, 8),
-        &[
-            (NonZeroUsize::MIN, &ONE[..8]),
-            (NonZeroUsize::MAX, &[255; 8]),
-        ],
-    );
-    forms(
-        &rt,
-        (16, 16),
-        &[(NonZeroU128::MIN, ONE), (NonZeroU128::MAX, &[255; 16])],
-    );
-    reads(&rt, &[(&[0], NonZeroU8::MIN)]);
-    reads(&rt, &[(&[0; 2], NonZeroU16::MIN)]);
-    reads(&rt, &[(&[0; 4], NonZeroU32::MIN)]);
-    reads(&rt, &[(&[0; 8], NonZeroU64::MIN)]);
-    reads(&rt, &[(&[0; 8], NonZeroUsize::MIN)]);
-    reads(&rt, &[(&[0; 16], NonZeroU128::MIN)]);
-}
-
-#[test]
-fn non_zero_signed(rt: HostRuntime) {
-    forms(
-        &rt,
-        (1, 1),
-        &[
-            (NonZeroI8::MIN, &LEAST[15..]),
-            (NonZeroI8::MAX, &GREATEST[15..]),
-        ],
-    );
-    forms(
-        &rt,
-        (2, 2),
-        &[
-            (NonZeroI16::MIN, &LEAST[14..]),
-            (NonZeroI16::MAX, &GREATEST[14..]),
-        ],
-    );
-    forms(
-        &rt,
-        (4, 4),
-        &[
-            (NonZeroI32::MIN, &LEAST[12..]),
-            (NonZeroI32::MAX, &GREATEST[12..]),
-        ],
-    );
-    reads(&rt, &[(&[0], NonZeroI8::MIN)]);
-    reads(&rt, &[(&[0; 2], NonZeroI16::MIN)]);
-    reads(&rt, &[(&[0; 4], NonZeroI32::MIN)]);
-}
-
-#[test]
-fn non_zero_signed_of_64_bits_and_more(rt: HostRuntime) {
-    forms(
-        &rt,
-        (8, 8),
-        &[
-            (NonZeroI64::MIN, &LEAST[8..]),
-            (NonZeroI64::MAX, &GREATEST[8..]),
-        ],
-    );
-    forms(
-        &rt,
-        (8, 8),
-        &[
-            (NonZeroIsize::MIN, &LEAST[8..]),
-            (NonZeroIsize::MAX, &GREATEST[8..]),
-        ],
-    );
-    forms(
-        &rt,
-        (16, 16),
-        &[(NonZeroI128::MIN, LEAST), (NonZeroI128::MAX, GREATEST)],
-    );
-    reads(&rt, &[(&[0; 8], NonZeroI64::MIN)]);
-    reads(&rt, &[(&[0; 8], NonZeroIsize::MIN)]);
-    reads(&rt, &[(&[0; 16], NonZeroI128::MIN)]);
+fn non_zero(rt: HostRuntime) {
+    non_zero_ends(&rt, false, NonZeroU8::MIN, NonZeroU8::MAX);
+    non_zero_ends(&rt, false, NonZeroU16::MIN, NonZeroU16::MAX);
+    non_zero_ends(&rt, false, NonZeroU32::MIN, NonZeroU32::MAX);
+    non_zero_ends(&rt, false, NonZeroU64::MIN, NonZeroU64::MAX);
+    non_zero_ends(&rt, false, NonZeroUsize::MIN, NonZeroUsize::MAX);
+    non_zero_ends(&rt, false, NonZeroU128::MIN, NonZeroU128::MAX);
+    non_zero_ends(&rt, true, NonZeroI8::MIN, NonZeroI8::MAX);
+    non_zero_ends(&rt, true, NonZeroI16::MIN, NonZeroI16::MAX);
+    non_zero_ends(&rt, true, NonZeroI32::MIN, NonZeroI32::MAX);
+    non_zero_ends(&rt, true, NonZeroI64::MIN, NonZeroI64::MAX);
+    non_zero_ends(&rt, true, NonZeroIsize::MIN, NonZeroIsize::MAX);
+    non_zero_ends(&rt, true, NonZeroI128::MIN, NonZeroI128::MAX);
 }
 
 #[test]
@@ -261,14 +143,4 @@ fn plain(rt: HostRuntime) {
             (&[255; 4], '\0'),
         ],
     );
-}
-
-#[test]
-fn one_after_another(rt: HostRuntime) {
-    several(&rt, &[1u8, 2, 255], &[1, 2, 255]);
-    several(&rt, &[1i32, -2], &[1, 0, 0, 0, 254, 255, 255, 255]);
-    several(&rt, &[(1u8, 2u16), (3, 4)], &[1, 0, 2, 0, 3, 0, 4, 0]);
-    several(&rt, &[Some(5u8), None, Some(0)], &[1, 5, 0, 0, 1, 0]);
-    several(&rt, &[(), ()], &[]);
-    several::<u64>(&rt, &[], &[]);
 }

@@ -1,10 +1,9 @@
 // Where blocks are placed, how an arena comes to its chunks, what it does where it is refused, and what a reset keeps.
 use super::layout;
-use super::steps::{Case, Step, all_hold};
+use super::steps::{Case, Step};
 use arena_chunks::{Arena, ArenaErr, MemoryChunks};
-use std::process::Abort;
 
-const PLACES: &[Case] = &[
+pub(super) const PLACES: &[Case] = &[
     Case {
         name: "downwards, in growing chunks",
         refuse: &[],
@@ -43,7 +42,7 @@ const PLACES: &[Case] = &[
     },
 ];
 
-const PLACES_BY_8: &[Case] = &[
+pub(super) const PLACES_BY_8: &[Case] = &[
     Case {
         name: "by alignment",
         refuse: &[],
@@ -61,7 +60,7 @@ const PLACES_BY_8: &[Case] = &[
     },
 ];
 
-const PLACES_BY_16: &[Case] = &[Case {
+pub(super) const PLACES_BY_16: &[Case] = &[Case {
     name: "by alignment",
     refuse: &[],
     steps: &[
@@ -72,14 +71,7 @@ const PLACES_BY_16: &[Case] = &[Case {
     ],
 }];
 
-#[test]
-fn places(rt: HostRuntime) {
-    all_hold::<1>(&rt, rt.alloc(), PLACES);
-    all_hold::<8>(&rt, rt.alloc(), PLACES_BY_8);
-    all_hold::<16>(&rt, rt.alloc(), PLACES_BY_16);
-}
-
-const CHUNKS: &[Case] = &[
+pub(super) const CHUNKS: &[Case] = &[
     Case {
         name: "asked for at the alignment of the block",
         refuse: &[],
@@ -170,13 +162,8 @@ const CHUNKS: &[Case] = &[
     },
 ];
 
-#[test]
-fn chunks(rt: HostRuntime) {
-    all_hold::<1>(&rt, rt.alloc(), CHUNKS);
-}
-
 // A first chunk is whole pages less 64 bytes.
-const FIRST_CHUNKS: &[Case] = &[
+pub(super) const FIRST_CHUNKS: &[Case] = &[
     Case {
         name: "the least",
         refuse: &[],
@@ -233,12 +220,7 @@ const FIRST_CHUNKS: &[Case] = &[
     },
 ];
 
-#[test]
-fn first_chunks(rt: HostRuntime) {
-    all_hold::<1>(&rt, rt.alloc(), FIRST_CHUNKS);
-}
-
-const RESETS: &[Case] = &[
+pub(super) const RESETS: &[Case] = &[
     Case {
         name: "of a large chunk, which stays with its size",
         refuse: &[],
@@ -330,22 +312,6 @@ const RESETS: &[Case] = &[
 ];
 
 #[test]
-fn resets(rt: HostRuntime) {
-    all_hold::<1>(&rt, rt.alloc(), RESETS);
-}
-
-// Where a block of this size is placed from a budget.
-fn place(
-    rt: &impl Abort,
-    arena: &mut Arena<1>,
-    chunks: &mut MemoryChunks,
-    size: u64,
-) -> Result<u64, ArenaErr> {
-    let block = arena.alloc_layout(chunks, layout(rt, size, 1))?;
-    Ok(block.addr)
-}
-
-#[test]
 fn a_budget_bounds_the_growth_and_is_not_refilled_by_a_reset(rt: HostRuntime) {
     let mut arena = Arena::new(rt.alloc());
     let mut chunks = MemoryChunks::new(rt.alloc(), 16320 + 32704);
@@ -354,13 +320,15 @@ fn a_budget_bounds_the_growth_and_is_not_refilled_by_a_reset(rt: HostRuntime) {
         (1, Ok(53167)),
         (32704, Err(ArenaErr::AllocErr { refused: 2 })),
     ] {
-        assert_eq!(rt; place(&rt, &mut arena, &mut chunks, size), wanted);
+        let placed = arena.alloc_layout(&mut chunks, layout(&rt, size, 1));
+        assert_eq!(rt; placed.map(|block| block.addr), wanted);
     }
     arena.reset();
     for (size, wanted) in [
         (32704, Ok(20464)),
         (1, Err(ArenaErr::AllocErr { refused: 3 })),
     ] {
-        assert_eq!(rt; place(&rt, &mut arena, &mut chunks, size), wanted);
+        let placed = arena.alloc_layout(&mut chunks, layout(&rt, size, 1));
+        assert_eq!(rt; placed.map(|block| block.addr), wanted);
     }
 }

@@ -1,11 +1,8 @@
 // Tables of calls that place values, each with what it must answer.
-use super::calls::{Call, Row, Wanted, asked, place, refuses, takes};
+use super::calls::{Call, Row, Wanted, asked, place, takes};
 use super::{ample, layout, refusing};
 use arena_chunks::{Allocator, MemoryChunks};
 use arena_items::{ArenaItems, ItemErr};
-use arena_region::Region;
-use std::alloc::Global;
-use std::process::Abort;
 use std::test::Fail;
 
 const SEVEN: &[u8] = &[7, 0, 0, 0];
@@ -132,20 +129,16 @@ const SIXTEEN: &[Row] = &[
     ("none", Call::FillWith(0), Wanted::Placed(4096, &[], 0)),
 ];
 
-// An allocator that was reset, whose free bytes are no zeros.
-fn used_before(rt: &impl Abort, alloc: Global) -> Allocator<MemoryChunks> {
-    let mut a = ample(alloc);
-    let block = a.alloc_layout(layout(rt, 64, 1)).expect(rt, "a block");
-    a.write(block, 0, &[9; 64]);
-    a.reset();
-    a
-}
-
+// Each call also in an allocator that was reset, whose free bytes are no zeros.
 #[test]
 fn ample_memory(rt: HostRuntime) {
     for row in ROWS {
-        takes(&rt, &mut ample(rt.alloc()), *row);
-        takes(&rt, &mut used_before(&rt, rt.alloc()), *row);
+        let mut a = ample(rt.alloc());
+        takes(&rt, &mut a, *row);
+        let block = a.alloc_layout(layout(&rt, 64, 1)).expect(&rt, "a block");
+        a.write(block, 0, &[9; 64]);
+        a.reset();
+        takes(&rt, &mut a, *row);
     }
     for row in NONE {
         takes(&rt, &mut ample(rt.alloc()), *row);
@@ -154,7 +147,7 @@ fn ample_memory(rt: HostRuntime) {
 
 #[test]
 fn a_fixed_arena(rt: HostRuntime) -> Result<(), Fail> {
-    let region = Region::zeros(rt.alloc(), 64)?;
+    let region = vec![in rt.alloc(); 0; 64]?;
     let chunks = MemoryChunks::new(rt.alloc(), 1 << 20);
     let Ok(mut a) = Allocator::from_raw_parts(rt.alloc(), region, chunks) else {
         return Err(Fail::from("an allocator"));
@@ -163,7 +156,7 @@ fn a_fixed_arena(rt: HostRuntime) -> Result<(), Fail> {
         takes(&rt, &mut a, *row);
     }
     for row in ROWS {
-        refuses(&rt, &mut a, *row, 0);
+        takes(&rt, &mut a, (row.0, row.1, Wanted::Refused(0)));
     }
     for row in TOO_MANY {
         takes(&rt, &mut a, *row);
@@ -175,7 +168,7 @@ fn a_fixed_arena(rt: HostRuntime) -> Result<(), Fail> {
 fn refused_requests(rt: HostRuntime) -> Result<(), Fail> {
     for row in ROWS {
         let mut a = Allocator::new(rt.alloc(), refusing(rt.alloc(), &[1])?);
-        refuses(&rt, &mut a, *row, 1);
+        takes(&rt, &mut a, (row.0, row.1, Wanted::Refused(1)));
         takes(&rt, &mut a, *row);
         asked(&rt, a, row.0, &[(16320, 16), (16320, 16)]);
     }
@@ -184,7 +177,7 @@ fn refused_requests(rt: HostRuntime) -> Result<(), Fail> {
         let mut a = Allocator::new(rt.alloc(), refusing(rt.alloc(), &[2, 3])?);
         let all = a.alloc_layout(layout(&rt, 16320, 1)).expect(&rt, "a block");
         assert_eq!(rt; all.addr, 4096);
-        refuses(&rt, &mut a, *row, 2);
+        takes(&rt, &mut a, (row.0, row.1, Wanted::Refused(2)));
         asked(&rt, a, row.0, &[(16320, 16), (32704, 16), (16320, 16)]);
     }
     for row in TOO_MANY {

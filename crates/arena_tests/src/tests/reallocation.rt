@@ -1,10 +1,10 @@
 // Blocks that get another size at their alignment.
-use super::steps::{Case, Step, all_hold};
+use super::steps::{Case, Step};
 use super::{ample, held, layout};
 use arena_chunks::bumpalo_alloc::Alloc;
 use std::test::Fail;
 
-const SIZES: &[Case] = &[
+pub(super) const SIZES: &[Case] = &[
     Case {
         name: "51 of 100 bytes",
         refuse: &[],
@@ -85,11 +85,6 @@ const SIZES: &[Case] = &[
         ],
     },
 ];
-
-#[test]
-fn sizes(rt: HostRuntime) {
-    all_hold::<1>(&rt, rt.alloc(), SIZES);
-}
 
 // Each byte of a block is read again in the second and in the third chunk.
 #[test]

@@ -1,7 +1,7 @@
 // Blocks that grow, shrink and are given back: where they lie afterwards, what is used, and what is counted.
-use super::steps::{Case, Step, all_hold};
+use super::steps::{Case, Step};
 
-const GROWN: &[Case] = &[
+pub(super) const GROWN: &[Case] = &[
     Case {
         name: "one byte more",
         refuse: &[],
@@ -113,7 +113,7 @@ const GROWN: &[Case] = &[
     },
 ];
 
-const GROWN_BY_16: &[Case] = &[
+pub(super) const GROWN_BY_16: &[Case] = &[
     Case {
         name: "in the padding",
         refuse: &[],
@@ -160,13 +160,7 @@ const GROWN_BY_16: &[Case] = &[
     },
 ];
 
-#[test]
-fn grown(rt: HostRuntime) {
-    all_hold::<1>(&rt, rt.alloc(), GROWN);
-    all_hold::<16>(&rt, rt.alloc(), GROWN_BY_16);
-}
-
-const SHRUNK: &[Case] = &[
+pub(super) const SHRUNK: &[Case] = &[
     Case {
         name: "by less than half, then by half",
         refuse: &[],
@@ -276,7 +270,7 @@ const SHRUNK: &[Case] = &[
     },
 ];
 
-const SHRUNK_BY_8: &[Case] = &[
+pub(super) const SHRUNK_BY_8: &[Case] = &[
     Case {
         name: "in the padding",
         refuse: &[],
@@ -299,13 +293,7 @@ const SHRUNK_BY_8: &[Case] = &[
     },
 ];
 
-#[test]
-fn shrunk(rt: HostRuntime) {
-    all_hold::<1>(&rt, rt.alloc(), SHRUNK);
-    all_hold::<8>(&rt, rt.alloc(), SHRUNK_BY_8);
-}
-
-const GIVEN_BACK: &[Case] = &[
+pub(super) const GIVEN_BACK: &[Case] = &[
     Case {
         name: "an empty block, which shares its address",
         refuse: &[],
@@ -346,13 +334,8 @@ const GIVEN_BACK: &[Case] = &[
     },
 ];
 
-#[test]
-fn given_back(rt: HostRuntime) {
-    all_hold::<1>(&rt, rt.alloc(), GIVEN_BACK);
-}
-
 // Only some of these are the last block placed.
-const COUNTED: &[Case] = &[Case {
+pub(super) const COUNTED: &[Case] = &[Case {
     name: "allocations and reallocations until a reset",
     refuse: &[],
     steps: &[
@@ -374,8 +357,3 @@ const COUNTED: &[Case] = &[Case {
         Step::Statistics(0, 0),
     ],
 }];
-
-#[test]
-fn counted(rt: HostRuntime) {
-    all_hold::<1>(&rt, rt.alloc(), COUNTED);
-}

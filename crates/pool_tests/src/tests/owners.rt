@@ -29,13 +29,6 @@ fn the_later_frees_the_arena(rt: HostRuntime) {
     assert!(rt; alone(second).is_ok());
 }
 
-#[test]
-fn one_of_two_threads_frees_the_arena(rt: HostRuntime) {
-    let freed = freed_by_two(&rt, rt.alloc(), new_arena(rt.alloc()));
-    let (ours, theirs) = freed.ok().expect(&rt, "owners");
-    assert!(rt; ours.is_some() != theirs.is_some());
-}
-
 // Comes back once two threads are here.
 fn meet<R: Wait>(rt: &R, here: &AtomicU64) {
     here.fetch_add(1, Ordering::SeqCst);
@@ -94,4 +87,7 @@ fn each_shared_arena_is_freed_once(rt: HostRuntime) {
     for i in 0..ARENAS {
         assert!(rt; is_freed_once(&rt, rt.alloc(), (i % 251) as u8));
     }
+    let freed = freed_by_two(&rt, rt.alloc(), new_arena(rt.alloc()));
+    let (ours, theirs) = freed.ok().expect(&rt, "owners");
+    assert!(rt; ours.is_some() != theirs.is_some());
 }

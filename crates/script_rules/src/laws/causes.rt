@@ -1,10 +1,11 @@
-// When a call is starved.
+// When calls are starved.
 ghost use Rattle.std.specs.Prelude.{ℕ, ◌≤◌};
 ghost use Rattle.placement.specs.State.{State};
-ghost use Rattle.script_rules.specs.Starved.{Shown, IsStarved};
+ghost use Rattle.placement.specs.Source.{Source};
+ghost use Rattle.script_rules.specs.Starved.{IsStarvedWithin};
 
-/// A call that is starved within a bound is so within a greater one.
+/// Calls that are starved within some bytes are so within more.
 pub fn starved()
-    ensures { (bound more : ℕ) (before after : State) (shown then : Shown) → bound ≤ more
-        → IsStarved bound before after shown then → IsStarved more before after shown then }
+    ensures { (bytes more : ℕ) (old new : State) (before after : Source) → bytes ≤ more
+        → IsStarvedWithin bytes old new before after → IsStarvedWithin more old new before after }
 {}

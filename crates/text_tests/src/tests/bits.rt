@@ -1,12 +1,10 @@
 // Calls on bit sets, and their texts and numbers then: worked examples, sets that are joined, full arenas.
-ghost use Rattle.arena_chunks.specs.Frame.{AreBlocksApart};
-ghost use Rattle.arena_bits.specs.Sets.{IsSetIn};
+ghost use Rattle.arena_bits.specs.Sets.{AreOneOrApart};
 
-use super::ample;
+use super::{ample, small};
 use arena_bits::BitSet;
-use arena_chunks::{Allocator, Block, ChunkSource, MemoryChunks};
+use arena_chunks::{Allocator, ChunkSource, MemoryChunks};
 use arena_items::AllocError;
-use arena_region::Region;
 use std::alloc::Global;
 use std::process::Abort;
 
@@ -18,40 +16,47 @@ enum Step {
     Clear,
 }
 
-// The set must be held.
-fn held<C: ChunkSource>(rt: &impl Abort, a: &Allocator<C>, set: BitSet)
-    ensures { IsSetIn a.now.memory set }
+// The sets are one, or must lie apart.
+fn apart(rt: &impl Abort, one: BitSet, other: BitSet)
+    ensures { AreOneOrApart one.words.block other.words.block }
 {
-    let count = set.words.len();
-    let block = set.words.block;
-    assert!(rt; a.is_held_place(block) && block.size / 8 == count && block.size % 8 == 0);
-    assert!(rt; block.align == 8 && count == set.capacity.div_ceil(64));
-}
-
-// The blocks must lie apart.
-fn apart(rt: &impl Abort, one: Block, other: Block)
-    ensures { AreBlocksApart one other }
-{
+    let (one, other) = (one.words.block, other.words.block);
+    if one == other {
+        return;
+    }
     assert!(rt; one.addr <= u64::MAX - one.size && other.addr <= u64::MAX - other.size);
     assert!(rt; one.addr + one.size <= other.addr || other.addr + other.size <= one.addr);
 }
 
-// Puts another set's numbers into a set, which lies apart from it.
-fn join<C: ChunkSource>(rt: &impl Abort, a: &mut Allocator<C>, set: &mut BitSet, other: BitSet)
-    ensures { IsSetIn a.new.memory set.new }
-{
-    held(rt, a, *set);
-    held(rt, a, other);
-    apart(rt, other.words.block, set.words.block);
+// Puts another set's numbers into a set.
+fn join<C: ChunkSource>(rt: &impl Abort, a: &mut Allocator<C>, set: &mut BitSet, other: BitSet) {
+    assert!(rt; set.is_held(a) && other.is_held(a));
+    apart(rt, other, *set);
     set.union(a, &other);
+}
+
+// Takes a step, and tells what was done.
+fn take<C: ChunkSource>(rt: &impl Abort, a: &mut Allocator<C>, set: &mut BitSet, step: Step) {
+    assert!(rt; set.is_held(a));
+    match step {
+        Step::Set(bit) => {
+            assert!(rt; bit / 64 < set.words.len());
+            set.set_bit(a, bit);
+            assert!(rt; set.has_bit(a, bit));
+        }
+        Step::Unset(bit) => {
+            assert!(rt; bit / 64 < set.words.len());
+            set.unset_bit(a, bit);
+            assert!(rt; !set.has_bit(a, bit));
+        }
+        Step::Clear => set.clear(a),
+    }
 }
 
 // Puts these numbers into a set.
 fn put<C: ChunkSource>(rt: &impl Abort, a: &mut Allocator<C>, set: &mut BitSet, bits: &[u64]) {
     for bit in bits {
-        held(rt, a, *set);
-        assert!(rt; bit / 64 < set.words.len());
-        set.set_bit(a, *bit);
+        take(rt, a, set, Step::Set(*bit));
     }
 }
 
@@ -63,7 +68,7 @@ fn shows<C: ChunkSource>(
     set: &BitSet,
     text: &str,
 ) {
-    held(rt, a, *set);
+    assert!(rt; set.is_held(a));
     let plain = set.display(alloc, a).expect(rt, "memory");
     assert_eq!(rt; plain.as_slice(), text.as_bytes());
     let whole = set.debug(alloc, a).expect(rt, "memory");
@@ -71,27 +76,9 @@ fn shows<C: ChunkSource>(
     assert_eq!(rt; whole.as_slice(), expected.as_bytes());
 }
 
-// The set tells that it has these numbers, and which numbers below 200 are among those below its capacity.
-fn tells<C: ChunkSource>(
-    rt: &impl Abort,
-    a: &Allocator<C>,
-    set: &BitSet,
-    bits: &[u64],
-    below: &[u64],
-) {
-    held(rt, a, *set);
-    for bit in bits {
-        assert!(rt; bit / 64 < set.words.len() && set.has_bit(a, *bit));
-        assert!(rt; set.contains(a, *bit) == (*bit < set.capacity));
-    }
-    for bit in 0..200 {
-        assert!(rt; set.contains(a, bit) == below.contains(&bit));
-    }
-}
-
 // A walk gives these numbers, with its hints on the way, and a clone of it stays behind.
 fn walks<C: ChunkSource>(rt: &impl Abort, a: &Allocator<C>, set: &BitSet, numbers: &[u64]) {
-    held(rt, a, *set);
+    assert!(rt; set.is_held(a));
     let mut ones = set.ones(a);
     let Ok(clone) = ones.clone() else {
         unreachable!();
@@ -116,38 +103,6 @@ fn walks<C: ChunkSource>(rt: &impl Abort, a: &Allocator<C>, set: &BitSet, number
         assert_eq!(rt; ones.size_hint(), (0, Some(0)));
     }
     assert!(rt; clone.count() == numbers.len());
-}
-
-// Takes a step, and tells what was done.
-fn take<C: ChunkSource>(rt: &impl Abort, a: &mut Allocator<C>, set: &mut BitSet, step: Step)
-    ensures { IsSetIn a.new.memory set.new }
-{
-    held(rt, a, *set);
-    match step {
-        Step::Set(bit) => {
-            assert!(rt; bit / 64 < set.words.len());
-            set.set_bit(a, bit);
-            assert!(rt; set.has_bit(a, bit));
-        }
-        Step::Unset(bit) => {
-            assert!(rt; bit / 64 < set.words.len());
-            set.unset_bit(a, bit);
-            assert!(rt; !set.has_bit(a, bit));
-        }
-        Step::Clear => set.clear(a),
-    }
-}
-
-// Steps in a row on a new set, each with the text then.
-fn changes(rt: &impl Abort, alloc: Global, capacity: u64, steps: &[(Step, &str)]) {
-    let mut a = ample(alloc);
-    let mut set = BitSet::new_in(capacity, &mut a).expect(rt, "a set");
-    assert!(rt; set.capacity() == capacity && set.is_empty(&a));
-    for (step, text) in steps {
-        take(rt, &mut a, &mut set, *step);
-        shows(rt, alloc, &a, &set, text);
-        assert_eq!(rt; set.is_empty(&a), *text == "00000000");
-    }
 }
 
 // Sets of these capacities, and the text after each step.
@@ -242,10 +197,17 @@ const CHANGES: [(u64, &[(Step, &str)]); 6] = [
 
 #[test]
 fn texts_of_sets(rt: HostRuntime) {
-    for (capacity, steps) in CHANGES {
-        changes(&rt, rt.alloc(), capacity, steps);
-    }
     let mut a = ample(rt.alloc());
+    for (capacity, steps) in CHANGES {
+        let mut set = BitSet::new_in(capacity, &mut a).expect(&rt, "a set");
+        assert!(rt; set.capacity() == capacity && set.is_empty(&a));
+        for (step, text) in steps {
+            take(&rt, &mut a, &mut set, *step);
+            shows(&rt, rt.alloc(), &a, &set, text);
+            assert!(rt; set.is_held(&a));
+            assert_eq!(rt; set.is_empty(&a), *text == "00000000");
+        }
+    }
     let none = BitSet::new_in(0, &mut a).expect(&rt, "a set of no words");
     shows(&rt, rt.alloc(), &a, &none, "");
 }
@@ -268,25 +230,25 @@ const JOINED: [(u64, &[u64], u64, &[u64], &[u64]); 8] = [
     ),
 ];
 
-// Puts the numbers of one set into another, which is cleared then and filled again.
+// Puts the numbers of one set into another, which is joined with itself, and then cleared and filled again.
 fn joins(rt: &impl Abort, alloc: Global, one: (u64, &[u64]), two: (u64, &[u64]), both: &[u64]) {
-    let (mine, theirs) = (one.1, two.1);
     let mut a = ample(alloc);
     let mut set = BitSet::new_in(one.0, &mut a).expect(rt, "a set");
     let mut other = BitSet::new_in(two.0, &mut a).expect(rt, "a set");
-    put(rt, &mut a, &mut set, mine);
-    put(rt, &mut a, &mut other, theirs);
-    join(rt, &mut a, &mut set, other);
-    walks(rt, &a, &set, both);
-    let nothing = both.is_empty() && (theirs.is_empty() || one.0 == 0);
-    assert!(rt; set.is_empty(&a) == nothing);
-    walks(rt, &a, &other, theirs);
-    held(rt, &a, set);
-    set.clear(&mut a);
-    assert!(rt; set.is_empty(&a));
-    walks(rt, &a, &set, &[]);
-    put(rt, &mut a, &mut set, mine);
-    walks(rt, &a, &set, mine);
+    put(rt, &mut a, &mut set, one.1);
+    put(rt, &mut a, &mut other, two.1);
+    for with in [other, set] {
+        join(rt, &mut a, &mut set, with);
+        walks(rt, &a, &set, both);
+        let nothing = both.is_empty() && (two.1.is_empty() || one.0 == 0);
+        assert!(rt; set.is_held(&a) && set.is_empty(&a) == nothing);
+        walks(rt, &a, &other, two.1);
+    }
+    for bits in [&[], one.1] {
+        take(rt, &mut a, &mut set, Step::Clear);
+        put(rt, &mut a, &mut set, bits);
+        walks(rt, &a, &set, bits);
+    }
 }
 
 #[test]
@@ -300,17 +262,11 @@ fn sets_joined_and_cleared(rt: HostRuntime) {
             both,
         );
     }
-}
-
-#[test]
-fn text_of_joined_sets(rt: HostRuntime) {
     let mut a = ample(rt.alloc());
     let mut set = BitSet::new_in(16, &mut a).expect(&rt, "a set");
-    put(&rt, &mut a, &mut set, &[0, 3, 8]);
-    shows(&rt, rt.alloc(), &a, &set, "00000001_00001001");
     let mut other = BitSet::new_in(16, &mut a).expect(&rt, "a set");
+    put(&rt, &mut a, &mut set, &[0, 3, 8]);
     put(&rt, &mut a, &mut other, &[1, 3, 9]);
-    shows(&rt, rt.alloc(), &a, &other, "00000010_00001010");
     join(&rt, &mut a, &mut set, other);
     shows(&rt, rt.alloc(), &a, &set, "00000011_00001011");
 }
@@ -332,44 +288,69 @@ const CAPACITIES: [(u64, u64, &[u64], &[u64]); 8] = [
     ),
 ];
 
+// The set tells that it has these numbers, and which numbers below 200 are among those below its capacity.
+fn tells<C: ChunkSource>(
+    rt: &impl Abort,
+    a: &Allocator<C>,
+    set: &BitSet,
+    bits: &[u64],
+    below: &[u64],
+) {
+    assert!(rt; set.is_held(a));
+    for bit in bits {
+        assert!(rt; bit / 64 < set.words.len() && set.has_bit(a, *bit));
+        assert!(rt; set.contains(a, *bit) == (*bit < set.capacity));
+    }
+    for bit in 0..200 {
+        assert!(rt; set.contains(a, bit) == below.contains(&bit));
+    }
+    assert!(rt; !set.contains(a, set.capacity) && !set.contains(a, u64::MAX));
+    assert!(rt; set.is_empty(a) == bits.is_empty());
+}
+
 #[test]
 fn sets_of_some_capacities(rt: HostRuntime) {
     for (capacity, words, bits, below) in CAPACITIES {
         let mut a = ample(rt.alloc());
         let mut set = BitSet::new_in(capacity, &mut a).expect(&rt, "a set");
         assert_eq!(rt; (set.capacity(), set.words.len()), (capacity, words));
-        assert_eq!(rt; a.used_bytes(), words * 8);
-        assert!(rt; set.is_empty(&a) && !set.contains(&a, 0) && !set.contains(&a, u64::MAX));
+        tells(&rt, &a, &set, &[], &[]);
         put(&rt, &mut a, &mut set, bits);
-        held(&rt, &a, set);
-        assert!(rt; set.is_empty(&a) == bits.is_empty());
         walks(&rt, &a, &set, below);
         tells(&rt, &a, &set, bits, below);
-        assert!(rt; !set.contains(&a, capacity));
         assert_eq!(rt; a.used_bytes(), words * 8);
+        // No handle of another block or number of words is held.
+        let more = BitSet {
+            capacity: capacity + 64,
+            ..set
+        };
+        assert!(rt; !more.is_held(&a));
+        a.reset();
+        assert_eq!(rt; set.is_held(&a), words == 0);
     }
 }
 
-// An allocator over a region, where 32 bytes have a place.
-fn small(rt: &impl Abort, alloc: Global) -> Allocator<MemoryChunks> {
-    let region = Region::from_slice(alloc, &[7; 48 + 32]).expect(rt, "memory");
-    let chunks = MemoryChunks::new(alloc, 0);
-    let made = Allocator::from_raw_parts(alloc, region, chunks);
-    made.ok().expect(rt, "an arena")
+// A set for so many bits is refused.
+fn refused<C: ChunkSource>(rt: &impl Abort, a: &mut Allocator<C>, capacity: u64, requests: u32) {
+    let used = (a.used_bytes(), a.capacity());
+    let made = BitSet::new_in(capacity, a);
+    assert_eq!(rt;
+        made.err(),
+        Some(AllocError::AllocErr { refused: requests })
+    );
+    assert_eq!(rt; (a.used_bytes(), a.capacity()), used);
 }
 
 #[test]
-fn sets_in_a_full_arena(rt: HostRuntime) {
-    let mut a = small(&rt, rt.alloc());
+fn sets_refused(rt: HostRuntime) {
+    let mut a = small(&rt, rt.alloc(), 32);
     let mut set = BitSet::new_in(65, &mut a).expect(&rt, "a set");
     put(&rt, &mut a, &mut set, &[64]);
     let mut other = BitSet::new_in(100, &mut a).expect(&rt, "a set");
     put(&rt, &mut a, &mut other, &[1, 99]);
     assert_eq!(rt; (a.used_bytes(), a.capacity()), (32, 32));
-    let refused = AllocError::AllocErr { refused: 0 };
     for capacity in [1, u64::MAX] {
-        let made = BitSet::new_in(capacity, &mut a);
-        assert!(rt; matches!(made, Err(e) if e == refused));
+        refused(&rt, &mut a, capacity, 0);
     }
     join(&rt, &mut a, &mut set, other);
     walks(&rt, &a, &set, &[1, 64]);
@@ -377,16 +358,9 @@ fn sets_in_a_full_arena(rt: HostRuntime) {
     let none = BitSet::new_in(0, &mut a).expect(&rt, "a set of no words");
     assert!(rt; none.is_empty(&a));
     assert_eq!(rt; a.used_bytes(), 32);
-}
-
-#[test]
-fn requests_for_sets_refused(rt: HostRuntime) {
     let mut a = Allocator::new(rt.alloc(), MemoryChunks::new(rt.alloc(), 20_000));
-    let refused = AllocError::AllocErr { refused: 1 };
     for capacity in [1 << 20, u64::MAX] {
-        let made = BitSet::new_in(capacity, &mut a);
-        assert!(rt; matches!(made, Err(e) if e == refused));
-        assert_eq!(rt; (a.used_bytes(), a.capacity()), (0, 0));
+        refused(&rt, &mut a, capacity, 1);
     }
     let mut set = BitSet::new_in(3, &mut a).expect(&rt, "a set");
     put(&rt, &mut a, &mut set, &[1]);

@@ -1,11 +1,7 @@
 // Calls on texts, and the bytes and the capacity then: worked examples, characters at every place, refusals.
-ghost use Rattle.std.specs.Prelude.{◌≡◌, IsUtf8};
-ghost use Rattle.arena_text.specs.Builders.{IsBuilderIn, builder_bytes};
-
-use super::ample;
+use super::{ample, small};
 use arena_chunks::{Allocator, ChunkSource, MemoryChunks};
 use arena_items::{AllocError, Grown, InArena};
-use arena_region::Region;
 use arena_text::StringBuilder;
 use std::alloc::Global;
 use std::process::Abort;
@@ -36,33 +32,14 @@ enum Step {
     Room(u64),
 }
 
-// The text, which must be well formed and readable.
-fn held<C: ChunkSource>(rt: &impl Abort, a: &Allocator<C>, text: StringBuilder) -> StringBuilder
-    ensures held { IsBuilderIn a.now.memory result }
-    ensures text { result ≡ text }
-{
-    let block = text.block;
-    assert!(rt; a.is_held_place(block) && block.size == text.cap && block.align == 1);
-    assert!(rt; text.len <= text.cap);
-    text
-}
-
-// The bytes are UTF-8.
-fn is_utf8<C: ChunkSource>(rt: &impl Abort, a: &Allocator<C>, text: StringBuilder)
-    requires { IsBuilderIn a.now.memory text }
-    ensures { IsUtf8 (builder_bytes a.now.memory text) }
-{
-    assert!(rt; str::from_utf8(text.as_bytes(a)).is_ok());
-}
-
-// Takes a step. The text may be any: it is tested first.
+// Takes a step.
 fn take<C: ChunkSource>(
     rt: &impl Abort,
     a: &mut Allocator<C>,
     text: &mut StringBuilder,
     step: Step,
 ) -> Grown<()> {
-    *text = held(rt, a, *text);
+    assert!(rt; text.is_held(a));
     match step {
         Step::Bytes(bytes) => text.push_bytes_unchecked(a, bytes),
         Step::Text(s) => text.push_str(a, s),
@@ -93,7 +70,7 @@ fn has<C: ChunkSource>(
     bytes: &[u8],
     cap: u64,
 ) {
-    let text = held(rt, a, text);
+    assert!(rt; text.is_held(a));
     assert_eq!(rt; text.as_bytes(a), bytes);
     assert_eq!(rt; (text.len(), text.capacity()), (bytes.len() as u64, cap));
     assert_eq!(rt; text.is_empty(), bytes.is_empty());
@@ -112,6 +89,24 @@ fn text_of<C: ChunkSource>(a: &mut Allocator<C>, how: Make) -> Grown<StringBuild
             StringBuilder::from_strs_array_in([one, two, three, four, five], a)
         }
     }
+}
+
+// A step, what it answers, and the bytes and the capacity then.
+type Row = (Step, Grown<()>, &'static str, u64);
+
+// Makes a text and takes steps in a row. The text then.
+fn runs<C: ChunkSource>(
+    rt: &impl Abort,
+    a: &mut Allocator<C>,
+    how: Make,
+    rows: &[Row],
+) -> StringBuilder {
+    let mut text = text_of(a, how).expect(rt, "room");
+    for (step, wanted, bytes, cap) in rows {
+        assert_eq!(rt; take(rt, a, &mut text, *step), *wanted, "behind {bytes}");
+        has(rt, a, text, bytes.as_bytes(), *cap);
+    }
+    text
 }
 
 // How a text is made, its bytes, its capacity, and how many bytes are used and how many blocks placed then.
@@ -149,58 +144,141 @@ fn made(rt: HostRuntime) {
     }
 }
 
-// Steps in a row on a new text, each with the bytes and the capacity then.
-fn builds(rt: &impl Abort, alloc: Global, steps: &[(Step, &str, u64)]) {
-    let mut a = ample(alloc);
-    let mut text = StringBuilder::new_in();
-    for (step, bytes, cap) in steps {
-        take(rt, &mut a, &mut text, *step).expect(rt, "room");
-        has(rt, &a, text, bytes.as_bytes(), *cap);
+const BUILT: [&[Row]; 5] = [
+    &[
+        (Step::Text("hé"), Ok(()), "hé", 8),
+        (Step::Times(46, 6), Ok(()), "hé......", 16),
+        (Step::AsciiStart(33), Ok(()), "!hé......", 16),
+    ],
+    &[
+        (Step::Text("foo"), Ok(()), "foo", 8),
+        (Step::Char('b'), Ok(()), "foob", 8),
+        (Step::Text("ar"), Ok(()), "foobar", 8),
+        (Step::Ascii(b'!'), Ok(()), "foobar!", 8),
+    ],
+    &[
+        (Step::Text("hello"), Ok(()), "hello", 8),
+        (Step::Times(b'!', 3), Ok(()), "hello!!!", 8),
+    ],
+    &[
+        (Step::Text(""), Ok(()), "", 0),
+        (Step::Times(b'!', 0), Ok(()), "", 0),
+        (Step::Room(0), Ok(()), "", 0),
+        (Step::Start(b'c'), Ok(()), "c", 8),
+        (Step::Bytes(b"defghi"), Ok(()), "cdefghi", 8),
+        (Step::AsciiStart(b'b'), Ok(()), "bcdefghi", 8),
+        (Step::Start(b'a'), Ok(()), "abcdefghi", 16),
+        (Step::End(b'j'), Ok(()), "abcdefghij", 16),
+    ],
+    &[
+        (Step::Room(3), Ok(()), "", 8),
+        (Step::Text("ab"), Ok(()), "ab", 8),
+        (Step::Bytes(b"ab"), Ok(()), "abab", 8),
+        (Step::End(b'a'), Ok(()), "ababa", 8),
+        (Step::Char('b'), Ok(()), "ababab", 8),
+        (Step::Room(2), Ok(()), "ababab", 8),
+        (Step::Room(3), Ok(()), "ababab", 16),
+        (Step::Room(20), Ok(()), "ababab", 36),
+    ],
+];
+
+// After room for so many bytes was made, and for so many more, the capacity is this.
+const CAPACITIES: [(u64, u64, u64); 12] = [
+    (0, 0, 0),
+    (0, 1, 8),
+    (0, 8, 8),
+    (0, 9, 9),
+    (0, 100, 100),
+    (1, 1, 1),
+    (1, 2, 9),
+    (3, 8, 11),
+    (8, 9, 17),
+    (9, 10, 19),
+    (100, 101, 201),
+    (100, 50, 100),
+];
+
+const OVERFLOWS: AllocError = AllocError::CapacityOverflow;
+
+const NO_PLACE: AllocError = AllocError::AllocErr { refused: 0 };
+
+// As many more as there is no room for, behind three bytes.
+const NO_MORE: [(u64, AllocError); 4] = [
+    ((1 << 63) - 3, OVERFLOWS),
+    (u64::MAX, OVERFLOWS),
+    ((1 << 63) - 4, NO_PLACE),
+    (1 << 21, AllocError::AllocErr { refused: 1 }),
+];
+
+// Each call that may grow a text.
+const GROWING: [Step; 10] = [
+    Step::Bytes(b"x"),
+    Step::Text("x"),
+    Step::End(b'x'),
+    Step::Ascii(b'x'),
+    Step::Start(b'x'),
+    Step::AsciiStart(b'x'),
+    Step::Times(b'x', 1),
+    Step::Char('x'),
+    Step::Char('é'),
+    Step::Room(1),
+];
+
+#[test]
+fn built(rt: HostRuntime) {
+    for rows in BUILT {
+        let _ = runs(&rt, &mut ample(rt.alloc()), Make::Empty, rows);
+    }
+    let mut a = ample(rt.alloc());
+    for (room, more, cap) in CAPACITIES {
+        let rows = [
+            (Step::Room(0), Ok(()), "", room),
+            (Step::Room(more), Ok(()), "", cap),
+        ];
+        let _ = runs(&rt, &mut a, Make::Room(room), &rows);
+    }
+    for (n, why) in NO_MORE {
+        let rows = [Step::Room(n), Step::Times(b'x', n)].map(|step| (step, Err(why), "abc", 3));
+        let _ = runs(&rt, &mut a, Make::Text("abc"), &rows);
+    }
+    for step in GROWING {
+        let mut a = small(&rt, rt.alloc(), 16);
+        let row = (step, Err(NO_PLACE), "123456789", 9);
+        let _ = runs(&rt, &mut a, Make::Text("123456789"), &[row, row]);
+        assert_eq!(rt; (a.used_bytes(), a.get_allocation_stats()), (9, (1, 0)));
     }
 }
 
+// Rooms that there are none of, and what is answered.
+const REFUSED: [(u64, AllocError); 4] = [
+    (1 << 63, OVERFLOWS),
+    (u64::MAX, OVERFLOWS),
+    ((1 << 63) - 1, NO_PLACE),
+    (1 << 21, AllocError::AllocErr { refused: 1 }),
+];
+
 #[test]
-fn put_together(rt: HostRuntime) {
-    let rows: [&[(Step, &str, u64)]; 5] = [
-        &[
-            (Step::Text("hé"), "hé", 8),
-            (Step::Times(46, 6), "hé......", 16),
-            (Step::AsciiStart(33), "!hé......", 16),
-        ],
-        &[
-            (Step::Text("foo"), "foo", 8),
-            (Step::Char('b'), "foob", 8),
-            (Step::Text("ar"), "foobar", 8),
-            (Step::Ascii(b'!'), "foobar!", 8),
-        ],
-        &[
-            (Step::Text("hello"), "hello", 8),
-            (Step::Times(b'!', 3), "hello!!!", 8),
-        ],
-        &[
-            (Step::Text(""), "", 0),
-            (Step::Times(b'!', 0), "", 0),
-            (Step::Room(0), "", 0),
-            (Step::Start(b'c'), "c", 8),
-            (Step::Bytes(b"defghi"), "cdefghi", 8),
-            (Step::AsciiStart(b'b'), "bcdefghi", 8),
-            (Step::Start(b'a'), "abcdefghi", 16),
-            (Step::End(b'j'), "abcdefghij", 16),
-        ],
-        &[
-            (Step::Room(3), "", 8),
-            (Step::Text("ab"), "ab", 8),
-            (Step::Bytes(b"ab"), "abab", 8),
-            (Step::End(b'a'), "ababa", 8),
-            (Step::Char('b'), "ababab", 8),
-            (Step::Room(2), "ababab", 8),
-            (Step::Room(3), "ababab", 16),
-            (Step::Room(20), "ababab", 36),
-        ],
-    ];
-    for steps in rows {
-        builds(&rt, rt.alloc(), steps);
+fn not_made(rt: HostRuntime) {
+    let mut a = ample(rt.alloc());
+    for (room, why) in REFUSED {
+        let made = text_of(&mut a, Make::Room(room));
+        assert_eq!(rt; made.err(), Some(why), "room for {room}");
     }
+    // Nine bytes leave a place for seven more, and for no eight.
+    let mut a = small(&rt, rt.alloc(), 16);
+    let text = text_of(&mut a, Make::Text("123456789")).expect(&rt, "room");
+    for how in [
+        Make::Room(8),
+        Make::Text("12345678"),
+        Make::Texts("1234", "5678"),
+    ] {
+        let made = text_of(&mut a, how);
+        assert_eq!(rt; made.err(), Some(NO_PLACE));
+        has(&rt, &a, text, b"123456789", 9);
+    }
+    let last = text_of(&mut a, Make::Texts("123", "4567")).expect(&rt, "room");
+    has(&rt, &a, last, b"1234567", 7);
+    assert_eq!(rt; (a.used_bytes(), a.get_allocation_stats()), (16, (2, 0)));
 }
 
 // Two-, three- and four-byte characters, the ends of their ranges, and those of one byte.
@@ -231,7 +309,7 @@ fn between(rt: &impl Abort, alloc: Global, c: char, utf8: &[u8], before: usize) 
     ] {
         take(rt, &mut a, &mut text, step).expect(rt, "room");
     }
-    let text = held(rt, &a, text);
+    assert!(rt; text.is_held(&a));
     let bytes = text.as_bytes(&a);
     assert!(rt; utf8.len() <= 4);
     assert_eq!(rt; bytes.len(), 9 + utf8.len());
@@ -252,163 +330,49 @@ fn characters(rt: HostRuntime) {
     }
 }
 
-// After room for so many bytes was made, and for so many more, the capacity is this.
-const CAPACITIES: [(u64, u64, u64); 12] = [
-    (0, 0, 0),
-    (0, 1, 8),
-    (0, 8, 8),
-    (0, 9, 9),
-    (0, 100, 100),
-    (1, 1, 1),
-    (1, 2, 9),
-    (3, 8, 11),
-    (8, 9, 17),
-    (9, 10, 19),
-    (100, 101, 201),
-    (100, 50, 100),
+// Two texts, and whether they are equal.
+const COMPARED: [(&str, &str, bool); 7] = [
+    ("héllo", "héllo", true),
+    ("héllo", "héll", false),
+    ("héllo", "hallo", false),
+    ("héllo", "", false),
+    ("", "", true),
+    ("€", "€", true),
+    ("a", "b", false),
 ];
-
-#[test]
-fn capacities(rt: HostRuntime) {
-    let mut a = ample(rt.alloc());
-    for (room, more, cap) in CAPACITIES {
-        let mut text = text_of(&mut a, Make::Room(room)).expect(&rt, "room");
-        has(&rt, &a, text, b"", room);
-        take(&rt, &mut a, &mut text, Step::Room(more)).expect(&rt, "room");
-        has(&rt, &a, text, b"", cap);
-    }
-}
-
-const OVERFLOWS: AllocError = AllocError::CapacityOverflow;
-
-// Rooms that there are none of, and what is answered.
-const REFUSED: [(u64, AllocError); 4] = [
-    (1 << 63, OVERFLOWS),
-    (u64::MAX, OVERFLOWS),
-    ((1 << 63) - 1, AllocError::AllocErr { refused: 0 }),
-    (1 << 21, AllocError::AllocErr { refused: 1 }),
-];
-
-// As many more as there is no room for, behind three bytes.
-const NO_MORE: [(u64, AllocError); 4] = [
-    ((1 << 63) - 3, OVERFLOWS),
-    (u64::MAX, OVERFLOWS),
-    ((1 << 63) - 4, AllocError::AllocErr { refused: 0 }),
-    (1 << 21, AllocError::AllocErr { refused: 1 }),
-];
-
-#[test]
-fn refused(rt: HostRuntime) {
-    let mut a = ample(rt.alloc());
-    for (room, wanted) in REFUSED {
-        let made = text_of(&mut a, Make::Room(room));
-        assert_eq!(rt; made.err(), Some(wanted), "room for {room}");
-    }
-    let mut text = text_of(&mut a, Make::Text("abc")).expect(&rt, "room");
-    for (n, wanted) in NO_MORE {
-        for step in [Step::Room(n), Step::Times(b'x', n)] {
-            let taken = take(&rt, &mut a, &mut text, step);
-            assert_eq!(rt; taken, Err(wanted), "{n} more");
-            has(&rt, &a, text, b"abc", 3);
-        }
-    }
-}
-
-// An allocator over a region, where 16 bytes have a place.
-fn small(rt: &impl Abort, alloc: Global) -> Allocator<MemoryChunks> {
-    let region = Region::from_slice(alloc, &[7; 64]).expect(rt, "memory");
-    let chunks = MemoryChunks::new(alloc, 0);
-    let made = Allocator::from_raw_parts(alloc, region, chunks);
-    made.ok().expect(rt, "an arena")
-}
-
-// Each call that may grow a text.
-const GROWING: [Step; 10] = [
-    Step::Bytes(b"x"),
-    Step::Text("x"),
-    Step::End(b'x'),
-    Step::Ascii(b'x'),
-    Step::Start(b'x'),
-    Step::AsciiStart(b'x'),
-    Step::Times(b'x', 1),
-    Step::Char('x'),
-    Step::Char('é'),
-    Step::Room(1),
-];
-
-#[test]
-fn no_place_is_left(rt: HostRuntime) {
-    for step in GROWING {
-        let mut a = small(&rt, rt.alloc());
-        let mut text = text_of(&mut a, Make::Text("123456789")).expect(&rt, "room");
-        for _ in 0..2 {
-            let taken = take(&rt, &mut a, &mut text, step);
-            assert_eq!(rt; taken, Err(AllocError::AllocErr { refused: 0 }));
-            has(&rt, &a, text, b"123456789", 9);
-            assert_eq!(rt; (a.used_bytes(), a.get_allocation_stats()), (9, (1, 0)));
-        }
-    }
-}
-
-#[test]
-fn no_place_for_another(rt: HostRuntime) {
-    let mut a = small(&rt, rt.alloc());
-    let text = text_of(&mut a, Make::Text("123456789")).expect(&rt, "room");
-    for how in [
-        Make::Room(8),
-        Make::Text("12345678"),
-        Make::Texts("1234", "5678"),
-    ] {
-        let made = text_of(&mut a, how);
-        assert_eq!(rt; made.err(), Some(AllocError::AllocErr { refused: 0 }));
-        has(&rt, &a, text, b"123456789", 9);
-    }
-    let last = text_of(&mut a, Make::Texts("123", "4567")).expect(&rt, "room");
-    has(&rt, &a, last, b"1234567", 7);
-    assert_eq!(rt; (a.used_bytes(), a.get_allocation_stats()), (16, (2, 0)));
-}
-
-// Two texts are equal, as builders and as texts, exactly where it is said. The second has room to spare.
-fn compares(rt: &impl Abort, alloc: Global, one: &'static str, other: &'static str, equal: bool) {
-    let mut a = ample(alloc);
-    let first = text_of(&mut a, Make::Text(one)).expect(rt, "room");
-    let mut second = text_of(&mut a, Make::Room(20)).expect(rt, "room");
-    take(rt, &mut a, &mut second, Step::Text(other)).expect(rt, "room");
-    let first = held(rt, &a, first);
-    let second = held(rt, &a, second);
-    assert_eq!(rt;
-        (first.eq(&a, &second), first.eq_str(&a, other)),
-        (equal, equal)
-    );
-}
-
-#[test]
-fn comparisons(rt: HostRuntime) {
-    for (one, other, equal) in [
-        ("héllo", "héllo", true),
-        ("héllo", "héll", false),
-        ("héllo", "hallo", false),
-        ("héllo", "", false),
-        ("", "", true),
-        ("€", "€", true),
-        ("a", "b", false),
-    ] {
-        compares(&rt, rt.alloc(), one, other, equal);
-    }
-}
 
 #[test]
 fn read(rt: HostRuntime) {
     let mut a = ample(rt.alloc());
-    let text = text_of(&mut a, Make::Text("héllo")).expect(&rt, "room");
-    let text = held(&rt, &a, text);
-    is_utf8(&rt, &a, text);
+    for (one, other, equal) in COMPARED {
+        let first = text_of(&mut a, Make::Text(one)).expect(&rt, "room");
+        // The second has room to spare.
+        let mut second = text_of(&mut a, Make::Room(20)).expect(&rt, "room");
+        take(&rt, &mut a, &mut second, Step::Text(other)).expect(&rt, "room");
+        assert!(rt; first.is_held(&a) && second.is_held(&a));
+        assert_eq!(rt;
+            (first.eq(&a, &second), first.eq_str(&a, other)),
+            (equal, equal)
+        );
+    }
+    let mut text = text_of(&mut a, Make::Text("héllo")).expect(&rt, "room");
+    assert!(rt; text.is_held(&a) && str::from_utf8(text.as_bytes(&a)).is_ok());
     assert_eq!(rt; text.as_str(&a), "héllo");
     let whole = text.into_str();
     assert_eq!(rt; (whole.block.addr, whole.block.size), (text.block.addr, 6));
     assert_eq!(rt; text.own_block(), text.block);
-    let mut text = held(&rt, &a, text);
     assert!(rt; text.len() == 6);
     text.set_byte(&mut a, 5, b'\'');
     has(&rt, &a, text, "héll'".as_bytes(), 6);
+    // No handle of another block, alignment, room or length is held.
+    for other in [
+        StringBuilder { len: 7, ..text },
+        StringBuilder { cap: 7, ..text },
+        StringBuilder { cap: 5, ..text },
+        StringBuilder::new_in(),
+    ] {
+        assert_eq!(rt; other.is_held(&a), other.cap == 0);
+    }
+    a.reset();
+    assert!(rt; !text.is_held(&a));
 }

@@ -1,7 +1,8 @@
-// How vectors compare, their hashes and their texts.
+// How vectors compare, their hashes and their texts, and what errors say.
 use super::ample;
 use super::vectors::vec_of;
 use arena_items::Item;
+use arena_vec::AllocError;
 use std::alloc::Global;
 use std::cmp::Ordering;
 use std::fmt::Debug;
@@ -33,16 +34,12 @@ const ORDERS: [(&[u8], u32, Ordering); 9] = [
     (&[], 0, Ordering::Equal),
 ];
 
+// The hash is that of the slice.
 #[test]
-fn orders(rt: HostRuntime) {
+fn orders_and_hashes(rt: HostRuntime) {
     for (values, at, order) in ORDERS {
         assert_eq!(rt; compared(&rt, rt.alloc(), values, at), order);
     }
-}
-
-// The hash is that of the slice.
-#[test]
-fn hashes(rt: HostRuntime) {
     let rows: [&[u32]; 3] = [&[1, 2], &[2, 1], &[]];
     for list in rows {
         let mut a = ample(rt.alloc());
@@ -63,10 +60,23 @@ fn says<T: Item + Debug>(rt: &impl Abort, alloc: Global, list: &[T], wanted: &st
     assert_eq!(rt; text.as_str(), wanted);
 }
 
+const ERRORS: [(AllocError, &str); 3] = [
+    (
+        AllocError::AllocErr { refused: 2 },
+        "memory allocation failed",
+    ),
+    (AllocError::CapacityOverflow, "capacity overflow"),
+    (AllocError::OutOfMemory, "out of memory"),
+];
+
 #[test]
 fn texts(rt: HostRuntime) {
     says(&rt, rt.alloc(), &[1u32, 2], "Vec([1, 2])");
     says(&rt, rt.alloc(), &['x'], "Vec(['x'])");
     says(&rt, rt.alloc(), &[Some(1u8), None], "Vec([Some(1), None])");
     says::<u32>(&rt, rt.alloc(), &[], "Vec([])");
+    for (error, text) in ERRORS {
+        let said = format!(in rt.alloc(); "{error}").expect(&rt, "a text");
+        assert_eq!(rt; said.as_str(), text);
+    }
 }

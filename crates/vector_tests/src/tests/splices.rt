@@ -60,19 +60,6 @@ const IN_THE_MIDST: [(Hints, &[u32], u32, u64); 11] = [
     (Hints::AtLeast(5, 3), &[1, 7, 8, 9, 4], 9, 36),
 ];
 
-#[test]
-fn in_the_midst(rt: HostRuntime) {
-    for (n, row) in IN_THE_MIDST.iter().enumerate() {
-        let (hints, list, cap, used) = *row;
-        let mut a = ample(rt.alloc());
-        let mut vec = vec_of(&rt, &mut a, FOUR);
-        let (ends, answer) = splice(&rt, &mut a, &mut vec, (1, 3), hints);
-        assert_eq!(rt; (ends, answer), ((Some(2), Some(3)), Ok(())), "row {n}");
-        assert!(rt; holds(&rt, &a, vec, list), "row {n}");
-        assert_eq!(rt; (vec.capacity(), a.used_bytes()), (cap, used), "row {n}");
-    }
-}
-
 // The range, what is told, the values at its ends, the list then, and its capacity.
 const OF_RANGES: [((u32, u32), Hints, (Option<u32>, Option<u32>), &[u32], u32); 10] = [
     (
@@ -126,6 +113,15 @@ const OF_RANGES: [((u32, u32), Hints, (Option<u32>, Option<u32>), &[u32], u32); 
 
 #[test]
 fn of_ranges(rt: HostRuntime) {
+    for (n, row) in IN_THE_MIDST.iter().enumerate() {
+        let (hints, list, cap, used) = *row;
+        let mut a = ample(rt.alloc());
+        let mut vec = vec_of(&rt, &mut a, FOUR);
+        let (ends, answer) = splice(&rt, &mut a, &mut vec, (1, 3), hints);
+        assert_eq!(rt; (ends, answer), ((Some(2), Some(3)), Ok(())), "row {n}");
+        assert!(rt; holds(&rt, &a, vec, list), "row {n}");
+        assert_eq!(rt; (vec.capacity(), a.used_bytes()), (cap, used), "row {n}");
+    }
     for (n, row) in OF_RANGES.iter().enumerate() {
         let (range, hints, wanted, list, cap) = *row;
         let mut a = ample(rt.alloc());
@@ -135,6 +131,13 @@ fn of_ranges(rt: HostRuntime) {
         assert!(rt; holds(&rt, &a, vec, list), "row {n}");
         assert_eq!(rt; vec.capacity(), cap, "row {n}");
     }
+    let mut a = ample(rt.alloc());
+    let mut vec = vec_of(&rt, &mut a, &[(), (), ()]);
+    assert!(rt; vec.len() == 3);
+    let mut gone = vec.splice(&mut a, 0, 1, [(), (), ()].into_iter());
+    assert_eq!(rt; (gone.next(), gone.next()), (Some(()), None));
+    assert!(rt; gone.finish().is_ok());
+    assert_eq!(rt; vec.len(), 5);
 }
 
 // How many bytes there are, the range, what is told, the list then, and how many bytes are used.
@@ -165,15 +168,4 @@ fn refused(rt: HostRuntime) {
         assert!(rt; holds(&rt, &a, vec, list), "row {n}");
         assert_eq!(rt; a.used_bytes(), used, "row {n}");
     }
-}
-
-#[test]
-fn units(rt: HostRuntime) {
-    let mut a = ample(rt.alloc());
-    let mut vec = vec_of(&rt, &mut a, &[(), (), ()]);
-    assert!(rt; vec.len() == 3);
-    let mut gone = vec.splice(&mut a, 0, 1, [(), (), ()].into_iter());
-    assert_eq!(rt; (gone.next(), gone.next()), (Some(()), None));
-    assert!(rt; gone.finish().is_ok());
-    assert_eq!(rt; vec.len(), 5);
 }

@@ -28,12 +28,6 @@ const IN_FULL_ONES: [Row<'static, u32>; 11] = [
     (Call::PushFast(6), Answer::Done, &[1, 2, 3, 4, 5, 6], 10),
 ];
 
-#[test]
-fn values_at_the_end(rt: HostRuntime) {
-    from(&rt, rt.alloc(), &[1, 2], &AT_THE_END);
-    from(&rt, rt.alloc(), &[], &IN_FULL_ONES);
-}
-
 const AS_A_STACK: [Row<'static, u32>; 13] = [
     (Call::Pop, Answer::None, &[], 0),
     (Call::Push(1), Answer::Done, &[1], 1),
@@ -49,11 +43,6 @@ const AS_A_STACK: [Row<'static, u32>; 13] = [
     (Call::ShrinkToFit, Answer::Done, &[], 0),
     (Call::Push(5), Answer::Done, &[5], 1),
 ];
-
-#[test]
-fn as_a_stack(rt: HostRuntime) {
-    from(&rt, rt.alloc(), &[], &AS_A_STACK);
-}
 
 const IN_THE_MIDST: [Row<'static, u32>; 9] = [
     (Call::Insert(1, 4), Answer::Done, &[1, 4, 2, 3], 6),
@@ -75,12 +64,6 @@ const SWAPPED: [Row<'static, char>; 5] = [
     (Call::Insert(0, 'é'), Answer::Done, &['é'], 4),
 ];
 
-#[test]
-fn values_in_the_midst(rt: HostRuntime) {
-    from(&rt, rt.alloc(), &[1, 2, 3], &IN_THE_MIDST);
-    from(&rt, rt.alloc(), &['f', 'r', 'z', 'q'], &SWAPPED);
-}
-
 const FEWER: [Row<'static, u32>; 9] = [
     (Call::Truncate(8), Answer::Done, &[1, 2, 3, 4, 5], 5),
     (Call::Truncate(5), Answer::Done, &[1, 2, 3, 4, 5], 5),
@@ -92,11 +75,6 @@ const FEWER: [Row<'static, u32>; 9] = [
     (Call::Truncate(0), Answer::Done, &[], 2),
     (Call::Resize(0, 9), Answer::Done, &[], 2),
 ];
-
-#[test]
-fn fewer_values(rt: HostRuntime) {
-    from(&rt, rt.alloc(), &[1, 2, 3, 4, 5], &FEWER);
-}
 
 const MANY: [Row<'static, u32>; 10] = [
     (Call::Extend(&[2, 3, 4]), Answer::Done, &[1, 2, 3, 4], 4),
@@ -139,12 +117,6 @@ const MANY_BYTES: [Row<'static, u8>; 5] = [
     (Call::Resize(3, b'w'), Answer::Done, b"Hww", 13),
 ];
 
-#[test]
-fn many_values(rt: HostRuntime) {
-    from(&rt, rt.alloc(), &[1], &MANY);
-    from(&rt, rt.alloc(), b"H", &MANY_BYTES);
-}
-
 // Each on a vector of one value.
 const ROOM: [Row<'static, u32>; 7] = [
     (Call::Reserve(10), Answer::Done, &[1], 11),
@@ -179,14 +151,6 @@ const ROOM_AGAIN: [Row<'static, u32>; 9] = [
     ),
 ];
 
-#[test]
-fn room(rt: HostRuntime) {
-    for row in ROOM {
-        from(&rt, rt.alloc(), &[1], &[row]);
-    }
-    from(&rt, rt.alloc(), &[1, 2, 3], &ROOM_AGAIN);
-}
-
 const NUMBERS: &[u32] = &[1, 2, 3];
 
 const NO: Answer<u32> = Answer::Overflows;
@@ -212,8 +176,31 @@ const TOO_MANY_BYTES: [Row<'static, u8>; 3] = [
     (Call::Reserve((1 << 32) - 4), Answer::Refused(1), b"abc", 3),
 ];
 
+// A list, and the calls on a vector of it.
+const ON_NUMBERS: [(&[u32], &[Row<'static, u32>]); 8] = [
+    (&[1, 2], &AT_THE_END),
+    (&[], &IN_FULL_ONES),
+    (&[], &AS_A_STACK),
+    (NUMBERS, &IN_THE_MIDST),
+    (&[1, 2, 3, 4, 5], &FEWER),
+    (&[1], &MANY),
+    (NUMBERS, &ROOM_AGAIN),
+    (NUMBERS, &TOO_MANY),
+];
+
 #[test]
-fn more_than_fits(rt: HostRuntime) {
-    from(&rt, rt.alloc(), NUMBERS, &TOO_MANY);
+fn on_numbers(rt: HostRuntime) {
+    for (list, rows) in ON_NUMBERS {
+        from(&rt, rt.alloc(), list, rows);
+    }
+    for row in ROOM {
+        from(&rt, rt.alloc(), &[1], &[row]);
+    }
+}
+
+#[test]
+fn on_bytes_and_characters(rt: HostRuntime) {
+    from(&rt, rt.alloc(), b"H", &MANY_BYTES);
     from(&rt, rt.alloc(), b"abc", &TOO_MANY_BYTES);
+    from(&rt, rt.alloc(), &['f', 'r', 'z', 'q'], &SWAPPED);
 }

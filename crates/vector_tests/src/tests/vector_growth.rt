@@ -102,6 +102,19 @@ const MOST_OF_A_CHUNK: [Row<'static, u32>; 2] = [
     ("into the next", Call::Extend(&[8, 9]), 21168, 48000, (1, 1)),
 ];
 
+// Values of an older chunk are put behind those in the newest, and the other way round.
+const BETWEEN_CHUNKS: [two_vectors::Row<'static>; 4] = [
+    (Pair::SplitOff(1), Answer::Done, (&[1], 3), (&[2, 3], 2)),
+    (Pair::Append, Answer::Done, (&[1, 2, 3], 3), (&[], 2)),
+    (
+        Pair::Second(Call::Push(9)),
+        Answer::Done,
+        (&[1, 2, 3], 3),
+        (&[9], 2),
+    ),
+    (Pair::AppendBack, Answer::Done, (&[], 3), (&[9, 1, 2, 3], 4)),
+];
+
 #[test]
 fn past_the_end_of_a_chunk(rt: HostRuntime) {
     let mut a = ample(rt.alloc());
@@ -117,23 +130,6 @@ fn past_the_end_of_a_chunk(rt: HostRuntime) {
     let mut vec = <Vec<u32>>::new_in();
     moves(&rt, &mut a, &mut vec, &MOST_OF_A_CHUNK);
     assert_eq!(rt; vec.capacity(), 8000);
-}
-
-// Values of an older chunk are put behind those in the newest, and the other way round.
-const BETWEEN_CHUNKS: [two_vectors::Row<'static>; 4] = [
-    (Pair::SplitOff(1), Answer::Done, (&[1], 3), (&[2, 3], 2)),
-    (Pair::Append, Answer::Done, (&[1, 2, 3], 3), (&[], 2)),
-    (
-        Pair::Second(Call::Push(9)),
-        Answer::Done,
-        (&[1, 2, 3], 3),
-        (&[9], 2),
-    ),
-    (Pair::AppendBack, Answer::Done, (&[], 3), (&[9, 1, 2, 3], 4)),
-];
-
-#[test]
-fn between_chunks(rt: HostRuntime) {
     let mut a = ample(rt.alloc());
     let old = vec_of(&rt, &mut a, &[1, 2, 3]);
     a.alloc_slice_fill_copy(16320, 0u8).expect(&rt, "a slice");

@@ -25,22 +25,6 @@ fn number<C: ChunkSource>(rt: &impl Abort, a: &Allocator<C>, boxes: Vec<Box<u32>
     found.get(a)
 }
 
-#[test]
-fn vectors_of_boxes(rt: HostRuntime) {
-    let mut a = ample(rt.alloc());
-    let one = a.alloc(1u32).expect(&rt, "a box");
-    let two = a.alloc(2u32).expect(&rt, "a box");
-    let mut boxes = vec_of(&rt, &mut a, &[one, two]);
-    boxes.push(&mut a, one).expect(&rt, "room");
-    // The first is the last, too.
-    of_number(&rt, &a, one.block);
-    one.set(&mut a, 9);
-    for (i, wanted) in [(0, 9), (1, 2), (2, 9)] {
-        assert_eq!(rt; number(&rt, &a, boxes, i), wanted);
-    }
-    assert_eq!(rt; (boxes.capacity(), boxes.as_ptr().size), (4, 128));
-}
-
 // The numbers of the vector at an index, and for how many there is room.
 fn numbers<C: ChunkSource>(
     rt: &impl Abort,
@@ -56,9 +40,21 @@ fn numbers<C: ChunkSource>(
     assert!(rt; holds(rt, a, inner, list) && inner.capacity() == cap);
 }
 
-// The handle in the outer vector isn't brought up to date.
 #[test]
-fn vectors_of_vectors(rt: HostRuntime) {
+fn vectors_of_handles(rt: HostRuntime) {
+    let mut a = ample(rt.alloc());
+    let one = a.alloc(1u32).expect(&rt, "a box");
+    let two = a.alloc(2u32).expect(&rt, "a box");
+    let mut boxes = vec_of(&rt, &mut a, &[one, two]);
+    boxes.push(&mut a, one).expect(&rt, "room");
+    // The first is the last, too.
+    of_number(&rt, &a, one.block);
+    one.set(&mut a, 9);
+    for (i, wanted) in [(0, 9), (1, 2), (2, 9)] {
+        assert_eq!(rt; number(&rt, &a, boxes, i), wanted);
+    }
+    assert_eq!(rt; (boxes.capacity(), boxes.as_ptr().size), (4, 128));
+    // The handle in the outer vector isn't brought up to date.
     let mut a = ample(rt.alloc());
     let mut inner = vec_of(&rt, &mut a, &[1u16, 2]);
     let mut outer = vec_of(&rt, &mut a, &[inner, Vec::new_in()]);

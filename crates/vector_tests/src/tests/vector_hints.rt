@@ -22,22 +22,6 @@ const NEW_VECTORS: [(Hints, &[u32], u32); 10] = [
     (Hints::AtLeast(MANY, 3), &[1, 2, 3], 4),
 ];
 
-#[test]
-fn new_vectors(rt: HostRuntime) {
-    for (n, row) in NEW_VECTORS.iter().enumerate() {
-        let (hints, list, cap) = *row;
-        let mut a = ample(rt.alloc());
-        let mut taken = 0;
-        let vec = Vec::from_iter_in(hints.counting(&mut taken), &mut a).expect(&rt, "room");
-        assert!(rt; holds(&rt, &a, vec, list), "row {n}");
-        assert_eq!(rt;
-            (vec.capacity(), taken),
-            (cap, list.len() as u64),
-            "row {n}"
-        );
-    }
-}
-
 // The list, for how many more it has room, what is told, the list then, and its capacity.
 const BEHIND_A_LIST: [(&[u32], u64, Hints, &[u32], u32); 12] = [
     // A full vector makes room for all that are told to follow, or for twice as many.
@@ -60,7 +44,19 @@ const BEHIND_A_LIST: [(&[u32], u64, Hints, &[u32], u32); 12] = [
 ];
 
 #[test]
-fn behind_a_list(rt: HostRuntime) {
+fn as_told(rt: HostRuntime) {
+    for (n, row) in NEW_VECTORS.iter().enumerate() {
+        let (hints, list, cap) = *row;
+        let mut a = ample(rt.alloc());
+        let mut taken = 0;
+        let vec = Vec::from_iter_in(hints.counting(&mut taken), &mut a).expect(&rt, "room");
+        assert!(rt; holds(&rt, &a, vec, list), "row {n}");
+        assert_eq!(rt;
+            (vec.capacity(), taken),
+            (cap, list.len() as u64),
+            "row {n}"
+        );
+    }
     for (n, row) in BEHIND_A_LIST.iter().enumerate() {
         let (list, room, hints, wanted, cap) = *row;
         let mut a = ample(rt.alloc());

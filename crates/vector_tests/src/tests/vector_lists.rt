@@ -3,7 +3,7 @@ use super::ample;
 use super::numbers::Hints;
 use super::two_vectors::{Pair, Row, both};
 use super::vector_refusals::fixed;
-use super::vectors::{Answer, Call, holds, vec_of};
+use super::vectors::{Answer, Call, holds};
 use arena_chunks::{Allocator, MemoryChunks};
 use arena_vec::{AllocError, Grown, Vec};
 
@@ -17,6 +17,8 @@ enum New {
     Five([u32; 5]),
     None([u32; 0]),
     Items(Hints),
+    // Items, with room for so many at first.
+    InRoom(u64, Hints),
 }
 
 fn make(a: &mut Allocator<MemoryChunks>, new: New, taken: &mut u64) -> Grown<Vec<u32>> {
@@ -27,11 +29,12 @@ fn make(a: &mut Allocator<MemoryChunks>, new: New, taken: &mut u64) -> Grown<Vec
         New::Five(values) => Vec::from_array_in(values, a),
         New::None(values) => Vec::from_array_in(values, a),
         New::Items(hints) => Vec::from_iter_in(hints.counting(taken), a),
+        New::InRoom(room, hints) => { Vec::from_iter_with_room_in(hints.counting(taken), room, a) }
     }
 }
 
 // The list, the capacity, and how many bytes are used.
-const NEW_VECTORS: [(New, &[u32], u32, u64); 8] = [
+const NEW_VECTORS: [(New, &[u32], u32, u64); 12] = [
     (New::Room(10), &[], 10, 40),
     (New::Room(0), &[], 0, 0),
     (New::Value(123), &[123], 1, 4),
@@ -40,6 +43,40 @@ const NEW_VECTORS: [(New, &[u32], u32, u64); 8] = [
     (New::Items(Hints::Exactly(3)), &[1, 2, 3], 3, 12),
     (New::Items(Hints::Exactly(0)), &[], 0, 0),
     (New::Items(Hints::AtLeast(0, 3)), &[1, 2, 3], 4, 16),
+    // Whatever is told, the room at first is what was asked for. Beyond it a vector grows.
+    (New::InRoom(3, Hints::Exactly(3)), &[1, 2, 3], 3, 12),
+    (
+        New::InRoom(3, Hints::AtMost(1_000_000, 3)),
+        &[1, 2, 3],
+        3,
+        12,
+    ),
+    (New::InRoom(7, Hints::AtLeast(0, 3)), &[1, 2, 3], 7, 28),
+    (New::InRoom(2, Hints::AtLeast(0, 3)), &[1, 2, 3], 4, 16),
+];
+
+// There is no place, and no chunk was asked for.
+const NO_PLACE: AllocError = AllocError::AllocErr { refused: 0 };
+
+// 16 bytes are there. How many items were taken, and how many bytes are used then.
+const REFUSED: [(New, AllocError, u64, u64); 10] = [
+    (New::Room(5), NO_PLACE, 0, 0),
+    (New::Five([1, 2, 3, 4, 5]), NO_PLACE, 0, 0),
+    // Nothing is taken where the first room is refused.
+    (New::Items(Hints::Exactly(5)), NO_PLACE, 0, 0),
+    (New::Items(Hints::AtMost((1 << 30) - 1, 3)), NO_PLACE, 0, 0),
+    // Four items have a place. The fifth was taken too, and the block of the others stays.
+    (New::Items(Hints::AtLeast(0, 9)), NO_PLACE, 5, 16),
+    (New::InRoom(5, Hints::Exactly(3)), NO_PLACE, 0, 0),
+    (New::InRoom(4, Hints::Exactly(5)), NO_PLACE, 5, 16),
+    (
+        New::InRoom(1 << 30, Hints::Exactly(3)),
+        AllocError::CapacityOverflow,
+        0,
+        0,
+    ),
+    (New::Room(1 << 30), AllocError::CapacityOverflow, 0, 0),
+    (New::Room(u64::MAX), AllocError::CapacityOverflow, 0, 0),
 ];
 
 #[test]
@@ -55,26 +92,6 @@ fn new_vectors(rt: HostRuntime) {
         assert_eq!(rt; (vec.capacity(), a.used_bytes()), (cap, used), "row {n}");
         assert_eq!(rt; vec.as_ptr().size, used, "row {n}");
     }
-}
-
-// There is no place, and no chunk was asked for.
-const NO_PLACE: AllocError = AllocError::AllocErr { refused: 0 };
-
-// 16 bytes are there. How many items were taken, and how many bytes are used then.
-const REFUSED: [(New, AllocError, u64, u64); 7] = [
-    (New::Room(5), NO_PLACE, 0, 0),
-    (New::Five([1, 2, 3, 4, 5]), NO_PLACE, 0, 0),
-    // Nothing is taken where the first room is refused.
-    (New::Items(Hints::Exactly(5)), NO_PLACE, 0, 0),
-    (New::Items(Hints::AtMost((1 << 30) - 1, 3)), NO_PLACE, 0, 0),
-    // Four items have a place. The fifth was taken too, and the block of the others stays.
-    (New::Items(Hints::AtLeast(0, 9)), NO_PLACE, 5, 16),
-    (New::Room(1 << 30), AllocError::CapacityOverflow, 0, 0),
-    (New::Room(u64::MAX), AllocError::CapacityOverflow, 0, 0),
-];
-
-#[test]
-fn refused(rt: HostRuntime) {
     for (n, row) in REFUSED.iter().enumerate() {
         let (new, wanted, items, used) = *row;
         let mut a = fixed(&rt, rt.alloc(), 16);
@@ -108,13 +125,6 @@ const SPLIT_AND_JOINED: [Row<'static>; 10] = [
     ),
 ];
 
-#[test]
-fn split_and_joined(rt: HostRuntime) {
-    let mut a = ample(rt.alloc());
-    let vec = vec_of(&rt, &mut a, &[1, 2, 3]);
-    both(&rt, &mut a, vec, &SPLIT_AND_JOINED);
-}
-
 const CUT_AND_GROWN: [Row<'static>; 4] = [
     (
         Pair::First(Call::Insert(1, 9)),
@@ -132,17 +142,25 @@ const CUT_AND_GROWN: [Row<'static>; 4] = [
     ),
 ];
 
-#[test]
-fn cut_and_grown(rt: HostRuntime) {
-    let mut a = ample(rt.alloc());
-    let vec = Vec::from_array_in([1u32, 2, 3], &mut a).expect(&rt, "room");
-    both(&rt, &mut a, vec, &CUT_AND_GROWN);
-}
+const ONE_AND_ANOTHER: [Row<'static>; 1] = [(
+    Pair::First(Call::Push(456)),
+    Answer::Done,
+    (&[123, 456], 2),
+    (&[], 0),
+)];
+
+// How the first of two vectors is made, and the calls on them.
+const TWO: [(New, &[Row<'static>]); 3] = [
+    (New::Three([1, 2, 3]), &SPLIT_AND_JOINED),
+    (New::Three([1, 2, 3]), &CUT_AND_GROWN),
+    (New::Value(123), &ONE_AND_ANOTHER),
+];
 
 #[test]
-fn one_and_another(rt: HostRuntime) {
-    let mut a = ample(rt.alloc());
-    let mut vec = Vec::from_value_in(123u32, &mut a).expect(&rt, "room");
-    vec.push(&mut a, 456).expect(&rt, "room");
-    assert!(rt; holds(&rt, &a, vec, &[123, 456]) && vec.capacity() == 2);
+fn split_and_joined(rt: HostRuntime) {
+    for (new, rows) in TWO {
+        let mut a = ample(rt.alloc());
+        let vec = make(&mut a, new, &mut 0).expect(&rt, "room");
+        both(&rt, &mut a, vec, rows);
+    }
 }

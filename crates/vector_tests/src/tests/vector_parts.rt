@@ -1,8 +1,8 @@
-// Vectors as slices and as blocks, and what errors say.
+// Vectors as slices and as blocks.
 use super::vectors::{holds, vec_of};
 use super::{ample, held};
 use arena_chunks::Block;
-use arena_vec::{AllocError, RawVec, Vec};
+use arena_vec::{RawVec, Vec};
 
 // A slice names the front of the vector's block.
 #[test]
@@ -41,11 +41,6 @@ fn of_raw_parts(rt: HostRuntime) {
     assert!(rt; holds(&rt, &a, front, &[4, 5]) && front.capacity() == 3);
     let units = <Vec<()>>::from_raw_parts_in(Block::empty(1), 2, 5);
     assert_eq!(rt; (units.len(), units.capacity()), (2, u32::MAX));
-}
-
-#[test]
-fn bytes_that_were_written(rt: HostRuntime) {
-    let mut a = ample(rt.alloc());
     let mut raw = <RawVec<u8>>::with_capacity_in(4, &mut a).expect(&rt, "room");
     let block = held(&rt, &a, raw.ptr());
     assert!(rt; block.size == 4);
@@ -54,20 +49,4 @@ fn bytes_that_were_written(rt: HostRuntime) {
     assert!(rt; holds(&rt, &a, Vec { raw }, b"rust"));
     raw.decrease_len(1);
     assert!(rt; holds(&rt, &a, Vec { raw }, b"rus"));
-}
-
-#[test]
-fn what_errors_say(rt: HostRuntime) {
-    let rows = [
-        (
-            AllocError::AllocErr { refused: 2 },
-            "memory allocation failed",
-        ),
-        (AllocError::CapacityOverflow, "capacity overflow"),
-        (AllocError::OutOfMemory, "out of memory"),
-    ];
-    for (error, text) in rows {
-        let said = format!(in rt.alloc(); "{error}").expect(&rt, "a text");
-        assert_eq!(rt; said.as_str(), text);
-    }
 }

@@ -4,7 +4,6 @@ use super::numbers::Hints;
 use super::two_vectors::{self, Pair, both};
 use super::vectors::{Answer, Call, Row, holds, runs, vec_of};
 use arena_chunks::{Allocator, MemoryChunks};
-use arena_region::Region;
 use arena_vec::{AllocError, Grown, Vec};
 use std::alloc::Global;
 use std::process::Abort;
@@ -15,7 +14,7 @@ pub(super) const NONE_REFUSED: Grown<()> = Err(AllocError::AllocErr { refused: 0
 // An allocator that has so many bytes and asks for no chunk.
 pub(super) fn fixed(rt: &impl Abort, alloc: Global, bytes: usize) -> Allocator<MemoryChunks> {
     assert!(rt; bytes <= 1024);
-    let region = Region::zeros(alloc, bytes + 48).expect(rt, "memory");
+    let region = vec![in alloc; 0u8; bytes + 48].expect(rt, "memory");
     let size = region.len();
     assert!(rt; size % 16 == 0 && size >= 48);
     let chunks = MemoryChunks::new(alloc, 1 << 20);
@@ -48,15 +47,6 @@ const ON_A_LIST: [Row<'static, u32>; 20] = [
     (Call::Push(5), Answer::Done, &[9, 1, 2, 5], 4),
 ];
 
-#[test]
-fn calls_on_a_list(rt: HostRuntime) {
-    let mut a = fixed(&rt, rt.alloc(), 16);
-    let mut vec = vec_of(&rt, &mut a, &[1u32, 2]);
-    runs(&rt, &mut a, &mut vec, &ON_A_LIST);
-    assert_eq!(rt; vec.as_ptr().addr, 4096);
-    has(&rt, "a full arena", &a, 16, (1, 1));
-}
-
 // No room even for the first value.
 const NO_BYTES: [Row<'static, u32>; 6] = [
     (Call::Push(1), NO, &[], 0),
@@ -66,13 +56,6 @@ const NO_BYTES: [Row<'static, u32>; 6] = [
     (Call::Reserve(0), Answer::Done, &[], 0),
     (Call::Resize(0, 1), Answer::Done, &[], 0),
 ];
-
-#[test]
-fn no_bytes_at_all(rt: HostRuntime) {
-    let mut a = fixed(&rt, rt.alloc(), 0);
-    let mut vec = Vec::new_in();
-    runs(&rt, &mut a, &mut vec, &NO_BYTES);
-}
 
 const TWO_LISTS: [two_vectors::Row<'static>; 6] = [
     (Pair::SplitOff(1), NO, (&[1, 2, 3], 3), (&[], 0)),
@@ -89,7 +72,15 @@ const TWO_LISTS: [two_vectors::Row<'static>; 6] = [
 ];
 
 #[test]
-fn two_lists(rt: HostRuntime) {
+fn calls_in_full_arenas(rt: HostRuntime) {
+    let mut a = fixed(&rt, rt.alloc(), 16);
+    let mut vec = vec_of(&rt, &mut a, &[1u32, 2]);
+    runs(&rt, &mut a, &mut vec, &ON_A_LIST);
+    assert_eq!(rt; vec.as_ptr().addr, 4096);
+    has(&rt, "a full arena", &a, 16, (1, 1));
+    let mut a = fixed(&rt, rt.alloc(), 0);
+    let mut vec = Vec::new_in();
+    runs(&rt, &mut a, &mut vec, &NO_BYTES);
     let mut a = fixed(&rt, rt.alloc(), 16);
     let vec = vec_of(&rt, &mut a, &[1, 2, 3]);
     both(&rt, &mut a, vec, &TWO_LISTS);

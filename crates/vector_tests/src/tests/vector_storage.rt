@@ -85,13 +85,6 @@ const CAPACITIES: [&[(Room, u32)]; 4] = [
     ],
 ];
 
-#[test]
-fn capacities(rt: HostRuntime) {
-    for rows in CAPACITIES {
-        runs(&rt, rt.alloc(), rows);
-    }
-}
-
 const TOO_MUCH: [Room; 5] = [
     Room::Reserve(0, 1 << 30),
     Room::TryReserve(0, 1 << 30),
@@ -101,7 +94,10 @@ const TOO_MUCH: [Room; 5] = [
 ];
 
 #[test]
-fn more_than_fits(rt: HostRuntime) {
+fn capacities(rt: HostRuntime) {
+    for rows in CAPACITIES {
+        runs(&rt, rt.alloc(), rows);
+    }
     for room in TOO_MUCH {
         let mut a = ample(rt.alloc());
         let mut raw = RawVec::new_in();
@@ -135,10 +131,7 @@ fn numbers_and_block(rt: HostRuntime) {
     has(&rt, "given back", &a, 0, (1, 0));
     let parts = <RawVec<u16>>::from_raw_parts_in(Block::empty(2), 0, 0);
     assert_eq!(rt; (parts.ptr(), parts.capacity_u32()), (Block::empty(2), 0));
-}
-
-#[test]
-fn units(rt: HostRuntime) {
+    // Units take no bytes.
     let parts = <RawVec<()>>::from_raw_parts_in(Block::empty(1), 4, 5);
     assert_eq!(rt; (parts.len_u32(), parts.capacity_u32()), (4, u32::MAX));
     let mut a = ample(rt.alloc());

@@ -35,14 +35,6 @@ const FLAGS: [Row<'static, bool>; 2] = [
     (Call::Remove(0), Answer::Value(true), &[false], 2),
 ];
 
-#[test]
-fn numbers(rt: HostRuntime) {
-    from(&rt, rt.alloc(), &[1], &WORDS);
-    from(&rt, rt.alloc(), &[u128::MAX], &DOUBLE_WORDS);
-    from(&rt, rt.alloc(), &[-1], &SIGNED);
-    from(&rt, rt.alloc(), &[true], &FLAGS);
-}
-
 const PAIRS: [Row<'static, (u8, u32)>; 4] = [
     (Call::Push((3, 4)), Answer::Done, &[(1, 2), (3, 4)], 2),
     (
@@ -87,27 +79,6 @@ const PAIRS_OF_OPTIONS: [Row<'static, (Option<u16>, bool)>; 2] = [
     ),
 ];
 
-#[test]
-fn pairs_and_options(rt: HostRuntime) {
-    from(&rt, rt.alloc(), &[(1, 2)], &PAIRS);
-    from(&rt, rt.alloc(), &[Some(5)], &OPTIONS);
-    from(&rt, rt.alloc(), &[(None, true)], &PAIRS_OF_OPTIONS);
-}
-
-#[test]
-fn handles(rt: HostRuntime) {
-    let (one, other) = (Block::empty(8), Block::empty(1));
-    from(
-        &rt,
-        rt.alloc(),
-        &[one],
-        &[
-            (Call::Push(other), Answer::Done, &[one, other], 2),
-            (Call::SwapRemove(0), Answer::Value(one), &[other], 2),
-        ],
-    );
-}
-
 // The values stand one after another as these bytes.
 fn written<T: Item>(rt: &impl Abort, alloc: Global, list: &[T], bytes: &[u8]) {
     assert!(rt; T::SIZE <= 48);
@@ -118,21 +89,36 @@ fn written<T: Item>(rt: &impl Abort, alloc: Global, list: &[T], bytes: &[u8]) {
 }
 
 #[test]
+fn of_each_kind(rt: HostRuntime) {
+    from(&rt, rt.alloc(), &[1], &WORDS);
+    from(&rt, rt.alloc(), &[u128::MAX], &DOUBLE_WORDS);
+    from(&rt, rt.alloc(), &[-1], &SIGNED);
+    from(&rt, rt.alloc(), &[true], &FLAGS);
+    from(&rt, rt.alloc(), &[(1, 2)], &PAIRS);
+    from(&rt, rt.alloc(), &[Some(5)], &OPTIONS);
+    from(&rt, rt.alloc(), &[(None, true)], &PAIRS_OF_OPTIONS);
+    from(&rt, rt.alloc(), &[], &UNITS);
+    let (one, other) = (Block::empty(8), Block::empty(1));
+    let handles = [
+        (
+            Call::Push(other),
+            Answer::Done,
+            &[one, other] as &[Block],
+            2,
+        ),
+        (Call::SwapRemove(0), Answer::Value(one), &[other], 2),
+    ];
+    from(&rt, rt.alloc(), &[one], &handles);
+}
+
+#[test]
 fn bytes_of_values(rt: HostRuntime) {
     written(&rt, rt.alloc(), &[123u32, 1], b"\x7b\0\0\0\x01\0\0\0");
     written(&rt, rt.alloc(), b"ab", b"ab");
-    written(
-        &rt,
-        rt.alloc(),
-        &[(1u8, 2u32), (3, 4)],
-        b"\x01\0\0\0\x02\0\0\0\x03\0\0\0\x04\0\0\0",
-    );
-    written(
-        &rt,
-        rt.alloc(),
-        &[None, Some(5u32)],
-        b"\0\0\0\0\0\0\0\0\x01\0\0\0\x05\0\0\0",
-    );
+    let pairs = b"\x01\0\0\0\x02\0\0\0\x03\0\0\0\x04\0\0\0";
+    written(&rt, rt.alloc(), &[(1u8, 2u32), (3, 4)], pairs);
+    let options = b"\0\0\0\0\0\0\0\0\x01\0\0\0\x05\0\0\0";
+    written(&rt, rt.alloc(), &[None, Some(5u32)], options);
     written(&rt, rt.alloc(), &['é'], b"\xe9\0\0\0");
     written(&rt, rt.alloc(), &[(), ()], b"");
     written::<u64>(&rt, rt.alloc(), &[], b"");
@@ -167,11 +153,6 @@ const UNITS: [Row<'static, ()>; 15] = [
     (Call::Remove(0), Answer::Value(()), &[(); 13], ALL),
     (Call::Clear, Answer::Done, &[], ALL),
 ];
-
-#[test]
-fn units(rt: HostRuntime) {
-    from(&rt, rt.alloc(), &[], &UNITS);
-}
 
 // No block is placed, and the last place is taken.
 #[test]

@@ -84,11 +84,7 @@ fn ranges(rt: HostRuntime) {
     for (range, ends, list) in RANGES {
         cut(&rt, rt.alloc(), range, ends, list);
     }
-}
-
-// However much of a range was taken, it goes as a whole; and if it isn't finished, nothing goes.
-#[test]
-fn parts_of_ranges(rt: HostRuntime) {
+    // However much of a range was taken, it goes as a whole; and if it isn't finished, nothing goes.
     let mut a = ample(rt.alloc());
     let mut vec = Vec::from_iter_in([1u32, 2, 3, 4, 5].into_iter(), &mut a).expect(&rt, "room");
     assert!(rt; vec.len() == 5);
@@ -136,23 +132,6 @@ const THAT_GO: [(Test, (Option<u32>, Option<u32>), usize, &[u32]); 6] = [
     (Test::ThenMoreThan(12), (Some(13), Some(14)), 1, &[11, 12]),
 ];
 
-#[test]
-fn values_that_go(rt: HostRuntime) {
-    for (n, row) in THAT_GO.iter().enumerate() {
-        let (test, wanted, untested, list) = *row;
-        let mut a = ample(rt.alloc());
-        let mut vec = vec_of(&rt, &mut a, FIVE);
-        let mut gone = vec.drain_filter(&mut a, move |x| meets(x, test));
-        assert_eq!(rt; gone.size_hint(), (0, Some(5)), "row {n}");
-        let first = gone.next();
-        let second = gone.next();
-        assert_eq!(rt; (first, second), wanted, "row {n}");
-        assert_eq!(rt; gone.size_hint(), (0, Some(untested)), "row {n}");
-        gone.finish();
-        assert!(rt; holds(&rt, &a, vec, list) && vec.capacity() == 5, "row {n}");
-    }
-}
-
 // One more digit of what was seen.
 fn noted(seen: u64, digit: u32) -> u64 {
     seen.wrapping_mul(10).wrapping_add(digit as u64)
@@ -168,7 +147,20 @@ const THAT_STAY: [(Test, &[u32], &[u32]); 5] = [
 ];
 
 #[test]
-fn values_that_stay(rt: HostRuntime) {
+fn values_that_go_and_stay(rt: HostRuntime) {
+    for (n, row) in THAT_GO.iter().enumerate() {
+        let (test, wanted, untested, list) = *row;
+        let mut a = ample(rt.alloc());
+        let mut vec = vec_of(&rt, &mut a, FIVE);
+        let mut gone = vec.drain_filter(&mut a, move |x| meets(x, test));
+        assert_eq!(rt; gone.size_hint(), (0, Some(5)), "row {n}");
+        let first = gone.next();
+        let second = gone.next();
+        assert_eq!(rt; (first, second), wanted, "row {n}");
+        assert_eq!(rt; gone.size_hint(), (0, Some(untested)), "row {n}");
+        gone.finish();
+        assert!(rt; holds(&rt, &a, vec, list) && vec.capacity() == 5, "row {n}");
+    }
     for (n, row) in THAT_STAY.iter().enumerate() {
         let (test, list, changed) = *row;
         let mut a = ample(rt.alloc());

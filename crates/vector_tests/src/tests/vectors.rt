@@ -2,7 +2,7 @@
 ghost use Rattle.std.specs.Prelude.{◌^◌, ◌≤◌, IfOk};
 ghost use Rattle.arena_vec.specs.Vecs.{IsVecIn};
 
-use super::{ample, held};
+use super::ample;
 use arena_chunks::{Allocator, ChunkSource};
 use arena_items::Item;
 use arena_vec::{AllocError, Grown, Vec};
@@ -161,10 +161,7 @@ pub(super) fn known<T: Item, C: ChunkSource>(rt: &impl Abort, a: &Allocator<C>, 
     ensures { IsVecIn T.Item a.now.memory vec }
 {
     assert!(rt; T::SIZE <= 48);
-    let raw = vec.raw;
-    held(rt, a, raw.block);
-    assert!(rt; raw.block.size == raw.cap as u64 * T::SIZE && raw.block.align == T::ALIGN);
-    assert!(rt; raw.len <= raw.cap && (T::SIZE > 0 || raw.cap == u32::MAX));
+    assert!(rt; vec.is_held(a), "a vector that is held");
 }
 
 // Whether a vector, which must be held, is this list.

@@ -1,4 +1,4 @@
-use Rattle.std.proofs.Common.{◌≡◌, ◌*◌, min, ap, sym, ◌∙◌, arith}
+use Rattle.std.proofs.Common.{◌≡◌, ◌*◌, min, ap, sym, inr, ◌∙◌, arith}
 use Rattle.arena_bits.specs.Bits.{words_for}
 use Rattle.arena_bits.proofs.uses.copied.Goals as goal
 
@@ -6,7 +6,7 @@ pub union-requires-clause-other : goal.union-requires-clause-other
 union-requires-clause-other g c = (c.frame_law.ensures _ _ _ _ c.args.set.now c.in_ok-copy.ensures.frame c.requires (tt, tt)).held
 
 pub union-requires-clause-apart : goal.union-requires-clause-apart
-union-requires-clause-apart g c = (c.frame_law.ensures _ _ _ _ c.args.set.now c.in_ok-copy.ensures.frame c.requires (tt, tt)).apart.0.0
+union-requires-clause-apart g c = inr (c.frame_law.ensures _ _ _ _ c.args.set.now c.in_ok-copy.ensures.frame c.requires (tt, tt)).apart.0.0
 
 pub returns : goal.returns
 returns g c =

@@ -1,13 +1,13 @@
-use Rattle.std.proofs.Common.{◌≡◌, ◌+◌, ◌-◌, ◌*◌, ◌/◌, ◌<◌, ◌≤◌, ℕ, suc, zero, List, take, drop, length, refl, sym, ap, ◌∙◌, arith}
+use Rattle.std.proofs.Common.{◌≡◌, ◌+◌, ◌-◌, ◌*◌, ◌/◌, ◌%◌, ◌^◌, ◌<◌, ◌≤◌, ℕ, suc, zero, List, take, drop, length, refl, sym, ap, ◌∙◌, arith}
 use Rattle.std.proofs.lemmas.List.{drop-drop, take_rest}
 use Rattle.std.specs.Prelude.{bit_xor}
 use Rattle.std.specs.Int.{w64, from_le_bytes}
-use Rattle.arena_hash.specs.Fx.{mixed, number_of, folded}
+use Rattle.arena_hash.specs.Fx.{factor, mixed, number_of, folded}
 use Rattle.arena_hash.proofs.hasher.folded.Goals as goal
 
 -- one word more
 folded-step : (hash words i : ℕ) (bytes : List ℕ) (word next : ℕ) → i < words
-    → word ≡ from_le_bytes w64 (take (8 * i + 8 - 8 * i) (drop (8 * i) bytes))
+    → word ≡ (from_le_bytes w64 (take (8 * i + 8 - 8 * i) (drop (8 * i) bytes)) + factor) % 2 ^ 64
     → next ≡ mixed (bit_xor hash word) → folded next (words - (i + 1)) (drop (8 * (i + 1)) bytes) ≡ folded hash (words - i)
     (drop (8 * i) bytes)
 unfolding folded
@@ -33,7 +33,8 @@ loop-i-init c = let all : length c.args.content.now / 8 - 0 ≡ length c.args.co
 
 pub loop-i-preserved : goal.loop-i-preserved
 loop-i-preserved c =
-    folded-step c.loop-i.hash _ c.loop-i.i c.args.content.now c.word_of.result _ c.loop-i-test.true c.word_of.ensures
+    folded-step c.loop-i.hash _ c.loop-i.i c.args.content.now ((c.word_of-word.result + factor) % 2 ^ 64) _ c.loop-i-test.true
+    (ap (λ w. (w + factor) % 2 ^ 64) c.word_of-word.ensures)
     c.mixed-hash-in-loop-i.ensures
     ∙ c.loop-i.invariant
 

@@ -1,6 +1,6 @@
 use Rattle.std.proofs.Common.{◌-◌, arith}
 use Rattle.arena_hash.specs.Policy.{slot_size, table_align, unit}
-use Rattle.arena_hash.proofs.PolicyLemmas.{table-holds, capacity-bytes, unit-covers}
+use Rattle.arena_hash.proofs.PolicyLemmas.{table-holds, capacity-bytes, full-credit, unit-covers}
 use Rattle.arena_hash.proofs.laws.bytes_law.Goals as goal
 
 pub returns-clause-pairs : goal.returns-clause-pairs
@@ -13,3 +13,9 @@ returns-clause-table g c =
     let v = g.V.Item in
     capacity-bytes (slot_size k.SIZE v.SIZE) (table_align k.ALIGN v.ALIGN - 1) (unit k.SIZE v.SIZE k.ALIGN v.ALIGN)
     (omega (arith, unit-covers k.SIZE v.SIZE k.ALIGN v.ALIGN))
+
+pub returns-clause-full : goal.returns-clause-full
+returns-clause-full g c =
+    let k = g.K.Item in
+    let v = g.V.Item in
+    full-credit (unit k.SIZE v.SIZE k.ALIGN v.ALIGN)

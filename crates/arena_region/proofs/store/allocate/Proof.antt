@@ -1,5 +1,5 @@
 -- `allocate` gives a new block as room, with the right to give it back. Assumes `Logic`.
-use Rattle.std.proofs.Common.{◌≡◌, ◌+◌, ◌^◌, ◌<◌, List, [], ◌∷◌, ◌++◌, refl, ap, ◌∙◌, arith}
+use Rattle.std.proofs.Common.{◌≡◌, ◌+◌, ◌^◌, ◌<◌, [], ◌∷◌, refl, ap, ◌∙◌, arith}
 use mathlib.Core.Bool.{true, false}
 use lib.Dec.{lit<}
 use native.Mathlib.Nat.{mul-one}
@@ -18,7 +18,7 @@ use contract.Monad.{Fun, fact}
 use contract.Running.{tables, tables_of}
 use sound.WpLaws.{WpFn-mono, FmC, fm_of}
 use types.Logic.{Logic}
-use types.Kit.{Post as After, any_q, ‵, raw, ◌⊛◌, later, await, prop, ◌$◌, ◌∵◌, !, qed, move, keep, use1, use2, split, join, frame, fsplit, fsplit3, fjoin, feq_l, flt_l, flt_i, regoal, suffices, done, at_ret}
+use types.Kit.{Post as After, any_q, ‵, raw, ◌⊛◌, later, await, prop, ◌$◌, ◌∵◌, !, qed, move, keep, use1, use2, split, join, frame, fsplit, fsplit3, fjoin, feq_l, flt_l, flt_i, suffices, done, at_ret}
 use types.Match.{live, vrt, in_variant}
 use types.Part.{whole, agg}
 use types.Run.{stop, fld, lit, of_opd, and_then, no_more, first, exec, switches_on, enter, returns}
@@ -48,7 +48,7 @@ use Rattle.std.proofs.alloc.Shapes.{after, head, arm_body}
 use Rattle.std.proofs.ResultValues.{ok_of, err_of}
 use Rattle.std.proofs.RcSteps.{Good, first_Good}
 use Rattle.arena_region.specs.Ownership.{block_of}
-use Rattle.arena_region.proofs.Steps.{St, Bs, Dd, word, word-good, none, mark, three, word_made, store_made, deed_made, three_made}
+use Rattle.arena_region.proofs.Steps.{St, Bs, Dd, word, word-good, none, mark, three, word_made, store_made, deed_made, three_made, passed}
 use Rattle.arena_region.specs.contracts.store.allocate as F
 use Rattle.arena_region.specs.contracts.store.allocate.Key.{name as #self}
 use Rattle.arena_region.proofs.store.allocate.Statement as stated
@@ -96,8 +96,8 @@ module _ (Z : Al) where
           move ! (1 ∷ []) $ split ! $ heard ! (κ₁ ⊑ Z.row.lives) (λ within. heard ! Asked (λ asked. split ! $ split ! $
           move ! (2 ∷ []) $ fsplit3 ! $ fsplit ! $ feq_l ! (λ is₀.
           move ! (1 ∷ []) $ fsplit ! $ feq_l ! (λ is₁. flt_l ! (λ fits. keep ! (0 ∷ 2 ∷ 3 ∷ []) $
-          regoal ! (λ (us : List Val). prop (WpFn 𝓤 H C Λ function (us ++ (vss.1.0 ++ [])) Post)) is₀ refl $
-          regoal ! (λ (us : List Val). prop (WpFn 𝓤 H C Λ function ((vptr rb ro ∷ []) ++ (us ++ [])) Post)) is₁ refl $
+          passed ! (λ us. prop (WpFn 𝓤 H C Λ function us Post)) (vss.0 ∷ vss.1.0 ∷ [])
+          ((vptr rb ro ∷ []) ∷ (vint w64 len ∷ []) ∷ []) (λ i. is₀ i ∷ is₁ i ∷ []) $
           enter ! C Λ function (vptr rb ro ∷ vint w64 len ∷ []) Post $
           alloc_all ! (λ l. pass_all ! refl ((tt, tt), ((tt, record { fits = fits }), tt)) $
           let En : Env 𝓤 H = env function.locals l in

@@ -1,5 +1,5 @@
 -- `deallocate` makes the block room again, and gives it back with its deed. Assumes `Logic`.
-use Rattle.std.proofs.Common.{◌≡◌, ℕ, ◌+◌, List, [], ◌∷◌, ◌++◌, length, refl, sym, ap, ◌∙◌, subst}
+use Rattle.std.proofs.Common.{◌≡◌, ℕ, ◌+◌, List, [], ◌∷◌, length, refl, sym, ap, ◌∙◌, subst}
 use lib.Dec.{T, lit<}
 use native.Mathlib.Nat.{mul-one}
 use seplogic.Ra.Ura.{Ura}
@@ -18,7 +18,7 @@ use contract.Monad.{Fun, fact}
 use contract.Running.{tables, tables_of}
 use sound.WpLaws.{WpFn-mono, FmC, fm_of}
 use types.Logic.{Logic}
-use types.Kit.{‵, raw, ◌⊛◌, later, given, await, learn, group, prop, ◌$◌, ◌∵◌, !, qed, move, keep, use1, use2, split, join, fsplit, fsplit3, fjoin, feq_l, feq_i, flt_l, rewrite, regoal, suffices, done, at_ret}
+use types.Kit.{‵, raw, ◌⊛◌, later, given, await, learn, group, prop, ◌$◌, ◌∵◌, !, qed, move, keep, use1, use2, split, join, fsplit, fsplit3, fjoin, feq_l, feq_i, flt_l, rewrite, suffices, done, at_ret}
 use types.Part.{whole, sub}
 use types.Run.{stop, fld, lit, unit_lit, of_opd, and_then, no_more, first, blocks, exec, enter, returns}
 use types.ByLocal.{alloc_all, pass_all, free_all, look_at, get, get_in, lands_last, take_at, give_at, sets, env}
@@ -39,7 +39,7 @@ use Rattle.std.proofs.alloc.Calls.{Al, gives_key, Gives, at_gives, Gives-goes, G
 use Rattle.std.proofs.alloc.Shapes.{after}
 use Rattle.arena_region.specs.Ownership.{block_of, store_owns, deed_owns}
 use Rattle.arena_region.proofs.Memory.{all_room}
-use Rattle.arena_region.proofs.Steps.{St, Bs, Dd, word, word-good, none, mark, word_had, none_had, deed_had}
+use Rattle.arena_region.proofs.Steps.{St, Bs, Dd, word, word-good, none, mark, word_had, none_had, deed_had, passed}
 use Rattle.arena_region.specs.contracts.store.deallocate as F
 use Rattle.arena_region.specs.contracts.store.deallocate.Key.{name as #self}
 use Rattle.arena_region.proofs.store.deallocate.Statement as stated
@@ -83,11 +83,8 @@ module _ (Z : Al) where
           move ! (1 ∷ []) $ word_had ! base.ptr vss.1.0 (λ is₁. move ! (1 ∷ []) $ fsplit3 ! $ fsplit ! $ feq_l ! (λ is₂. flt_l ! (λ fits.
           fsplit ! $ none_had ! vss.1.1.1.0 (λ is₃. move ! (1 ∷ []) $ fsplit ! $
           deed_had ! P Z.g deed vss.1.1.1.1.0 (λ is₄. keep ! (2 ∷ 0 ∷ 3 ∷ 4 ∷ 5 ∷ []) $
-          regoal ! (λ (us : List Val). prop (WpFn 𝓤 H C Λ function (us ++ (vss.1.0 ++ (vss.1.1.0 ++ (vss.1.1.1.0 ++ (vss.1.1.1.1.0 ++ []))))) Post)) is₀ refl $
-          regoal ! (λ (us : List Val). prop (WpFn 𝓤 H C Λ function ((vptr rb ro ∷ []) ++ (us ++ (vss.1.1.0 ++ (vss.1.1.1.0 ++ (vss.1.1.1.1.0 ++ []))))) Post)) is₁ refl $
-          regoal ! (λ (us : List Val). prop (WpFn 𝓤 H C Λ function ((vptr rb ro ∷ []) ++ ((word base.ptr ∷ []) ++ (us ++ (vss.1.1.1.0 ++ (vss.1.1.1.1.0 ++ []))))) Post)) is₂ refl $
-          regoal ! (λ (us : List Val). prop (WpFn 𝓤 H C Λ function ((vptr rb ro ∷ []) ++ ((word base.ptr ∷ []) ++ ((vint w64 len ∷ []) ++ (us ++ (vss.1.1.1.1.0 ++ []))))) Post)) is₃ refl $
-          regoal ! (λ (us : List Val). prop (WpFn 𝓤 H C Λ function ((vptr rb ro ∷ []) ++ ((word base.ptr ∷ []) ++ ((vint w64 len ∷ []) ++ ((none ∷ []) ++ (us ++ []))))) Post)) is₄ refl $
+          passed ! (λ us. prop (WpFn 𝓤 H C Λ function us Post)) (vss.0 ∷ vss.1.0 ∷ vss.1.1.0 ∷ vss.1.1.1.0 ∷ vss.1.1.1.1.0 ∷ [])
+          ((vptr rb ro ∷ []) ∷ (word base.ptr ∷ []) ∷ (vint w64 len ∷ []) ∷ (none ∷ []) ∷ (mark ∷ []) ∷ []) (λ i. is₀ i ∷ is₁ i ∷ is₂ i ∷ is₃ i ∷ is₄ i ∷ []) $
           enter ! C Λ function (vptr rb ro ∷ word base.ptr ∷ vint w64 len ∷ none ∷ mark ∷ []) Post $
           alloc_all ! (λ l. pass_all ! refl ((tt, tt), (word-good base.ptr, ((tt, record { fits = fits }), ((tt, tt), ((tt, (tt, tt)), tt))))) $
           rewrite ! 0 (λ (p : Ptr). ‵ (store_owns p store.room store.ready)) asked.0 refl $

@@ -1,8 +1,15 @@
+use Rattle.std.proofs.Common.{refl}
 use Rattle.std_alloc.proofs.RetainMut.{Called-Mut}
 use Rattle.arena_vec.proofs.dedup.have_same_key.Goals as goal
 
-pub returns-clause-called : goal.returns-clause-called
-returns-clause-called g c = record {
+pub key-requires : goal.key-requires
+key-requires g c = c.requires.0 _ refl
+
+pub key-requires-2 : goal.key-requires-2
+key-requires-2 g c = c.requires.1 _ _ _ (Called-Mut g.F.FnMut c.key.ensures) _ refl
+
+pub returns : goal.returns
+returns g c = record {
   between = c.key.new.self;
   key = c.key.result;
   other = c.key-2.result;

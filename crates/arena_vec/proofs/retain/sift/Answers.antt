@@ -1,12 +1,16 @@
-use Rattle.std.proofs.Common.{◌≤◌, arith, of_calls, refl, []}
+use Rattle.std.proofs.Common.{◌≤◌, arith, refl, []}
 use Rattle.std.proofs.lemmas.Fn.{called_at}
 use Rattle.arena_items.proofs.Layers.{length-elements, elements-cut}
-use Rattle.arena_vec.proofs.SiftLemmas.{sift_starts, sift_goes_on, sift_ends}
+use Rattle.arena_vec.proofs.SiftLemmas.{rest_at, sift_starts, sift_goes_on, sift_ends, turn_sifts}
+use Rattle.arena_vec.proofs.TurnLemmas.{turn_now}
 use Rattle.arena_vec.proofs.Walks.{filtered}
 use Rattle.arena_vec.proofs.retain.sift.Goals as goal
 
 pub loop-k-init : goal.loop-k-init
-loop-k-init g c = record { callable = search of_calls; sifting = sift_starts _ (λ zs left. left) }
+loop-k-init g c = record { callable = c.requires.callable; sifting = sift_starts _ (λ zs left. left) }
+
+pub f-requires : goal.f-requires
+f-requires g c = turn_now (rest_at _ c.loop-k.k _ (c.value_in-item.ensures c.args.len (omega arith))) c.loop-k.invariant.callable _ refl
 
 pub loop-k-preserved : goal.loop-k-preserved
 loop-k-preserved g c =
@@ -14,8 +18,12 @@ loop-k-preserved g c =
     let long = c.loop-k.auto.bytes in
     let got = c.value_in-item.ensures c.args.len (omega arith) in
     let put = c.put_in.ensures c.args.len (omega (arith, sifting.order)) (omega (arith, long, c.requires.room)) in
-    let told = filtered _ c.f.result (called_at g.F.FnMut c.f.ensures refl) in
-    record { callable = search of_calls; sifting = rw put (sift_goes_on c.f.result _ sifting got told) }
+    let told_at = called_at g.F.FnMut c.f.ensures refl in
+    let told = filtered _ c.f.result told_at in
+    record {
+      callable = rw put (turn_sifts _ _ c.loop-k.invariant.callable got sifting.order (c.f.result, told_at));
+      sifting = rw put (sift_goes_on c.f.result _ sifting got told);
+    }
 
 pub returns-clause-list : goal.returns-clause-list
 returns-clause-list g c =

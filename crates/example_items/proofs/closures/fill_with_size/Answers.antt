@@ -1,4 +1,5 @@
-use Rattle.std.proofs.Common.{◌*◌, ◌∙◌, ap, replicate, rules, of_calls}
+use Rattle.std.proofs.Common.{◌*◌, ◌∙◌, ap, replicate, rules}
+use Rattle.std.proofs.iter.Serving.{serving}
 use Rattle.arena_items.specs.LayoutLaws.{plain_8}
 use Rattle.arena_items.proofs.Layers.{array_fits, fills_same, length-elements}
 use Rattle.example_items.proofs.closures.fill_with_size.Goals as goal
@@ -6,7 +7,7 @@ use Rattle.example_items.proofs.closures.fill_with_size.Goals as goal
 -- Where there is a place the product fits.
 pub alloc_slice_fill_with-requires-clause-callable : goal.alloc_slice_fill_with-requires-clause-callable
 alloc_slice_fill_with-requires-clause-callable g c = λ new b places.
-    let fits = array_fits _ _ _ _ _ b plain_8 places in search (rules, of_calls)
+    let fits = array_fits _ _ _ _ _ b plain_8 places in grind serving
 
 pub returns : goal.returns
 returns g c =

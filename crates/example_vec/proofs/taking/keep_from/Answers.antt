@@ -6,5 +6,5 @@ use Rattle.example_vec.proofs.taking.keep_from.Goals as goal
 
 pub returns : goal.returns
 returns g c =
-    let kept = filter_same _ (λ x. is_le (g.T.Ord.cmp c.args.least x)) _ (λ x b f k. search rules) _ _ c.retain.ensures.1 in
-    subst (λ list. Becomes g.T.Item c.args.a.now c.retain.new.a c.args.vec.now list c.retain.new.self) kept c.retain.ensures.2
+    let kept = filter_same _ (λ x. is_le (g.T.Ord.cmp c.args.least x)) _ (λ x b f k. search rules) _ _ c.retain.ensures.becomes.1 in
+    subst (λ list. Becomes g.T.Item c.args.a.now c.retain.new.a c.args.vec.now list c.retain.new.self) kept c.retain.ensures.becomes.2

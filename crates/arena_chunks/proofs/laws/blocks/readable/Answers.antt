@@ -1,4 +1,4 @@
-use Rattle.arena_chunks.proofs.Layers.{in_use, readable_low, readable_high, readable_size, unused_unreadable}
+use Rattle.arena_chunks.proofs.Layers.{in_use, readable_low, readable_high, readable_size, unused_unreadable, readable_together}
 use Rattle.arena_chunks.proofs.laws.blocks.readable.Goals as goal
 
 pub returns-clause-filled : goal.returns-clause-filled
@@ -15,3 +15,6 @@ returns-clause-size c = readable_size
 
 pub returns-clause-unused : goal.returns-clause-unused
 returns-clause-unused c = unused_unreadable
+
+pub returns-clause-together : goal.returns-clause-together
+returns-clause-together c = readable_together

@@ -1,8 +1,14 @@
-use Rattle.arena_chunks.proofs.Layers.{frame_beside, frame_keeps, frame_keeps_all, empty_before, empty_after}
+use Rattle.arena_chunks.proofs.Layers.{frame_beside, frame_behind, frame_both, frame_keeps, frame_keeps_all, empty_before, empty_after}
 use Rattle.arena_chunks.proofs.laws.framing.frames.Goals as goal
 
 pub returns-clause-beside : goal.returns-clause-beside
 returns-clause-beside c = frame_beside
+
+pub returns-clause-behind : goal.returns-clause-behind
+returns-clause-behind c = frame_behind
+
+pub returns-clause-both : goal.returns-clause-both
+returns-clause-both c = frame_both
 
 pub returns-clause-keeps : goal.returns-clause-keeps
 returns-clause-keeps c = frame_keeps

@@ -1,4 +1,4 @@
-use Rattle.arena_chunks.proofs.Layers.{grown_least, grown_most, grown_exact, shrunk_used, anew_least, anew_most}
+use Rattle.arena_chunks.proofs.Layers.{grown_least, grown_most, grown_exact, shrunk_used, anew_least, anew_most, grown_used}
 use Rattle.arena_chunks.proofs.laws.used.used_by_resizing.Goals as goal
 
 pub returns-clause-grown_least : goal.returns-clause-grown_least
@@ -9,6 +9,9 @@ returns-clause-grown_most c = grown_most
 
 pub returns-clause-grown_exact : goal.returns-clause-grown_exact
 returns-clause-grown_exact c = grown_exact
+
+pub returns-clause-grown : goal.returns-clause-grown
+returns-clause-grown c = grown_used
 
 pub returns-clause-shrunk : goal.returns-clause-shrunk
 returns-clause-shrunk c = shrunk_used

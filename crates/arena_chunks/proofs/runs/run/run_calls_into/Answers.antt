@@ -9,7 +9,7 @@ use Rattle.arena_chunks.proofs.runs.run.run_calls_into.Goals as goal
 pub loop-done-init : goal.loop-done-init
 loop-done-init g c = record {
   list = [];
-  running = rw c.new-names.ensures (running_first _ c.cursor-valid.ensures.valid);
+  running = rw (c.new-names.ensures, c.new-marks.ensures) (running_first _ c.cursor-valid.ensures.valid);
   shown = sym (append-nil _);
   room = omega (arith, c.in-Ok.ensures.room);
 }
@@ -24,7 +24,7 @@ loop-done-preserved g c =
     ∙ ap (λ (call : Call). take c.loop-done.done c.args.calls.now ++ call ∷ []) (sym c.index-calls-done.is) in
     record {
       list = now.list ++ served.0 ∷ [];
-      running = rw more (running_more _ _ _ c.loop-done.names c.serve_into.new.names (take c.loop-done.done c.args.calls.now) c.index-calls-done.result
+      running = rw more (running_more _ _ _ c.loop-done.names c.serve_into.new.names c.loop-done.marks c.serve_into.new.marks (take c.loop-done.done c.args.calls.now) c.index-calls-done.result
           now.list served.0 now.running served.1);
       shown = served.2 ∙ ap (λ shown. shown ++ g.R.Replies.part served.0) now.shown ∙ flat_map_more g.R.Replies.part _ now.list served.0;
       room = omega (arith, now.room, c.in-Ok-serve_into.ensures.room);
@@ -35,7 +35,7 @@ returns-in-Ok-blocks-clause-ok g c =
     let all = take_all c.loop-done.done c.args.calls.now (omega arith) in
     let now = c.loop-done.invariant in (
       now.list,
-      running_over _ _ c.loop-done.names c.args.calls.now now.list c.in-Ok-blocks.held.items
+      running_over _ _ c.loop-done.names c.loop-done.marks c.args.calls.now now.list c.in-Ok-blocks.held.items
           (rw all at now.running) (rw c.generation.ensures at c.in-Ok-blocks.ensures),
       rw c.reserve.ensures.same at now.shown,
     )
@@ -44,14 +44,14 @@ returns-in-Ok-blocks-clause-ok g c =
 
 pub returns-in_default-clause-err : goal.returns-in_default-clause-err
 returns-in_default-clause-err g c =
-    let first = running_stopped _ _ _ c.args.calls.now 0 [] (omega arith) (running_first _ c.cursor-valid.ensures.valid) (λ call some at. absurd (omega arith)) in
+    let first = running_stopped _ _ _ _ c.args.calls.now 0 [] (omega arith) (running_first _ c.cursor-valid.ensures.valid) (λ call some at. absurd (omega arith)) in
     (first.0, rw first.1 (c.reserve.ensures.same ∙ sym (append-nil _)))
 
 pub returns-in_default-serve_into-clause-err : goal.returns-in_default-serve_into-clause-err
 returns-in_default-serve_into-clause-err g c =
     let now = c.loop-done.invariant in
     let wants = c.in_default-serve_into.ensures.wants in
-    let first = running_stopped _ _ _ c.args.calls.now c.loop-done.done now.list (omega arith) now.running
+    let first = running_stopped _ _ _ _ c.args.calls.now c.loop-done.done now.list (omega arith) now.running
     (λ call some at. rw (sym (c.index-calls-done.is ∙ get_or_from_slice_get c.args.calls.now c.loop-done.done call c.index-calls-done.result at)) (wants.takes now.running.bytes)) in
     rw wants.same (first.0, rw (first.1, ← c.reserve.ensures.same) (c.in_default-serve_into.ensures.same ∙ now.shown))
 
@@ -59,6 +59,6 @@ pub returns-clause-err : goal.returns-clause-err
 returns-clause-err g c =
     let over : c.loop-done.done ≡ length c.args.calls.now = omega arith in
     let now = c.loop-done.invariant in
-    let first = running_stopped _ _ _ c.args.calls.now (length c.args.calls.now) now.list (omega arith) (rw over at now.running)
+    let first = running_stopped _ _ _ _ c.args.calls.now (length c.args.calls.now) now.list (omega arith) (rw over at now.running)
     (λ call some at. absurd (omega (arith, slice_get_within c.args.calls.now (length c.args.calls.now) call at))) in
     (first.0, rw (first.1, ← c.reserve.ensures.same) now.shown)

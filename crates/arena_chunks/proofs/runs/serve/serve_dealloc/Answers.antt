@@ -10,7 +10,7 @@ unfolding step placed_anew
 returns-in_default-clause-serves g c = λ source.
     let none = sym c.remove.ensures.place ∙ c.in_default.is in
     rw (c.remove.ensures.rest, remove_absent c.args.names.now c.args.name none)
-    (serves_still _ _ _ _ _ _ c.requires (λ bytes held. absent_at c.args.arena.now c.args.names.now bytes c.args.name _ none) (asks_still _ _ _ _ _ refl (λ bytes. refl) (λ bytes. refl)))
+    (serves_still _ _ _ _ _ _ c.requires (λ marks bytes held. absent_at c.args.arena.now c.args.names.now marks bytes c.args.name _ none) (asks_still _ _ _ _ _ refl (λ marks bytes. refl) (λ marks bytes. refl)))
 
 pub dealloc-requires : goal.dealloc-requires
 dealloc-requires g c = (omega arith, rw c.block_at.ensures (readable_at _ _ c.args.name c.in-Some.place c.requires (sym c.remove.ensures.place ∙ c.in-Some.is)))

@@ -13,8 +13,8 @@ pub returns-in_default-clause-serves : goal.returns-in_default-clause-serves
 unfolding step placed_anew
 returns-in_default-clause-serves g c = λ source. (
   NoSuchName,
-  serves_still _ _ _ _ _ _ c.requires.holds (λ bytes held. absent_at c.args.arena.now c.args.names.now bytes c.args.name _ (sym c.get.ensures ∙ c.in_default.is))
-      (asks_still _ _ _ _ _ refl (λ bytes. refl) (λ bytes. refl)),
+  serves_still _ _ _ _ _ _ c.requires.holds (λ marks bytes held. absent_at c.args.arena.now c.args.names.now marks bytes c.args.name _ (sym c.get.ensures ∙ c.in_default.is))
+      (asks_still _ _ _ _ _ refl (λ marks bytes. refl) (λ marks bytes. refl)),
   c.take.ensures.shown,
 )
 
@@ -25,7 +25,7 @@ pub returns-clause-serves : goal.returns-clause-serves
 unfolding step placed_anew
 returns-clause-serves g c = λ source.
     let serves : Serves (Read c.args.name) (Bytes c.read.result.now) (view c.args.arena.now source) (view c.args.arena.now source) c.args.names.now c.args.names.now =
-    serves_still _ _ _ _ _ _ c.requires.holds (λ bytes held.
-    found_at c.args.arena.now c.args.names.now bytes c.args.name 0 c.in-Some.place _ held (sym c.get.ensures ∙ c.in-Some.is)
-    ∙ rw (c.read.ensures, c.block_at.ensures) refl) (asks_still _ _ _ _ _ refl (λ bytes. refl) (λ bytes. refl)) in
+    serves_still _ _ _ _ _ _ c.requires.holds (λ marks bytes held.
+    found_at c.args.arena.now c.args.names.now marks bytes c.args.name 0 c.in-Some.place _ held (sym c.get.ensures ∙ c.in-Some.is)
+    ∙ rw (c.read.ensures, c.block_at.ensures) refl) (asks_still _ _ _ _ _ refl (λ marks bytes. refl) (λ marks bytes. refl)) in
     on_ok_less c.take_bytes.result (λ shown. (Bytes c.read.result.now, serves, shown)) c.take_bytes.ensures.shown

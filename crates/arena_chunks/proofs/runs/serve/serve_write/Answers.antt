@@ -8,8 +8,8 @@ use Rattle.arena_chunks.proofs.runs.serve.serve_write.Goals.{then-len-place-via-
 pub returns-in_default-clause-serves : goal.returns-in_default-clause-serves
 unfolding step placed_anew
 returns-in_default-clause-serves g c = λ source.
-    serves_still _ _ _ _ _ _ c.requires (λ bytes held. absent_at c.args.arena.now c.args.names.now bytes c.args.name _ (sym c.get.ensures ∙ c.in_default.is))
-    (asks_still _ _ _ _ _ refl (λ bytes. refl) (λ bytes. refl))
+    serves_still _ _ _ _ _ _ c.requires (λ marks bytes held. absent_at c.args.arena.now c.args.names.now marks bytes c.args.name _ (sym c.get.ensures ∙ c.in_default.is))
+    (asks_still _ _ _ _ _ refl (λ marks bytes. refl) (λ marks bytes. refl))
 
 pub returns-then-len-place-clause-serves : goal.returns-then-len-place-clause-serves
 unfolding step placed_anew
@@ -18,9 +18,9 @@ returns-then-len-place-clause-serves g c = λ source.
       | then-len-place-via-then-len-place w ↦ omega arith
       | then-len-place-via-else-len-place+then-at-place w ↦ omega arith
     ] in
-    serves_still _ _ _ _ _ _ c.requires (λ bytes held.
-    found_at c.args.arena.now c.args.names.now bytes c.args.name 0 c.in-Some.place _ held (sym c.get.ensures ∙ c.in-Some.is)
-    ∙ rw (lt-ltb _ _ past) refl) (asks_still _ _ _ _ _ refl (λ bytes. refl) (λ bytes. refl))
+    serves_still _ _ _ _ _ _ c.requires (λ marks bytes held.
+    found_at c.args.arena.now c.args.names.now marks bytes c.args.name 0 c.in-Some.place _ held (sym c.get.ensures ∙ c.in-Some.is)
+    ∙ rw (lt-ltb _ _ past) refl) (asks_still _ _ _ _ _ refl (λ marks bytes. refl) (λ marks bytes. refl))
 
 pub write-requires : goal.write-requires
 write-requires g c = (omega arith, (rw c.block_at.ensures (readable_at _ _ c.args.name c.in-Some.place c.requires (sym c.get.ensures ∙ c.in-Some.is)), rw c.block_at.ensures (omega arith)))

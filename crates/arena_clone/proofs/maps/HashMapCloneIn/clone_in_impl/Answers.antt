@@ -27,4 +27,4 @@ pub returns : goal.returns
 returns g c =
     map_made (kind g.K.Item g.K.ArenaKey.key g.V.Item g.S.KeyHasher.hash_of) g.K.CloneIn.kind g.V.CloneIn.kind c.args.ids
     c.args.from.now.memory c.args.self.now (omega (arith, c.requires.held.0.within)) c.in_ok-empty.ensures.placed c.requires.held.0
-    c.in_ok-copy.ensures
+    c.in_ok-empty.ensures.hasher c.in_ok-copy.ensures

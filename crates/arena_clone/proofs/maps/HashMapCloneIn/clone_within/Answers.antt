@@ -48,4 +48,4 @@ returns g c =
     copies_placed law c.in_ok-empty.ensures.placed.frame c.args.ids c.args.self.now c.requires.held
     (map_made (kind g.K.Item g.K.ArenaKey.key g.V.Item g.S.KeyHasher.hash_of) g.K.CloneIn.kind g.V.CloneIn.kind c.args.ids
     c.with_capacity_and_hasher_in.new.a.memory c.args.self.now (omega (arith, c.requires.held.0.within)) c.in_ok-empty.ensures.placed
-    stays.held.0 c.in_ok-copy.ensures)
+    stays.held.0 c.in_ok-empty.ensures.hasher c.in_ok-copy.ensures)

@@ -1,5 +1,5 @@
 -- `put` takes the last byte of the room, and puts it before the bytes that are ready. Assumes `Logic`.
-use Rattle.std.proofs.Common.{◌≡◌, ◌+◌, ◌^◌, List, [], ◌∷◌, ◌++◌, length, refl, sym, ◌∙◌, arith}
+use Rattle.std.proofs.Common.{◌≡◌, ◌+◌, ◌^◌, List, [], ◌∷◌, length, refl, sym, ◌∙◌, arith}
 use seplogic.Ra.Ura.{Ura}
 use base.Fraction.{full_share}
 use mir.Syntax.{Fn, w8, w64}
@@ -17,7 +17,7 @@ use contract.Monad.{Fun, fact}
 use contract.Running.{tables, tables_of}
 use sound.WpLaws.{WpFn-mono}
 use types.Logic.{Logic}
-use types.Kit.{‵, raw, ◌⊛◌, prop, ◌$◌, ◌∵◌, !, qed, move, keep, use1, split, join, frame, rewrite, fsplit, fsplit3, fjoin, fjoin3, feq_l, feq_i, flt_l, flt_i, regoal, suffices, done, at_ret}
+use types.Kit.{‵, raw, ◌⊛◌, prop, ◌$◌, ◌∵◌, !, qed, move, keep, use1, split, join, frame, rewrite, fsplit, fsplit3, fjoin, fjoin3, feq_l, feq_i, flt_l, flt_i, suffices, done, at_ret}
 use types.Part.{whole, sub}
 use types.Run.{init, stop, fld, unit_lit, of_opd, bin, assigns_last, first, blocks, exec, enter, returns}
 use types.ByLocal.{alloc_all, pass_all, free_all, look_at, get, get_in, take_at, give_at, through, sets, env}
@@ -33,7 +33,7 @@ use denote.Triple.Table.{entered}
 use denote.Triple.Walked.{says, Stays, stay_ref, stay_dropped, walk_of, ends_at, walk_Meets, Goes-dropped, Goes-ref}
 use Rattle.arena_region.specs.Ownership.{block_of, store_owns}
 use Rattle.arena_region.proofs.Memory.{byte, last_out}
-use Rattle.arena_region.proofs.Steps.{St, Bs, word, word-good, word_had, tail}
+use Rattle.arena_region.proofs.Steps.{St, Bs, word, word-good, word_had, tail, passed}
 use Rattle.arena_region.specs.contracts.store.Store.put as F
 use Rattle.arena_region.specs.contracts.store.Store.put.Key.{name as #self}
 use Rattle.arena_region.proofs.store.Store.put.Statement as stated
@@ -70,10 +70,8 @@ module _ {M : Type 1} {𝓤 : Ura M} (𝓛 : Logic 𝓤) (at_mem : Memory → SP
         fsplit ! $ fsplit3 ! $ feq_l ! (λ is₀. move ! (2 ∷ []) $ fsplit ! $ word_had ! base.ptr vss.1.0 (λ is₁.
         fsplit ! $ fsplit ! $ feq_l ! (λ is₂. flt_l ! (λ far. fsplit ! $ fsplit ! $
         feq_l ! (λ is₃. flt_l ! (λ small. keep ! (1 ∷ 2 ∷ 3 ∷ []) $
-        regoal ! (λ (us : List Val). prop (WpFn 𝓤 H C Λ function (us ++ (vss.1.0 ++ (vss.1.1.0 ++ (vss.1.1.1.0 ++ [])))) Post)) is₀ refl $
-        regoal ! (λ (us : List Val). prop (WpFn 𝓤 H C Λ function ((vptr rb ro ∷ []) ++ (us ++ (vss.1.1.0 ++ (vss.1.1.1.0 ++ [])))) Post)) is₁ refl $
-        regoal ! (λ (us : List Val). prop (WpFn 𝓤 H C Λ function ((vptr rb ro ∷ []) ++ ((word base.ptr ∷ []) ++ (us ++ (vss.1.1.1.0 ++ [])))) Post)) is₂ refl $
-        regoal ! (λ (us : List Val). prop (WpFn 𝓤 H C Λ function ((vptr rb ro ∷ []) ++ ((word base.ptr ∷ []) ++ ((vint w64 at ∷ []) ++ (us ++ [])))) Post)) is₃ refl $
+        passed ! (λ us. prop (WpFn 𝓤 H C Λ function us Post)) (vss.0 ∷ vss.1.0 ∷ vss.1.1.0 ∷ vss.1.1.1.0 ∷ [])
+        ((vptr rb ro ∷ []) ∷ (word base.ptr ∷ []) ∷ (vint w64 at ∷ []) ∷ (vint w8 x ∷ []) ∷ []) (λ i. is₀ i ∷ is₁ i ∷ is₂ i ∷ is₃ i ∷ []) $
         enter ! C Λ function (vptr rb ro ∷ word base.ptr ∷ vint w64 at ∷ vint w8 x ∷ []) Post $
         alloc_all ! (λ l. pass_all ! refl ((tt, tt), (word-good base.ptr, ((tt, record { fits = far }), ((tt, record { fits = small }), tt)))) $
         opens ! tt St {h = d} rb ro (λ vs. move ! (1 ∷ []) $ fsplit ! $ move ! (1 ∷ []) $

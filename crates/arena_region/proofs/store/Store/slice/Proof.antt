@@ -1,5 +1,5 @@
 -- `slice` shows a part of the bytes that are ready. Assumes `Logic`.
-use Rattle.std.proofs.Common.{◌≡◌, ◌+◌, ◌-◌, ◌*◌, ◌^◌, ◌≤◌, List, [], ◌∷◌, ◌++◌, length, take, length-take-le, length-drop, refl, sym, ap, ◌∙◌, arith}
+use Rattle.std.proofs.Common.{◌≡◌, ◌+◌, ◌-◌, ◌*◌, ◌^◌, ◌≤◌, List, [], ◌∷◌, length, take, length-take-le, length-drop, refl, sym, ap, ◌∙◌, arith}
 use lib.ListN.{drop as drop_l}
 use seplogic.Ra.Ura.{Ura}
 use base.Fraction.{full_share}
@@ -15,7 +15,7 @@ use contract.Monad.{Fun, fact}
 use contract.Running.{tables, tables_of}
 use sound.WpLaws.{WpFn-mono}
 use types.Logic.{Logic}
-use types.Kit.{‵, raw, ◌⊛◌, prop, ◌$◌, ◌∵◌, !, qed, move, keep, drop, use1, split, join, frame, rewrite, fsplit, fjoin, feq_l, feq_i, flt_l, flt_i, regoal, suffices, done, at_ret}
+use types.Kit.{‵, raw, ◌⊛◌, prop, ◌$◌, ◌∵◌, !, qed, move, keep, drop, use1, split, join, frame, rewrite, fsplit, fjoin, feq_l, feq_i, flt_l, flt_i, suffices, done, at_ret}
 use types.Part.{whole, sub, agg}
 use types.Run.{stop, fld, of_opd, bin, and_then, no_more, first, blocks, exec, enter, returns}
 use types.ByLocal.{alloc_all, pass_all, free_all, look_at, get, get_in, take_at, give_at, sets, sets_last, env}
@@ -33,7 +33,7 @@ use denote.Triple.Table.{entered}
 use denote.Triple.Walked.{says, Stays, stay_dropped, walk_of, ends_at, walk_Meets, Goes-dropped}
 use Rattle.arena_region.specs.Ownership.{store_lends}
 use Rattle.arena_region.proofs.Memory.{seen_from, seen_first}
-use Rattle.arena_region.proofs.Steps.{St, Bs, word, word-good, word_had, tail}
+use Rattle.arena_region.proofs.Steps.{St, Bs, word, word-good, word_had, tail, passed}
 use Rattle.arena_region.specs.contracts.store.Store.slice as F
 use Rattle.arena_region.specs.contracts.store.Store.slice.Key.{name as #self}
 use Rattle.arena_region.proofs.store.Store.slice.Statement as stated
@@ -70,10 +70,8 @@ module _ {M : Type 1} {𝓤 : Ura M} (𝓛 : Logic 𝓤) (at_mem : Memory → SP
         let long : length ys ≡ size = length-take-le size _ (omega (arith, length-drop (from - d.room) d.ready)) in
         fsplit ! $ fsplit ! $ feq_l ! (λ is₀. move ! (1 ∷ []) $ fsplit ! $ word_had ! base.ptr vss.1.0 (λ is₁.
         fsplit ! $ fsplit ! $ feq_l ! (λ is₂. flt_l ! (λ far. fsplit ! $ fsplit ! $ feq_l ! (λ is₃. flt_l ! (λ fits. keep ! (1 ∷ 2 ∷ []) $
-        regoal ! (λ (us : List Val). prop (WpFn 𝓤 H C Λ function (us ++ (vss.1.0 ++ (vss.1.1.0 ++ (vss.1.1.1.0 ++ [])))) Post)) is₀ refl $
-        regoal ! (λ (us : List Val). prop (WpFn 𝓤 H C Λ function ((vptr rb ro ∷ []) ++ (us ++ (vss.1.1.0 ++ (vss.1.1.1.0 ++ [])))) Post)) is₁ refl $
-        regoal ! (λ (us : List Val). prop (WpFn 𝓤 H C Λ function ((vptr rb ro ∷ []) ++ ((word base.ptr ∷ []) ++ (us ++ (vss.1.1.1.0 ++ [])))) Post)) is₂ refl $
-        regoal ! (λ (us : List Val). prop (WpFn 𝓤 H C Λ function ((vptr rb ro ∷ []) ++ ((word base.ptr ∷ []) ++ ((vint w64 from ∷ []) ++ (us ++ [])))) Post)) is₃ refl $
+        passed ! (λ us. prop (WpFn 𝓤 H C Λ function us Post)) (vss.0 ∷ vss.1.0 ∷ vss.1.1.0 ∷ vss.1.1.1.0 ∷ [])
+        ((vptr rb ro ∷ []) ∷ (word base.ptr ∷ []) ∷ (vint w64 from ∷ []) ∷ (vint w64 size ∷ []) ∷ []) (λ i. is₀ i ∷ is₁ i ∷ is₂ i ∷ is₃ i ∷ []) $
         enter ! C Λ function (vptr rb ro ∷ word base.ptr ∷ vint w64 from ∷ vint w64 size ∷ []) Post $
         alloc_all ! (λ l. pass_all ! refl ((tt, tt), (word-good base.ptr, ((tt, record { fits = far }), ((tt, record { fits = fits }), tt)))) $
         unhide ! $ fsplit ! $ drop ! $ in_a_block ! d.at (λ p. store_lends p d.room d.ready κ) (id⊢ 𝓤 (never 𝓤)) (λ b o e. fsplit ! $

@@ -1,5 +1,5 @@
 -- `slice_mut` lends a part of the bytes that are ready, and the memory follows it. Assumes `Logic`.
-use Rattle.std.proofs.Common.{◌≡◌, ℕ, ◌+◌, ◌-◌, ◌*◌, ◌^◌, ◌<◌, ◌≤◌, List, [], ◌∷◌, ◌++◌, length, take, length-take-le, length-drop, refl, sym, ◌∙◌, arith}
+use Rattle.std.proofs.Common.{◌≡◌, ℕ, ◌+◌, ◌-◌, ◌*◌, ◌^◌, ◌<◌, ◌≤◌, List, [], ◌∷◌, length, take, length-take-le, length-drop, refl, sym, ◌∙◌, arith}
 use lib.ListN.{drop as drop_l}
 use seplogic.Ra.Ura.{Ura}
 use base.Fraction.{full_share}
@@ -16,7 +16,7 @@ use contract.Monad.{Fun, fact}
 use contract.Running.{tables, tables_of}
 use sound.WpLaws.{WpFn-mono}
 use types.Logic.{Logic, sem}
-use types.Kit.{‵, raw, ◌⊛◌, some, later, await, pick, group, fpack, prop, ◌$◌, ◌∵◌, !, qed, move, keep, use1, use2, split, split3, join, frame, rewrite, fsplit, fsplit3, fjoin, feq_l, flt_l, flt_i, regoal, suffices, done, at_ret}
+use types.Kit.{‵, raw, ◌⊛◌, some, later, await, pick, group, fpack, prop, ◌$◌, ◌∵◌, !, qed, move, keep, use1, use2, split, split3, join, frame, rewrite, fsplit, fsplit3, fjoin, feq_l, flt_l, flt_i, suffices, done, at_ret}
 use types.Part.{whole, sub, agg}
 use types.Run.{stop, fld, of_opd, bin, and_then, no_more, first, blocks, exec, enter, returns}
 use types.ByLocal.{alloc_all, pass_all, free_all, look_at, get, get_in, take_at, give_at, sets, sets_last, env}
@@ -42,7 +42,7 @@ use denote.Triple.Walked.{says, Stays, stay_dropped, walk_of, ends_at, walk_Meet
 use Rattle.arena_region.specs.Lends.{with_ready}
 use Rattle.arena_region.specs.Ownership.{block_of, store_owns}
 use Rattle.arena_region.proofs.Memory.{written_long, Around, part_out, part_in}
-use Rattle.arena_region.proofs.Steps.{St, Bs, Nothing, word, word-good, word_had, tail}
+use Rattle.arena_region.proofs.Steps.{St, Bs, Nothing, word, word-good, word_had, tail, passed}
 use Rattle.arena_region.specs.contracts.store.Store.slice_mut as F
 use Rattle.arena_region.specs.contracts.store.Store.slice_mut.Key.{name as #self}
 use Rattle.arena_region.proofs.store.Store.slice_mut.Statement as stated
@@ -100,10 +100,8 @@ module _ {M : Type 1} {𝓤 : Ura M} (𝓛 : Logic 𝓤) (at_mem : Memory → SP
         fsplit ! $ fsplit3 ! $ feq_l ! (λ is₀. move ! (2 ∷ []) $ fsplit ! $ word_had ! base.ptr vss.1.0 (λ is₁.
         fsplit ! $ fsplit ! $ feq_l ! (λ is₂. flt_l ! (λ far. fsplit ! $ fsplit ! $
         feq_l ! (λ is₃. flt_l ! (λ fits. keep ! (1 ∷ 2 ∷ 3 ∷ []) $
-        regoal ! (λ (us : List Val). prop (WpFn 𝓤 H C Λ function (us ++ (vss.1.0 ++ (vss.1.1.0 ++ (vss.1.1.1.0 ++ [])))) Post)) is₀ refl $
-        regoal ! (λ (us : List Val). prop (WpFn 𝓤 H C Λ function ((vptr rb ro ∷ []) ++ (us ++ (vss.1.1.0 ++ (vss.1.1.1.0 ++ [])))) Post)) is₁ refl $
-        regoal ! (λ (us : List Val). prop (WpFn 𝓤 H C Λ function ((vptr rb ro ∷ []) ++ ((word base.ptr ∷ []) ++ (us ++ (vss.1.1.1.0 ++ [])))) Post)) is₂ refl $
-        regoal ! (λ (us : List Val). prop (WpFn 𝓤 H C Λ function ((vptr rb ro ∷ []) ++ ((word base.ptr ∷ []) ++ ((vint w64 from ∷ []) ++ (us ++ [])))) Post)) is₃ refl $
+        passed ! (λ us. prop (WpFn 𝓤 H C Λ function us Post)) (vss.0 ∷ vss.1.0 ∷ vss.1.1.0 ∷ vss.1.1.1.0 ∷ [])
+        ((vptr rb ro ∷ []) ∷ (word base.ptr ∷ []) ∷ (vint w64 from ∷ []) ∷ (vint w64 size ∷ []) ∷ []) (λ i. is₀ i ∷ is₁ i ∷ is₂ i ∷ is₃ i ∷ []) $
         enter ! C Λ function (vptr rb ro ∷ word base.ptr ∷ vint w64 from ∷ vint w64 size ∷ []) Post $
         alloc_all ! (λ l. pass_all ! refl ((tt, tt), (word-good base.ptr, ((tt, record { fits = far }), ((tt, record { fits = fits }), tt)))) $
         opens ! tt St {h = d} rb ro (λ vs. move ! (1 ∷ []) $ fsplit ! $ move ! (1 ∷ []) $

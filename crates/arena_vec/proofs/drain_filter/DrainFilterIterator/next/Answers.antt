@@ -1,15 +1,27 @@
-use Rattle.std.proofs.Common.{of_calls, arith, ◌+◌, ◌-◌, ◌*◌, ◌++◌, [], drop, sym, ap, subst, ◌∙◌, append-nil}
+use Rattle.std.proofs.Common.{arith, refl, ◌+◌, ◌-◌, ◌*◌, ◌++◌, [], drop, sym, ap, subst, ◌∙◌, append-nil}
 use Rattle.std.specs.Fn.{CalledAtMut}
 use Rattle.std_alloc.proofs.RetainMut.{Called-Mut}
 use Rattle.arena_chunks.proofs.Layers.{frame_then}
 use Rattle.arena_items.specs.Values.{elements, bytes_of}
 use Rattle.arena_items.proofs.Layers.{elements-empty, wrote_same, same_then}
+use Rattle.arena_vec.specs.Calling.{CallableOnListMut}
 use Rattle.arena_vec.specs.Filtering.{untested, stayed}
 use Rattle.arena_vec.proofs.VecLemmas.{room_of}
 use Rattle.arena_vec.proofs.Windows.{left_first_at}
+use Rattle.arena_vec.proofs.TurnLemmas.{turn_now, turn_on}
 use Rattle.arena_vec.proofs.Walks.{behind_put}
 use Rattle.arena_vec.proofs.FilterLemmas.{IsFiltering, filtering_more, filtering_picked, filtering_end}
 use Rattle.arena_vec.proofs.drain_filter.DrainFilterIterator.next.Goals as goal
+
+pub pred-requires : goal.pred-requires
+pred-requires g c =
+    let inv = c.loop-self.invariant in
+    let d = c.loop-self.self in
+    let item = g.T.Item in
+    let got = rw inv.block at (c.item_at-item.ensures d.vec.now.raw.len (omega (arith, inv.len))) in
+    let first = left_first_at item.SIZE item.decoded d.vec.now.raw.len d.front d.vec.now.raw.len
+    (bytes_of d.arena.now.memory d.vec.now.raw.block) c.item_at-item.result (omega (arith, inv.len)) (omega arith) got in
+    turn_now first inv.filters.callable _ refl
 
 pub returns-then-pred-clause-steps : goal.returns-then-pred-clause-steps
 returns-then-pred-clause-steps g c =
@@ -22,9 +34,9 @@ returns-then-pred-clause-steps g c =
     let ys = elements item.SIZE item.decoded (d.vec.now.raw.len - (d.front + 1)) (drop ((d.front + 1) * item.SIZE) bs) in
     let got = rw inv.block at (c.item_at-item.ensures d.vec.now.raw.len (omega (arith, inv.len))) in
     let told = rw c.if-pred.true at (Called-Mut g.F.FnMut c.pred.ensures) in
-    let h = subst (λ l. IsFiltering R d₀.pred (untested item d₀) d.pred l (stayed item d₀) (stayed item d))
-    (left_first_at item.SIZE item.decoded d.vec.now.raw.len d.front d.vec.now.raw.len bs c.item_at-item.result (omega (arith, inv.len))
-    (omega arith) got) inv.filtering in
+    let first = left_first_at item.SIZE item.decoded d.vec.now.raw.len d.front d.vec.now.raw.len bs c.item_at-item.result
+    (omega (arith, inv.len)) (omega arith) got in
+    let h = subst (λ l. IsFiltering R d₀.pred (untested item d₀) d.pred l (stayed item d₀) (stayed item d)) first inv.filtering in
     record {
       kept = h.kept ++ [];
       extracts = filtering_picked R d₀.pred (untested item d₀) d.pred c.pred.new.self c.item_at-item.result c.pred.new.arg2 ys
@@ -41,7 +53,7 @@ returns-then-pred-clause-steps g c =
         order = omega (arith, inv.filters.order);
         within =
             omega (arith, inv.len);
-        callable = search of_calls;
+        callable = turn_on first inv.filters.callable _ (_, _, told);
       };
     }
 
@@ -49,29 +61,8 @@ pub returns-then-pred-clause-goes : goal.returns-then-pred-clause-goes
 returns-then-pred-clause-goes g c =
     let inv = c.loop-self.invariant in
     let len = ap (λ v. v.raw.len) inv.vec in
-    record {
-      on = λ _. (
-        record {
-          small = inv.filters.small;
-          held = inv.filters.held;
-          order = omega (arith, inv.filters.order);
-          within =
-              omega (arith, inv.len);
-          callable = search of_calls;
-        },
-        tt,
-        omega (arith, inv.from, inv.len, len),
-      );
-      keeps = record {
-        small = inv.filters.small;
-        held = inv.filters.held;
-        order = omega (arith, inv.filters.order);
-        within =
-            omega (arith, inv.len);
-        callable = search of_calls;
-      };
-      rests = λ _. tt;
-    }
+    let filters = (returns-then-pred-clause-steps g c).filters in
+    record { on = λ _. (filters, tt, omega (arith, inv.from, inv.len, len)); keeps = filters; rests = λ _. tt }
 
 pub loop-self-preserved : goal.loop-self-preserved
 loop-self-preserved g c =
@@ -85,9 +76,9 @@ loop-self-preserved g c =
     let ys = elements item.SIZE item.decoded (d.vec.now.raw.len - (d.front + 1)) (drop ((d.front + 1) * item.SIZE) bs) in
     let got = rw inv.block at (c.item_at-item.ensures d.vec.now.raw.len (omega (arith, inv.len))) in
     let told = rw c.if-pred.false at (Called-Mut g.F.FnMut c.pred.ensures) in
-    let h = subst (λ l. IsFiltering R d₀.pred (untested item d₀) d.pred l (stayed item d₀) (stayed item d))
-    (left_first_at item.SIZE item.decoded d.vec.now.raw.len d.front d.vec.now.raw.len bs c.item_at-item.result (omega (arith, inv.len))
-    (omega arith) got) inv.filtering in
+    let first = left_first_at item.SIZE item.decoded d.vec.now.raw.len d.front d.vec.now.raw.len bs c.item_at-item.result
+    (omega (arith, inv.len)) (omega arith) got in
+    let h = subst (λ l. IsFiltering R d₀.pred (untested item d₀) d.pred l (stayed item d₀) (stayed item d)) first inv.filtering in
     let room = room_of item d.arena.now.memory d.vec.now d.vec.now.raw.len inv.filters.held inv.filters.held.within in
     let puts = rw inv.block at c.put_item.ensures in
     let behind = behind_put item.SIZE item.decoded d.vec.now.raw.len d.kept (d.front + 1) bs news c.pred.new.arg2
@@ -109,7 +100,8 @@ loop-self-preserved g c =
         };
         order = omega (arith, inv.filters.order);
         within = omega (arith, inv.len);
-        callable = search of_calls;
+        callable = subst (λ l. CallableOnListMut g.F.FnMut l c.pred.new.self) (sym behind)
+            (turn_on first inv.filters.callable _ (_, _, told));
       };
       len = inv.len;
       block = inv.block;

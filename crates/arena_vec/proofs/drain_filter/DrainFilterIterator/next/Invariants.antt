@@ -2,13 +2,14 @@ use Rattle.std.proofs.Common.{◌≡◌, ◌≤◌, ◌-◌, [], ◌∷◌}
 use Rattle.std.specs.Fn.{CalledAtMut}
 use Rattle.arena_chunks.specs.Frame.{Frame}
 use Rattle.arena_items.specs.Room.{SamePlaces}
+use Rattle.arena_vec.specs.Calling.{CallableOnListMut}
 use Rattle.arena_vec.specs.Filtering.{IsFilter, untested, stayed}
 use Rattle.arena_vec.proofs.FilterLemmas.{IsFiltering}
 use Rattle.arena_vec.proofs.drain_filter.DrainFilterIterator.next.Given as goal
 
 abbrev pub invariant-loop-self : goal.invariant-loop-self
 invariant-loop-self g l = record {
-  filters : IsFilter g.T.Item (goal.F-IsAlwaysCallable g) l.self;
+  filters : IsFilter g.T.Item (CallableOnListMut g.F.FnMut) l.self;
   len : l.len ≡ l.self.vec.now.raw.len;
   block : l.block ≡ l.self.vec.now.raw.block;
   vec : l.self.vec.now ≡ l.initial.self.vec.now;

@@ -3,6 +3,7 @@ use Rattle.placement.specs.Rounding.{up}
 use Rattle.placement.specs.State.{State, IsValid}
 use Rattle.placement.proofs.RoundingLemmas.{min_align_power}
 use Rattle.placement.proofs.ReturnLemmas.{is_return, dealloc_at, dealloc_elsewhere}
+use Rattle.plain_machine.proofs.ResizeLemmas.{block_top}
 use Rattle.plain_machine.proofs.state.PlainState.dealloc.Goals as goal
 
 pub round_up_to_unchecked-end-requires-clause-power :
@@ -13,7 +14,9 @@ pub set_cursor-requires : goal.set_cursor-requires
 set_cursor-requires c =
     let at = c.if-addr-cursor.true ∙ c.cursor.ensures in
     let end = c.round_up_to_unchecked-end.ensures ∙ ap (λ (s : State). up (c.args.addr + c.args.size) s.min_align) c.self.view_is in
-    (is_return c.args.self.now c.args.addr c.args.size c.round_up_to_unchecked-end.result (subst IsValid c.self.view_is c.self.invariant) at c.requires end).valid
+    let valid = subst IsValid c.self.view_is c.self.invariant in
+    let top = block_top c.args.self.now c.args.addr c.args.size valid at c.requires in
+    (is_return c.args.self.now c.args.addr c.args.size c.round_up_to_unchecked-end.result valid at top end).valid
 
 pub returns-then-addr-cursor : goal.returns-then-addr-cursor
 returns-then-addr-cursor c =

@@ -1,8 +1,7 @@
-use Rattle.arena_pool.specs.declared.kind.PoolKind.TheVariants.{FixedSize}
 use Rattle.pool_tests.proofs.tests.threads.a_borrower_waits_until_another_gives_back.Given as goal
 
-abbrev pub ghosts-over_one-L-Ledger : goal.ghosts-over_one-L-Ledger
-ghosts-over_one-L-Ledger g a = record { name = a.blank.name; parts = a.blank.parts }
+abbrev pub ghosts-one_waits-L-Ledger : goal.ghosts-one_waits-L-Ledger
+ghosts-one_waits-L-Ledger g a = record { name = a.blank.name; parts = a.blank.parts }
 
-abbrev pub ghosts-over_one-L-PoolName : goal.ghosts-over_one-L-PoolName
-ghosts-over_one-L-PoolName g a = record { kind = FixedSize a.bytes }
+abbrev pub ghosts-one_waits-L-PoolName : goal.ghosts-one_waits-L-PoolName
+ghosts-one_waits-L-PoolName g a = record { kind = a.kind }

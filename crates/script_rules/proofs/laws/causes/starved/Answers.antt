@@ -1,5 +1,10 @@
-use Rattle.script_rules.proofs.StarvedLemmas.{starved_within}
+use Rattle.std.proofs.Common.{◌+◌, arith}
+use Rattle.placement.specs.State.{used_bytes}
+use Rattle.placement.proofs.AskingLemmas.{asks_more}
 use Rattle.script_rules.proofs.laws.causes.starved.Goals as goal
 
 pub returns : goal.returns
-returns c = starved_within
+returns c = λ bytes more old new before after less is. record {
+  asks = asks_more (used_bytes old + bytes) (used_bytes old + more) old new before after (omega (arith, less)) is.asks;
+  starved = is.starved;
+}

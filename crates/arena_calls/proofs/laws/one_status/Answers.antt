@@ -1,0 +1,8 @@
+use Rattle.arena_calls.proofs.StatusLemmas.{within, over}
+use Rattle.arena_calls.proofs.laws.one_status.Goals as goal
+
+pub returns-clause-within : goal.returns-clause-within
+returns-clause-within c = within
+
+pub returns-clause-over : goal.returns-clause-over
+returns-clause-over c = over

@@ -1,0 +1,5 @@
+pub mod Streams
+pub mod ReadAll
+pub mod Lines
+pub mod Ends
+pub mod Program

@@ -1,0 +1,160 @@
+// Reads a call from the front of a line.
+ghost use Rattle.std.specs.Prelude.{IfOk, codes};
+ghost use Rattle.placement.specs.Grammar.{Fits, call_line};
+ghost use Rattle.arena_calls.specs.Lines.{Reads, FitsPlacing, placing_fields, BeginsWith};
+
+use super::hex::hex_bytes;
+use super::number::{field, name_field};
+use super::word::behind;
+use placement::Call;
+use std::alloc::{AllocError, Global};
+
+// A name, a size, an alignment and a fill byte, and what comes behind them.
+fn placing(bytes: &[u8]) -> Option<((u32, u64, u64, u8), &[u8])>
+    ensures { Reads FitsPlacing placing_fields bytes.now result }
+{
+    let (name, rest) = name_field(bytes)?;
+    let (size, rest) = field(rest, u64::MAX)?;
+    let (align, rest) = field(rest, u64::MAX)?;
+    let (fill, rest) = field(rest, u64::from(u8::MAX))?;
+    Some(((name, size, align, fill as u8), rest))
+}
+
+fn read_alloc(bytes: &[u8]) -> Option<(Call, &[u8])>
+    ensures { Reads (BeginsWith (codes "alloc ")) call_line bytes.now result }
+{
+    let rest = behind(bytes, b"alloc")?;
+    let ((name, size, align, fill), rest) = placing(rest)?;
+    let call = Call::Alloc {
+        name,
+        size,
+        align,
+        fill,
+    };
+    Some((call, rest))
+}
+
+fn read_grow(bytes: &[u8]) -> Option<(Call, &[u8])>
+    ensures { Reads (BeginsWith (codes "g")) call_line bytes.now result }
+{
+    let rest = behind(bytes, b"grow")?;
+    let ((name, size, align, fill), rest) = placing(rest)?;
+    let call = Call::Grow {
+        name,
+        size,
+        align,
+        fill,
+    };
+    Some((call, rest))
+}
+
+fn read_shrink(bytes: &[u8]) -> Option<(Call, &[u8])>
+    ensures { Reads (BeginsWith (codes "s")) call_line bytes.now result }
+{
+    let rest = behind(bytes, b"shrink")?;
+    let (name, rest) = name_field(rest)?;
+    let (size, rest) = field(rest, u64::MAX)?;
+    let (align, rest) = field(rest, u64::MAX)?;
+    Some((Call::Shrink { name, size, align }, rest))
+}
+
+fn read_dealloc(bytes: &[u8]) -> Option<(Call, &[u8])>
+    ensures { Reads (BeginsWith (codes "d")) call_line bytes.now result }
+{
+    let rest = behind(bytes, b"dealloc")?;
+    let (name, rest) = name_field(rest)?;
+    Some((Call::Dealloc { name }, rest))
+}
+
+fn read_read(bytes: &[u8]) -> Option<(Call, &[u8])>
+    ensures { Reads (BeginsWith (codes "read")) call_line bytes.now result }
+{
+    let rest = behind(bytes, b"read")?;
+    let (name, rest) = name_field(rest)?;
+    Some((Call::Read { name }, rest))
+}
+
+fn read_write(alloc: Global, bytes: &[u8]) -> Result<Option<(Call, &[u8])>, AllocError>
+    ensures { IfOk result (λ o. Reads (BeginsWith (codes "w")) call_line bytes.now o) }
+{
+    let Some(rest) = behind(bytes, b"write") else {
+        return Ok(None);
+    };
+    let Some((name, rest)) = name_field(rest) else {
+        return Ok(None);
+    };
+    let Some((at, rest)) = field(rest, u64::MAX) else {
+        return Ok(None);
+    };
+    let Some(rest) = behind(rest, b" ") else {
+        return Ok(None);
+    };
+    match hex_bytes(alloc, rest) {
+        Ok(Some((bytes, rest))) => Ok(Some((Call::Write { name, at, bytes }, rest))),
+        Ok(None) => Ok(None),
+        Err(failed) => Err(failed),
+    }
+}
+
+fn read_mark(bytes: &[u8]) -> Option<(Call, &[u8])>
+    ensures { Reads (BeginsWith (codes "m")) call_line bytes.now result }
+{
+    let rest = behind(bytes, b"mark")?;
+    let (name, rest) = name_field(rest)?;
+    Some((Call::Mark { name }, rest))
+}
+
+fn read_back(bytes: &[u8]) -> Option<(Call, &[u8])>
+    ensures { Reads (BeginsWith (codes "b")) call_line bytes.now result }
+{
+    let rest = behind(bytes, b"back")?;
+    let (name, rest) = name_field(rest)?;
+    Some((Call::Back { name }, rest))
+}
+
+// `alloc` is the front of `allocated`.
+fn read_alloc_or_allocated(bytes: &[u8]) -> Option<(Call, &[u8])>
+    ensures { Reads (BeginsWith (codes "a")) call_line bytes.now result }
+{
+    if let Some(rest) = behind(bytes, b"allocated") {
+        return Some((Call::Allocated, rest));
+    }
+    read_alloc(bytes)
+}
+
+fn read_read_or_reset(bytes: &[u8]) -> Option<(Call, &[u8])>
+    ensures { Reads (BeginsWith (codes "r")) call_line bytes.now result }
+{
+    if let Some(rest) = behind(bytes, b"reset") {
+        return Some((Call::Reset, rest));
+    }
+    read_read(bytes)
+}
+
+fn read_used(bytes: &[u8]) -> Option<(Call, &[u8])>
+    ensures { Reads (BeginsWith (codes "u")) call_line bytes.now result }
+{
+    let rest = behind(bytes, b"used")?;
+    Some((Call::Used, rest))
+}
+
+/// The call at the front, and what comes behind it.
+pub fn read_call(alloc: Global, bytes: &[u8]) -> Result<Option<(Call, &[u8])>, AllocError>
+    ensures { IfOk result (λ o. Reads Fits call_line bytes.now o) }
+{
+    let Some((first, _)) = bytes.split_first() else {
+        return Ok(None);
+    };
+    match *first {
+        b'a' => Ok(read_alloc_or_allocated(bytes)),
+        b'b' => Ok(read_back(bytes)),
+        b'd' => Ok(read_dealloc(bytes)),
+        b'g' => Ok(read_grow(bytes)),
+        b'm' => Ok(read_mark(bytes)),
+        b'r' => Ok(read_read_or_reset(bytes)),
+        b's' => Ok(read_shrink(bytes)),
+        b'u' => Ok(read_used(bytes)),
+        b'w' => read_write(alloc, bytes),
+        _ => Ok(None),
+    }
+}

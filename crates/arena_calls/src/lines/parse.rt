@@ -1,0 +1,75 @@
+// Reads the lines of calls.
+ghost use Rattle.std.specs.Prelude.{◌≡◌, IfOk, IfErr, MatchOption, Ok};
+ghost use Rattle.placement.specs.Grammar.{CallsOf};
+ghost use Rattle.arena_calls.specs.Lines.{IsCauseIn, TakesLine, RefusesLine, is_line_end};
+
+use super::call::read_call;
+use placement::Call;
+use std::alloc::{AllocError, Global};
+
+/// Why bytes are no list of calls.
+#[derive(Drop, Debug)]
+pub enum LinesErr {
+    /// The first line that is refused, by its number from 1.
+    BadLine(u64),
+    OutOfMemory,
+}
+
+fn at_line_end(bytes: &[u8]) -> bool
+    ensures { result ≡ is_line_end bytes.now }
+{
+    match bytes.first() {
+        Some(b) => *b == b'\n',
+        None => true,
+    }
+}
+
+// Adds the call of the first line, unless the line is empty. Gives what comes behind the line, from its line feed on.
+fn take_line<'a>(
+    alloc: Global,
+    bytes: &'a [u8],
+    calls: &mut Vec<Call>,
+) -> Result<Option<&'a [u8]>, AllocError>
+    ensures { IfOk result (λ o. MatchOption o
+        (RefusesLine bytes.now)
+        (λ behind. TakesLine bytes.now behind.now calls.old.items calls.new.items)) }
+{
+    if at_line_end(bytes) {
+        return Ok(Some(bytes));
+    }
+    match read_call(alloc, bytes) {
+        Ok(Some((call, behind))) => {
+            if !at_line_end(behind) {
+                return Ok(None);
+            }
+            calls.push(call)?;
+            Ok(Some(behind))
+        }
+        Ok(None) => Ok(None),
+        Err(failed) => Err(failed),
+    }
+}
+
+/// The calls that the bytes are lines of.
+pub fn parse_calls(alloc: Global, bytes: &[u8]) -> Result<Vec<Call>, LinesErr>
+    // Each line is empty or a call, and these are all of the calls.
+    ensures calls { IfOk result (λ calls. CallsOf bytes.now (Ok calls.items)) }
+    // The first line that is refused, or memory is wanting.
+    ensures refused { IfErr result (IsCauseIn bytes.now) }
+{
+    let mut calls = Vec::new(alloc);
+    let mut rest = bytes;
+    let mut before: u64 = 0;
+    'lines: loop {
+        let behind = match take_line(alloc, rest, &mut calls) {
+            Ok(Some(behind)) => behind,
+            Ok(None) => return Err(LinesErr::BadLine(before + 1)),
+            Err(_) => return Err(LinesErr::OutOfMemory),
+        };
+        match behind.split_first() {
+            Some((_, next)) => rest = next,
+            None => return Ok(calls),
+        }
+        before += 1;
+    }
+}

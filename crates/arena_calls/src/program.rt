@@ -1,0 +1,110 @@
+// What the program prints and answers.
+ghost use Rattle.std.specs.Prelude.{◌≡◌, []};
+ghost use Rattle.std.specs.Process.{exit_status};
+ghost use Rattle.placement.specs.Creation.{empty_state};
+ghost use Rattle.arena_chunks.specs.Source.{view};
+ghost use Rattle.arena_chunks.specs.Creating.{uncounted_memory};
+ghost use Rattle.arena_calls.specs.Ends.{outside, code_of};
+ghost use Rattle.arena_calls.specs.Program.{budget, Prints, Serves, Answers, Explains};
+ghost use Rattle.arena_calls.specs.declared.status.Status.{Status};
+
+use crate::arguments::{is_one_word, without_words, words};
+use crate::budget::Budgeted;
+use crate::messages::explain;
+use crate::status::Status;
+use crate::streams::{Input, Output, write_all};
+use crate::whole_run::arena_main;
+use arena_chunks::{Arena, Bytes};
+use std::alloc::Global;
+use std::env::Args;
+use std::io;
+use std::process::ExitCode;
+
+const HELP: &str = "\
+Runs calls on a bump arena, and prints their replies.
+
+usage: arena_run calls        reads a call from each line of standard input
+       arena_run --help       prints this text
+       arena_run --version    prints the version
+
+calls: alloc NAME SIZE ALIGN FILL
+       grow NAME SIZE ALIGN FILL
+       shrink NAME SIZE ALIGN
+       dealloc NAME
+       write NAME AT HEX      HEX is two digits for each byte, or - for none
+       read NAME
+       mark NAME              names the present state
+       back NAME              gives back all that was placed since the mark
+       reset
+       used
+       allocated
+";
+
+const VERSION: &str = "arena_run 0.1.0\n";
+
+// Prints a text in place of a run.
+fn print<O: Output>(output: &mut O, text: &str) -> Status
+    ensures { Prints text.now result (O.written output.old) (O.faults output.old) (O.written output.new) (O.faults output.new) }
+{
+    match write_all(output, text.as_bytes()) {
+        Ok(()) => Status::Done,
+        Err(_) => Status::WriteFault,
+    }
+}
+
+// Does what the words ask for.
+fn serve<C: Budgeted, I: Input, O: Output>(
+    alloc: Global,
+    words: &[Bytes],
+    arena: &mut Arena<1>,
+    chunks: &mut C,
+    input: &mut I,
+    output: &mut O,
+) -> Status
+    ensures { Serves HELP.now VERSION.now words.now result
+        (outside (I.left input.old) (I.faults input.old) (O.written output.old) (O.faults output.old)
+        (view arena.old (C.source chunks.old)))
+        (outside (I.left input.new) (I.faults input.new) (O.written output.new) (O.faults output.new)
+        (view arena.new (C.source chunks.new))) }
+{
+    if is_one_word(words, b"--help") {
+        return print(output, HELP);
+    }
+    if is_one_word(words, b"--version") {
+        return print(output, VERSION);
+    }
+    arena_main(alloc, words, arena, chunks, input, output)
+}
+
+/// The program: does what its words ask for over a new arena with a budget of 1 GiB, says on `messages` why it ends where
+/// all isn't well, and answers the exit status, which tells also where `messages` can't be written. `args` begins with the
+/// program's name.
+pub fn run_program<C: Budgeted, I: Input, O: Output, E: Output>(
+    alloc: Global,
+    args: io::Result<Args>,
+    arena: &mut Arena<1>,
+    chunks: &mut C,
+    input: &mut I,
+    output: &mut O,
+    messages: &mut E,
+) -> ExitCode
+    requires new { arena.old ≡ uncounted_memory (empty_state 1) [] }
+    requires budget { C.left chunks.old ≡ budget }
+    ensures { (status : Status) × (exit_status result ≡ code_of status)
+        × Answers HELP.now VERSION.now args status
+        (outside (I.left input.old) (I.faults input.old) (O.written output.old) (O.faults output.old)
+        (view arena.old (C.source chunks.old)))
+        (outside (I.left input.new) (I.faults input.new) (O.written output.new) (O.faults output.new)
+        (view arena.new (C.source chunks.new)))
+        × Explains status (E.written messages.old) (E.faults messages.old) (E.written messages.new) (E.faults messages.new) }
+{
+    let status = match args {
+        Ok(args) => match words(alloc, args) {
+            Ok(words) => serve(alloc, words.as_slice(), arena, chunks, input, output),
+            Err(_) => Status::OutOfMemory,
+        },
+        Err(error) => without_words(&error),
+    };
+    let _ = explain(messages, &status);
+    ExitCode::from(status.code())
+}

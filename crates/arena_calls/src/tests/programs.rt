@@ -1,0 +1,136 @@
+// The program whole, by its words.
+use crate::budget::program_chunks;
+use crate::program::run_program;
+use crate::streams::{MemoryInput, MemoryOutput};
+use arena_chunks::Arena;
+use std::alloc::Global;
+use std::env::Args;
+use std::io;
+use std::process::ExitCode;
+use std::test::Fail;
+
+// The exit status, and what was written to the output and to messages.
+#[derive(Drop)]
+struct Ended {
+    status: ExitCode,
+    text: Vec<u8>,
+    messages: Vec<u8>,
+}
+
+fn run_words(
+    alloc: Global,
+    args: io::Result<Args>,
+    text: &str,
+    fail: &[u64],
+) -> Result<Ended, Fail> {
+    let mut arena = Arena::<1>::new(alloc);
+    let mut chunks = program_chunks(alloc);
+    let text = text.as_bytes().to_vec(alloc)?;
+    let mut input = MemoryInput::new(alloc, text, 4096, Vec::new(alloc));
+    let mut output = MemoryOutput::new(alloc, 4096, fail.to_vec(alloc)?);
+    let mut messages = MemoryOutput::new(alloc, 7, fail.to_vec(alloc)?);
+    let status = run_program(
+        alloc,
+        args,
+        &mut arena,
+        &mut chunks,
+        &mut input,
+        &mut output,
+        &mut messages,
+    );
+    Ok(Ended {
+        status,
+        text: output.bytes().to_vec(alloc)?,
+        messages: messages.bytes().to_vec(alloc)?,
+    })
+}
+
+fn args(alloc: Global, words: &[&str]) -> Result<Args, Fail> {
+    let mut args = Vec::new(alloc);
+    for word in words {
+        args.push(word.to_string(alloc)?)?;
+    }
+    Ok(args.into_iter())
+}
+
+const USAGE: &str = "usage: arena_run calls\n";
+
+// The words, the input, the exit status, and what is written to the output and to messages.
+const ROWS: &[(&[&str], &str, u8, &str, &str)] = &[
+    (&["arena_run", "calls"], "used\n", 0, "number 0\n", ""),
+    (&["", "calls"], "", 0, "", ""),
+    (
+        &["arena_run", "--version"],
+        "used\n",
+        0,
+        "arena_run 0.1.0\n",
+        "",
+    ),
+    (&[], "used\n", 1, "", USAGE),
+    (&["calls"], "used\n", 1, "", USAGE),
+    (&["arena_run", ""], "used\n", 1, "", USAGE),
+    (&["arena_run", "calls", "calls"], "used\n", 1, "", USAGE),
+    (&["arena_run", "calls", "--help"], "used\n", 1, "", USAGE),
+    (&["arena_run", "--help", "calls"], "used\n", 1, "", USAGE),
+    (
+        &["arena_run", "calls"],
+        "used\n\nread\nread\n",
+        2,
+        "",
+        "line 3 is not understood\n",
+    ),
+    (
+        &["arena_run", "calls"],
+        "free 1\n",
+        2,
+        "",
+        "line 1 is not understood\n",
+    ),
+];
+
+#[test]
+fn programs_by_their_words(rt: HostRuntime) -> Result<(), Fail> {
+    let alloc = rt.alloc();
+    for (words, input, status, text, messages) in ROWS {
+        let args = args(alloc, words)?;
+        let ended = run_words(alloc, Ok(args), input, &[])?;
+        assert!(rt; ended.status == ExitCode::from(*status));
+        assert_eq!(rt; ended.text.as_slice(), text.as_bytes());
+        assert_eq!(rt; ended.messages.as_slice(), messages.as_bytes());
+    }
+    Ok(())
+}
+
+#[test]
+fn words_that_are_not_told(rt: HostRuntime) -> Result<(), Fail> {
+    for (kind, status, messages) in [
+        (io::ErrorKind::OutOfMemory, 3, "out of memory\n"),
+        (io::ErrorKind::InvalidData, 1, USAGE),
+    ] {
+        let ended = run_words(rt.alloc(), Err(io::Error::from(kind)), "used\n", &[])?;
+        assert!(rt; ended.status == ExitCode::from(status));
+        assert_eq!(rt; ended.text.len(), 0);
+        assert_eq!(rt; ended.messages.as_slice(), messages.as_bytes());
+    }
+    Ok(())
+}
+
+// The listed write fails, of the output and of messages, of which each takes 7 bytes.
+#[test]
+fn messages_that_are_not_written(rt: HostRuntime) -> Result<(), Fail> {
+    let alloc = rt.alloc();
+    for (words, fail, status, messages) in [
+        (["arena_run", "calls"], 1, 5, ""),
+        (["arena_run", "--version"], 1, 5, ""),
+        (["arena_run", "call"], 1, 1, ""),
+        (["arena_run", "call"], 2, 1, "usage: "),
+        (["arena_run", "call"], 5, 1, USAGE),
+    ] {
+        let args = args(alloc, words.as_slice())?;
+        let ended = run_words(alloc, Ok(args), "used\n", &[fail])?;
+        assert!(rt; ended.status == ExitCode::from(status));
+        assert_eq!(rt; ended.text.len(), 0);
+        assert_eq!(rt; ended.messages.as_slice(), messages.as_bytes());
+    }
+    Ok(())
+}

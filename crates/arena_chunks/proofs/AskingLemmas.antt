@@ -1,0 +1,222 @@
+-- What a call on a block asks for, and where it is refused.
+use Rattle.std.proofs.Common.{◌≡◌, ℕ, ◌+◌, ◌-◌, ◌^◌, ◌<◌, ◌≤◌, ap, sym, refl, subst, arith, IsTrue, Some, None, Option, List, [], ◌∷◌, length, inl, inr, true, false}
+use Rattle.std.specs.Prelude.{nat_le, ◌==◌, ◌&&◌}
+use Rattle.std.specs.List.{AllByRecursion}
+use Rattle.std.proofs.lemmas.Bool.{cases_Bool}
+use Rattle.std.proofs.lemmas.Bool.Decides.{nat_tests}
+use Rattle.std.proofs.lemmas.Option.{cond_some}
+use Rattle.std.proofs.lemmas.List.{length-map, length-take}
+use Rattle.placement.specs.Rounding.{up, is_layout, is_power}
+use Rattle.placement.specs.State.{State, IsValid, top_of, cursor_of, used_bytes, allocated_bytes}
+use Rattle.placement.specs.Search.{place, asked, requests, alloc_requests}
+use Rattle.placement.specs.Moves.{Outcome, Resizing, alloc, dealloc, resize, growing, growth, down_to, stays, placed, fails}
+use Rattle.placement.specs.Moves.Resizing.{Stays, Moves, Anew, Refused as NotGrown}
+use Rattle.placement.specs.Requests.{resize_requests}
+use Rattle.placement.specs.Used.{unit_of}
+use Rattle.placement.specs.Asking.{IsRequestWithin, HasGrown, most_asked}
+use Rattle.placement.proofs.RoundingLemmas.{layout_power, up_close, power_positive, min_align_positive, min_align_le}
+use Rattle.placement.proofs.UsedResizeLemmas.{resize_stays, resize_moves, resize_refused}
+use Rattle.placement.proofs.AskedSizeLemmas.{all_requests, newest_short, one_chunk, asks_some}
+use Rattle.placement.proofs.GrownLemmas.{grown_not, cursor_grown, dealloc_grown, alloc_grown, IsFailed, alloc_failed}
+use Rattle.placement.proofs.AskingLemmas.{asks_nothing, asks_by, refused_by}
+use Rattle.arena_chunks.specs.Memory.{Memory}
+use Rattle.arena_chunks.specs.Source.{View, Source, IsAsked}
+use Rattle.arena_chunks.specs.Asking.{AsksWithin, IsRefusedBySource, IsFull}
+use Rattle.arena_chunks.specs.Answers.{Answer}
+use Rattle.arena_chunks.specs.Answers.Answer.{Placed, Refused, Wanting}
+use Rattle.arena_chunks.specs.BlockCalls.{PlacesBlock, ResizesBlock, GrowsBlock, GivesBack, growing_of}
+use Rattle.arena_chunks.specs.declared.block.Block.{Block}
+use Rattle.arena_chunks.proofs.UsedByCallLemmas.{anew_most, stays_used, grown_most}
+
+-- ---- What a call asks for
+
+-- one that moves no cursor and asks for nothing
+pub asks_same : (bytes : ℕ) (old new : View) → new.memory.state ≡ old.memory.state → new.source ≡ old.source → AsksWithin bytes old new
+asks_same bytes old new state source = rw (state, source) (asks_nothing bytes old.memory.state old.source)
+
+same_grown : (old new : Memory) → new ≡ old → HasGrown old.state new.state
+same_grown old new same = subst (λ (m : Memory). HasGrown old.state m.state) (sym same) (grown_not old.state)
+
+same_asks : (bytes : ℕ) (old new : View) → new ≡ old → AsksWithin bytes old new
+same_asks bytes old new same = subst (λ (v : View). AsksWithin bytes old v) (sym same) (asks_nothing bytes old.memory.state old.source)
+
+-- A block that is placed.
+pub asks_placed : (bytes : ℕ) (old new : View) (size align : ℕ) (answer : Answer) → IsTrue (is_layout size align) → align ≤ 16
+    → used_bytes old.memory.state + size + (unit_of old.memory.state align - 1) ≤ bytes → PlacesBlock old new size align answer
+    → AsksWithin bytes old new
+asks_placed bytes old new size align (Placed b) layout small fits places =
+    let s = places.1.outcome in
+    let valid = places.1.valid.entry in
+    asks_by bytes places.0 (alloc_requests old.memory.state size align places.0)
+    old.memory.state new.memory.state old.source new.source s.asked
+    (all_requests old.memory.state size align places.0 bytes valid small fits)
+    (alloc_grown old.memory.state size align places.0 (record { answer = Some b.addr; state = new.memory.state }) valid
+    (layout_power size align layout) small s.step)
+asks_placed bytes old new size align (Refused k) layout small fits places =
+    let s = places.1.outcome.1 in
+    asks_by bytes places.0 (alloc_requests old.memory.state size align places.0)
+    old.memory.state new.memory.state old.source new.source s.asked
+    (all_requests old.memory.state size align places.0 bytes places.1.valid.entry small fits) (same_grown old.memory new.memory s.memory)
+asks_placed bytes old new size align Wanting layout small fits places = same_asks bytes old new places.1.outcome.same
+
+-- A block that is given another size.
+module _ (bytes : ℕ) (old new : View) (block : Block) (size align : ℕ) (layout : IsTrue (is_layout size align)) (small : align ≤ 16)
+    (fits : used_bytes old.memory.state + size + (unit_of old.memory.state align - 1) ≤ bytes) where
+  way_requests : (way : Resizing) (k : ℕ) → IsValid old.memory.state
+      → AllByRecursion (IsRequestWithin (most_asked bytes)) (resize_requests way old.memory.state size align k)
+  way_requests Stays k valid = tt
+  way_requests (Moves q) k valid = tt
+  way_requests Anew k valid = all_requests old.memory.state size align k bytes valid small fits
+  way_requests NotGrown k valid = tt
+
+  way_grown : (way : Resizing) (k : ℕ) (outcome : Outcome) → IsValid old.memory.state
+      → resize way old.memory.state block.addr size align k ≡ Some outcome → HasGrown old.memory.state outcome.state
+  way_grown Stays k outcome valid step =
+      rw (resize_stays old.memory.state Stays block.addr size align k outcome refl step) (grown_not old.memory.state)
+  way_grown (Moves q) k outcome valid step =
+      rw (resize_moves old.memory.state (Moves q) block.addr size align k q outcome refl step) (cursor_grown q old.memory.state)
+  way_grown Anew k outcome valid step =
+      alloc_grown old.memory.state size align k outcome valid (layout_power size align layout) small step
+  way_grown NotGrown k outcome valid step =
+      rw (resize_refused old.memory.state NotGrown block.addr size align k outcome refl step) (grown_not old.memory.state)
+
+  pub asks_resized : (way : Resizing) (answer : Answer) → ResizesBlock way old new block size align answer → AsksWithin bytes old new
+  asks_resized way (Placed b) resizes =
+      let s = resizes.1.outcome in
+      let valid = resizes.1.valid.entry in
+      asks_by bytes resizes.0 (resize_requests way old.memory.state size align resizes.0)
+      old.memory.state new.memory.state old.source new.source
+      s.asked (way_requests way resizes.0 valid)
+      (way_grown way resizes.0 (record { answer = Some b.addr; state = new.memory.state }) valid s.step)
+  asks_resized way (Refused k) resizes =
+      let s = resizes.1.outcome.1 in
+      asks_by bytes resizes.0 (resize_requests way old.memory.state size align resizes.0)
+      old.memory.state new.memory.state old.source new.source
+      s.asked (way_requests way resizes.0 resizes.1.valid.entry) (same_grown old.memory new.memory s.memory)
+  asks_resized way Wanting resizes = same_asks bytes old new resizes.1.outcome.1.same
+
+-- A block that is given back.
+pub asks_given_back : (bytes : ℕ) (old new : View) (b : Block) → GivesBack old.memory new.memory b → new.source ≡ old.source
+    → AsksWithin bytes old new
+asks_given_back bytes old new b gives source =
+    let none = asks_nothing bytes old.memory.state old.source in
+    let state : new.memory.state ≡ dealloc old.memory.state b.addr b.size = ap (λ (m : Memory). m.state) gives.memory in
+    rw (state, source) (record { chunks = dealloc_grown old.memory.state b.addr b.size; refusals = none.refusals; told = none.told })
+
+-- ---- Calls that are refused
+
+-- what an allocation that fails has asked for
+made_some : (state : State) (size align k : ℕ) → IsFailed state size align k → 0 < length (asked state size align)
+    → 0 < length (alloc_requests state size align k)
+unfolding requests
+made_some state size align k failed some = rw (failed.none, failed.all) (simp (length-map, length-take) (omega arith))
+
+-- Where an arena that grows has no place for a block, the source has refused.
+alloc_starved : (old new : View) (size align k : ℕ) → IsValid old.memory.state → old.memory.state.is_growing ≡ true
+    → IsTrue (is_layout size align) → align ≤ 16 → size ≤ 2 ^ 60 → (state : State)
+    → alloc old.memory.state size align k ≡ Some (record { answer = None; state = state })
+    → IsAsked old.source new.source k (alloc_requests old.memory.state size align k)
+    → top_of old.memory.state.chunks ≤ 2 ^ 63 + 2 ^ 62 → IsRefusedBySource old new
+alloc_starved old new size align k valid growing layout small bounded state step asked low =
+    let failed = alloc_failed old.memory.state state size align k valid (layout_power size align layout) step in
+    let some = asks_some old.memory.state size align valid growing small bounded low in
+    refused_by k (alloc_requests old.memory.state size align k) old.source new.source asked (omega (arith, failed.all, some))
+    (made_some old.memory.state size align k failed some)
+
+-- Where an arena that doesn't grow has no place for a block, it has fewer bytes than are in use and are wanted.
+alloc_full : (old : View) (size align k : ℕ) (state : State) → IsValid old.memory.state → old.memory.state.is_growing ≡ false
+    → IsTrue (is_layout size align) → alloc old.memory.state size align k ≡ Some (record { answer = None; state = state })
+    → IsFull (used_bytes old.memory.state + size + (unit_of old.memory.state align - 1)) old
+alloc_full old size align k state valid still layout step =
+    let failed = alloc_failed old.memory.state state size align k valid (layout_power size align layout) step in
+    record {
+      still = still;
+      short = omega (arith, newest_short old.memory.state size align valid failed.none, one_chunk old.memory.state valid still);
+    }
+
+-- A block that is placed.
+pub placed_starved : (old new : View) (size align k : ℕ) → IsTrue (is_layout size align) → align ≤ 16 → size ≤ 2 ^ 60
+    → old.memory.state.is_growing ≡ true → PlacesBlock old new size align (Refused k)
+    → top_of old.memory.state.chunks ≤ 2 ^ 63 + 2 ^ 62 → IsRefusedBySource old new
+placed_starved old new size align k layout small bounded growing places low =
+    alloc_starved old new size align places.0 places.1.valid.entry growing layout small bounded old.memory.state
+    places.1.outcome.1.step places.1.outcome.1.asked low
+
+pub placed_full : (old new : View) (size align k : ℕ) → IsTrue (is_layout size align) → old.memory.state.is_growing ≡ false
+    → PlacesBlock old new size align (Refused k) → IsFull (used_bytes old.memory.state + size + (unit_of old.memory.state align - 1)) old
+placed_full old new size align k layout still places =
+    alloc_full old size align places.0 old.memory.state places.1.valid.entry still layout places.1.outcome.1.step
+
+-- ---- A block that grows
+
+-- a step that answers a place isn't one that fails
+answers_none : (p : ℕ) → Some p ≡ None → ⊥
+answers_none p same = cc
+
+-- A block of a power's alignment that grows to this size is never refused for its size.
+never_refused : (state : State) (p old_size old_align size align : ℕ) → IsValid state → IsTrue (is_power old_align) → old_align ≤ 16
+    → size ≤ 2 ^ 60
+    → growing state p old_size old_align size align ≡ NotGrown → ⊥
+never_refused state p old_size old_align size align valid power small bounded is =
+    elim (cases_Bool (nat_le align old_align && p == cursor_of state.chunks)) [
+      | inl here ↦
+          let close = up_close size state.min_align (min_align_positive state.min_align valid.min_align) in
+          let least = min_align_le state.min_align valid.min_align in
+          let padded = up_close (growth state old_size size) old_align (power_positive old_align power) in
+          let test : nat_le (up (growth state old_size size) old_align) (2 ^ 63 - 1) ≡ true = grind (arith, nat_tests) in
+          let layout : is_layout (growth state old_size size) old_align ≡ true = rw (power, test) refl in
+          placed_down (place state (growth state old_size size) old_align) (rw (here, layout) at is)
+      | inr away ↦ absurd (let no : Anew ≡ NotGrown = rw away at is in cc)
+    ]
+  where
+    placed_down : (o : Option ℕ) → down_to o ≡ NotGrown → ⊥
+    placed_down (Some q) same = cc
+    placed_down None same = cc
+
+module _ (old new : View) (block : Block) (size align k : ℕ) (layout : IsTrue (is_layout size align)) (small : align ≤ 16)
+    (power : IsTrue (is_power block.align)) (low_align : block.align ≤ 16) (bounded : size ≤ 2 ^ 60) where
+  -- Where it is refused, it was to be placed anew.
+  grown_anew : GrowsBlock old new block size align (Refused k)
+      → (k : ℕ) × (alloc old.memory.state size align k ≡ Some (record { answer = None; state = old.memory.state }))
+      × IsAsked old.source new.source k (alloc_requests old.memory.state size align k) × IsValid old.memory.state
+  grown_anew grows = go (growing_of old.memory block size align) refl grows
+    where
+      go : (way : Resizing) → growing_of old.memory block size align ≡ way → ResizesBlock way old new block size align (Refused k)
+          → (k : ℕ) × (alloc old.memory.state size align k ≡ Some (record { answer = None; state = old.memory.state }))
+          × IsAsked old.source new.source k (alloc_requests old.memory.state size align k) × IsValid old.memory.state
+      go Anew is resizes = (resizes.0, resizes.1.outcome.1.step, resizes.1.outcome.1.asked, resizes.1.valid.entry)
+      go NotGrown is resizes =
+          absurd (never_refused old.memory.state block.addr block.size block.align size align resizes.1.valid.entry power low_align
+          bounded is)
+      go Stays is resizes = absurd (answers_none block.addr (ap (λ (o : Outcome). o.answer)
+          (cond_some (resizes.0 == 0) (stays old.memory.state block.addr) _ resizes.1.outcome.1.step).1))
+      go (Moves q) is resizes = absurd (answers_none q (ap (λ (o : Outcome). o.answer)
+          (cond_some (resizes.0 == 0) (placed old.memory.state q) _ resizes.1.outcome.1.step).1))
+
+  pub grown_starved : old.memory.state.is_growing ≡ true → GrowsBlock old new block size align (Refused k)
+      → top_of old.memory.state.chunks ≤ 2 ^ 63 + 2 ^ 62 → IsRefusedBySource old new
+  grown_starved growing grows low =
+      let anew = grown_anew grows in
+      alloc_starved old new size align anew.0 anew.3 growing layout small bounded old.memory.state anew.1 anew.2 low
+
+  pub grown_full : old.memory.state.is_growing ≡ false → GrowsBlock old new block size align (Refused k)
+      → IsFull (used_bytes old.memory.state + size + (unit_of old.memory.state align - 1)) old
+  grown_full still grows =
+      let anew = grown_anew grows in
+      alloc_full old size align anew.0 old.memory.state anew.3 still layout anew.1
+
+-- A block that grows brings its new size into use at most, with the padding of its end and of its place.
+pub grown_used : (old new : View) (block b : Block) (size align : ℕ) → IsTrue (is_layout size align)
+    → block.align ≤ align → GrowsBlock old new block size align (Placed b)
+    → used_bytes new.memory.state ≤ used_bytes old.memory.state + size + (old.memory.state.min_align - 1)
+    + (unit_of old.memory.state align - 1)
+grown_used old new block b size align layout low grows = go (growing_of old.memory block size align) refl grows
+  where
+    go : (way : Resizing) → growing_of old.memory block size align ≡ way → ResizesBlock way old new block size align (Placed b)
+        → used_bytes new.memory.state ≤ used_bytes old.memory.state + size + (old.memory.state.min_align - 1)
+        + (unit_of old.memory.state align - 1)
+    go Anew is resizes = omega (arith, anew_most old new block b size align layout resizes)
+    go Stays is resizes = omega (arith, stays_used old new block b size align resizes)
+    go (Moves q) is resizes = omega (arith, grown_most old new block b size align q grows is)
+    go NotGrown is resizes = absurd (let same : None ≡ Some b.addr = ap (λ (o : Outcome). o.answer)
+        (cond_some (resizes.0 == 0) (fails old.memory.state) _ resizes.1.outcome.step).1 in cc)

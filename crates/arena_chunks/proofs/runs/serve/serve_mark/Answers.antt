@@ -1,0 +1,27 @@
+use Rattle.std.proofs.Common.{refl, sym}
+use Rattle.placement.specs.Machine.{step}
+use Rattle.placement.specs.Requests.{placed_anew}
+use Rattle.placement.specs.declared.calls.Call.TheVariants.{Mark}
+use Rattle.placement.specs.declared.calls.Reply.TheVariants.{NameTaken}
+use Rattle.arena_chunks.proofs.AnswerLemmas.{on_err}
+use Rattle.arena_chunks.proofs.ServingLemmas.{asks_still}
+use Rattle.arena_chunks.proofs.MarkingLemmas.{marks_still, serves_mark, none_named}
+use Rattle.arena_chunks.proofs.runs.serve.serve_mark.Goals as goal
+
+pub returns-then-has-clause-serves : goal.returns-then-has-clause-serves
+unfolding step placed_anew
+returns-then-has-clause-serves g c = λ source.
+    marks_still (Mark c.args.name) NameTaken _ _ _ source c.requires.holds c.requires.tracks refl (λ bytes. rw (← c.if-has.ensures) refl)
+    (asks_still _ _ _ _ _ refl (λ marks bytes. refl) (λ marks bytes. refl))
+
+pub set-requires : goal.set-requires
+set-requires g c = sym c.if-has.ensures
+
+pub returns-clause-serves : goal.returns-clause-serves
+returns-clause-serves g c = λ source.
+    serves_mark _ _ _ _ c.args.name source c.requires.holds c.requires.tracks (sym c.if-has.ensures) (rw c.checkpoint.ensures at c.in_ok-set.ensures)
+
+pub returns-in_err-set-clause-wants : goal.returns-in_err-set-clause-wants
+unfolding placed_anew
+returns-in_err-set-clause-wants g c = λ source.
+    on_err c.from_residual.result (record { takes = λ bytes. none_named _ (sym c.if-has.ensures); same = refl })

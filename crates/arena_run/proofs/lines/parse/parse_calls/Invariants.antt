@@ -1,9 +1,0 @@
-use Rattle.std.proofs.Common.{length}
-use Rattle.arena_run.proofs.LineLemmas.{Progress}
-use Rattle.arena_run.proofs.lines.parse.parse_calls.Given as goal
-
-abbrev pub invariant-lines : goal.invariant-lines
-invariant-lines l = Progress l.bytes l.rest l.calls.items l.before
-
-abbrev pub decreases-lines : goal.decreases-lines
-decreases-lines l = length l.rest

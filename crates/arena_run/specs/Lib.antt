@@ -1,4 +1,0 @@
-pub mod Streams
-pub mod ReadAll
-pub mod Lines
-pub mod Ends

@@ -1,0 +1,154 @@
+// Runs of calls, whose replies were reckoned by hand: the engine and the plain program of the definitions give them.
+ghost use Rattle.std.specs.Prelude.{IsTrue};
+ghost use Rattle.placement.specs.State.{is_min_align};
+
+use super::refusing;
+use arena_chunks::{Arena, Bytes, Call, OutOfMemory, Ran, Reply, run_calls};
+use plain_machine::PlainMachine;
+use std::alloc::Global;
+use std::process::Abort;
+use std::test::Fail;
+
+// A call: the name, and what it has of a size, an alignment, a fill byte, an index and bytes, in this order.
+#[derive(Clone, Copy)]
+pub(super) enum Row {
+    Alloc(u32, u64, u64, u8),
+    Grow(u32, u64, u64, u8),
+    Shrink(u32, u64, u64),
+    Dealloc(u32),
+    Write(u32, u64, &'static [u8]),
+    Read(u32),
+    // A mark's name.
+    Mark(u32),
+    Back(u32),
+    Reset,
+    Used,
+    Allocated,
+}
+
+// A reply, with bytes as a slice.
+#[derive(Clone, Copy)]
+pub(super) enum Says {
+    // An address, and how many requests were refused.
+    Placed(u64, u32),
+    AllocErr(u32),
+    Done,
+    Number(u64),
+    Bytes(&'static [u8]),
+    NoSuchName,
+    NameTaken,
+    BadLayout,
+    OutOfRange,
+}
+
+fn call(alloc: Global, row: Row) -> Result<Call, OutOfMemory> {
+    Ok(match row {
+        Row::Alloc(name, size, align, fill) => Call::Alloc {
+            name,
+            size,
+            align,
+            fill,
+        },
+        Row::Grow(name, size, align, fill) => Call::Grow {
+            name,
+            size,
+            align,
+            fill,
+        },
+        Row::Shrink(name, size, align) => Call::Shrink { name, size, align },
+        Row::Dealloc(name) => Call::Dealloc { name },
+        Row::Write(name, at, bytes) => {
+            let bytes = Bytes::of(alloc, bytes)?;
+            Call::Write { name, at, bytes }
+        }
+        Row::Read(name) => Call::Read { name },
+        Row::Mark(name) => Call::Mark { name },
+        Row::Back(name) => Call::Back { name },
+        Row::Reset => Call::Reset,
+        Row::Used => Call::Used,
+        Row::Allocated => Call::Allocated,
+    })
+}
+
+pub(super) fn calls(alloc: Global, rows: &[Row]) -> Result<Vec<Call>, Fail> {
+    let mut calls = Vec::new(alloc);
+    for row in rows {
+        calls.push(call(alloc, *row)?)?;
+    }
+    Ok(calls)
+}
+
+fn reply(alloc: Global, says: Says) -> Result<Reply, OutOfMemory> {
+    Ok(match says {
+        Says::Placed(addr, refused) => Reply::Placed { addr, refused },
+        Says::AllocErr(refused) => Reply::AllocErr { refused },
+        Says::Done => Reply::Done,
+        Says::Number(n) => Reply::Number(n),
+        Says::Bytes(bytes) => Reply::Bytes(Bytes::of(alloc, bytes)?),
+        Says::NoSuchName => Reply::NoSuchName,
+        Says::NameTaken => Reply::NameTaken,
+        Says::BadLayout => Reply::BadLayout,
+        Says::OutOfRange => Reply::OutOfRange,
+    })
+}
+
+// The replies of the engine, which are those of the plain program told of the same refusals.
+pub(super) fn replies_of<const M: usize>(
+    rt: &impl Abort,
+    alloc: Global,
+    rows: &[Row],
+    refuse: &[u64],
+) -> Result<Vec<Reply>, Fail>
+    requires { IsTrue (is_min_align M) }
+{
+    let calls = calls(alloc, rows)?;
+    let mut chunks = refusing(alloc, refuse)?;
+    let mut arena = Arena::<M>::with_min_align(alloc);
+    let Ok(Ran { replies, .. }) = run_calls(alloc, &mut arena, &mut chunks, calls.as_slice()) else {
+        return Err(Fail::from("memory is ample"));
+    };
+    let mut refused = Vec::new(alloc);
+    for reply in &replies {
+        refused.push(match reply {
+            Reply::Placed { refused, .. } | Reply::AllocErr { refused } => *refused,
+            _ => 0,
+        })?;
+    }
+    let plain = PlainMachine::run(alloc, M as u64, calls.as_slice(), refused.as_slice());
+    let Ok(Some(plain)) = plain else {
+        return Err(Fail::from("the machine has this run"));
+    };
+    assert!(rt;
+        replies.as_slice() == plain.as_slice(),
+        "refused: {refuse:?}"
+    );
+    Ok(replies)
+}
+
+// Calls in a row, each with its reply, where the requests of these numbers are refused.
+pub(super) struct Run {
+    pub(super) name: &'static str,
+    pub(super) refuse: &'static [u64],
+    pub(super) lines: &'static [(Row, Says)],
+}
+
+pub(super) fn all_reply<const M: usize>(
+    rt: &impl Abort,
+    alloc: Global,
+    runs: &[Run],
+) -> Result<(), Fail>
+    requires { IsTrue (is_min_align M) }
+{
+    for run in runs {
+        let mut rows = Vec::new(alloc);
+        for (row, _) in run.lines {
+            rows.push(*row)?;
+        }
+        let replies = replies_of::<M>(rt, alloc, rows.as_slice(), run.refuse)?;
+        for (n, (given, (_, says))) in replies.iter().zip(run.lines).enumerate() {
+            let wanted = reply(alloc, *says)?;
+            assert!(rt; *given == wanted, "{}, call {n}", run.name);
+        }
+    }
+    Ok(())
+}

@@ -1,0 +1,78 @@
+// A source that writes `request` alone, as one that hands out vectors does.
+ghost use Rattle.std.specs.Prelude.{◌≡◌, IfOk, replicate};
+
+use super::{has, layout, placed, reads};
+use arena_chunks::{Allocator, ArenaErr, ChunkSource, MemoryChunks};
+use std::alloc::{AllocError, Global};
+use std::test::Fail;
+
+// Vectors of zeros, which have room for more, up to so many; all others it refuses.
+#[derive(Drop)]
+struct Vectors {
+    alloc: Global,
+    grants: u64,
+    refused: u64,
+}
+
+impl ChunkSource for Vectors {
+    ghost use Rattle.std.specs.Prelude.{None};
+
+    ghost source = { λ v. record { refusals = v.refused; asked = None } };
+
+    fn request(&mut self, size: u64, align: u64) -> Option<Vec<u8>> {
+        let _ = align;
+        if self.grants > 0
+            && let Ok(chunk) = zeros(self.alloc, size as usize)
+        {
+            self.grants -= 1;
+            return Some(chunk);
+        }
+        self.refused = self.refused.saturating_add(1);
+        None
+    }
+}
+
+fn zeros(alloc: Global, size: usize) -> Result<Vec<u8>, AllocError>
+    ensures { IfOk result (λ v. v.items ≡ replicate size 0) }
+{
+    let mut chunk = Vec::new(alloc);
+    chunk.resize(size, 0)?;
+    chunk.reserve(100)?;
+    Ok(chunk)
+}
+
+#[test]
+fn a_source_of_vectors(rt: HostRuntime) {
+    let alloc = rt.alloc();
+    let chunks = Vectors {
+        alloc,
+        grants: 2,
+        refused: 0,
+    };
+    let mut a = Allocator::new(alloc, chunks);
+    let first = a.alloc_layout(layout(&rt, 16320, 1));
+    let first = placed(&rt, "the first chunk", &a, first, 4096);
+    a.write(first, 0, &[1; 5]);
+    let second = a.alloc_layout(layout(&rt, 3, 1));
+    let second = placed(&rt, "the second", &a, second, 53165);
+    reads(&rt, "zeros", &a, second, &[0; 3]);
+    let third = a.alloc_layout(layout(&rt, 32704, 1));
+    assert_eq!(rt; third, Err(ArenaErr::AllocErr { refused: 2 }));
+    has(&rt, "afterwards", &a, 16323, (2, 0));
+    let (arena, chunks) = a.into_parts();
+    assert_eq!(rt; (arena.allocated_bytes(), chunks.refused), (49024, 2));
+}
+
+// Chunks of a gibibyte, of which little is used. To touch all bytes of one takes half a second, so that these would take longer
+// than a test may.
+#[test]
+fn chunks_that_are_not_touched_before_use(rt: HostRuntime) -> Result<(), Fail> {
+    for _ in 0..1000 {
+        let chunks = MemoryChunks::new(rt.alloc(), 1 << 31);
+        let Ok(mut a) = Allocator::with_capacity(rt.alloc(), chunks, 1 << 30) else {
+            return Err(Fail::from("an allocator"));
+        };
+        a.alloc_str("hello").expect(&rt, "a text");
+    }
+    Ok(())
+}

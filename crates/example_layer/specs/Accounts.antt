@@ -1,0 +1,18 @@
+-- What a layer's call asks for, and why it was refused.
+use Rattle.std.specs.Prelude.{◌≡◌, ℕ, ◌+◌, true, false}
+use Rattle.placement.specs.State.{used_bytes}
+use Rattle.arena_chunks.specs.Source.{View}
+use Rattle.arena_chunks.specs.Asking.{AsksWithin, IsStarved, IsFull}
+use Rattle.arena_chunks.specs.Answers.{Answer}
+use Rattle.arena_chunks.specs.Answers.Answer.{Refused}
+
+-- It asks for no more than so many bytes in use need. Where it has no place, the arena was starved if it grows, and else has
+-- fewer bytes than these.
+pub record Accounts (far bytes : ℕ) (old new : View) (answer : Answer) : Type 0 where
+  pub asks : AsksWithin bytes old new
+  pub starved : old.memory.state.is_growing ≡ true → (k : ℕ) → answer ≡ Refused k → IsStarved far old new
+  pub full : old.memory.state.is_growing ≡ false → (k : ℕ) → answer ≡ Refused k → IsFull bytes old
+
+-- what is in use, and two blocks of these sizes, each with its padding
+abbrev pub needed : View → ℕ → ℕ → ℕ
+needed a first second = used_bytes a.memory.state + (first + 15) + (second + 15)

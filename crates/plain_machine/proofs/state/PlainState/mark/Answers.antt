@@ -1,0 +1,7 @@
+use Rattle.std.proofs.Common.{subst}
+use Rattle.placement.specs.State.{IsValid}
+use Rattle.placement.proofs.BackLemmas.{own_accepted}
+use Rattle.plain_machine.proofs.state.PlainState.mark.Goals as goal
+
+pub returns-clause-accepted : goal.returns-clause-accepted
+returns-clause-accepted c = own_accepted c.args.self.now (subst IsValid c.self.view_is c.self.invariant)

@@ -1,8 +1,0 @@
-use Rattle.arena_pool.specs.declared.kind.PoolKind.TheVariants.{FixedSize}
-use Rattle.pool_tests.proofs.tests.pools.loans_of_a_fixed_pool.Given as goal
-
-abbrev pub ghosts-loans_of_two-L-Ledger : goal.ghosts-loans_of_two-L-Ledger
-ghosts-loans_of_two-L-Ledger g a = record { name = a.blank.name; parts = a.blank.parts }
-
-abbrev pub ghosts-loans_of_two-L-PoolName : goal.ghosts-loans_of_two-L-PoolName
-ghosts-loans_of_two-L-PoolName g a = record { kind = FixedSize a.bytes }
