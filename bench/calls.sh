@@ -5,7 +5,8 @@
 # with the start of the process, and the peak memory. Both programs must print the same text.
 # The lines are a seeded mix of the calls that both have, with sizes to 511 and 256 names, and a reset in each 65,536th line. With
 # PROFILE=marks a third of the lines set marks, each inside the one before, a third place a block behind each, and a third go back
-# to them from the newest on; the Rust crate has no such calls, so NATIVE isn't run then.
+# to them from the newest on; with PROFILE=stay these blocks are empty, so that they stay. The Rust crate has no such calls, so
+# NATIVE isn't run then.
 set -euo pipefail
 export LC_ALL=C
 here=$(dirname "$(readlink -f "$0")")
@@ -38,14 +39,19 @@ mix() {
         }'
 }
 
-# marks LINES: prints so many lines, less the rest by 3.
-marks() {
-    awk -v marks="$(($1 / 3))" '
+# tries LINES SIZE: prints so many lines, less the rest by 3.
+tries() {
+    awk -v marks="$(($1 / 3))" -v size="$2" '
         BEGIN {
-            for (i = 0; i < marks; i++) { print "mark", i; print "alloc", i, 24, 8, 1 }
+            for (i = 0; i < marks; i++) { print "mark", i; print "alloc", i, size, 8, 1 }
             for (i = marks - 1; i >= 0; i--) print "back", i
         }'
 }
+
+marks() { tries "$1" 24; }
+
+# Empty blocks stay over every way back.
+stay() { tries "$1" 0; }
 
 profile=${PROFILE:-mix}
 [ "$profile" = mix ] || NATIVE=

@@ -9,9 +9,9 @@ trap 'rm -rf "$work"' EXIT
 program=$here/../crates/arena_run/out/arena_run
 failed=0
 
-# The line that README.md has for this status, with a number in the place of N.
+# The line that README.md has for this status, with a number in the place of N. A bar is behind a stroke in a table.
 line_for() {
-    sed -n "s/^| $1 |.*| \`\([^\`]*\)\` |\$/\1/p" "$here/../README.md" | sed "s/ N / ${2:-N} /"
+    sed -n "s/^| $1 |.*| \`\([^\`]*\)\` |\$/\1/p" "$here/../README.md" | sed "s/ N / ${2:-N} /; s/\\\\|/|/g"
 }
 
 # ends NAME STATUS TEXT [LINE NUMBER]: compares the run that has just ended. Its status is in `status`, and what it wrote
@@ -47,6 +47,9 @@ ends "0, no calls" 0 $none
 head -c 16777216 /dev/zero | tr '\0' '\n' > "$work/longest"
 run calls < "$work/longest"
 ends "0, 16,777,216 bytes" 0 $none
+run gen 0 1 < "$work"
+printf '%s\n' 'calls 1' 'placed 0' 'failed 0' 'other 1' 'bytes 0' 'sum 0' 'used 0' 'allocated 0' > "$work/one"
+ends "0, gen, which doesn't read its input" 0 "$work/one"
 run --version
 echo "arena_run 0.1.0" > "$work/text"
 ends "0, --version" 0 "$work/text"
@@ -54,9 +57,10 @@ run --help
 cat > "$work/text" <<'T'
 Runs calls on a bump arena, and prints their replies.
 
-usage: arena_run calls        reads a call from each line of standard input
-       arena_run --help       prints this text
-       arena_run --version    prints the version
+usage: arena_run calls              reads a call from each line of standard input
+       arena_run gen START COUNT    makes so many calls from a number, and prints a summary
+       arena_run --help             prints this text
+       arena_run --version          prints the version
 
 calls: alloc NAME SIZE ALIGN FILL
        grow NAME SIZE ALIGN FILL
@@ -73,7 +77,8 @@ T
 ends "0, --help" 0 "$work/text"
 
 # 1: the words are no command.
-for words in "" "call" "calls calls" "calls --help" "--help calls" "--helps"; do
+for words in "" "call" "calls calls" "calls --help" "--help calls" "--helps" "gen" "gen 1" "gen 1 1 1" "gen 01 1" "gen 1 01" \
+    "gen 1 1000001" "gen 18446744073709551616 1"; do
     # shellcheck disable=SC2086
     run $words < "$first"
     ends "1, words '$words'" 1 $none
@@ -83,7 +88,7 @@ run $'\377'
 ends "1, a word that is no text" 1 $none
 status=0
 "$program" call > "$work/out" 2> /dev/full || status=$?
-echo "usage: arena_run calls" > "$work/err"
+echo "usage: arena_run calls | gen START COUNT" > "$work/err"
 ends "1, the line can't be written" 1 $none
 
 # 2: a line is no call, and nothing was run or written.
@@ -96,6 +101,10 @@ status=0
 (ulimit -v 16384; exec "$program" calls < "$work/longest" > "$work/out" 2> "$work/err") || status=$?
 ends "3, 16 MiB in all" 3 $none
 
+status=0
+(ulimit -v 16384; exec "$program" gen 1 1000000 > "$work/out" 2> "$work/err") || status=$?
+ends "3, gen, 16 MiB in all" 3 $none
+
 # 4: reading fails.
 run calls < "$work"
 ends "4, the input is a folder" 4 $none
@@ -105,6 +114,9 @@ status=0
 "$program" calls < "$first" > /dev/full 2> "$work/err" || status=$?
 : > "$work/out"
 ends "5, the output is full" 5 $none
+status=0
+"$program" gen 0 1 > /dev/full 2> "$work/err" || status=$?
+ends "5, the output for gen is full" 5 $none
 status=0
 "$program" --help > /dev/full 2> "$work/err" || status=$?
 ends "5, the output for --help is full" 5 $none

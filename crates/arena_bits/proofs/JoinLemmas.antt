@@ -1,6 +1,6 @@
 -- Sets that are joined, word by word.
 use Rattle.std.proofs.Common.{◌≡◌, ℕ, ◌+◌, ◌-◌, ◌*◌, ◌/◌, ◌%◌, ◌<◌, ◌≤◌, List, [], ◌∷◌, length, take, drop, Bool, true, false, eqb, get_or, set, max, ap, ◌∙◌, sym, arith, refl, inl, inr}
-use Rattle.std.specs.Prelude.{bit_or, nat_lt, ◌||◌, ◌&&◌}
+use Rattle.std.specs.Prelude.{bit_or, nat_lt, nat_le, ◌||◌, ◌&&◌}
 use Rattle.std.specs.Int.{from_le_bytes, w64}
 use Rattle.std.proofs.lemmas.Bool.{cases_lt}
 use Rattle.std.proofs.lemmas.Bool.Decides.{nat_tests}
@@ -18,10 +18,10 @@ use Rattle.arena_chunks.proofs.Layers.{wrote_part, length-bytes, frame_then, fra
 use Rattle.arena_items.specs.Values.{bytes_of}
 use Rattle.arena_items.specs.Rows.{over}
 use Rattle.arena_items.proofs.Layers.{elements-over, same_then}
-use Rattle.arena_bits.specs.Bits.{bits_of, joined, below}
+use Rattle.arena_bits.specs.Bits.{Set, bits_of, joined, below}
 use Rattle.arena_bits.specs.Walks.{words_in}
 use Rattle.arena_bits.specs.Edits.{ChangesWord, IsRow, JoinsWords, JoinsRow}
-use Rattle.arena_bits.specs.Sets.{IsSetIn, words_of, set_of, BecomesSet}
+use Rattle.arena_bits.specs.Sets.{IsSetIn, words_of, set_of, BecomesSet, JoinsFirst}
 use Rattle.arena_bits.specs.declared.set.BitSet.{BitSet}
 use Rattle.arena_bits.proofs.WordLemmas.{words, length-words, word_there, word_put, word_changed}
 use Rattle.arena_bits.proofs.SetLemmas.{becomes_set}
@@ -62,62 +62,107 @@ joins_then from mid to old now others new order more one two = record {
   behind = λ k least. two.behind k least ∙ one.behind k (omega arith);
 }
 
--- Of sixteen words one more is joined in its place.
-pub joins_more : (old now row word : List ℕ) (i : ℕ) → i < 16 → (length now ≡ 128) × JoinsWords 0 i (words_in old) row (words_in now)
+-- Of n words one more is joined in its place.
+pub joins_more : (n : ℕ) (old now row word : List ℕ) (i : ℕ) → i < n → (length now ≡ n * 8)
+    × JoinsWords 0 i (words_in old) row (words_in now)
     → ChangesWord (λ w. bit_or w (get_or row i 0)) (take (i * 8 + 8 - i * 8) (drop (i * 8) now)) word
-    → (length (put_mid (i * 8) (i * 8 + 8 - i * 8) now word) ≡ 128)
+    → (length (put_mid (i * 8) (i * 8 + 8 - i * 8) now word) ≡ n * 8)
     × JoinsWords 0 (i + 1) (words_in old) row (words_in (put_mid (i * 8) (i * 8 + 8 - i * 8) now word))
-joins_more old now row word i small (long, joins) changes =
+joins_more n old now row word i small (long, joins) changes =
     let eight : i * 8 + 8 - i * 8 ≡ 8 = omega arith in
     let put : put_mid (i * 8) (i * 8 + 8 - i * 8) now word ≡ splice now (i * 8) word = grind (arith, common_steps, changes.length) in
     let sized : length (splice now (i * 8) word) ≡ length now = grind (arith, common_steps, changes.length) in
-    let count : length now / 8 ≡ 16 = omega arith in
+    let count : length now / 8 ≡ n = omega (arith, long) in
     let within : i < length (words_in now) = omega (arith, length-words (length now / 8) now) in
     rw (put, sized, word_put (length now / 8) now i _ word (omega arith) (omega arith) (rw eight at changes))
     (long, joins_then 0 i (i + 1) _ (words_in now) row _ (omega arith) (omega arith) joins (joins_word (words_in now) row i within))
 
 -- ---- Bits
 
--- a bit of words that are joined, and one of words that aren't
-joined_bit : (n i a b : ℕ) → n < 64 * i → a < 2 → b < 2 → eqb (max a b) 1 ≡ (eqb a 1 || (nat_lt n (64 * i) && eqb b 1))
-joined_bit n i a b low h k = grind (arith, nat_tests)
+-- a bit of a word of a row, of one before it, and of one behind
+row_bit : (m from to a b : ℕ) → from ≤ m → m < to → a < 2 → b < 2
+    → eqb (max a b) 1 ≡ (eqb a 1 || (nat_le from m && (nat_lt m to && eqb b 1)))
+row_bit m from to a b least small low low' = grind (arith, nat_tests)
 
-other_bit : (n i : ℕ) (a b : Bool) → 64 * i ≤ n → a ≡ (a || (nat_lt n (64 * i) && b))
-other_bit n i a b high = grind (arith, nat_tests)
+before_bit : (m from to : ℕ) (a b : Bool) → m < from → a ≡ (a || (nat_le from m && (nat_lt m to && b)))
+before_bit m from to a b small = grind (arith, nat_tests)
 
--- The bits of words that are joined up to an index are joined up to its first.
-joins_bits : (i : ℕ) (old others new : List ℕ) → JoinsWords 0 i old others new
-    → bits_of new ≡ joined (bits_of old) (below (64 * i) (bits_of others))
+behind_bit : (m from to : ℕ) (a b : Bool) → to ≤ m → a ≡ (a || (nat_le from m && (nat_lt m to && b)))
+behind_bit m from to a b least = grind (arith, nat_tests)
+
+-- The bits of words of which some were joined are joined there.
+joins_bits : (from to : ℕ) (old others new : List ℕ) → JoinsWords from to old others new → (n : ℕ)
+    → bits_of new n ≡ (bits_of old n || (nat_le from (n / 64) && (nat_lt (n / 64) to && bits_of others n)))
 unfolding bits_of
-joins_bits i old others new joins = λ p n. each n p
+joins_bits from to old others new joins n = elim (cases_lt (n / 64) from) [
+  | inl front ↦ rw (joins.before (n / 64) front) (before_bit (n / 64) from to (bits_of old n) (bits_of others n) front)
+  | inr least ↦ elim (cases_lt (n / 64) to) [
+    | inl small ↦
+        let mine = get_or old (n / 64) 0 in
+        let theirs = get_or others (n / 64) 0 in
+        rw (joins.joined (n / 64) least small, bit_at_or mine theirs (n % 64))
+        (row_bit (n / 64) from to _ _ least small (bit_at-lt mine (n % 64)) (bit_at-lt theirs (n % 64)))
+    | inr rest ↦ rw (joins.behind (n / 64) rest) (behind_bit (n / 64) from to (bits_of old n) (bits_of others n) rest)
+  ]
+]
+
+-- what is joined twice is joined once
+once : (a b c d : Bool) → ((a || b) || (c && (d && b))) ≡ (a || b)
+once true b c d = refl
+once false true c d = refl
+once false false false d = refl
+once false false true false = refl
+once false false true true = refl
+
+-- Where the words below an index were joined, and then a row from there or before it, those below its end are.
+more_bits : (i from to n : ℕ) (a b : Bool) → from ≤ i → i ≤ to
+    → ((a || (nat_lt n (64 * i) && b)) || (nat_le from (n / 64) && (nat_lt (n / 64) to && b))) ≡ (a || (nat_lt n (64 * to) && b))
+more_bits i from to n a b order more = elim (cases_lt n (64 * i)) [
+  | inl front ↦
+      let low : nat_lt n (64 * i) ≡ true = grind (arith, nat_tests) in
+      let below_to : nat_lt n (64 * to) ≡ true = grind (arith, nat_tests) in
+      rw (low, below_to) (once a b (nat_le from (n / 64)) (nat_lt (n / 64) to))
+  | inr rest ↦
+      let high : nat_lt n (64 * i) ≡ false = grind (arith, nat_tests) in
+      elim (cases_lt n (64 * to)) [
+        | inl small ↦
+            let below_to : nat_lt n (64 * to) ≡ true = grind (arith, nat_tests) in
+            let first : nat_le from (n / 64) ≡ true = grind (arith, nat_tests) in
+            let last : nat_lt (n / 64) to ≡ true = grind (arith, nat_tests) in
+            rw (high, below_to, first, last) (middle a b)
+        | inr behind ↦
+            let above : nat_lt n (64 * to) ≡ false = grind (arith, nat_tests) in
+            let past : nat_lt (n / 64) to ≡ false = grind (arith, nat_tests) in
+            rw (high, above, past) (outside a (nat_le from (n / 64)))
+      ]
+]
   where
-    each : (n : ℕ) → bits_of new n ≡ joined (bits_of old) (below (64 * i) (bits_of others)) n
-    each n = elim (cases_lt (n / 64) i) [
-      | inl front ↦
-          let mine = get_or old (n / 64) 0 in
-          let theirs = get_or others (n / 64) 0 in
-          rw (joins.joined (n / 64) (omega arith) front, bit_at_or mine theirs (n % 64))
-          (joined_bit n i _ _ (omega arith) (bit_at-lt mine (n % 64)) (bit_at-lt theirs (n % 64)))
-      | inr rest ↦ rw (joins.behind (n / 64) rest) (other_bit n i (bits_of old n) (bits_of others n) (omega arith))
-    ]
+    middle : (a b : Bool) → ((a || (false && b)) || (true && (true && b))) ≡ (a || (true && b))
+    middle true b = refl
+    middle false b = refl
+
+    outside : (a c : Bool) → ((a || false) || (c && false)) ≡ (a || false)
+    outside true c = refl
+    outside false false = refl
+    outside false true = refl
 
 -- ---- Rows
 
--- Sixteen words of a block are joined in their place.
-row_joined : (old new : Memory) (b : Block) (n i : ℕ) (row others : List ℕ) → IsRow row others i
-    → EditsBlock old new b (i * 8) 128 (JoinsRow row) → i + 16 ≤ n → n * 8 ≤ b.size
-    → JoinsWords i (i + 16) (words n (bytes_of old b)) others (words n (bytes_of new b))
-row_joined old new b n i row others is edits within room =
-    rw are (joins_over were others (words_in edits.list) i 16 few (omega (arith, length-words n (bytes_of old b))) (λ k small.
+-- Some words of a block are joined in their place.
+row_joined : (old new : Memory) (b : Block) (n i m : ℕ) (row others : List ℕ) → IsRow m row others i
+    → EditsBlock old new b (i * 8) (m * 8) (JoinsRow m row) → i + m ≤ n → n * 8 ≤ b.size
+    → JoinsWords i (i + m) (words n (bytes_of old b)) others (words n (bytes_of new b))
+row_joined old new b n i m row others is edits within room =
+    rw are (joins_over were others (words_in edits.list) i m few (omega (arith, length-words n (bytes_of old b))) (λ k small.
     edits.related.words.joined k (omega arith) small ∙ (λ p. bit_or (own k small p) (is.are k small p))))
   where
     were : List ℕ
     were = words n (bytes_of old b)
 
     part : List ℕ
-    part = bytes_from (image old) (b.addr + i * 8) 128
+    part = bytes_from (image old) (b.addr + i * 8) (m * 8)
 
-    few : length (words_in edits.list) ≡ 16
+    few : length (words_in edits.list) ≡ m
     few = omega (arith, edits.related.length, length-words (length edits.list / 8) edits.list)
 
     are : words n (bytes_of new b) ≡ over were i (words_in edits.list)
@@ -127,39 +172,31 @@ row_joined old new b n i row others is edits within room =
         (omega (arith, edits.related.length)) (omega (arith, length-bytes (image old) b.addr b.size))
 
     -- the words that stood there
-    own : (k : ℕ) → k < 16 → get_or (words_in part) k 0 ≡ get_or were (i + k) 0
+    own : (k : ℕ) → k < m → get_or (words_in part) k 0 ≡ get_or were (i + k) 0
     own k small =
-        let sized = length-bytes (image old) (b.addr + i * 8) 128 in
+        let sized = length-bytes (image old) (b.addr + i * 8) (m * 8) in
         let at : b.addr + i * 8 + k * 8 ≡ b.addr + (i + k) * 8 = omega arith in
-        word_there (image old) (b.addr + i * 8) 128 (length part / 8) k (omega (arith, sized)) (omega (arith, sized))
+        word_there (image old) (b.addr + i * 8) (m * 8) (length part / 8) k (omega (arith, sized)) (omega (arith, sized))
         ∙ ap (λ addr. from_le_bytes w64 (bytes_from (image old) addr 8)) at
         ∙ sym (word_there (image old) b.addr b.size n (i + k) (omega arith) room)
 
 -- ---- Sets in an arena
 
--- The words of a set below this index were joined with those of another, which is as it was. So far the set is that of both.
-pub record IsJoining (old now : View) (s other : BitSet) (i : ℕ) : Type 0 where
-  pub held : IsSetIn now.memory other
-  pub same : words_of now.memory other ≡ words_of old.memory other
-  pub joins : JoinsWords 0 i (words_of old.memory s) (words_of old.memory other) (words_of now.memory s)
-  pub becomes : BecomesSet old now s (joined (set_of old.memory s) (below (64 * i) (set_of old.memory other)))
-
 -- Nothing is joined at first.
-pub joining_none : (old : View) (s other : BitSet) → IsSetIn old.memory s → IsSetIn old.memory other → IsJoining old old s other 0
-joining_none old s other held other_held =
-    let joins : JoinsWords 0 0 (words_of old.memory s) (words_of old.memory other) (words_of old.memory s) =
-    record { joined = λ k least small. absurd (omega arith); before = λ k small. refl; behind = λ k least. refl } in
-    record {
-      held = other_held;
-      same = refl;
-      joins = joins;
-      becomes = record {
-        held = held;
-        set_is = joins_bits 0 _ (words_of old.memory other) _ joins;
-        places = record { state = refl; statistics = refl; source = refl };
-        frame = frame_reflexive old.memory (s.words.block ∷ []);
-      };
-    }
+pub joining_none : (old : View) (s other : BitSet) → IsSetIn old.memory s → IsSetIn old.memory other → JoinsFirst old old s other 0
+joining_none old s other held other_held = record {
+  held = other_held;
+  same = refl;
+  becomes = record {
+    held = held;
+    set_is = λ p n. none_there n (set_of old.memory s n) (set_of old.memory other n) p;
+    places = record { state = refl; statistics = refl; source = refl };
+    frame = frame_reflexive old.memory (s.words.block ∷ []);
+  };
+}
+  where
+    none_there : (n : ℕ) (a b : Bool) → a ≡ (a || (nat_lt n (64 * 0) && b))
+    none_there n a b = grind (arith, nat_tests)
 
 -- Nor is anything where both are one set: all of its numbers are there.
 all_there : (is_in low : Bool) → is_in ≡ (is_in || (low && is_in))
@@ -172,7 +209,8 @@ pub joined_itself : (view : View) (s other : BitSet) (limit : ℕ) → IsSetIn v
 joined_itself view s other limit held other_held one =
     let m = view.memory in
     let count : other.words.length ≡ s.words.length = omega (arith, held.place.of_size, other_held.place.of_size, ap (λ b. b.size) one) in
-    let same : set_of m other ≡ set_of m s = ap (λ b. bits_of (words other.words.length (bytes_of m b))) one ∙ ap (λ n. bits_of (words n (bytes_of m s.words.block))) count in
+    let same : set_of m other ≡ set_of m s = ap (λ b. bits_of (words other.words.length (bytes_of m b))) one
+    ∙ ap (λ n. bits_of (words n (bytes_of m s.words.block))) count in
     let is : set_of m s ≡ joined (set_of m s) (below limit (set_of m s)) = λ p n. all_there (set_of m s n) (nat_lt n limit) p in
     record {
       held = held;
@@ -181,56 +219,56 @@ joined_itself view s other limit held other_held one =
       frame = frame_reflexive m (s.words.block ∷ []);
     }
 
-module _ (old mid new : View) (s other : BitSet) (i : ℕ) (now : IsJoining old mid s other i)
+module _ (old mid new : View) (s other : BitSet) (i : ℕ) (now : JoinsFirst old mid s other i)
     (apart : AreBlocksApart other.words.block s.words.block) (source : new.source ≡ mid.source) where
-  -- Words behind are joined,
-  joining_more : (to at : ℕ) (list : List ℕ) → WritesBlock mid.memory new.memory s.words.block at list → i ≤ to
-      → JoinsWords i to (words_of mid.memory s) (words_of old.memory other) (words_of new.memory s) → IsJoining old new s other to
-  joining_more to at list writes more joins =
+  -- Words behind are joined, and some before once more,
+  joining_more : (from to at : ℕ) (list : List ℕ) → WritesBlock mid.memory new.memory s.words.block at list → from ≤ i → i ≤ to
+      → JoinsWords from to (words_of mid.memory s) (words_of old.memory other) (words_of new.memory s) → JoinsFirst old new s other to
+  joining_more from to at list writes order more joins =
       let stays : Stays mid.memory new.memory (s.words.block ∷ []) other.words.block =
       frame_keeps_beside mid.memory new.memory s.words.block (s.words.block ∷ []) other.words.block writes.frame
       now.held.place.readable apart in
       let after : BecomesSet mid new s (set_of new.memory s) = becomes_set mid new s _ at list writes source now.becomes.held refl in
-      let all = joins_then 0 i to (words_of old.memory s) (words_of mid.memory s) (words_of old.memory other) (words_of new.memory s)
-      (omega arith) more now.joins joins in
       record {
         held = record {
           place = record { readable = stays.readable; of_size = now.held.place.of_size; of_align = now.held.place.of_align };
           count = now.held.count;
         };
         same = ap (words other.words.length) stays.bytes ∙ now.same;
-        joins = all;
         becomes = record {
           held = after.held;
-          set_is = joins_bits to _ (words_of old.memory other) _ all;
+          set_is = λ p n. bit n p;
           places = same_then old mid new now.becomes.places after.places;
           frame = frame_then old.memory mid.memory new.memory (s.words.block ∷ []) (s.words.block ∷ []) (s.words.block ∷ [])
               now.becomes.frame after.frame;
         };
       }
+    where
+      bit : (n : ℕ) → set_of new.memory s n ≡ joined (set_of old.memory s) (below (64 * to) (set_of old.memory other)) n
+      bit n =
+          joins_bits from to (words_of mid.memory s) (words_of old.memory other) (words_of new.memory s) joins n
+          ∙ ap (λ (set : Set). set n || (nat_le from (n / 64) && (nat_lt (n / 64) to && set_of old.memory other n))) now.becomes.set_is
+          ∙ more_bits i from to n (set_of old.memory s n) (set_of old.memory other n) order more
 
   -- a row of them,
-  pub joining_row : (row : List ℕ) → IsRow row (words_of mid.memory other) i
-      → EditsBlock mid.memory new.memory s.words.block (i * 8) 128 (JoinsRow row) → i + 16 ≤ s.words.length
-      → IsJoining old new s other (i + 16)
-  joining_row row is edits within =
-      joining_more (i + 16) (i * 8) edits.list edits.writes (omega arith)
-      (row_joined mid.memory new.memory s.words.block s.words.length i row (words_of old.memory other) (rw now.same at is) edits within
+  pub joining_row : (n at : ℕ) (row : List ℕ) → IsRow n row (words_of mid.memory other) at
+      → EditsBlock mid.memory new.memory s.words.block (at * 8) (n * 8) (JoinsRow n row) → at ≤ i → i ≤ at + n → at + n ≤ s.words.length
+      → JoinsFirst old new s other (at + n)
+  joining_row n at row is edits order more within =
+      joining_more at (at + n) (at * 8) edits.list edits.writes order more
+      (row_joined mid.memory new.memory s.words.block s.words.length at n row (words_of old.memory other) (rw now.same at is) edits within
       (omega (arith, now.becomes.held.place.of_size)))
 
   -- or one.
   pub joining_word : (mask : ℕ) → mask ≡ get_or (words_of mid.memory other) i 0
       → EditsBlock mid.memory new.memory s.words.block (i * 8) 8 (ChangesWord (λ word. bit_or word mask)) → i < s.words.length
-      → IsJoining old new s other (i + 1)
+      → JoinsFirst old new s other (i + 1)
   joining_word mask is edits within =
       let long : i < length (words_of mid.memory s) = omega (arith, length-words s.words.length (bytes_of mid.memory s.words.block)) in
-      joining_more (i + 1) (i * 8) edits.list edits.writes (omega arith)
+      joining_more i (i + 1) (i * 8) edits.list edits.writes (omega arith) (omega arith)
       (rw (
         word_changed mid.memory new.memory s.words.block s.words.length i (λ word. bit_or word mask) edits within
             (omega (arith, now.becomes.held.place.of_size)),
         is,
         now.same,
       ) (joins_word (words_of mid.memory s) (words_of old.memory other) i long))
-
--- for automatic proof
-pub ruleset joined_sets = (joining_none, joined_itself)

@@ -8,7 +8,7 @@ use Rattle.arena_chunks.specs.BlockCalls.{PlacesBlock}
 use Rattle.arena_chunks.specs.declared.block.Block.{Block}
 use Rattle.arena_items.specs.Values.{bytes_of, elements, IsHeld}
 use Rattle.arena_items.specs.Room.{RoomAnswer, SamePlaces}
-use Rattle.arena_bits.specs.Bits.{Set, bits_of, words_for}
+use Rattle.arena_bits.specs.Bits.{Set, bits_of, words_for, joined, below}
 use Rattle.arena_bits.specs.declared.set.BitSet.{BitSet}
 use Rattle.arena_items.specs.declared.room.AllocError.{AllocError}
 
@@ -34,6 +34,12 @@ pub record BecomesSet (old new : View) (s : BitSet) (set : Set) : Type 0 where
   pub set_is : set_of new.memory s ≡ set
   pub places : SamePlaces old new
   pub frame : Frame old.memory new.memory (s.words.block ∷ []) (s.words.block ∷ [])
+
+-- The first words of a set were joined with those of another, which is as it was.
+pub record JoinsFirst (old new : View) (s other : BitSet) (words : ℕ) : Type 0 where
+  pub held : IsSetIn new.memory other
+  pub same : words_of new.memory other ≡ words_of old.memory other
+  pub becomes : BecomesSet old new s (joined (set_of old.memory s) (below (64 * words) (set_of old.memory other)))
 
 -- A call that places a set for so many bits does so as the arena places a block of its words' layout. There is no overflow.
 pub record PlacesSet (old new : View) (bits : ℕ) (set : Set) (result : Result BitSet AllocError) : Type 0 where

@@ -1,9 +1,8 @@
 // Changes of a set's bytes in their place, with one look-up of its block.
-ghost use Rattle.std.specs.Prelude.{◌≡◌, length, replicate, bit_and, bit_or};
+ghost use Rattle.std.specs.Prelude.{◌≡◌, ◌*◌, length, bit_and, bit_or};
 ghost use Rattle.std.specs.Int.{w64, bit_not};
 ghost use Rattle.arena_bits.specs.Edits.{ChangesWord, JoinsRow};
 
-use crate::words::word_of;
 use arena_chunks::Edit;
 use arena_items::Item;
 
@@ -21,7 +20,7 @@ impl Edit for Raise {
 
     #[inline]
     fn edit(&self, place: &mut [u8]) {
-        let word = word_of(place);
+        let word = u64::decode(place);
         (word | self.mask).encode(place);
     }
 }
@@ -40,42 +39,27 @@ impl Edit for Lower {
 
     #[inline]
     fn edit(&self, place: &mut [u8]) {
-        let word = word_of(place);
+        let word = u64::decode(place);
         (word & !self.mask).encode(place);
     }
 }
 
-/// Sets the bits of sixteen words in sixteen others.
+/// Sets the bits of some words in as many others.
 #[derive(Clone, Copy)]
-pub(crate) struct JoinRow {
-    pub(crate) row: [u64; 16],
+pub(crate) struct JoinRow<const N: usize> {
+    pub(crate) row: [u64; N],
 }
 
-impl Edit for JoinRow {
-    ghost suits = { λ e old. length old ≡ 128 };
+impl<const N: usize> Edit for JoinRow<N> {
+    ghost suits = { λ e old. length old ≡ N * 8 };
 
-    ghost relates = { λ e old new. JoinsRow e.row old new };
+    ghost relates = { λ e old new. JoinsRow N e.row old new };
 
     #[inline]
     fn edit(&self, place: &mut [u8]) {
-        'words: for i in 0..16 {
+        'words: for i in 0..N {
             let word = Raise { mask: self.row[i] };
             word.edit(&mut place[i * 8..i * 8 + 8]);
         }
-    }
-}
-
-/// Clears all bytes of the place.
-#[derive(Clone, Copy)]
-pub(crate) struct Zeros;
-
-impl Edit for Zeros {
-    ghost suits = { λ e old. Unit {0} };
-
-    ghost relates = { λ e old new. new ≡ replicate (length old) 0 };
-
-    #[inline]
-    fn edit(&self, place: &mut [u8]) {
-        place.fill(0);
     }
 }

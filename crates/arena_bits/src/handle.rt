@@ -8,13 +8,10 @@ ghost use Rattle.arena_bits.specs.Bits.{Set, bits_of};
 ghost use Rattle.arena_bits.specs.Sets.{IsSetIn, set_of};
 
 use crate::set::BitSet;
-use arena_chunks::Block;
 use arena_items::InArena;
 
 impl InArena for BitSet {
     ghost Meaning = { Set };
-
-    ghost block = { λ s. s.words.block };
 
     ghost footprint = { λ m s. s.words.block ∷ [] };
 
@@ -33,8 +30,4 @@ impl InArena for BitSet {
       place = held_again _ 8 a.state c.state s.words.block held.place readable.0;
       count = held.count;
     } };
-
-    fn own_block(&self) -> Block {
-        self.words.block
-    }
 }

@@ -1,15 +1,16 @@
 // Calls on whole bit sets.
-ghost use Rattle.std.specs.Prelude.{◌≡◌, ◌*◌, ◌^◌, ◌≤◌, min};
+ghost use Rattle.std.specs.Prelude.{◌≡◌, ◌*◌, ◌^◌, ◌<◌, ◌≤◌, min};
 ghost use Rattle.arena_chunks.specs.BlockCalls.{PlacesBlock};
 ghost use Rattle.arena_items.specs.Room.{RoomAnswer};
 ghost use Rattle.arena_bits.specs.Bits.{nothing, joined, below, TellsEmpty};
-ghost use Rattle.arena_bits.specs.Sets.{IsSetIn, AreOneOrApart, set_of, BecomesSet, PlacesSet};
+ghost use Rattle.arena_bits.specs.Sets.{IsSetIn, AreOneOrApart, set_of, BecomesSet, JoinsFirst, PlacesSet};
+ghost use Rattle.arena_chunks.specs.Frame.{AreBlocksApart};
 
-use crate::edits::{JoinRow, Raise, Zeros};
+use crate::edits::{JoinRow, Raise};
 use crate::set::BitSet;
 use crate::words::{are_zero, row_at, word_at};
 use arena_chunks::{Allocator, Block, ChunkSource};
-use arena_items::{BoxSlice, Grown, take_room};
+use arena_items::{BoxSlice, Grown, Zeros, take_room};
 use arena_place::Layout;
 use std::marker::PhantomData;
 
@@ -25,7 +26,51 @@ fn place_words<C: ChunkSource>(a: &mut Allocator<C>, count: u64) -> Grown<Block>
     take_room(a, Block::empty(8), 0, layout)
 }
 
-#[tactic(auto, using(arena_chunks::proofs::Layers::layer_laws, crate::proofs::JoinLemmas::joined_sets))]
+// Joins the first words of a set with those of another, one by one.
+#[tactic(auto, using(arena_chunks::proofs::Layers::layer_laws, crate::proofs::JoinLemmas::joining_none))]
+fn join_words<C: ChunkSource>(a: &mut Allocator<C>, set: &BitSet, other: &BitSet, count: u64)
+    requires own { count ≤ set.now.words.length }
+    requires others { count ≤ other.now.words.length }
+    requires held { IsSetIn a.old.memory set.now }
+    requires other { IsSetIn a.old.memory other.now }
+    requires apart { AreBlocksApart other.now.words.block set.now.words.block }
+    ensures { JoinsFirst a.old a.new set.now other.now count }
+{
+    'words: for i in 0..count {
+        let mask = word_at(other.bytes(a), i);
+        a.write_with(set.words.block, i * 8, 8, &Raise { mask });
+    }
+}
+
+// Joins them by rows, for each of which the two blocks are looked up once. The last row ends with the last word, so
+// that it may join some words once more, which changes nothing.
+#[tactic(auto, using(arena_chunks::proofs::Layers::layer_laws, crate::proofs::JoinLemmas::joining_none))]
+fn join_rows<const N: usize, C: ChunkSource>(
+    a: &mut Allocator<C>,
+    set: &BitSet,
+    other: &BitSet,
+    count: u64,
+)
+    requires some { 0 < N }
+    requires row { N ≤ count }
+    requires own { count ≤ set.now.words.length }
+    requires others { count ≤ other.now.words.length }
+    requires held { IsSetIn a.old.memory set.now }
+    requires other { IsSetIn a.old.memory other.now }
+    requires apart { AreBlocksApart other.now.words.block set.now.words.block }
+    ensures { JoinsFirst a.old a.new set.now other.now count }
+{
+    let n = N as u64;
+    let mut done = 0;
+    'rows: while done < count {
+        let at = done.min(count - n);
+        let row = row_at::<N>(other.bytes(a), at);
+        a.write_with(set.words.block, at * 8, n * 8, &JoinRow { row });
+        done = at + n;
+    }
+}
+
+#[tactic(auto, using(arena_chunks::proofs::Layers::layer_laws, crate::proofs::JoinLemmas::joined_itself))]
 impl BitSet {
     /// An empty set for so many bits, in one block of whole words.
     ///
@@ -83,14 +128,12 @@ impl BitSet {
             return;
         }
         let count = self.words.length.min(other.words.length);
-        // Each block is looked up once for sixteen words, and the rest are taken one by one.
-        'rows: for i in 0..count / 16 {
-            let row = row_at(other.bytes(a), i * 16);
-            a.write_with(block, i * 16 * 8, 128, &JoinRow { row });
-        }
-        'words: for i in count / 16 * 16..count {
-            let mask = word_at(other.bytes(a), i);
-            a.write_with(block, i * 8, 8, &Raise { mask });
+        if count < 16 {
+            join_words(a, self, other, count);
+        } else if count < 32 {
+            join_rows::<16, C>(a, self, other, count);
+        } else {
+            join_rows::<32, C>(a, self, other, count);
         }
     }
 }

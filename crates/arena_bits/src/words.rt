@@ -1,20 +1,10 @@
 // How the words of a bit set are read.
 ghost use Rattle.std.specs.Prelude.{◌≡◌, ◌/◌, ◌+◌, ◌<◌, ◌≤◌, length, slice_index};
-ghost use Rattle.std.specs.Int.{w64, from_le_bytes};
 ghost use Rattle.arena_bits.specs.Bits.{bits_of, TellsEmpty};
 ghost use Rattle.arena_bits.specs.Edits.{IsRow};
 ghost use Rattle.arena_bits.specs.Walks.{words_in};
 
-// The word of eight bytes. So written it is one load.
-#[inline]
-pub(crate) fn word_of(bytes: &[u8]) -> u64
-    requires { length bytes.now ≡ 8 }
-    ensures { result ≡ from_le_bytes w64 bytes.now }
-{
-    u64::from_le_bytes([
-        bytes[0], bytes[1], bytes[2], bytes[3], bytes[4], bytes[5], bytes[6], bytes[7],
-    ])
-}
+use arena_items::Item;
 
 // The word at an index of words' bytes.
 #[tactic(auto, using(crate::proofs::WordLemmas::word_read))]
@@ -24,17 +14,17 @@ pub(crate) fn word_at(bytes: &[u8], i: u64) -> u64
     ensures { result ≡ slice_index (words_in bytes.now) i }
 {
     let at = (i * 8) as usize;
-    word_of(&bytes[at..at + 8])
+    u64::decode(&bytes[at..at + 8])
 }
 
-// Sixteen words from an index on.
+// So many words from an index on.
 #[inline]
-pub(crate) fn row_at(bytes: &[u8], i: u64) -> [u64; 16]
-    requires { i + 16 ≤ length bytes.now / 8 }
-    ensures { IsRow result (words_in bytes.now) i }
+pub(crate) fn row_at<const N: usize>(bytes: &[u8], i: u64) -> [u64; N]
+    requires { i + N ≤ length bytes.now / 8 }
+    ensures { IsRow N result (words_in bytes.now) i }
 {
-    let mut row = [0; 16];
-    'words: for k in 0..16 {
+    let mut row = [0; N];
+    'words: for k in 0..N {
         row[k] = word_at(bytes, i + k as u64);
     }
     row

@@ -15,8 +15,10 @@ pub read_none : (bytes items : List ℕ) → items ≡ [] → HasRead bytes item
 read_none bytes items none = subst (λ xs. HasRead bytes xs bytes) (sym none) (record { text = refl; fit = tt })
 
 -- one byte more
-pub read_more : (bytes items left : List ℕ) (b : ℕ) (rest : List ℕ) → HasRead bytes items left → IsByte b × (left ≡ hex_pair b ++ rest) → HasRead bytes (items ++ b ∷ []) rest
-read_more bytes items left b rest h next = record { text = h.text ∙ ap (λ xs. flat_map hex_pair items ++ xs) next.1 ∙ joined items; fit = longer items h.fit }
+pub read_more : (bytes items left : List ℕ) (b : ℕ) (rest : List ℕ) → HasRead bytes items left → IsByte b × (left ≡ hex_pair b ++ rest)
+    → HasRead bytes (items ++ b ∷ []) rest
+read_more bytes items left b rest h next =
+    record { text = h.text ∙ ap (λ xs. flat_map hex_pair items ++ xs) next.1 ∙ joined items; fit = longer items h.fit }
   where
     joined : (xs : List ℕ) → flat_map hex_pair xs ++ (hex_pair b ++ rest) ≡ flat_map hex_pair (xs ++ b ∷ []) ++ rest
     joined [] = refl
@@ -50,7 +52,8 @@ one_way : (xs ys left rest : List ℕ) → AllByRecursion IsByte xs → AllByRec
     → flat_map hex_pair xs ++ left ≡ flat_map hex_pair ys ++ rest → (xs ≡ ys) × (left ≡ rest)
 one_way [] [] left rest p q none end e = (refl, e)
 one_way [] (y ∷ ys) left rest p q none end e = absurd (none y (flat_map hex_pair ys ++ rest) q.0 e)
-one_way (x ∷ xs) [] left rest p q none end e = absurd (no_end x (flat_map hex_pair xs ++ left) p.0 (subst (λ bytes. IsTrue (is_word_end bytes)) (sym e) end))
+one_way (x ∷ xs) [] left rest p q none end e =
+    absurd (no_end x (flat_map hex_pair xs ++ left) p.0 (subst (λ bytes. IsTrue (is_word_end bytes)) (sym e) end))
 one_way (x ∷ xs) (y ∷ ys) left rest p q none end e =
     let high : hex_digit (x / 16) ≡ hex_digit (y / 16) = first e in
     let low : hex_digit (x % 16) ≡ hex_digit (y % 16) = second e in
@@ -75,10 +78,12 @@ ReadsHex bytes read = ReadsFront (AllByRecursion IsByte) hex bytes read
 
 -- what stands at the front is what was read
 abbrev OnlyHex : List ℕ → Option (List ℕ × List ℕ) → Type 0
-OnlyHex bytes read = (items rest : List ℕ) → AllByRecursion IsByte items → IsTrue (is_word_end rest) → bytes ≡ hex items ++ rest → ◌≡◌ {A = Option (List ℕ × List ℕ)} read (Some (items, rest))
+OnlyHex bytes read = (items rest : List ℕ) → AllByRecursion IsByte items → IsTrue (is_word_end rest) → bytes ≡ hex items ++ rest
+    → ◌≡◌ {A = Option (List ℕ × List ℕ)} read (Some (items, rest))
 
 -- the bytes of all pairs at the front, if there are some and there is no dash
-pub hex_some : (bytes items left : List ℕ) → ((rest : List ℕ) → bytes ≢ codes "-" ++ rest) → bytes ≡ flat_map hex_pair items ++ left → AllByRecursion IsByte items → HasNoPair left → length items ≢ 0
+pub hex_some : (bytes items left : List ℕ) → ((rest : List ℕ) → bytes ≢ codes "-" ++ rest) → bytes ≡ flat_map hex_pair items ++ left
+    → AllByRecursion IsByte items → HasNoPair left → length items ≢ 0
     → ReadsHex bytes (Some (items, left))
 hex_some bytes [] left no_dash text fit none some = absurd (some refl)
 hex_some bytes (b ∷ items) left no_dash text fit none some = record { found = (fit, text); only = only }

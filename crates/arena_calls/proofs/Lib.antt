@@ -8,3 +8,4 @@ pub mod WordLemmas
 pub mod StatusLemmas
 pub mod RunLemmas
 pub mod ProgramLemmas
+pub mod GeneratingLemmas

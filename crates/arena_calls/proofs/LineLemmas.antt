@@ -22,7 +22,8 @@ plain : (xs ys : List ℕ) → has_feed xs ≡ false → has_feed ys ≡ false �
 plain [] ys p q = q
 plain (x ∷ xs) ys p q = step (x == 10) p (λ e. plain xs ys e q)
   where
-    step : (t : Bool) → (t || has_feed xs) ≡ false → (has_feed xs ≡ false → has_feed (xs ++ ys) ≡ false) → (t || has_feed (xs ++ ys)) ≡ false
+    step : (t : Bool) → (t || has_feed xs) ≡ false → (has_feed xs ≡ false → has_feed (xs ++ ys) ≡ false)
+        → (t || has_feed (xs ++ ys)) ≡ false
     step true e more = e
     step false e more = more e
 
@@ -31,7 +32,8 @@ plain_fields [] = refl
 plain_fields (n ∷ ns) = plain (number n) (fields ns) (digits n) (plain_fields ns)
   where
     digits : (k : ℕ) → has_feed (number k) ≡ false
-    digits = number_by_steps (λ k ds. has_feed ds ≡ false) (λ k low. grind (arith, nat_tests)) (λ k ds high front. plain ds ((48 + k % 10) ∷ []) front (grind (arith, nat_tests)))
+    digits = number_by_steps (λ k ds. has_feed ds ≡ false) (λ k low. grind (arith, nat_tests))
+        (λ k ds high front. plain ds ((48 + k % 10) ∷ []) front (grind (arith, nat_tests)))
 
 plain_pairs : (bytes : List ℕ) → has_feed (flat_map hex_pair bytes) ≡ false
 plain_pairs [] = refl
@@ -65,7 +67,9 @@ ended [] [] p e = refl
 ended [] (c ∷ cs) p e = slice_split-cons_yes (λ b. b == 10) c cs e
 ended (b ∷ line) rest p e = step (b == 10) refl p (λ q. ended line rest q e)
   where
-    step : (t : Bool) → (b == 10) ≡ t → (t || has_feed line) ≡ false → (has_feed line ≡ false → lines_of (line ++ rest) ≡ line ∷ lines_behind rest) → lines_of (b ∷ line ++ rest) ≡ (b ∷ line) ∷ lines_behind rest
+    step : (t : Bool) → (b == 10) ≡ t → (t || has_feed line) ≡ false
+        → (has_feed line ≡ false → lines_of (line ++ rest) ≡ line ∷ lines_behind rest)
+        → lines_of (b ∷ line ++ rest) ≡ (b ∷ line) ∷ lines_behind rest
     step true is q more = cc
     step false is q more = slice_split-cons_no (λ x. x == 10) b (line ++ rest) is ∙ ap (onto_first b) (more q)
 
@@ -82,10 +86,21 @@ first_line (b ∷ bytes) = step (b == 10) refl (first_line bytes)
   where
     step : (t : Bool) → (b == 10) ≡ t → Split bytes → Split (b ∷ bytes)
     step true is s = record { line = []; rest = b ∷ bytes; all = refl; plain_line = refl; ends = is }
-    step false is s = record { line = b ∷ s.line; rest = s.rest; all = ap (λ xs. b ∷ xs) s.all; plain_line = rw is s.plain_line; ends = s.ends }
+    step false is s = record {
+      line = b ∷ s.line;
+      rest = s.rest;
+      all = ap (λ xs. b ∷ xs) s.all;
+      plain_line = rw is s.plain_line;
+      ends = s.ends;
+    }
 
 pub takes_empty : (bytes : List ℕ) (calls : List Call) → true ≡ is_line_end bytes → TakesLine bytes bytes calls calls
-takes_empty bytes calls e = record { line = []; first = ended [] bytes refl (sym e); shorter = omega arith; adds = λ lines are. adds lines calls are }
+takes_empty bytes calls e = record {
+  line = [];
+  first = ended [] bytes refl (sym e);
+  shorter = omega arith;
+  adds = λ lines are. adds lines calls are;
+}
   where
     adds : (lines : List (List ℕ)) (old : List Call) → AreCalls lines old → AreCalls (lines ++ [] ∷ []) old
     adds [] [] are = tt
@@ -94,7 +109,8 @@ takes_empty bytes calls e = record { line = []; first = ended [] bytes refl (sym
     adds ((b ∷ line) ∷ lines) [] are = absurd are
     adds ((b ∷ line) ∷ lines) (call ∷ old) are = (are.0, adds lines old are.1)
 
-add_call : (line : List ℕ) (call : Call) → line ≢ [] → IsCall line call → (lines : List (List ℕ)) (old : List Call) → AreCalls lines old → AreCalls (lines ++ line ∷ []) (old ++ call ∷ [])
+add_call : (line : List ℕ) (call : Call) → line ≢ [] → IsCall line call → (lines : List (List ℕ)) (old : List Call) → AreCalls lines old
+    → AreCalls (lines ++ line ∷ []) (old ++ call ∷ [])
 add_call [] call some is [] old are = absurd (some refl)
 add_call (b ∷ line) call some is [] [] are = (is, tt)
 add_call (b ∷ line) call some is [] (c ∷ old) are = absurd are
@@ -116,17 +132,20 @@ some_line Reset e = cc
 some_line Used e = cc
 some_line Allocated e = cc
 
-pub takes_call : (bytes behind : List ℕ) (call : Call) (old new : List Call) → ReadsFront Fits call_line bytes (Some (call, behind)) → true ≡ is_line_end behind → new ≡ old ++ call ∷ [] → TakesLine bytes behind old new
+pub takes_call : (bytes behind : List ℕ) (call : Call) (old new : List Call) → ReadsFront Fits call_line bytes (Some (call, behind))
+    → true ≡ is_line_end behind → new ≡ old ++ call ∷ [] → TakesLine bytes behind old new
 takes_call bytes behind call old new read e pushed =
     let line = call_line call in
     record {
       line = line;
       first = ap lines_of read.found.1 ∙ ended line behind (plain_call call) (sym e);
       shorter = omega (arith, ap length read.found.1, length-append line behind);
-      adds = λ lines are. subst (AreCalls (lines ++ line ∷ [])) (sym pushed) (add_call line call (some_line call) (record { fits = read.found.0; text = refl }) lines old are);
+      adds = λ lines are. subst (AreCalls (lines ++ line ∷ [])) (sym pushed)
+          (add_call line call (some_line call) (record { fits = read.found.0; text = refl }) lines old are);
     }
 
-refuses : (bytes : List ℕ) → false ≡ is_line_end bytes → ((call : Call) (rest : List ℕ) → Fits call → is_line_end rest ≡ true → bytes ≡ call_line call ++ rest → ⊥) → RefusesLine bytes
+refuses : (bytes : List ℕ) → false ≡ is_line_end bytes
+    → ((call : Call) (rest : List ℕ) → Fits call → is_line_end rest ≡ true → bytes ≡ call_line call ++ rest → ⊥) → RefusesLine bytes
 refuses bytes some none =
     let s = first_line bytes in
     record {
@@ -134,7 +153,8 @@ refuses bytes some none =
       after = lines_behind s.rest;
       first = ap lines_of s.all ∙ ended s.line s.rest s.plain_line s.ends;
       refused = record {
-        some = λ e. let all : bytes ≡ s.rest = s.all ∙ ap (λ xs. xs ++ s.rest) e in let ends : is_line_end bytes ≡ true = ap is_line_end all ∙ s.ends in cc;
+        some = λ e. let all : bytes ≡ s.rest = s.all ∙ ap (λ xs. xs ++ s.rest) e in let ends : is_line_end bytes ≡ true = ap is_line_end all
+            ∙ s.ends in cc;
         none = λ call is. none call s.rest is.fits s.ends (s.all ∙ ap (λ xs. xs ++ s.rest) is.text);
       };
     }
@@ -145,11 +165,14 @@ word_ends [] e = refl
 word_ends (c ∷ cs) e = grind (arith, nat_tests)
 
 pub refuses_start : (bytes : List ℕ) → false ≡ is_line_end bytes → ReadsFront Fits call_line bytes None → RefusesLine bytes
-refuses_start bytes some read = refuses bytes some (λ call rest fits ends e. let none = read.only call rest fits (word_ends rest ends) e in cc)
+refuses_start bytes some read = refuses bytes some (λ call rest fits ends e. let none = read.only call rest fits (word_ends rest ends) e in
+    cc)
 
-pub refuses_more : (bytes behind : List ℕ) (call : Call) → false ≡ is_line_end bytes → ReadsFront Fits call_line bytes (Some (call, behind)) → false ≡ is_line_end behind → RefusesLine bytes
+pub refuses_more : (bytes behind : List ℕ) (call : Call) → false ≡ is_line_end bytes → ReadsFront Fits call_line bytes (Some (call, behind))
+    → false ≡ is_line_end behind → RefusesLine bytes
 refuses_more bytes behind call some read more =
-    refuses bytes some (λ other rest fits ends e. let same = (some_pair_parts call other behind rest (read.only other rest fits (word_ends rest ends) e)).1 in cc)
+    refuses bytes some (λ other rest fits ends e. let same =
+    (some_pair_parts call other behind rest (read.only other rest fits (word_ends rest ends) e)).1 in cc)
 
 -- ---- Progress
 
@@ -164,7 +187,8 @@ pub record Progress (bytes rest : List ℕ) (calls : List Call) (count : ℕ) : 
 pub no_progress : (bytes : List ℕ) (calls : List Call) → calls ≡ [] → Progress bytes bytes calls 0
 no_progress bytes calls e = record { before = []; all = refl; counted = refl; are = subst (AreCalls []) (sym e) tt; small = omega arith }
 
-pub more_progress : (bytes rest behind : List ℕ) (c : ℕ) (next : List ℕ) (calls new : List Call) (count : ℕ) → Progress bytes rest calls count → TakesLine rest behind calls new → behind ≡ c ∷ next → Progress bytes next new (count + 1)
+pub more_progress : (bytes rest behind : List ℕ) (c : ℕ) (next : List ℕ) (calls new : List Call) (count : ℕ)
+    → Progress bytes rest calls count → TakesLine rest behind calls new → behind ≡ c ∷ next → Progress bytes next new (count + 1)
 more_progress bytes rest behind c next calls new count p t feed =
     let small = p.small in
     let counted = p.counted in
@@ -178,11 +202,22 @@ more_progress bytes rest behind c next calls new count p t feed =
       small = omega (arith, ap length feed);
     }
 
-pub all_read : (bytes rest behind : List ℕ) (calls new : List Call) (count : ℕ) → Progress bytes rest calls count → TakesLine rest behind calls new → behind ≡ [] → AreCalls (lines_of bytes) new
+pub all_read : (bytes rest behind : List ℕ) (calls new : List Call) (count : ℕ) → Progress bytes rest calls count
+    → TakesLine rest behind calls new → behind ≡ [] → AreCalls (lines_of bytes) new
 all_read bytes rest behind calls new count p t none =
     let lines : lines_of rest ≡ t.line ∷ [] = t.first ∙ ap (λ xs. t.line ∷ lines_behind xs) none in
     subst (λ xs. AreCalls xs new) (sym (p.all ∙ ap (λ xs. p.before ++ xs) lines)) (t.adds p.before p.are)
 
-pub first_refused : (bytes rest : List ℕ) (calls : List Call) (count : ℕ) → Progress bytes rest calls count → RefusesLine rest → IsFirstRefused (lines_of bytes) (count + 1)
+pub first_refused : (bytes rest : List ℕ) (calls : List Call) (count : ℕ) → Progress bytes rest calls count → RefusesLine rest
+    → IsFirstRefused (lines_of bytes) (count + 1)
 first_refused bytes rest calls count p r =
-    record { before = p.before; calls = calls; line = r.line; after = r.after; all = p.all ∙ ap (λ xs. p.before ++ xs) r.first; number = ap (λ n. n + 1) p.counted; good = p.are; bad = r.refused }
+    record {
+      before = p.before;
+      calls = calls;
+      line = r.line;
+      after = r.after;
+      all = p.all ∙ ap (λ xs. p.before ++ xs) r.first;
+      number = ap (λ n. n + 1) p.counted;
+      good = p.are;
+      bad = r.refused;
+    }

@@ -7,7 +7,8 @@ use Rattle.arena_calls.specs.Streams.{Takes, Writes, WritesPart}
 use Rattle.arena_calls.specs.ReadAll.{TakesAll, limit}
 use Rattle.arena_calls.specs.declared.streams.all.ReadErr.TheVariants.{TooLong}
 
-pub writes_more : (old mid new : Option (List ℕ)) (bytes : List ℕ) (at n : ℕ) → Writes old mid (take at bytes) → Writes mid new (take n (take (length bytes - at) (drop at bytes))) → Writes old new (take (at + n) bytes)
+pub writes_more : (old mid new : Option (List ℕ)) (bytes : List ℕ) (at n : ℕ) → Writes old mid (take at bytes)
+    → Writes mid new (take n (take (length bytes - at) (drop at bytes))) → Writes old new (take (at + n) bytes)
 writes_more None mid new bytes at n p q = tt
 writes_more (Some a) None new bytes at n p q = absurd p
 writes_more (Some a) (Some b) None bytes at n p q = absurd q
@@ -16,20 +17,26 @@ writes_more (Some a) (Some b) (Some d) bytes at n p q =
     q ∙ ap (λ xs. xs ++ more) p ∙ append_assoc a (take at bytes) more
     ∙ ap (λ xs. a ++ (take at bytes ++ take n xs)) (take_rest bytes at) ∙ ap (λ xs. a ++ xs) (sym (take-add at n bytes))
 
-pub takes_more : (old mid new : Option (List ℕ)) (before bytes : List ℕ) → Takes old mid before → Takes mid new bytes → Takes old new (before ++ bytes)
+pub takes_more : (old mid new : Option (List ℕ)) (before bytes : List ℕ) → Takes old mid before → Takes mid new bytes
+    → Takes old new (before ++ bytes)
 takes_more None mid new before bytes p q = tt
 takes_more (Some a) None new before bytes p q = absurd p
 takes_more (Some a) (Some b) None before bytes p q = absurd q
 takes_more (Some a) (Some b) (Some d) before bytes p q = p ∙ ap (λ xs. before ++ xs) q ∙ sym (append_assoc before bytes d)
 
 -- one byte past the limit was taken
-pub too_long : (old mid new : Option (List ℕ)) (before buffer : List ℕ) (count : ℕ) → Takes old mid before → Takes mid new (take count buffer) → count ≤ length buffer → length before + count ≡ limit + 1 → TakesAll old new (Err TooLong)
+pub too_long : (old mid new : Option (List ℕ)) (before buffer : List ℕ) (count : ℕ) → Takes old mid before
+    → Takes mid new (take count buffer) → count ≤ length buffer → length before + count ≡ limit + 1 → TakesAll old new (Err TooLong)
 too_long old mid new before buffer count p q within long = at old new (takes_more old mid new before (take count buffer) p q)
   where
     at : (o n : Option (List ℕ)) → Takes o n (before ++ take count buffer) → TakesAll o n (Err TooLong)
     at None n t = tt
     at (Some a) None t = absurd t
-    at (Some a) (Some d) t = (before ++ take count buffer, t, omega (arith, length-append before (take count buffer), length-take count buffer))
+    at (Some a) (Some d) t = (
+      before ++ take count buffer,
+      t,
+      omega (arith, length-append before (take count buffer), length-take count buffer),
+    )
 
 -- ---- One text behind another
 
@@ -46,7 +53,8 @@ part_of_first old new xs ys p = record {
   front = subst (Writes old new) (sym (take-append-le p.count xs ys (omega (arith, p.less)))) p.front;
 }
 
-pub part_of_second : (old mid new : Option (List ℕ)) (xs ys : List ℕ) → Writes old mid xs → WritesPart mid new ys → WritesPart old new (xs ++ ys)
+pub part_of_second : (old mid new : Option (List ℕ)) (xs ys : List ℕ) → Writes old mid xs → WritesPart mid new ys
+    → WritesPart old new (xs ++ ys)
 part_of_second old mid new xs ys first p = record {
   count = length xs + p.count;
   less = omega (arith, p.less, length-append xs ys);

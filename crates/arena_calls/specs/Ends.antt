@@ -1,8 +1,11 @@
 -- What each status says of the input, the output and the arena.
-use Rattle.std.specs.Prelude.{◌≡◌, ◌≢◌, ℕ, ◌+◌, ◌≤◌, List, length, Option, ◌⊎◌, Result, Ok, Err}
+use Rattle.std.specs.Prelude.{◌≡◌, ◌≢◌, ℕ, ◌+◌, ◌^◌, ◌<◌, ◌≤◌, List, [], ◌∷◌, length, codes, Option, ◌⊎◌, Result, Ok, Err}
+use Rattle.placement.specs.State.{State}
 use Rattle.placement.specs.Causes.{counted}
-use Rattle.placement.specs.Grammar.{CallsOf}
+use Rattle.placement.specs.Grammar.{CallsOf, number}
 use Rattle.placement.specs.Replies.{text_of}
+use Rattle.placement.specs.Generator.{gen_calls}
+use Rattle.placement.specs.Summary.{summary_of, summary_text}
 use Rattle.placement.specs.declared.calls.Call.{Call}
 use Rattle.placement.specs.declared.calls.Reply.{Reply}
 use Rattle.arena_chunks.specs.Source.{View}
@@ -57,54 +60,100 @@ pub record ReadsWhole (old new : Outside) (bytes : List ℕ) : Type 0 where
   pub told : TakesWhole old.left new.left bytes
   pub small : length bytes ≤ limit
 
--- the bytes are lines of calls, and their run gave these replies
-pub record AreRun (old new : Outside) (bytes : List ℕ) (replies : List Reply) : Type 0 where
-  pub calls : List Call
+-- the whole input was read, and its lines are these calls
+pub record ReadsCalls (old new : Outside) (calls : List Call) : Type 0 where
+  pub bytes : List ℕ
+  pub whole : ReadsWhole old new bytes
   pub lines : CallsOf bytes (Ok calls)
+
+-- what is written of a run, by its replies and the state behind it
+abbrev pub Told : Type 0
+Told = List Reply → State → List ℕ
+
+-- The calls were run, and the text that tells what they gave was written whole or in part, as this says.
+pub record RunsTo (old new : Outside) (calls : List Call) (text : Told)
+    (IsWritten : Option (List ℕ) → Option (List ℕ) → List ℕ → Type 0) : Type 0 where
+  pub replies : List Reply
   pub blocks : List (ℕ × Block)
   pub runs : Runs old.arena new.arena calls replies blocks
+  pub written : IsWritten old.written new.written (text replies new.arena.memory.state)
 
--- the bytes are lines of calls, and the first ones, so many, were run
-pub record AreRunFirst (old new : Outside) (bytes : List ℕ) : Type 0 where
-  pub calls : List Call
-  pub lines : CallsOf bytes (Ok calls)
+-- the first ones of these calls, so many, were run, and nothing was written
+pub record StopsIn (old new : Outside) (calls : List Call) : Type 0 where
   pub done : ℕ
   pub runs : RunsFirst old.arena new.arena calls done
+  pub written : new.written ≡ old.written
+
+-- ---- A run of the input's lines
+
+-- a line for each reply
+abbrev pub reply_lines : Told
+reply_lines replies state = text_of replies
 
 -- memory was wanting before the first call was run, and no more was taken than an input may have
 pub record StopsBefore (old new : Outside) : Type 0 where
   pub untouched : IsUntouched old new
   pub front : TakesFront old.left new.left (λ n. n ≤ limit)
 
--- memory was wanting in the run or behind it: the first calls were run, however few, and nothing was written
-pub record StopsAfter (old new : Outside) : Type 0 where
-  pub bytes : List ℕ
-  pub whole : ReadsWhole old new bytes
-  pub first : AreRunFirst old new bytes
-  pub written : new.written ≡ old.written
-
+-- Where memory is wanting in the run or behind it, the first calls were run, however few.
 abbrev pub Ends : Status → Outside → Outside → Type 0
 Ends Done old new =
-    HasNoFault old new
-    × ((bytes : List ℕ) × (replies : List Reply) × ReadsWhole old new bytes × AreRun old new bytes replies
-    × Writes old.written new.written (text_of replies))
-Ends Usage old new = new ≡ old
+    HasNoFault old new × ((calls : List Call) × ReadsCalls old new calls × RunsTo old new calls reply_lines Writes)
+Ends Usage old new = ⊥
 Ends (BadLine n) old new =
     HasNoFault old new × IsUntouched old new
     × ((bytes : List ℕ) × ReadsWhole old new bytes × CallsOf bytes (Err n))
-Ends OutOfMemory old new = HasNoFault old new × (StopsBefore old new ⊎ StopsAfter old new)
+Ends OutOfMemory old new =
+    HasNoFault old new
+    × (StopsBefore old new ⊎ ((calls : List Call) × ReadsCalls old new calls × StopsIn old new calls))
 Ends ReadFault old new =
     HasReadFault old new × IsUntouched old new × TakesFront old.left new.left (λ n. n ≤ limit)
 Ends WriteFault old new =
     HasWriteFault old new
-    × ((bytes : List ℕ) × (replies : List Reply) × ReadsWhole old new bytes × AreRun old new bytes replies
-    × WritesPart old.written new.written (text_of replies))
+    × ((calls : List Call) × ReadsCalls old new calls × RunsTo old new calls reply_lines WritesPart)
 Ends InputTooLong old new =
     HasNoFault old new × IsUntouched old new × TakesFront old.left new.left (λ n. n ≡ limit + 1)
 
--- the words are right, and no count is one fault up
-pub record IsFaultless (status : Status) (old new : Outside) : Type 0 where
-  pub words : status ≢ Usage
+-- ---- A run of calls from a number
+
+-- the summary's eight lines
+abbrev pub summary_lines : Told
+summary_lines replies state = summary_text (summary_of replies state)
+
+-- The input isn't read, so no other status comes.
+abbrev pub GenEnds : ℕ → ℕ → Status → Outside → Outside → Type 0
+GenEnds start count Done old new =
+    HasNoFault old new × (new.left ≡ old.left) × RunsTo old new (gen_calls start count) summary_lines Writes
+GenEnds start count OutOfMemory old new =
+    HasNoFault old new × (new.left ≡ old.left)
+    × (IsUntouched old new ⊎ StopsIn old new (gen_calls start count))
+GenEnds start count WriteFault old new =
+    HasWriteFault old new × (new.left ≡ old.left)
+    × RunsTo old new (gen_calls start count) summary_lines WritesPart
+GenEnds start count status old new = ⊥
+
+-- ---- What the words ask for
+
+abbrev pub AsksCalls : List (List ℕ) → Type 0
+AsksCalls words = words ≡ codes "calls" ∷ []
+
+-- so many calls, a million at most, from this start, each number in its digits
+pub record AsksGen (words : List (List ℕ)) (start count : ℕ) : Type 0 where
+  pub all : words ≡ codes "gen" ∷ number start ∷ number count ∷ []
+  pub start_fits : start < 2 ^ 64
+  pub most : count ≤ 1000000
+
+-- The run ends as what the words ask for. Other words are none, and nothing is touched.
+pub record EndsBy (words : List (List ℕ)) (status : Status) (old new : Outside) : Type 0 where
+  pub calls : AsksCalls words → Ends status old new
+  pub gen : (start count : ℕ) → AsksGen words start count → GenEnds start count status old new
+  pub other : (AsksCalls words → ⊥) → ((start count : ℕ) → AsksGen words start count → ⊥)
+      → (status ≡ Usage) × (new ≡ old)
+
+-- ---- Where nothing fails
+
+-- no count is one fault up
+pub record IsFaultless (old new : Outside) : Type 0 where
   pub reads : new.read_faults ≢ counted old.read_faults 1
   pub writes : new.write_faults ≢ counted old.write_faults 1
 

@@ -3,3 +3,5 @@ pub mod ReadAll
 pub mod Lines
 pub mod Ends
 pub mod Program
+pub mod Tallies
+pub mod Arguments

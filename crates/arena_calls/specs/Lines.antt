@@ -1,9 +1,9 @@
 -- What is read at the front of bytes, and lines one after another.
-use Rattle.std.specs.Prelude.{◌≡◌, ◌≢◌, ℕ, ◌≤◌, ◌==◌, ◌||◌, nat_eq, Bool, true, IsTrue, Option, Some, IfSome, List, [], ◌∷◌, ◌++◌, length, Err}
+use Rattle.std.specs.Prelude.{◌≡◌, ◌≢◌, ℕ, ◌≤◌, ◌==◌, ◌||◌, nat_eq, Bool, true, IsTrue, Option, Some, None, IfSome, List, [], ◌∷◌, ◌++◌, length, Err}
 use Rattle.std.specs.List.{starts_with}
 use Rattle.std.specs.Option.{option_map}
 use Rattle.std.specs.Borrow.{Bor}
-use Rattle.placement.specs.Grammar.{Fits, IsByte, fields, hex_pair, call_line, AreCalls, CallsOf, IsRefused, lines_of}
+use Rattle.placement.specs.Grammar.{Fits, IsByte, number, fields, hex_pair, call_line, AreCalls, CallsOf, IsRefused, lines_of}
 use Rattle.placement.specs.declared.calls.Call.{Call}
 use Rattle.placement.specs.declared.calls.Call.TheVariants.{Alloc}
 use Rattle.arena_calls.specs.declared.lines.parse.LinesErr.{LinesErr}
@@ -69,3 +69,8 @@ pub record RefusesLine (bytes : List ℕ) : Type 0 where
   pub after : List (List ℕ)
   pub first : lines_of bytes ≡ line ∷ after
   pub refused : IsRefused line
+
+-- The bytes are this number, which is not above the greatest one; or they are no such number.
+abbrev pub IsNumber : ℕ → List ℕ → Option ℕ → Type 0
+IsNumber max bytes (Some n) = (n ≤ max) × (bytes ≡ number n)
+IsNumber max bytes None = (n : ℕ) → n ≤ max → bytes ≢ number n

@@ -1,5 +1,5 @@
 -- What the program prints and answers: for its words, for what came of them, and over how much memory.
-use Rattle.std.specs.Prelude.{◌≡◌, ◌≢◌, ℕ, List, [], ◌∷◌, ◌++◌, drop, map, Option, Result, Ok, Err, ◌⊎◌, ◌↔◌, codes, String, string_bytes}
+use Rattle.std.specs.Prelude.{◌≡◌, ◌≢◌, ℕ, List, [], ◌∷◌, ◌++◌, drop, map, Option, Result, Ok, Err, ◌⊎◌, codes, String, string_bytes}
 use Rattle.std.specs.Global.{Global}
 use Rattle.std.specs.IoError.{error_kind}
 use Rattle.std.specs.Vec.Iter.{into_iter_items}
@@ -10,7 +10,7 @@ use Rattle.std.specs.declared.vec.IntoIter.{IntoIter}
 use Rattle.placement.specs.Causes.{counted}
 use Rattle.placement.specs.Grammar.{number}
 use Rattle.arena_calls.specs.Streams.{Writes, WritesPart}
-use Rattle.arena_calls.specs.Ends.{Outside, Ends}
+use Rattle.arena_calls.specs.Ends.{Outside, EndsBy}
 use Rattle.arena_calls.specs.declared.status.Status.{Status}
 use Rattle.arena_calls.specs.declared.status.Status.TheVariants.{Done, Usage, BadLine, OutOfMemory, ReadFault, WriteFault, InputTooLong}
 
@@ -43,12 +43,12 @@ PrintsAlone text status old new =
     (new ≡ record old { written = new.written; write_faults = new.write_faults })
     × Prints text status old.written old.write_faults new.written new.write_faults
 
--- One word may ask for one of the two texts. All else is a run, or other words, which are none.
+-- One word may ask for one of the two texts. All else asks for a run, or is none.
 pub record Serves (help_text version_text : List ℕ) (words : List (List ℕ)) (status : Status) (old new : Outside) : Type 0 where
   pub help : words ≡ codes "--help" ∷ [] → PrintsAlone help_text status old new
   pub version : words ≡ codes "--version" ∷ [] → PrintsAlone version_text status old new
   pub other : words ≢ codes "--help" ∷ [] → words ≢ codes "--version" ∷ []
-      → Ends status old new × ((status ≡ Usage) ↔ (words ≢ codes "calls" ∷ []))
+      → EndsBy words status old new
 
 -- The words are served, unless they aren't told, or memory is wanting for them.
 abbrev pub Answers : List ℕ → List ℕ → Result Args Error → Status → Outside → Outside → Type 0
@@ -62,7 +62,7 @@ line_message n = codes "line " ++ (number n ++ (codes " is not understood" ++ 10
 
 abbrev pub message_of : Status → List ℕ
 message_of Done = []
-message_of Usage = codes "usage: arena_run calls" ++ 10 ∷ []
+message_of Usage = codes "usage: arena_run calls | gen START COUNT" ++ 10 ∷ []
 message_of (BadLine n) = line_message n
 message_of OutOfMemory = codes "out of memory" ++ 10 ∷ []
 message_of ReadFault = codes "read fault" ++ 10 ∷ []

@@ -3,6 +3,7 @@
 
 mod arguments;
 mod budget;
+mod generator;
 pub mod laws;
 mod lines;
 mod messages;

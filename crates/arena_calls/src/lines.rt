@@ -5,4 +5,5 @@ mod number;
 mod parse;
 mod word;
 
+pub use number::whole_number;
 pub use parse::{LinesErr, parse_calls};

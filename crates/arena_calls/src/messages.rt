@@ -17,7 +17,7 @@ pub fn explain<E: Output>(messages: &mut E, status: &Status) -> Result<(), Faile
 {
     match status {
         Status::Done => Ok(()),
-        Status::Usage => write_all(messages, b"usage: arena_run calls\n"),
+        Status::Usage => write_all(messages, b"usage: arena_run calls | gen START COUNT\n"),
         Status::BadLine(n) => explain_line(messages, *n),
         Status::OutOfMemory => write_all(messages, b"out of memory\n"),
         Status::ReadFault => write_all(messages, b"read fault\n"),

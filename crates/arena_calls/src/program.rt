@@ -23,9 +23,10 @@ use std::process::ExitCode;
 const HELP: &str = "\
 Runs calls on a bump arena, and prints their replies.
 
-usage: arena_run calls        reads a call from each line of standard input
-       arena_run --help       prints this text
-       arena_run --version    prints the version
+usage: arena_run calls              reads a call from each line of standard input
+       arena_run gen START COUNT    makes so many calls from a number, and prints a summary
+       arena_run --help             prints this text
+       arena_run --version          prints the version
 
 calls: alloc NAME SIZE ALIGN FILL
        grow NAME SIZE ALIGN FILL

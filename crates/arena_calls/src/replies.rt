@@ -2,7 +2,7 @@
 ghost use Rattle.std.specs.Prelude.{◌≡◌, ℕ, ◌+◌, ◌*◌, ◌-◌, ◌/◌, ◌++◌, ◌∷◌, [], ◌<◌, ◌≤◌, false, OnOk, length, codes, vec_len, vec_capacity};
 ghost use Rattle.std.specs.List.{flat_map};
 ghost use Rattle.placement.specs.Grammar.{fields, hex, hex_digit, hex_pair};
-ghost use Rattle.placement.specs.Replies.{reply_line, with_feed};
+ghost use Rattle.placement.specs.Replies.{reply_line, text_of};
 ghost use Rattle.arena_chunks.specs.Replies.{has_bytes};
 
 use arena_chunks::Replies;
@@ -13,8 +13,8 @@ use placement::{OutOfMemory, Reply};
 // `refused` and a number of 32 bits.
 const LONGEST: usize = 47;
 
-// Adds bytes for which there is room.
-fn put(out: &mut Vec<u8>, bytes: &[u8])
+/// Adds bytes for which there is room.
+pub fn put(out: &mut Vec<u8>, bytes: &[u8])
     requires { vec_len out.old + length bytes.now ≤ vec_capacity out.old }
     ensures items { out.new.items ≡ out.old.items ++ bytes.now }
     ensures len { vec_len out.new ≡ vec_len out.old + length bytes.now }
@@ -154,11 +154,7 @@ impl Text {
 }
 
 impl Replies for Text {
-    ghost Part = { ℕ };
-
-    ghost shown = { λ a. a.bytes.items };
-
-    ghost part = { with_feed };
+    ghost has_taken = { λ a list. a.bytes.items ≡ text_of list };
 
     ghost room = { λ a. (vec_capacity a.bytes - vec_len a.bytes) / 47 };
 

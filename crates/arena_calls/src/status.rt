@@ -5,9 +5,9 @@ ghost use Rattle.arena_calls.specs.Ends.{code_of};
 /// How the program ends.
 #[derive(Drop, Debug)]
 pub enum Status {
-    /// All replies were written.
+    /// All replies were written, or the summary of them.
     Done,
-    /// The words are not the one word `calls`.
+    /// The words ask for nothing that there is.
     Usage,
     /// The first line that is refused, by its number from 1.
     BadLine(u64),

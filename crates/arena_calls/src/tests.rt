@@ -1,6 +1,7 @@
 // Worked examples of the program, over inputs and outputs in memory.
 mod calls;
 mod endings;
+mod generated;
 mod lines;
 mod programs;
 
@@ -9,6 +10,8 @@ use crate::streams::{MemoryInput, MemoryOutput};
 use crate::whole_run::arena_main;
 use arena_chunks::{Arena, Bytes, ChunkSource, MemoryChunks};
 use std::alloc::{AllocError, Global};
+use std::fmt::Debug;
+use std::process::Abort;
 use std::test::Fail;
 
 // How a run of the program ended, and what it wrote.
@@ -18,22 +21,26 @@ struct Ended {
     text: Vec<u8>,
 }
 
-fn words(alloc: Global, word: &[u8]) -> Result<Vec<Bytes>, Fail> {
-    let Ok(word) = Bytes::of(alloc, word) else {
-        return Err(Fail::from(AllocError));
-    };
-    Ok(vec![in alloc; word]?)
+fn words(alloc: Global, list: &[&str]) -> Result<Vec<Bytes>, Fail> {
+    let mut words = Vec::new(alloc);
+    for word in list {
+        let Ok(word) = Bytes::of(alloc, word.as_bytes()) else {
+            return Err(Fail::from(AllocError));
+        };
+        words.push(word)?;
+    }
+    Ok(words)
 }
 
-// Runs the program on a word and a text, over an arena and a source.
+// Runs the program on words and a text, over an arena and a source.
 fn run_over<C: ChunkSource>(
     alloc: Global,
     arena: &mut Arena<1>,
     chunks: &mut C,
-    word: &[u8],
+    list: &[&str],
     text: &[u8],
 ) -> Result<Ended, Fail> {
-    let words = words(alloc, word)?;
+    let words = words(alloc, list)?;
     let mut input = MemoryInput::new(alloc, text.to_vec(alloc)?, 4096, Vec::new(alloc));
     let mut output = MemoryOutput::new(alloc, 4096, Vec::new(alloc));
     let status = arena_main(
@@ -52,5 +59,10 @@ fn run_over<C: ChunkSource>(
 fn run(alloc: Global, text: &[u8]) -> Result<Ended, Fail> {
     let mut arena = Arena::<1>::new(alloc);
     let mut chunks = MemoryChunks::new(alloc, 1 << 30);
-    run_over(alloc, &mut arena, &mut chunks, b"calls", text)
+    run_over(alloc, &mut arena, &mut chunks, &["calls"], text)
+}
+
+// What was found is what is wanted.
+fn same<T: Copy + PartialEq + Debug>(rt: &impl Abort, found: T, wanted: T) {
+    assert_eq!(rt; found, wanted);
 }

@@ -1,9 +1,9 @@
 // The call that the program makes.
-ghost use Rattle.std.specs.Prelude.{◌≡◌, ◌∷◌, [], codes, ◌↔◌};
 ghost use Rattle.arena_chunks.specs.Source.{view};
-ghost use Rattle.arena_calls.specs.Ends.{Ends, outside};
+ghost use Rattle.arena_calls.specs.Ends.{Ends, EndsBy, outside};
 
-use crate::arguments::is_one_word;
+use crate::arguments::{Command, asked_for};
+use crate::generator::run_generated;
 use crate::lines::{LinesErr, parse_calls};
 use crate::replies::Text;
 use crate::status::Status;
@@ -11,26 +11,20 @@ use crate::streams::{Input, Output, ReadErr, read_all, write_all};
 use arena_chunks::{Arena, Bytes, ChunkSource, run_calls_into};
 use std::alloc::Global;
 
-/// Reads all of the input as calls, runs them over the arena and writes the replies. Nothing is written
-/// before the last call was run.
-pub fn arena_main<C: ChunkSource, I: Input, O: Output>(
+// Reads all of the input as calls, runs them over the arena and writes the replies.
+fn run_lines<C: ChunkSource, I: Input, O: Output>(
     alloc: Global,
-    words: &[Bytes],
     arena: &mut Arena<1>,
     chunks: &mut C,
     input: &mut I,
     output: &mut O,
 ) -> Status
-    ensures usage { (result ≡ Status.Usage) ↔ (words.now ≡ codes "calls" ∷ [] → ⊥) }
-    ensures ends { Ends result
+    ensures { Ends result
         (outside (I.left input.old) (I.faults input.old) (O.written output.old) (O.faults output.old)
         (view arena.old (C.source chunks.old)))
         (outside (I.left input.new) (I.faults input.new) (O.written output.new) (O.faults output.new)
         (view arena.new (C.source chunks.new))) }
 {
-    if !is_one_word(words, b"calls") {
-        return Status::Usage;
-    }
     let bytes = match read_all(alloc, input) {
         Ok(bytes) => bytes,
         Err(ReadErr::Failed) => return Status::ReadFault,
@@ -53,5 +47,30 @@ pub fn arena_main<C: ChunkSource, I: Input, O: Output>(
     match write_all(output, text.bytes.as_slice()) {
         Ok(()) => Status::Done,
         Err(_) => Status::WriteFault,
+    }
+}
+
+/// Does what the words ask for: runs the lines of the input, or calls from a number, over the arena, and writes the replies,
+/// or what they come to. Nothing is written before the last call was run.
+pub fn arena_main<C: ChunkSource, I: Input, O: Output>(
+    alloc: Global,
+    words: &[Bytes],
+    arena: &mut Arena<1>,
+    chunks: &mut C,
+    input: &mut I,
+    output: &mut O,
+) -> Status
+    ensures { EndsBy words.now result
+        (outside (I.left input.old) (I.faults input.old) (O.written output.old) (O.faults output.old)
+        (view arena.old (C.source chunks.old)))
+        (outside (I.left input.new) (I.faults input.new) (O.written output.new) (O.faults output.new)
+        (view arena.new (C.source chunks.new))) }
+{
+    match asked_for(words) {
+        Some(Command::Calls) => run_lines(alloc, arena, chunks, input, output),
+        Some(Command::Gen { start, count }) => {
+            run_generated(alloc, start, count, arena, chunks, output)
+        }
+        None => Status::Usage,
     }
 }

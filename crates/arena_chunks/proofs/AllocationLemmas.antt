@@ -29,9 +29,11 @@ use Rattle.arena_chunks.proofs.FrameLemmas.{byte_moved, frame_new}
 use Rattle.arena_chunks.proofs.StoredLemmas.{view_of, moved_chunk, cursor_view, IsCursor}
 
 -- a cursor may move down to a place
-pub place_cursor : (state : State) (size align p : ℕ) → IsValid state → IsTrue (is_layout size align) → place state size align ≡ Some p → IsCursor state p
+pub place_cursor : (state : State) (size align p : ℕ) → IsValid state → IsTrue (is_layout size align) → place state size align ≡ Some p
+    → IsCursor state p
 place_cursor state size align p valid layout found =
-    let at = is_place (start_of state.chunks) (cursor_of state.chunks) size align state.min_align p (start_positive state valid) (layout_power size align layout) valid.min_align found in
+    let at = is_place (start_of state.chunks) (cursor_of state.chunks) size align state.min_align p (start_positive state valid)
+    (layout_power size align layout) valid.min_align found in
     record {
       low = at.low;
       high = omega (arith, at.high, cursor_within state valid);
@@ -43,9 +45,13 @@ pub placed_view : (m : ℕ) (a : Inside m) (memory : Memory) (p low n : ℕ) →
     → memory_of m a.is_growing a.generation n a.reallocations (moved_chunk m a p low) a.older.items ≡ placed_at memory p
 placed_view m a memory p low n is one =
     ap (λ (w : Memory). record w { statistics = record w.statistics { allocations = n } }) (cursor_view m a memory p low is)
-    ∙ rw one (ap (λ (w : Memory). record (placed_at memory p) { statistics = record memory.statistics { allocations = counted w.statistics.allocations 1 } }) is)
+    ∙ rw one (ap (λ (w : Memory). record (placed_at memory p) {
+      statistics =
+          record memory.statistics { allocations = counted w.statistics.allocations 1 };
+    }) is)
 
-pub placing_here : (memory : Memory) (size align p : ℕ) → place memory.state size align ≡ Some p → IsPlacing memory (placed_at memory p) size align 0 p
+pub placing_here : (memory : Memory) (size align p : ℕ) → place memory.state size align ≡ Some p
+    → IsPlacing memory (placed_at memory p) size align 0 p
 placing_here memory size align p found = record {
   step = alloc_placed memory.state size align p found;
   statistics = refl;
@@ -59,18 +65,22 @@ place_is start cursor size align m p at =
     rw test (ap Some (sym at.is))
 
 -- the chunk that was added has the place, and is valid
-pub added_granted : (old new : Memory) (size align k p : ℕ) → IsTrue (is_layout size align) → place old.state size align ≡ None → (added : IsAdded old new size align k p)
+pub added_granted : (old new : Memory) (size align k p : ℕ) → IsTrue (is_layout size align) → place old.state size align ≡ None
+    → (added : IsAdded old new size align k p)
     → IsGranted old.state size align k added.entry p
 added_granted old new size align k p layout none added =
     is_granted old.state size align k added.entry p added.valid added.growing (layout_power size align layout) none added.asked added.place
 
-pub added_place : (old new : Memory) (size align k p : ℕ) → IsTrue (is_layout size align) → place old.state size align ≡ None → IsAdded old new size align k p
+pub added_place : (old new : Memory) (size align k p : ℕ) → IsTrue (is_layout size align) → place old.state size align ≡ None
+    → IsAdded old new size align k p
     → place new.state size align ≡ Some p
 added_place old new size align k p layout none added =
     let at = (added_granted old new size align k p layout none added).place in
-    subst (λ (w : Memory). place w.state size align ≡ Some p) (sym added.memory) (place_is added.entry.0 (added.entry.0 + added.entry.1) size align old.state.min_align p at)
+    subst (λ (w : Memory). place w.state size align ≡ Some p) (sym added.memory)
+    (place_is added.entry.0 (added.entry.0 + added.entry.1) size align old.state.min_align p at)
 
-pub placing_in_new : (old mid : Memory) (size align k p : ℕ) → IsTrue (is_layout size align) → place old.state size align ≡ None → IsAdded old mid size align k p
+pub placing_in_new : (old mid : Memory) (size align k p : ℕ) → IsTrue (is_layout size align) → place old.state size align ≡ None
+    → IsAdded old mid size align k p
     → IsPlacing old (placed_at mid p) size align k p
 placing_in_new old mid size align k p layout none added =
     let granted = added_granted old mid size align k p layout none added in
@@ -85,13 +95,19 @@ placing_in_new old mid size align k p layout none added =
     })
 
 -- A block that was placed by the rule, as a call's answer.
-pub block_placed : (old new : Memory) (before after : Source) (size align k p : ℕ) (b : Block) → IsValid old.state → IsTrue (is_layout size align) → IsPlacing old new size align k p
-    → IsAsked before after k (alloc_requests old.state size align k) → b ≡ record { generation = old.state.generation; addr = p; size = size; align = align }
+pub block_placed : (old new : Memory) (before after : Source) (size align k p : ℕ) (b : Block) → IsValid old.state
+    → IsTrue (is_layout size align) → IsPlacing old new size align k p
+    → IsAsked before after k (alloc_requests old.state size align k)
+    → b ≡ record { generation = old.state.generation; addr = p; size = size; align = align }
     → PlacesAfter (view old before) (view new after) size align k (Placed b)
 block_placed old new before after size align k p b valid layout placing asked is =
     let fresh = is_new_block old.state size align k p new.state valid (layout_power size align layout) placing.step in
     subst (λ (b : Block). PlacesAfter (view old before) (view new after) size align k (Placed b)) (sym is) (record {
-      valid = record { entry = valid; exit = alloc_valid old.state size align k (record { answer = Some p; state = new.state }) valid (layout_power size align layout) placing.step };
+      valid = record {
+        entry = valid;
+        exit = alloc_valid old.state size align k (record { answer = Some p; state = new.state }) valid
+            (layout_power size align layout) placing.step;
+      };
       outcome = record {
         step = placing.step;
         asked = asked;
@@ -100,22 +116,27 @@ block_placed old new before after size align k p b valid layout placing asked is
           of_size = refl;
           of_align = refl;
           readable = elim (cases_lt 0 size) [
-            | inr none ↦ or_left (size == 0) (old.state.generation == new.state.generation && is_range_used new.state.chunks p size) (eq-eqb _ _ (omega arith))
+            | inr none ↦ or_left (size == 0) (old.state.generation == new.state.generation && is_range_used new.state.chunks p size)
+                (eq-eqb _ _ (omega arith))
             | inl some ↦ or_right (size == 0) (old.state.generation == new.state.generation && is_range_used new.state.chunks p size)
                 (rw (eq-eqb _ _ (sym fresh.generation)) (fresh.used some))
           ];
         };
         aligned = record { own = fresh.aligned; least = rw fresh.min_align fresh.min_aligned };
         statistics = placing.statistics;
-        frame = frame_new old new size align (record { generation = old.state.generation; addr = p; size = size; align = align }) valid fresh refl
-            (λ still. alloc_allocated old.state size align k (record { answer = Some p; state = new.state }) still placing.step) placing.bytes;
+        frame = frame_new old new size align (record { generation = old.state.generation; addr = p; size = size; align = align }) valid
+            fresh refl
+            (λ still. alloc_allocated old.state size align k (record { answer = Some p; state = new.state }) still placing.step)
+            placing.bytes;
       };
     })
 
 -- The same of a block that lies at the cursor, where an allocation leaves it.
-pub placed_at_cursor : (old new : Memory) (before after : Source) (size align k p : ℕ) → IsValid old.state → IsTrue (is_layout size align) → IsPlacing old new size align k p
+pub placed_at_cursor : (old new : Memory) (before after : Source) (size align k p : ℕ) → IsValid old.state → IsTrue (is_layout size align)
+    → IsPlacing old new size align k p
     → IsAsked before after k (alloc_requests old.state size align k)
-    → PlacesAfter (view old before) (view new after) size align k (Placed (record { generation = new.state.generation; addr = cursor_of new.state.chunks; size = size; align = align }))
+    → PlacesAfter (view old before) (view new after) size align k
+    (Placed (record { generation = new.state.generation; addr = cursor_of new.state.chunks; size = size; align = align }))
 placed_at_cursor old new before after size align k p valid layout placing asked =
     let at = (alloc_newest old.state size align k _ placing.step).1 in
     let fresh = is_new_block old.state size align k p new.state valid (layout_power size align layout) placing.step in
@@ -123,7 +144,8 @@ placed_at_cursor old new before after size align k p valid layout placing asked 
     (rw (at, fresh.generation) refl)
 
 -- All that was asked for was refused, or memory was wanting for the table of chunks.
-pub all_refused : (old new : Memory) (before after : Source) (size align : ℕ) (e : ArenaErr) → IsValid old.state → place old.state size align ≡ None → new ≡ old
+pub all_refused : (old new : Memory) (before after : Source) (size align : ℕ) (e : ArenaErr) → IsValid old.state
+    → place old.state size align ≡ None → new ≡ old
     → OnFound (Err e) (AddsChunk (view old before) (view new after) size align) ((old.state.is_growing ≡ true) × (after ≡ before))
     → OnCounted (Err e) (PlacesAfter (view old before) (view new after) size align)
 all_refused old new before after size align (AllocErr k) valid none same added = record {

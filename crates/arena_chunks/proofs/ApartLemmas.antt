@@ -1,5 +1,5 @@
 -- Lists of blocks of which each lies apart from each of another list.
-use Rattle.std.proofs.Common.{ℕ, zero, suc, ◌+◌, List, [], ◌∷◌, ◌++◌, length, refl, subst, arith, ◌↔◌}
+use Rattle.std.proofs.Common.{zero, suc, List, [], ◌∷◌, ◌++◌, refl, subst, arith, ◌↔◌}
 use Rattle.std.specs.List.{Contains}
 use Rattle.arena_chunks.specs.Frame.{IsApart, AreAllApart}
 use Rattle.arena_chunks.specs.declared.block.Block.{Block}

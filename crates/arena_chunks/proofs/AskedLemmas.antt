@@ -1,5 +1,5 @@
 -- What a source shows of calls that ask for nothing, and of calls one after another.
-use Rattle.std.proofs.Common.{ℕ, ◌+◌, ◌<◌, ◌^◌, inl, inr, arith, sym, List, [], ◌++◌}
+use Rattle.std.proofs.Common.{ℕ, ◌+◌, inl, inr, arith, sym, List, [], ◌++◌}
 use Rattle.std.proofs.lemmas.Bool.{cases_lt}
 use Rattle.placement.proofs.CauseLemmas.{counted_none, counted_on, tells_none, tells_more}
 use Rattle.arena_chunks.specs.Source.{Source, IsAsked}

@@ -1,15 +1,15 @@
 -- What a call on a block asks for, and where it is refused.
-use Rattle.std.proofs.Common.{◌≡◌, ℕ, ◌+◌, ◌-◌, ◌^◌, ◌<◌, ◌≤◌, ap, sym, refl, subst, arith, IsTrue, Some, None, Option, List, [], ◌∷◌, length, inl, inr, true, false}
-use Rattle.std.specs.Prelude.{nat_le, ◌==◌, ◌&&◌}
+use Rattle.std.proofs.Common.{◌≡◌, ℕ, ◌+◌, ◌-◌, ◌*◌, ◌%◌, ◌^◌, ◌<◌, ◌≤◌, ap, sym, refl, subst, arith, IsTrue, Some, None, Option, List, [], ◌∷◌, length, inl, inr, true, false}
+use Rattle.std.specs.Prelude.{nat_le, nat_lt, ◌==◌, ◌&&◌, Bool, if◌then◌else◌}
 use Rattle.std.specs.List.{AllByRecursion}
-use Rattle.std.proofs.lemmas.Bool.{cases_Bool}
+use Rattle.std.proofs.lemmas.Bool.{cases_Bool, cases_lt}
 use Rattle.std.proofs.lemmas.Bool.Decides.{nat_tests}
 use Rattle.std.proofs.lemmas.Option.{cond_some}
 use Rattle.std.proofs.lemmas.List.{length-map, length-take}
 use Rattle.placement.specs.Rounding.{up, is_layout, is_power}
-use Rattle.placement.specs.State.{State, IsValid, top_of, cursor_of, used_bytes, allocated_bytes}
+use Rattle.placement.specs.State.{State, Chunk, AreChunks, IsValid, top_of, cursor_of, newest_size, used_bytes}
 use Rattle.placement.specs.Search.{place, asked, requests, alloc_requests}
-use Rattle.placement.specs.Moves.{Outcome, Resizing, alloc, dealloc, resize, growing, growth, down_to, stays, placed, fails}
+use Rattle.placement.specs.Moves.{Outcome, Resizing, alloc, dealloc, resize, growing, growth, down_to, shrinking, shrink_step, stays, placed, fails}
 use Rattle.placement.specs.Moves.Resizing.{Stays, Moves, Anew, Refused as NotGrown}
 use Rattle.placement.specs.Requests.{resize_requests}
 use Rattle.placement.specs.Used.{unit_of}
@@ -20,11 +20,11 @@ use Rattle.placement.proofs.AskedSizeLemmas.{all_requests, newest_short, one_chu
 use Rattle.placement.proofs.GrownLemmas.{grown_not, cursor_grown, dealloc_grown, alloc_grown, IsFailed, alloc_failed}
 use Rattle.placement.proofs.AskingLemmas.{asks_nothing, asks_by, refused_by}
 use Rattle.arena_chunks.specs.Memory.{Memory}
-use Rattle.arena_chunks.specs.Source.{View, Source, IsAsked}
+use Rattle.arena_chunks.specs.Source.{View, IsAsked}
 use Rattle.arena_chunks.specs.Asking.{AsksWithin, IsRefusedBySource, IsFull}
 use Rattle.arena_chunks.specs.Answers.{Answer}
 use Rattle.arena_chunks.specs.Answers.Answer.{Placed, Refused, Wanting}
-use Rattle.arena_chunks.specs.BlockCalls.{PlacesBlock, ResizesBlock, GrowsBlock, GivesBack, growing_of}
+use Rattle.arena_chunks.specs.BlockCalls.{PlacesBlock, ResizesBlock, GrowsBlock, ShrinksBlock, GivesBack, growing_of, shrinking_of}
 use Rattle.arena_chunks.specs.declared.block.Block.{Block}
 use Rattle.arena_chunks.proofs.UsedByCallLemmas.{anew_most, stays_used, grown_most}
 
@@ -147,15 +147,28 @@ pub placed_full : (old new : View) (size align k : ℕ) → IsTrue (is_layout si
 placed_full old new size align k layout still places =
     alloc_full old size align places.0 old.memory.state places.1.valid.entry still layout places.1.outcome.1.step
 
--- ---- A block that grows
+-- ---- A block of another size
 
 -- a step that answers a place isn't one that fails
 answers_none : (p : ℕ) → Some p ≡ None → ⊥
 answers_none p same = cc
 
+-- Where there is no place for a block, it was to be placed anew, unless it is refused for its size.
+refused_anew : (way : Resizing) (old new : View) (block : Block) (size align k : ℕ) → (way ≡ NotGrown → ⊥)
+    → ResizesBlock way old new block size align (Refused k)
+    → (k : ℕ) × (alloc old.memory.state size align k ≡ Some (record { answer = None; state = old.memory.state }))
+    × IsAsked old.source new.source k (alloc_requests old.memory.state size align k) × IsValid old.memory.state
+refused_anew Anew old new block size align k fits resizes =
+    (resizes.0, resizes.1.outcome.1.step, resizes.1.outcome.1.asked, resizes.1.valid.entry)
+refused_anew NotGrown old new block size align k fits resizes = absurd (fits refl)
+refused_anew Stays old new block size align k fits resizes = absurd (answers_none block.addr (ap (λ (o : Outcome). o.answer)
+    (cond_some (resizes.0 == 0) (stays old.memory.state block.addr) _ resizes.1.outcome.1.step).1))
+refused_anew (Moves q) old new block size align k fits resizes = absurd (answers_none q (ap (λ (o : Outcome). o.answer)
+    (cond_some (resizes.0 == 0) (placed old.memory.state q) _ resizes.1.outcome.1.step).1))
+
 -- A block of a power's alignment that grows to this size is never refused for its size.
 never_refused : (state : State) (p old_size old_align size align : ℕ) → IsValid state → IsTrue (is_power old_align) → old_align ≤ 16
-    → size ≤ 2 ^ 60
+    → size + 31 ≤ 2 ^ 63
     → growing state p old_size old_align size align ≡ NotGrown → ⊥
 never_refused state p old_size old_align size align valid power small bounded is =
     elim (cases_Bool (nat_le align old_align && p == cursor_of state.chunks)) [
@@ -173,37 +186,75 @@ never_refused state p old_size old_align size align valid power small bounded is
     placed_down (Some q) same = cc
     placed_down None same = cc
 
-module _ (old new : View) (block : Block) (size align k : ℕ) (layout : IsTrue (is_layout size align)) (small : align ≤ 16)
-    (power : IsTrue (is_power block.align)) (low_align : block.align ≤ 16) (bounded : size ≤ 2 ^ 60) where
-  -- Where it is refused, it was to be placed anew.
-  grown_anew : GrowsBlock old new block size align (Refused k)
-      → (k : ℕ) × (alloc old.memory.state size align k ≡ Some (record { answer = None; state = old.memory.state }))
-      × IsAsked old.source new.source k (alloc_requests old.memory.state size align k) × IsValid old.memory.state
-  grown_anew grows = go (growing_of old.memory block size align) refl grows
-    where
-      go : (way : Resizing) → growing_of old.memory block size align ≡ way → ResizesBlock way old new block size align (Refused k)
-          → (k : ℕ) × (alloc old.memory.state size align k ≡ Some (record { answer = None; state = old.memory.state }))
-          × IsAsked old.source new.source k (alloc_requests old.memory.state size align k) × IsValid old.memory.state
-      go Anew is resizes = (resizes.0, resizes.1.outcome.1.step, resizes.1.outcome.1.asked, resizes.1.valid.entry)
-      go NotGrown is resizes =
-          absurd (never_refused old.memory.state block.addr block.size block.align size align resizes.1.valid.entry power low_align
-          bounded is)
-      go Stays is resizes = absurd (answers_none block.addr (ap (λ (o : Outcome). o.answer)
-          (cond_some (resizes.0 == 0) (stays old.memory.state block.addr) _ resizes.1.outcome.1.step).1))
-      go (Moves q) is resizes = absurd (answers_none q (ap (λ (o : Outcome). o.answer)
-          (cond_some (resizes.0 == 0) (placed old.memory.state q) _ resizes.1.outcome.1.step).1))
+grown_anew : (old new : View) (block : Block) (size align k : ℕ) → IsTrue (is_power block.align) → block.align ≤ 16 → size + 31 ≤ 2 ^ 63
+    → GrowsBlock old new block size align (Refused k)
+    → (k : ℕ) × (alloc old.memory.state size align k ≡ Some (record { answer = None; state = old.memory.state }))
+    × IsAsked old.source new.source k (alloc_requests old.memory.state size align k) × IsValid old.memory.state
+grown_anew old new block size align k power low_align bounded grows =
+    refused_anew (growing_of old.memory block size align) old new block size align k
+    (never_refused old.memory.state block.addr block.size block.align size align grows.1.valid.entry power low_align bounded) grows
 
-  pub grown_starved : old.memory.state.is_growing ≡ true → GrowsBlock old new block size align (Refused k)
-      → top_of old.memory.state.chunks ≤ 2 ^ 63 + 2 ^ 62 → IsRefusedBySource old new
-  grown_starved growing grows low =
-      let anew = grown_anew grows in
-      alloc_starved old new size align anew.0 anew.3 growing layout small bounded old.memory.state anew.1 anew.2 low
+pub grown_starved : (old new : View) (block : Block) (size align k : ℕ) → IsTrue (is_layout size align) → align ≤ 16
+    → IsTrue (is_power block.align) → block.align ≤ 16 → size ≤ 2 ^ 60 → old.memory.state.is_growing ≡ true
+    → GrowsBlock old new block size align (Refused k) → top_of old.memory.state.chunks ≤ 2 ^ 63 + 2 ^ 62 → IsRefusedBySource old new
+grown_starved old new block size align k layout small power low_align bounded growing grows low =
+    let anew = grown_anew old new block size align k power low_align (omega arith) grows in
+    alloc_starved old new size align anew.0 anew.3 growing layout small bounded old.memory.state anew.1 anew.2 low
 
-  pub grown_full : old.memory.state.is_growing ≡ false → GrowsBlock old new block size align (Refused k)
-      → IsFull (used_bytes old.memory.state + size + (unit_of old.memory.state align - 1)) old
-  grown_full still grows =
-      let anew = grown_anew grows in
+-- no chunk has as many bytes as a size that is refused at once
+chunk_below : (state : State) → IsValid state → newest_size state.chunks + 64 ≤ 2 ^ 63
+chunk_below state valid = go state.chunks valid.chunks
+  where
+    go : (chunks : List Chunk) → AreChunks state.min_align chunks → newest_size chunks + 64 ≤ 2 ^ 63
+    go [] fine = omega arith
+    go (newest ∷ older) fine = omega (arith, fine.0.size_fits)
+
+pub grown_full : (old new : View) (block : Block) (size align k : ℕ) → IsTrue (is_layout size align) → IsTrue (is_power block.align)
+    → block.align ≤ 16 → old.memory.state.is_growing ≡ false → GrowsBlock old new block size align (Refused k)
+    → IsFull (used_bytes old.memory.state + size + (unit_of old.memory.state align - 1)) old
+grown_full old new block size align k layout power low_align still grows = elim (cases_lt (size + 30) (2 ^ 63)) [
+  | inl bounded ↦
+      let anew = grown_anew old new block size align k power low_align (omega arith) grows in
       alloc_full old size align anew.0 old.memory.state anew.3 still layout anew.1
+  | inr large ↦
+      let valid = grows.1.valid.entry in
+      record { still = still; short = omega (arith, large, chunk_below old.memory.state valid, one_chunk old.memory.state valid still) }
+]
+
+-- A block that shrinks is never refused for its size.
+shrinks_never : (state : State) (p old_size old_align size align : ℕ) → shrinking state p old_size old_align size align ≡ NotGrown → ⊥
+shrinks_never state p old_size old_align size align =
+    by (nat_lt old_align align) (p % align == 0)
+    (p == cursor_of state.chunks && nat_le old_size (2 * shrink_step state old_size size align))
+    (p + shrink_step state old_size size align)
+  where
+    by : (rises suits half : Bool) (q : ℕ)
+        → (if rises then (if suits then Stays else Anew) else (if half then Moves q else Stays)) ≡ NotGrown → ⊥
+    by true true half q same = cc
+    by true false half q same = cc
+    by false suits true q same = cc
+    by false suits false q same = cc
+
+shrunk_anew : (old new : View) (block : Block) (size align k : ℕ) → ShrinksBlock old new block size align (Refused k)
+    → (k : ℕ) × (alloc old.memory.state size align k ≡ Some (record { answer = None; state = old.memory.state }))
+    × IsAsked old.source new.source k (alloc_requests old.memory.state size align k) × IsValid old.memory.state
+shrunk_anew old new block size align k =
+    refused_anew (shrinking_of old.memory block size align) old new block size align k
+    (shrinks_never old.memory.state block.addr block.size block.align size align)
+
+pub shrunk_starved : (old new : View) (block : Block) (size align k : ℕ) → IsTrue (is_layout size align) → align ≤ 16 → size ≤ 2 ^ 60
+    → old.memory.state.is_growing ≡ true → ShrinksBlock old new block size align (Refused k)
+    → top_of old.memory.state.chunks ≤ 2 ^ 63 + 2 ^ 62 → IsRefusedBySource old new
+shrunk_starved old new block size align k layout small bounded growing shrinks low =
+    let anew = shrunk_anew old new block size align k shrinks in
+    alloc_starved old new size align anew.0 anew.3 growing layout small bounded old.memory.state anew.1 anew.2 low
+
+pub shrunk_full : (old new : View) (block : Block) (size align k : ℕ) → IsTrue (is_layout size align)
+    → old.memory.state.is_growing ≡ false → ShrinksBlock old new block size align (Refused k)
+    → IsFull (used_bytes old.memory.state + size + (unit_of old.memory.state align - 1)) old
+shrunk_full old new block size align k layout still shrinks =
+    let anew = shrunk_anew old new block size align k shrinks in
+    alloc_full old size align anew.0 old.memory.state anew.3 still layout anew.1
 
 -- A block that grows brings its new size into use at most, with the padding of its end and of its place.
 pub grown_used : (old new : View) (block b : Block) (size align : ℕ) → IsTrue (is_layout size align)

@@ -24,7 +24,8 @@ no_bytes f addr zero none = refl
 no_bytes f addr (suc n) none = absurd (omega arith)
 
 -- a part of a list that has the bytes
-pub bytes_part : (f : ℕ → ℕ) (list : List ℕ) (addr k n : ℕ) → k + n ≤ length list → ((i : ℕ) → i < n → f (addr + i) ≡ slice_index list (k + i))
+pub bytes_part : (f : ℕ → ℕ) (list : List ℕ) (addr k n : ℕ) → k + n ≤ length list
+    → ((i : ℕ) → i < n → f (addr + i) ≡ slice_index list (k + i))
     → take n (drop k list) ≡ bytes_from f addr n
 bytes_part f list addr k n fits same =
     let sized = length-bytes f addr n in
@@ -37,7 +38,8 @@ bytes_part f list addr k n fits same =
 pub length-splice : (old new : List ℕ) (k : ℕ) → k + length new ≤ length old → length (splice old k new) ≡ length old
 length-splice old new k fits = grind (arith, common_steps)
 
-splice_beside : (old new : List ℕ) (k j : ℕ) → k + length new ≤ length old → (nat_le k j && nat_lt j (k + length new)) ≡ false → get_or (splice old k new) j 0 ≡ get_or old j 0
+splice_beside : (old new : List ℕ) (k j : ℕ) → k + length new ≤ length old → (nat_le k j && nat_lt j (k + length new)) ≡ false
+    → get_or (splice old k new) j 0 ≡ get_or old j 0
 splice_beside old new k j fits beside = elim (cases_lt j k) [
   | inl below ↦ grind (arith, common_steps)
   | inr low ↦ let past : k + length new ≤ j = grind (arith, nat_tests) in grind (arith, common_steps)
@@ -56,7 +58,8 @@ splice_index old new k j fits = elim (cases_Bool (nat_le k j && nat_lt j (k + le
 ]
 
 -- beside what is written the bytes are the same
-pub written_beside : (f : ℕ → ℕ) (from a : ℕ) (list : List ℕ) → (nat_le from a && nat_lt a (from + length list)) ≡ false → written f from list a ≡ f a
+pub written_beside : (f : ℕ → ℕ) (from a : ℕ) (list : List ℕ) → (nat_le from a && nat_lt a (from + length list)) ≡ false
+    → written f from list a ≡ f a
 written_beside f from a list beside = rw beside refl
 
 -- nothing is written where there are no bytes
@@ -64,5 +67,6 @@ pub written_none : (f : ℕ → ℕ) (from a : ℕ) (list : List ℕ) → length
 written_none f from a list none = written_beside f from a list (grind (arith, nat_tests))
 
 -- a whole place filled
-pub filled : (f : ℕ → ℕ) (addr n value a : ℕ) → written f addr (replicate (length (bytes_from f addr n)) value) a ≡ written f addr (replicate n value) a
+pub filled : (f : ℕ → ℕ) (addr n value a : ℕ)
+    → written f addr (replicate (length (bytes_from f addr n)) value) a ≡ written f addr (replicate n value) a
 filled f addr n value a = ap (λ (k : ℕ). written f addr (replicate k value) a) (length-bytes f addr n)

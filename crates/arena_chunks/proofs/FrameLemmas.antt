@@ -14,12 +14,14 @@ use Rattle.arena_chunks.specs.declared.block.Block.{Block}
 use Rattle.arena_chunks.proofs.BytesLemmas.{written_beside}
 
 -- the bytes don't depend on the cursor
-pub bytes_moved : (p : ℕ) → (chunks : List Chunk) (bytes : List (List ℕ)) → byte_in (with_newest_cursor p chunks) bytes ≡ byte_in chunks bytes
+pub bytes_moved : (p : ℕ) → (chunks : List Chunk) (bytes : List (List ℕ))
+    → byte_in (with_newest_cursor p chunks) bytes ≡ byte_in chunks bytes
 bytes_moved p [] bytes = refl
 bytes_moved p (newest ∷ older) [] = refl
 bytes_moved p (newest ∷ older) (list ∷ bytes) = refl
 
-pub byte_moved : (p : ℕ) → (chunks : List Chunk) (bytes : List (List ℕ)) (a : ℕ) → byte_in (with_newest_cursor p chunks) bytes a ≡ byte_in chunks bytes a
+pub byte_moved : (p : ℕ) → (chunks : List Chunk) (bytes : List (List ℕ)) (a : ℕ)
+    → byte_in (with_newest_cursor p chunks) bytes a ≡ byte_in chunks bytes a
 byte_moved p chunks bytes a = ap (λ (f : ℕ → ℕ). f a) (bytes_moved p chunks bytes)
 
 -- ---- Ranges that lie apart
@@ -36,7 +38,8 @@ apart_unpadded state p size addr n valid beside = λ many some.
 
 -- What lies apart from a range lies apart from a part of it.
 pub apart_part : (addr n p m q k : ℕ) → AreApart addr n p m → p ≤ q → q + k ≤ p + m → AreApart addr n q k
-apart_part addr n p m q k apart low high = λ many some. elim (apart many (omega arith)) [ inl below ↦ inl (omega arith) | inr above ↦ inr (omega arith) ]
+apart_part addr n p m q k apart low high = λ many some.
+    elim (apart many (omega arith)) [ inl below ↦ inl (omega arith) | inr above ↦ inr (omega arith) ]
 
 -- Of a range that begins at or above a block and lies apart from it all lies behind the block.
 pub behind : (addr n p m : ℕ) → 0 < n → p ≤ addr → AreApart addr n p m → p + m ≤ addr
@@ -46,7 +49,8 @@ behind addr n p m some low apart = elim (cases_lt 0 m) [
 ]
 
 -- An address apart from a block isn't one of a range in the block.
-pub beside_range : (p addr m from n : ℕ) → AreApart p 1 addr m → addr ≤ from → from + n ≤ addr + m → (nat_le from p && nat_lt p (from + n)) ≡ false
+pub beside_range : (p addr m from n : ℕ) → AreApart p 1 addr m → addr ≤ from → from + n ≤ addr + m
+    → (nat_le from p && nat_lt p (from + n)) ≡ false
 beside_range p addr m from n apart low high = elim (cases_lt 0 n) [
   | inl some ↦ elim (apart (omega arith) (omega arith)) [ inl below ↦ grind (arith, nat_tests) | inr above ↦ grind (arith, nat_tests) ]
   | inr none ↦ grind (arith, nat_tests)
@@ -55,7 +59,8 @@ beside_range p addr m from n apart low high = elim (cases_lt 0 n) [
 -- ---- Frames of calls
 
 -- a block is new
-pub frame_new : (old new : Memory) (size align : ℕ) (b : Block) → IsValid old.state → IsNewBlock old.state size align b.addr new.state → b.size ≡ size
+pub frame_new : (old new : Memory) (size align : ℕ) (b : Block) → IsValid old.state → IsNewBlock old.state size align b.addr new.state
+    → b.size ≡ size
     → (old.state.is_growing ≡ false → allocated_bytes new.state ≡ allocated_bytes old.state)
     → ((p : ℕ) → IsTrue (is_used old.state p) → image new p ≡ image old p) → Frame old new [] (b ∷ [])
 frame_new old new size align b valid is sized allocated bytes = record {
@@ -79,13 +84,15 @@ frame_dealloc old new block is bytes =
       is_growing = ap (λ (s : State). s.is_growing) state ∙ dealloc_is_growing old.state block.addr block.size;
       allocated = λ still. ap allocated_bytes state ∙ dealloc_allocated old.state block.addr block.size;
       kept = λ addr n some used apart. subst (λ (s : State). IsTrue (is_range_used s.chunks addr n)) (sym state)
-          (dealloc_keeps old.state block.addr block.size addr n some used (apart_turned addr n block.addr (padded_size old.state.min_align block.addr block.size) apart.0));
+          (dealloc_keeps old.state block.addr block.size addr n some used
+          (apart_turned addr n block.addr (padded_size old.state.min_align block.addr block.size) apart.0));
       apart = λ addr n some used apart. tt;
       bytes = λ p used apart. bytes p;
     }
 
 -- a range of a block is written
-pub frame_written : (old new : Memory) (b : Block) (at : ℕ) (list : List ℕ) → new.state ≡ old.state → Writes old new (b.addr + at) list → at + length list ≤ b.size
+pub frame_written : (old new : Memory) (b : Block) (at : ℕ) (list : List ℕ) → new.state ≡ old.state → Writes old new (b.addr + at) list
+    → at + length list ≤ b.size
     → Frame old new (b ∷ []) (b ∷ [])
 frame_written old new b at list same writes fits = record {
   generation = ap (λ (s : State). s.generation) same;
@@ -95,5 +102,6 @@ frame_written old new b at list same writes fits = record {
   kept = λ addr n some used apart. subst (λ (s : State). IsTrue (is_range_used s.chunks addr n)) (sym same) used;
   apart = λ addr n some used apart. apart;
   bytes = λ p used apart. writes p
-      ∙ written_beside (image old) (b.addr + at) p list (beside_range p b.addr b.size (b.addr + at) (length list) apart.0 (omega arith) (omega (arith, fits)));
+      ∙ written_beside (image old) (b.addr + at) p list
+      (beside_range p b.addr b.size (b.addr + at) (length list) apart.0 (omega arith) (omega (arith, fits)));
 }

@@ -27,7 +27,8 @@ module _ {X : Type 0} where
   get-remove_other m k q other = get-remove nat_cmp_total m k q ∙ rw (differs q k other)
 
   -- maps that agree at a key and at all others are one
-  agree : (m n : finite.FinMap nat_cmp X) (k : ℕ) → finite.get m k ≡ finite.get n k → ((q : ℕ) → q ≢ k → finite.get m q ≡ finite.get n q) → m ≡ n
+  agree : (m n : finite.FinMap nat_cmp X) (k : ℕ) → finite.get m k ≡ finite.get n k → ((q : ℕ) → q ≢ k → finite.get m q ≡ finite.get n q)
+      → m ≡ n
   agree m n k own others = same_map nat_cmp_total nat_cmp-IsAntisymmetric m n (λ q. elim (cases_eq q k) [
     | inl same ↦ subst (λ (x : ℕ). finite.get m x ≡ finite.get n x) (sym same) own
     | inr other ↦ others q other
@@ -36,7 +37,8 @@ module _ {X : Type 0} where
   pub insert_again : (m : finite.FinMap nat_cmp X) (k : ℕ) (a b : X) → finite.insert (finite.insert m k a) k b ≡ finite.insert m k b
   insert_again m k a b =
       agree _ _ k (get-inserted (finite.insert m k a) k b ∙ sym (get-inserted m k b))
-      (λ q other. get-insert_other (finite.insert m k a) k q b other ∙ get-insert_other m k q a other ∙ sym (get-insert_other m k q b other))
+      (λ q other. get-insert_other (finite.insert m k a) k q b other ∙ get-insert_other m k q a other
+      ∙ sym (get-insert_other m k q b other))
 
   pub remove_inserted : (m : finite.FinMap nat_cmp X) (k : ℕ) (a : X) → finite.get m k ≡ None → finite.remove (finite.insert m k a) k ≡ m
   remove_inserted m k a none =

@@ -1,13 +1,13 @@
 -- The names of marks in a set, and marks in a vector, oldest first.
-use Rattle.std.proofs.Common.{◌≡◌, ℕ, ◌+◌, ◌-◌, ◌<◌, ◌≤◌, ap, refl, sym, ◌∙◌, arith, List, [], ◌∷◌, ◌++◌, Bool, cond, true, false, IsTrue, Option, Some, None, length, reverse, set, take, get_or, eqb-true, zero, suc}
+use Rattle.std.proofs.Common.{◌≡◌, ℕ, ◌+◌, ◌-◌, ◌<◌, ◌≤◌, ap, refl, sym, ◌∙◌, arith, List, [], ◌∷◌, ◌++◌, Bool, cond, true, false, IsTrue, Option, Some, None, length, reverse, take, get_or, eqb-true, zero, suc}
 use Rattle.std.specs.Prelude.{◌==◌, nat_eq, if◌then◌else◌}
 use Rattle.std.specs.Option.{is_some}
 use Rattle.std.specs.List.{list_any}
 use Rattle.std.specs.HashSet.{HashSet, Updates, contains}
-use Rattle.std.proofs.lemmas.List.{reverse-append, length-take-le, take_more, take_all, set_at}
+use Rattle.std.proofs.lemmas.List.{reverse-append, take_more, take_all}
 use Rattle.placement.specs.Machine.{mark_named}
 use Rattle.arena_chunks.specs.Checkpoints.{mark_at}
-use Rattle.arena_chunks.specs.Marks.{named, marks_from, Knows, noted_of, with_noted}
+use Rattle.arena_chunks.specs.Marks.{named, marks_from, Knows}
 use Rattle.arena_chunks.specs.declared.runs.marks.Mark.{Mark}
 
 -- ---- The set
@@ -19,7 +19,8 @@ module _ {S : Type 0} where
   pub knows_same : (s n : HashSet ℕ S) (marks : List Mark) → n.keys ≡ s.keys → Knows s marks → Knows n marks
   knows_same s n marks same knows = record { distinct = knows.distinct; names = λ q. ap (list_any (nat_eq q)) same ∙ knows.names q }
 
-  pub knows_more : (s n : HashSet ℕ S) (marks : List Mark) (m : Mark) → is_some (mark_named (named marks) m.name) ≡ false → Updates nat_eq s n m.name true
+  pub knows_more : (s n : HashSet ℕ S) (marks : List Mark) (m : Mark) → is_some (mark_named (named marks) m.name) ≡ false
+      → Updates nat_eq s n m.name true
       → Knows s marks → Knows n (m ∷ marks)
   knows_more s n marks m free updates knows = record {
     distinct = (none (mark_named (named marks) m.name) free, knows.distinct);
@@ -30,20 +31,18 @@ module _ {S : Type 0} where
       none None is = refl
       none (Some x) is = cc
 
-      by : (q : ℕ) (b : Bool) → cond b true (contains nat_eq s q) ≡ is_some (if b then Some (mark_at m.checkpoint) else mark_named (named marks) q)
+      by : (q : ℕ) (b : Bool) → cond b true (contains nat_eq s q)
+          ≡ is_some (if b then Some (mark_at m.checkpoint) else mark_named (named marks) q)
       by q true = refl
       by q false = knows.names q
 
-  pub knows_less : (s n : HashSet ℕ S) (m : Mark) (older : List Mark) → Updates nat_eq s n m.name false → Knows s (m ∷ older) → Knows n older
+  pub knows_less : (s n : HashSet ℕ S) (m : Mark) (older : List Mark) → Updates nat_eq s n m.name false → Knows s (m ∷ older)
+      → Knows n older
   knows_less s n m older updates knows = record { distinct = knows.distinct.1; names = λ q. updates.0 q ∙ go q (m.name == q) refl }
     where
       go : (q : ℕ) (b : Bool) → (m.name == q) ≡ b → cond b false (contains nat_eq s q) ≡ is_some (mark_named (named older) q)
       go q true is = sym (ap (λ (x : ℕ). is_some (mark_named (named older) x)) (sym (eqb-true _ _ is)) ∙ ap is_some knows.distinct.0)
       go q false is = knows.names q ∙ ap (λ (b : Bool). is_some (if b then Some (mark_at m.checkpoint) else mark_named (named older) q)) is
-
-  pub knows_noted : (s : HashSet ℕ S) (n : ℕ) (marks : List Mark) → Knows s marks → Knows s (with_noted n marks)
-  knows_noted s n [] knows = knows
-  knows_noted s n (m ∷ older) knows = record { distinct = knows.distinct; names = knows.names }
 
 -- ---- The vector
 
@@ -57,24 +56,6 @@ newest_first items count m some within is =
     let back : count - 1 + 1 ≡ count = omega arith in
     ap (λ (n : ℕ). reverse (take n items)) (sym back) ∙ ap reverse (take_more items (count - 1) m (omega arith))
     ∙ pushed_first (take (count - 1) items) (get_or items (count - 1) m) ∙ ap (λ (x : Mark). x ∷ reverse (take (count - 1) items)) (sym is)
-
-pub all_first : (items : List Mark) (m : Mark) → 0 < length items → m ≡ get_or items (length items - 1) m → reverse items ≡ m ∷ reverse (take (length items - 1) items)
-all_first items m some is = ap reverse (sym (take_all (length items) items (omega arith))) ∙ newest_first items (length items) m some (omega arith) is
-
-pub noted_last : (items : List Mark) (m : Mark) → 0 < length items → m ≡ get_or items (length items - 1) m → noted_of (reverse items) ≡ m.noted
-noted_last items m some is = ap noted_of (all_first items m some is)
-
-pub set_last : (items : List Mark) (m : Mark) (n : ℕ) → 0 < length items → m ≡ get_or items (length items - 1) m
-    → reverse (set items (length items - 1) (record m { noted = n })) ≡ with_noted n (reverse items)
-set_last items m n some is =
-    let rest : List Mark = take (length items - 1) items in
-    let back : length items - 1 + 1 ≡ length items = omega arith in
-    let whole : items ≡ rest ++ m ∷ [] = sym (take_all (length items) items (omega arith)) ∙ ap (λ (k : ℕ). take k items) (sym back)
-    ∙ take_more items (length items - 1) m (omega arith) ∙ ap (λ (x : Mark). rest ++ x ∷ []) (sym is) in
-    let many : length rest ≡ length items - 1 = length-take-le (length items - 1) items (omega arith) in
-    ap (λ (l : List Mark). reverse (set l (length items - 1) (record m { noted = n }))) whole
-    ∙ ap reverse (set_at rest m [] (record m { noted = n }) (length items - 1) many) ∙ pushed_first rest (record m { noted = n })
-    ∙ ap (with_noted n) (sym (all_first items m some is))
 
 -- ---- Marks that end
 
@@ -91,14 +72,22 @@ found_some items zero name found = cc
 found_some items (suc count) name found = omega arith
 
 module _ {S : Type 0} where
-  pub ending_first : (known : HashSet ℕ S) (items : List Mark) (name : ℕ) → Knows known (reverse items) → IsTrue (is_some (mark_named (named (reverse items)) name))
+  pub ending_first : (known : HashSet ℕ S) (items : List Mark) (name : ℕ) → Knows known (reverse items)
+      → IsTrue (is_some (mark_named (named (reverse items)) name))
       → IsEnding known items (length items) name
   ending_first known items name knows found =
       let all = take_all (length items) items (omega arith) in
       let there : IsTrue (is_some (mark_named (named (reverse (take (length items) items))) name)) = rw all found in
-      record { some = found_some items (length items) name there; within = omega arith; knows = rw all knows; from = rw all refl; found = there }
+      record {
+        some = found_some items (length items) name there;
+        within = omega arith;
+        knows = rw all knows;
+        from = rw all refl;
+        found = there;
+      }
 
-  pub ending_next : (known n : HashSet ℕ S) (items : List Mark) (count name : ℕ) (m : Mark) → m ≡ get_or items (count - 1) m → (m.name == name) ≡ false
+  pub ending_next : (known n : HashSet ℕ S) (items : List Mark) (count name : ℕ) (m : Mark) → m ≡ get_or items (count - 1) m
+      → (m.name == name) ≡ false
       → Updates nat_eq known n m.name false → IsEnding known items count name → IsEnding n items (count - 1) name
   ending_next known n items count name m is other updates ending =
       let older : List Mark = reverse (take (count - 1) items) in
@@ -108,11 +97,13 @@ module _ {S : Type 0} where
         some = found_some items (count - 1) name found;
         within = omega (arith, ending.within);
         knows = knows_less known n m older updates (rw first at ending.knows);
-        from = sym (ap (λ (b : Bool). if b then m ∷ older else marks_from name older) other) ∙ ap (marks_from name) (sym first) ∙ ending.from;
+        from = sym (ap (λ (b : Bool). if b then m ∷ older else marks_from name older) other) ∙ ap (marks_from name) (sym first)
+            ∙ ending.from;
         found = found;
       }
 
-  pub ending_over : (known : HashSet ℕ S) (items : List Mark) (count name : ℕ) (m : Mark) → m ≡ get_or items (count - 1) m → (m.name == name) ≡ true
+  pub ending_over : (known : HashSet ℕ S) (items : List Mark) (count name : ℕ) (m : Mark) → m ≡ get_or items (count - 1) m
+      → (m.name == name) ≡ true
       → IsEnding known items count name → reverse (take count items) ≡ marks_from name (reverse items)
   ending_over known items count name m is own ending =
       let older : List Mark = reverse (take (count - 1) items) in

@@ -28,12 +28,14 @@ either true b c h = refl
 either false true c h = h
 either false false c h = cc
 
-pub last_ends : (state : State) (block : Block) → IsValid state → IsTrue (is_readable state block) → block.addr ≡ cursor_of state.chunks → block.addr + block.size ≤ top_of state.chunks
+pub last_ends : (state : State) (block : Block) → IsValid state → IsTrue (is_readable state block) → block.addr ≡ cursor_of state.chunks
+    → block.addr + block.size ≤ top_of state.chunks
 last_ends state block valid readable at =
     block_end state (record { addr = block.addr; size = block.size; align = block.align }) valid
     (either (block.size == 0) (block.generation == state.generation) (is_range_used state.chunks block.addr block.size) readable) at
 
-pub is_last : (m : ℕ) (a : Inside m) (memory : Memory) (block : Block) → Stands m a → view_of m a ≡ memory → IsTrue (is_readable memory.state block) → block.addr ≡ a.newest.cursor
+pub is_last : (m : ℕ) (a : Inside m) (memory : Memory) (block : Block) → Stands m a → view_of m a ≡ memory
+    → IsTrue (is_readable memory.state block) → block.addr ≡ a.newest.cursor
     → IsLast m memory block
 is_last m a memory block stands view readable here =
     let valid = subst (λ (w : Memory). IsValid w.state) view stands.valid in
@@ -48,17 +50,22 @@ is_last m a memory block stands view readable here =
     }
 
 -- the cursor moves to where it goes if the block is given back
-pub last_returned : (m : ℕ) (memory : Memory) (block : Block) (q : ℕ) → IsLast m memory block → q ≡ up (block.addr + block.size) m → IsReturn memory.state block.addr block.size q
-last_returned m memory block q last is = is_return memory.state block.addr block.size q last.valid last.at last.ends (is ∙ ap (up (block.addr + block.size)) last.unit)
+pub last_returned : (m : ℕ) (memory : Memory) (block : Block) (q : ℕ) → IsLast m memory block → q ≡ up (block.addr + block.size) m
+    → IsReturn memory.state block.addr block.size q
+last_returned m memory block q last is = is_return memory.state block.addr block.size q last.valid last.at last.ends
+    (is ∙ ap (up (block.addr + block.size)) last.unit)
 
 -- A block is given back by the rule: what that leaves.
-pub gives_back : (old new : Memory) (block : Block) → IsValid old.state → IsTrue (is_readable old.state block) → new ≡ record old { state = dealloc old.state block.addr block.size }
+pub gives_back : (old new : Memory) (block : Block) → IsValid old.state → IsTrue (is_readable old.state block)
+    → new ≡ record old { state = dealloc old.state block.addr block.size }
     → GivesBack old new block
 gives_back old new block valid readable is = record {
   valid = record {
     entry = valid;
     exit = subst (λ (w : Memory). IsValid w.state) (sym is)
-        (dealloc_valid old.state (place_of block) valid (either (block.size == 0) (block.generation == old.state.generation) (is_range_used old.state.chunks block.addr block.size) readable));
+        (dealloc_valid old.state (place_of block) valid
+        (either (block.size == 0) (block.generation == old.state.generation)
+        (is_range_used old.state.chunks block.addr block.size) readable));
   };
   memory = is;
   frame = frame_dealloc old new block is (λ p. ap (λ (w : Memory). image w p) is ∙ same_bytes p);
@@ -66,6 +73,7 @@ gives_back old new block valid readable is = record {
   where
     same_bytes : (p : ℕ) → image (record old { state = dealloc old.state block.addr block.size }) p ≡ image old p
     same_bytes p = elim (cases_eq block.addr (cursor_of old.state.chunks)) [
-      | inl at ↦ rw (dealloc_at old.state block.addr block.size at) (byte_moved (up (block.addr + block.size) old.state.min_align) old.state.chunks old.bytes p)
+      | inl at ↦ rw (dealloc_at old.state block.addr block.size at)
+          (byte_moved (up (block.addr + block.size) old.state.min_align) old.state.chunks old.bytes p)
       | inr other ↦ rw (dealloc_elsewhere old.state block.addr block.size other) refl
     ]

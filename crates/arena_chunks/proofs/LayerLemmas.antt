@@ -82,18 +82,21 @@ readable_used state b = go (b.size == 0) (b.generation == state.generation) (is_
 -- ---- What stays
 
 -- beside a call that had no block
-pub frame_keeps_new : (old new : Memory) (after : List Block) (b : Block) → Frame old new [] after → IsTrue (is_readable old.state b) → Stays old new after b
+pub frame_keeps_new : (old new : Memory) (after : List Block) (b : Block) → Frame old new [] after → IsTrue (is_readable old.state b)
+    → Stays old new after b
 frame_keeps_new old new after b frame readable = frame_keeps old new [] after b frame readable tt
 
 -- beside a call that had one block
-pub frame_keeps_beside : (old new : Memory) (one : Block) (after : List Block) (b : Block) → Frame old new (one ∷ []) after → IsTrue (is_readable old.state b)
+pub frame_keeps_beside : (old new : Memory) (one : Block) (after : List Block) (b : Block) → Frame old new (one ∷ []) after
+    → IsTrue (is_readable old.state b)
     → AreBlocksApart b one → Stays old new after b
 frame_keeps_beside old new one after b frame readable apart = frame_keeps old new (one ∷ []) after b frame readable (apart, tt)
 
 -- ---- A new block
 
 -- It is one of the arena's.
-pub placed_is_block : (old new : View) (size align : ℕ) (b : Block) → IsTrue (is_layout size align) → PlacesBlock old new size align (Placed b) → IsBlock new.memory.state (place_of b)
+pub placed_is_block : (old new : View) (size align : ℕ) (b : Block) → IsTrue (is_layout size align)
+    → PlacesBlock old new size align (Placed b) → IsBlock new.memory.state (place_of b)
 placed_is_block old new size align b layout places =
     let is = places.1.outcome in
     record {
@@ -111,7 +114,8 @@ placed_apart old new size align b (c ∷ bs) places readable = (beside, placed_a
   where
     beside : AreApart b.addr b.size c.addr c.size
     beside = λ some filled.
-        apart_turned c.addr c.size b.addr b.size (places.1.outcome.frame.apart c.addr c.size filled (is_filled old.memory.state c filled readable.0).used tt).0 some filled
+        apart_turned c.addr c.size b.addr b.size
+        (places.1.outcome.frame.apart c.addr c.size filled (is_filled old.memory.state c filled readable.0).used tt).0 some filled
 
 -- So it joins blocks that lie pairwise apart.
 pub placed_pairwise : (old new : View) (size align : ℕ) (b : Block) (bs : List Block) → PlacesBlock old new size align (Placed b)
@@ -121,7 +125,8 @@ placed_pairwise old new size align b bs places readable apart = (placed_apart ol
 -- ---- A block of another size
 
 -- From one of the arena's comes one.
-pub resized_is_block : (way : Resizing) (old new : View) (block b : Block) (size align : ℕ) → IsTrue (is_layout size align) → ResizesBlock way old new block size align (Placed b)
+pub resized_is_block : (way : Resizing) (old new : View) (block b : Block) (size align : ℕ) → IsTrue (is_layout size align)
+    → ResizesBlock way old new block size align (Placed b)
     → IsBlock old.memory.state (place_of block) → IsBlock new.memory.state (place_of b)
 resized_is_block way old new block b size align layout resizes before =
     let is = resizes.1.outcome in
@@ -135,7 +140,8 @@ resized_is_block way old new block b size align layout resizes before =
 -- ---- A block that shrinks to no greater alignment
 
 -- One that stays is answered.
-stays_placed : (old new : View) (block : Block) (size align k : ℕ) (answer : Answer) → ResizesAfter StaysThere old new block size align k answer → (b : Block) × (answer ≡ Placed b)
+stays_placed : (old new : View) (block : Block) (size align k : ℕ) (answer : Answer)
+    → ResizesAfter StaysThere old new block size align k answer → (b : Block) × (answer ≡ Placed b)
 stays_placed old new block size align k (Placed b) is = (b, refl)
 stays_placed old new block size align k (AnswerRefused n) is =
     let same = (cond_some (k == 0) (stays old.memory.state block.addr) (fails old.memory.state) is.outcome.1.step).1 in
@@ -144,7 +150,8 @@ stays_placed old new block size align k (AnswerRefused n) is =
 stays_placed old new block size align k Wanting is = let way = is.outcome.0 in cc
 
 -- So is one that moves up.
-moves_placed : (q : ℕ) (old new : View) (block : Block) (size align k : ℕ) (answer : Answer) → ResizesAfter (Moves q) old new block size align k answer → (b : Block) × (answer ≡ Placed b)
+moves_placed : (q : ℕ) (old new : View) (block : Block) (size align k : ℕ) (answer : Answer)
+    → ResizesAfter (Moves q) old new block size align k answer → (b : Block) × (answer ≡ Placed b)
 moves_placed q old new block size align k (Placed b) is = (b, refl)
 moves_placed q old new block size align k (AnswerRefused n) is =
     let same = (cond_some (k == 0) (placed old.memory.state q) (fails old.memory.state) is.outcome.1.step).1 in
@@ -153,10 +160,12 @@ moves_placed q old new block size align k (AnswerRefused n) is =
 moves_placed q old new block size align k Wanting is = let way = is.outcome.0 in cc
 
 -- To shrink to no greater alignment is never refused, and never wants memory.
-pub shrunk_placed : (old new : View) (block : Block) (size align : ℕ) (answer : Answer) → align ≤ block.align → ShrinksBlock old new block size align answer → (b : Block) × (answer ≡ Placed b)
+pub shrunk_placed : (old new : View) (block : Block) (size align : ℕ) (answer : Answer) → align ≤ block.align
+    → ShrinksBlock old new block size align answer → (b : Block) × (answer ≡ Placed b)
 shrunk_placed old new block size align answer lower shrinks =
     cond_both (nat_lt block.align align) _ _ Answers (λ higher. absurd (grind (arith, nat_tests)))
-    (λ test. cond_both (block.addr == cursor_of old.memory.state.chunks && nat_le block.size (2 * shrink_step old.memory.state block.size size align)) _ _ Answers
+    (λ test. cond_both (block.addr == cursor_of old.memory.state.chunks && nat_le block.size
+    (2 * shrink_step old.memory.state block.size size align)) _ _ Answers
     (λ last. moves_placed (block.addr + shrink_step old.memory.state block.size size align) old new block size align shrinks.0 answer)
     (λ other. stays_placed old new block size align shrinks.0 answer))
     shrinks.1
@@ -169,14 +178,16 @@ shrunk_placed old new block size align answer lower shrinks =
 -- No byte changes.
 pub returned_bytes : (old new : Memory) (b : Block) (addr : ℕ) → GivesBack old new b → image new addr ≡ image old addr
 returned_bytes old new b addr gives = ap (λ (w : Memory). image w addr) gives.memory ∙ elim (cases_eq b.addr (cursor_of old.state.chunks)) [
-  | inl at ↦ rw (dealloc_at old.state b.addr b.size at) (byte_moved (up (b.addr + b.size) old.state.min_align) old.state.chunks old.bytes addr)
+  | inl at ↦ rw (dealloc_at old.state b.addr b.size at)
+      (byte_moved (up (b.addr + b.size) old.state.min_align) old.state.chunks old.bytes addr)
   | inr other ↦ rw (dealloc_elsewhere old.state b.addr b.size other) refl
 ]
 
 -- At least alignment 1 nothing changes but what is in use of the block alone.
 pub returned_plain : (old new : Memory) (b : Block) → GivesBack old new b → old.state.min_align ≡ 1 → Frame old new (b ∷ []) []
 returned_plain old new b gives one =
-    frame_weaken old new (padded old.state.min_align b ∷ []) (b ∷ []) [] [] (λ addr n some apart. (rw unpadded apart.0, tt)) (λ addr n some apart rest. tt) gives.frame
+    frame_weaken old new (padded old.state.min_align b ∷ []) (b ∷ []) [] [] (λ addr n some apart. (rw unpadded apart.0, tt))
+    (λ addr n some apart rest. tt) gives.frame
   where
     unpadded : padded_size old.state.min_align b.addr b.size ≡ b.size
     unpadded = rw one (padded_exact 1 b.addr b.size (omega arith) (omega arith) (omega arith))
@@ -189,7 +200,8 @@ pub wrote_part : (old new : Memory) (b : Block) (at : ℕ) (list : List ℕ) →
 wrote_part old new b at list writes within = bytes_spliced (image old) (image new) b.addr b.size at list within writes.bytes
 
 -- A list as long as the block stands there alone.
-pub wrote_whole : (old new : Memory) (b : Block) (list : List ℕ) → WritesBlock old new b 0 list → length list ≡ b.size → bytes_from (image new) b.addr b.size ≡ list
+pub wrote_whole : (old new : Memory) (b : Block) (list : List ℕ) → WritesBlock old new b 0 list → length list ≡ b.size
+    → bytes_from (image new) b.addr b.size ≡ list
 wrote_whole old new b list writes sized = ap (λ (n : ℕ). bytes_from (image new) b.addr n) (sym sized) ∙ wrote_first old new b list writes
 
 -- bytes that stand one after another
@@ -208,14 +220,17 @@ bytes_joined f addr (suc m) n =
 pub wrote_behind : (old new : Memory) (b : Block) (at : ℕ) (list : List ℕ) → WritesBlock old new b at list
     → bytes_from (image new) b.addr (at + length list) ≡ bytes_from (image old) b.addr at ++ list
 wrote_behind old new b at list writes =
-    bytes_joined (image new) b.addr at (length list) ∙ rw (wrote_after old new b at at list writes (omega arith), wrote old new b at list writes) refl
+    bytes_joined (image new) b.addr at (length list)
+    ∙ rw (wrote_after old new b at at list writes (omega arith), wrote old new b at list writes) refl
 
 -- The same blocks are readable.
-pub wrote_readable : (old new : Memory) (b c : Block) (at : ℕ) (list : List ℕ) → WritesBlock old new b at list → is_readable new.state c ≡ is_readable old.state c
+pub wrote_readable : (old new : Memory) (b c : Block) (at : ℕ) (list : List ℕ) → WritesBlock old new b at list
+    → is_readable new.state c ≡ is_readable old.state c
 wrote_readable old new b c at list writes = ap (λ (s : State). is_readable s c) writes.state
 
 -- An image with two lists that were written one after another.
-written_more : (f g : ℕ → ℕ) (addr p : ℕ) (xs ys : List ℕ) → g p ≡ written f addr xs p → written g (addr + length xs) ys p ≡ written f addr (xs ++ ys) p
+written_more : (f g : ℕ → ℕ) (addr p : ℕ) (xs ys : List ℕ) → g p ≡ written f addr xs p
+    → written g (addr + length xs) ys p ≡ written f addr (xs ++ ys) p
 written_more f g addr p xs ys first = elim (cases_lt p addr) [
   | inl below ↦ grind (arith, nat_tests, common_steps)
   | inr low ↦ elim (cases_lt p (addr + length xs)) [
@@ -225,16 +240,19 @@ written_more f g addr p xs ys first = elim (cases_lt p addr) [
 ]
 
 -- Two writes one behind the other are one.
-pub writes_more : (old mid new : Memory) (b : Block) (at : ℕ) (first second : List ℕ) → WritesBlock old mid b at first → WritesBlock mid new b (at + length first) second
+pub writes_more : (old mid new : Memory) (b : Block) (at : ℕ) (first second : List ℕ) → WritesBlock old mid b at first
+    → WritesBlock mid new b (at + length first) second
     → WritesBlock old new b at (first ++ second)
 writes_more old mid new b at first second before after = record {
   valid = record { entry = before.valid.entry; exit = after.valid.exit };
   state = after.state ∙ before.state;
   statistics = after.statistics ∙ before.statistics;
-  bytes = λ p. after.bytes p ∙ ap (λ (q : ℕ). written (image mid) q second p) (omega arith) ∙ written_more (image old) (image mid) (b.addr + at) p first second (before.bytes p);
+  bytes = λ p. after.bytes p ∙ ap (λ (q : ℕ). written (image mid) q second p) (omega arith)
+      ∙ written_more (image old) (image mid) (b.addr + at) p first second (before.bytes p);
   frame = frame_then old mid new (b ∷ []) (b ∷ []) (b ∷ []) before.frame after.frame;
 }
 
 -- A write of no bytes changes nothing.
 pub writes_nothing : (memory : Memory) (b : Block) (at : ℕ) → IsValid memory.state → at ≤ b.size → WritesBlock memory memory b at []
-writes_nothing memory b at valid within = writes_block memory memory b at [] valid refl refl (λ p. sym (written_none (image memory) (b.addr + at) p [] refl)) (omega arith)
+writes_nothing memory b at valid within =
+    writes_block memory memory b at [] valid refl refl (λ p. sym (written_none (image memory) (b.addr + at) p [] refl)) (omega arith)

@@ -1,19 +1,96 @@
 -- The lemmas that a layer above cites: how frames compose, which blocks lie apart, what stands in a block after a call, how
 -- many bytes calls bring into use, and what they ask for.
 pub use Rattle.arena_chunks.proofs.FrameRules.{blocks_turned, apart_within, apart_empty, apart_both, apart_each, all_apart, pairwise_both}
-pub use Rattle.arena_chunks.proofs.FrameRules.{frame_reflexive, frame_then, frame_weaken, frame_forget, frame_beside, frame_behind, frame_both, empty_before, empty_after, frame_keeps, frame_keeps_all, in_use}
+pub use Rattle.arena_chunks.proofs.FrameRules.{
+  frame_reflexive,
+  frame_then,
+  frame_weaken,
+  frame_forget,
+  frame_beside,
+  frame_behind,
+  frame_both,
+  empty_before,
+  empty_after,
+  frame_keeps,
+  frame_keeps_all,
+  in_use,
+}
 pub use Rattle.arena_chunks.proofs.ApartLemmas.{all_from_none, all_from_both, all_of_both, all_among, all_each}
 pub use Rattle.arena_chunks.proofs.MeasureLemmas.{readable_together}
-pub use Rattle.arena_chunks.proofs.AskingLemmas.{asks_same, asks_placed, asks_resized, asks_given_back, placed_starved, grown_starved, placed_full, grown_full, grown_used}
+pub use Rattle.arena_chunks.proofs.AskingLemmas.{
+  asks_same,
+  asks_placed,
+  asks_resized,
+  asks_given_back,
+  placed_starved,
+  grown_starved,
+  shrunk_starved,
+  placed_full,
+  grown_full,
+  shrunk_full,
+  grown_used,
+}
 pub use Rattle.arena_chunks.proofs.BytesLemmas.{length-bytes, no_bytes}
 pub use Rattle.arena_chunks.proofs.RewindLemmas.{went_back}
+pub use Rattle.arena_chunks.proofs.CheckpointLemmas.{
+  checkpoint_own,
+  checkpoint_placed,
+  checkpoint_resized,
+  checkpoint_returned,
+  checkpoint_written,
+}
 pub use Rattle.arena_chunks.proofs.WrittenLemmas.{bytes_same, bytes_within, take_bytes}
-pub use Rattle.arena_chunks.proofs.BlockCallLemmas.{places_written, resizes_written, writes_block, edits_to, edits_by, wrote, wrote_first, wrote_after}
-pub use Rattle.arena_chunks.proofs.LayerLemmas.{readable_low, readable_high, readable_size, readable_used, unused_unreadable, frame_keeps_new, frame_keeps_beside}
-pub use Rattle.arena_chunks.proofs.LayerLemmas.{placed_apart, placed_pairwise, placed_is_block, resized_is_block, shrunk_placed, returned_bytes, returned_plain}
+pub use Rattle.arena_chunks.proofs.BlockCallLemmas.{
+  places_written,
+  resizes_written,
+  writes_block,
+  edits_to,
+  edits_by,
+  wrote,
+  wrote_first,
+  wrote_after,
+}
+pub use Rattle.arena_chunks.proofs.LayerLemmas.{
+  readable_low,
+  readable_high,
+  readable_size,
+  readable_used,
+  unused_unreadable,
+  frame_keeps_new,
+  frame_keeps_beside,
+}
+pub use Rattle.arena_chunks.proofs.LayerLemmas.{
+  placed_apart,
+  placed_pairwise,
+  placed_is_block,
+  resized_is_block,
+  shrunk_placed,
+  returned_bytes,
+  returned_plain,
+}
 pub use Rattle.arena_chunks.proofs.LayerLemmas.{wrote_part, wrote_whole, wrote_behind, wrote_readable, writes_more, writes_nothing}
-pub use Rattle.arena_chunks.proofs.UsedByCallLemmas.{placed_least, placed_most, placed_exact, grown_least, grown_most, grown_exact, shrunk_used, stays_used, anew_least, anew_most}
-pub use Rattle.arena_chunks.proofs.UsedByCallLemmas.{returned_used, returned_size, returned_elsewhere, reset_keeps_bytes, wrote_used, placed_doubling, resized_doubling, returned_doubling}
+pub use Rattle.arena_chunks.proofs.UsedByCallLemmas.{
+  placed_least,
+  placed_most,
+  placed_exact,
+  grown_least,
+  grown_most,
+  grown_exact,
+  shrunk_used,
+  stays_used,
+  anew_least,
+  anew_most,
+}
+pub use Rattle.arena_chunks.proofs.UsedByCallLemmas.{
+  returned_used,
+  returned_size,
+  returned_elsewhere,
+  reset_keeps_bytes,
+  wrote_used,
+  placed_doubling,
+  resized_doubling,
+  returned_doubling,
+}
 
 -- for automatic proof: frames, and the bytes of blocks
 pub ruleset layer_laws = (

@@ -1,14 +1,19 @@
 pub mod RewindLemmas
 pub mod FindingLemmas
 pub mod WrittenFrom
+pub mod CopiedKeptLemmas
 pub mod KeptLemmas
 pub mod BelowLemmas
 mod HeldLemmas
 mod LogLemmas
 mod KnownLemmas
 mod MarkingLemmas
+mod GoingBackLemmas
+mod CheckpointLemmas
 mod WrittenLemmas
+mod ChangeLemmas
 mod ServingLemmas
+mod ResizingLemmas
 mod RunLemmas
 mod Asking
 mod BytesLemmas
@@ -23,8 +28,10 @@ mod FrameLemmas
 mod AllocationLemmas
 mod GrowthLemmas
 mod LastLemmas
+mod StoredListLemmas
 mod PartLemmas
 mod LentLemmas
+mod CursorMoveLemmas
 mod ResizedLemmas
 mod CopiedLemmas
 mod ResizeSteps

@@ -1,177 +1,195 @@
 -- The log of names beside marks: what it has as it grows, and as names are let go that going back ends.
-use Rattle.std.proofs.Common.{◌≡◌, ◌≢◌, ℕ, ◌+◌, ◌-◌, ◌<◌, ◌≤◌, ◌⊎◌, inl, inr, ap, refl, sym, ◌∙◌, arith, List, [], ◌∷◌, ◌++◌, Bool, true, false, IsTrue, Option, Some, None, length, set, take, get_or, lt-ltb}
-use Rattle.std.specs.Prelude.{◌||◌, ◌&&◌, nat_lt}
+use Rattle.std.proofs.Common.{◌≡◌, ◌≢◌, ℕ, ◌-◌, ◌<◌, ◌≤◌, ◌⊎◌, inl, inr, ap, refl, sym, subst, ◌∙◌, arith, List, [], ◌∷◌, ◌++◌, Bool, true, false, IsTrue, Option, Some, None, length, take, get_or, lt-ltb}
+use Rattle.std.specs.Prelude.{◌||◌, ◌&&◌, nat_lt, if◌then◌else◌}
 use Rattle.std.specs.Option.{option_map_or}
 use Rattle.std.specs.FinMap as finite
 use Rattle.std.proofs.lemmas.Bool.{cases_eq, cases_lt}
-use Rattle.std.proofs.lemmas.List.{length-map, length-set, length-take-le, length-append, get_or-set_same, get_or-set_other, get_or-take, get_or_append_left, get_or_push}
-use Rattle.std.proofs.lemmas.Option.{none-some}
-use Rattle.placement.specs.State.{State}
+use Rattle.std.proofs.lemmas.List.{length-map, length-append, take_at}
+use Rattle.std.proofs.lemmas.Option.{none-some, same_Some}
+use Rattle.placement.specs.State.{State, Chunk, cursor_of, is_range_used}
 use Rattle.placement.specs.Back.{Point}
 use Rattle.placement.specs.Machine.{Held, is_place_used, is_left}
 use Rattle.placement.specs.declared.place.Place.{Place}
+use Rattle.placement.proofs.ReturnLemmas.{used_filled}
 use Rattle.arena_chunks.specs.Checkpoints.{mark_at}
-use Rattle.arena_chunks.specs.Marks.{Noted, named, Notes, KeepsLeft}
+use Rattle.arena_chunks.specs.Marks.{Noted, named, AreWithin, IsAtCursor, Notes, stands, LetsGo}
+use Rattle.arena_chunks.specs.Serving.{Holds}
 use Rattle.arena_chunks.specs.declared.runs.marks.Mark.{Mark}
-use Rattle.arena_chunks.proofs.HeldLemmas.{get-removed, get-remove_other}
+use Rattle.arena_chunks.proofs.HeldLemmas.{get-inserted, get-insert_other, get-removed, get-remove_other}
+
+-- a test has one outcome
+pub not_both : {P : Type 0} (b : Bool) → b ≡ true → b ≡ false → P
+not_both b is_true is_false = absurd (cc)
+
+-- a name whose block isn't left, and one whose block is
+pub not_standing : (state : State) (names : Held) (name : ℕ) → is_left state names name ≡ false → false ≡ stands state names name
+not_standing state names name lost = by (finite.get names name) refl
+  where
+    none : (b : Bool) → false ≡ b && false
+    none true = refl
+    none false = refl
+
+    by : (o : Option Place) → finite.get names name ≡ o → false ≡ stands state names name
+    by None at = rw at refl
+    by (Some p) at =
+        let unused : is_place_used state p ≡ false = sym (ap (λ (o : Option Place). option_map_or (is_place_used state) o false) at) ∙ lost
+        in
+        rw (at, unused) (none (nat_lt 0 p.size))
+
+pub standing : (state : State) (names : Held) (name : ℕ) (p : Place) → finite.get names name ≡ Some p → is_left state names name ≡ true
+    → nat_lt 0 p.size ≡ stands state names name
+standing state names name p at left =
+    let used : is_place_used state p ≡ true = sym (ap (λ (o : Option Place). option_map_or (is_place_used state) o false) at) ∙ left in
+    rw (at, used) (both (nat_lt 0 p.size))
+  where
+    both : (b : Bool) → b ≡ b && true
+    both true = refl
+    both false = refl
 
 -- ---- A name more
 
--- the log as it was, of names that hold what they held or nothing
-pub notes_none : (names held : Held) (noted : Noted) → ((q : ℕ) (p : Place) → finite.get held q ≡ Some p → finite.get names q ≡ Some p) → Notes names held noted noted
-notes_none names held noted less = record {
-  marks = refl;
-  longer = λ some. omega arith;
-  before = λ some i below. refl;
-  changed = λ some q p at. inl (less q p at);
-}
+-- a call that places no block
+pub notes_still : (state : State) (names held : Held) (noted : Noted)
+    → ((q : ℕ) (p : Place) → finite.get held q ≡ Some p → finite.get names q ≡ Some p) → Notes state names held noted noted
+notes_still state names held noted less = record { marks = refl; log = λ some. inl (refl, λ q p at. (p, less q p at, refl, omega arith)) }
 
--- one name was noted, and holds another block
-pub notes_one : (names held : Held) (old new : Noted) (name : ℕ) → new.marks ≡ old.marks → (0 < length old.marks → new.log ≡ old.log ++ name ∷ [])
-    → ((q : ℕ) → q ≢ name → finite.get held q ≡ finite.get names q) → Notes names held old new
-notes_one names held old new name marks pushed rest = record {
-  marks = marks;
-  longer = λ some. omega (arith, ap length (pushed some), length-append old.log (name ∷ []));
-  before = λ some i below. ap (λ (l : List ℕ). get_or l i 0) (pushed some) ∙ get_or_append_left old.log (name ∷ []) 0 i below;
-  changed = λ some q p at. elim (cases_eq q name) [
-    | inr other ↦ inl (sym (rest q other) ∙ at)
-    | inl same ↦ inr (
-      length old.log,
-      omega arith,
-      omega (arith, ap length (pushed some), length-append old.log (name ∷ [])),
-      ap (λ (l : List ℕ). get_or l (length old.log) 0) (pushed some) ∙ get_or_push old.log name 0 (length old.log) refl ∙ sym same,
-    )
-  ];
+-- the newest note taken back
+pub taken_back : (log : List ℕ) (name : ℕ) → take (length (log ++ name ∷ []) - 1) (log ++ name ∷ []) ≡ log
+taken_back log name = take_at log (name ∷ []) _ (omega (arith, length-append log (name ∷ [])))
+
+-- a name was noted, and the note was taken back if the block stayed
+pub notes_settled : (state : State) (names held : Held) (old mid new : Noted) (name : ℕ) (stayed : Bool) → mid.marks ≡ old.marks
+    → (0 < length old.marks → mid.log ≡ old.log ++ name ∷ []) → new.marks ≡ mid.marks
+    → (0 < length mid.marks → new.log ≡ (if stayed then take (length mid.log - 1) mid.log else mid.log))
+    → (stayed ≡ true → AreWithin names held)
+    → (stayed ≡ false → IsAtCursor state names held name) → Notes state names held old new
+notes_settled state names held old mid new name stayed same noted still settled within there =
+    record { marks = still ∙ same; log = λ some. by some stayed refl }
+  where
+    by : 0 < length old.marks → (b : Bool) → stayed ≡ b
+        → ((new.log ≡ old.log) × AreWithin names held) ⊎ ((q : ℕ) × (new.log ≡ old.log ++ q ∷ []) × IsAtCursor state names held q)
+    by some true is =
+        let log : new.log ≡ take (length mid.log - 1) mid.log = settled (omega (arith, ap length same))
+        ∙ ap (λ (b : Bool). if b then take (length mid.log - 1) mid.log else mid.log) is in
+        inl (log ∙ ap (λ (l : List ℕ). take (length l - 1) l) (noted some) ∙ taken_back old.log name, within is)
+    by some false is =
+        let log : new.log ≡ mid.log = settled (omega (arith, ap length same))
+        ∙ ap (λ (b : Bool). if b then take (length mid.log - 1) mid.log else mid.log) is in
+        inr (name, log ∙ noted some, there is)
+
+-- it stays, or is taken back of a call that was refused
+pub notes_placed : (state : State) (names held : Held) (old new : Noted) (name : ℕ) → new.marks ≡ old.marks
+    → (0 < length old.marks → new.log ≡ old.log ++ name ∷ [])
+    → IsAtCursor state names held name → Notes state names held old new
+notes_placed state names held old new name same noted there = record { marks = same; log = λ some. inr (name, noted some, there) }
+
+pub notes_refused : (state : State) (names : Held) (old mid new : Noted) (name : ℕ) → mid.marks ≡ old.marks
+    → (0 < length old.marks → mid.log ≡ old.log ++ name ∷ [])
+    → new.marks ≡ mid.marks → (0 < length mid.marks → new.log ≡ take (length mid.log - 1) mid.log) → Notes state names names old new
+notes_refused state names old mid new name same noted still settled =
+    notes_settled state names names old mid new name true same noted still settled (λ is q p at. (p, at, refl, omega arith))
+    (λ is. absurd (cc))
+
+-- a block was placed for a name
+pub inserted_at_cursor : (state : State) (names : Held) (name : ℕ) (b : Place) → Holds state (finite.insert names name b)
+    → (0 < length state.chunks → b.addr ≡ cursor_of state.chunks)
+    → IsAtCursor state names (finite.insert names name b) name
+inserted_at_cursor state names name b holds at_cursor = record {
+  own = λ p at some.
+      let same : b ≡ p = same_Some b p (sym (get-inserted names name b) ∙ at) in
+      ap (λ (x : Place). x.addr) (sym same) ∙ at_cursor (chunk p.addr p.size (used_filled state p some (holds.each name p at).used));
+  rest = λ q other. get-insert_other names name q b other;
 }
+  where
+    chunk : (addr n : ℕ) → IsTrue (is_range_used state.chunks addr n) → 0 < length state.chunks
+    chunk addr n = some state.chunks
+      where
+        some : (chunks : List Chunk) → IsTrue (is_range_used chunks addr n) → 0 < length chunks
+        some [] used = cc
+        some (newest ∷ older) used = omega arith
+
+-- a name's block that stayed where it was has no more bytes
+pub inserted_within : (names : Held) (name : ℕ) (a b : Place) → finite.get names name ≡ Some a → a.addr ≡ b.addr → b.size ≤ a.size
+    → AreWithin names (finite.insert names name b)
+inserted_within names name a b found same smaller q p at = elim (cases_eq q name) [
+  | inr other ↦ (p, sym (get-insert_other names name q b other) ∙ at, refl, omega arith)
+  | inl own ↦
+      let is : b ≡ p = same_Some b p (sym (get-inserted names name b)
+      ∙ subst (λ (x : ℕ). finite.get (finite.insert names name b) x ≡ Some p) own at) in (
+        a,
+        ap (finite.get names) own ∙ found,
+        same ∙ ap (λ (x : Place). x.addr) is,
+        omega (arith, smaller, ap (λ (x : Place). x.size) is),
+      )
+]
 
 -- a call that gives a block another size may want memory where there is a mark
 pub noting : (first : Bool) (marks : List Mark) → 0 < length marks → IsTrue (first || false || (nat_lt 0 (length (named marks)) && true))
 noting true marks some = refl
-noting false marks some = let there : nat_lt 0 (length (named marks)) ≡ true = lt-ltb _ _ (omega (arith, some, length-map {B = ℕ × Point} marks (λ (m : Mark). (m.name, mark_at m.checkpoint)))) in rw there refl
+noting false marks some = let there : nat_lt 0 (length (named marks)) ≡ true =
+    lt-ltb _ _ (omega (arith, some, length-map {B = ℕ × Point} marks (λ (m : Mark). (m.name, mark_at m.checkpoint)))) in rw there refl
 
 -- ---- Names that are let go
 
-left_by : (state : State) (names held : Held) (q : ℕ) → finite.get held q ≡ finite.get names q → is_left state held q ≡ is_left state names q
-left_by state names held q same = ap (λ (o : Option Place). option_map_or (is_place_used state) o false) same
-
-not_both : {P : Type 0} (b : Bool) → b ≡ true → b ≡ false → P
-not_both b is_true is_false = absurd (cc)
-
--- Those from an index on have been looked at up to another one, and the kept ones stand first.
-pub record IsKeeping (state : State) (names held : Held) (from at kept : ℕ) (log now : List ℕ) : Type 0 where
-  pub low : from ≤ kept
-  pub high : kept ≤ at
-  pub sized : length now ≡ length log
-  pub before : (i : ℕ) → i < from → get_or now i 0 ≡ get_or log i 0
-  pub rest : (i : ℕ) → at ≤ i → get_or now i 0 ≡ get_or log i 0
-  pub left : (q : ℕ) → IsTrue (is_left state names q) → finite.get held q ≡ finite.get names q
-  pub less : (q : ℕ) (p : Place) → finite.get held q ≡ Some p → finite.get names q ≡ Some p
-  pub gone : (q i : ℕ) → from ≤ i → i < at → get_or log i 0 ≡ q → is_left state names q ≡ false → finite.get held q ≡ None
-  pub noted : (q i : ℕ) → from ≤ i → i < at → get_or log i 0 ≡ q
-      → (finite.get held q ≡ None) ⊎ ((j : ℕ) × (from ≤ j) × (j < kept) × (get_or now j 0 ≡ q))
-
-pub keeping_first : (state : State) (names : Held) (from : ℕ) (log : List ℕ) → IsKeeping state names names from from from log log
-keeping_first state names from log = record {
-  low = omega arith;
-  high = omega arith;
-  sized = refl;
-  before = λ i below. refl;
-  rest = λ i past. refl;
+pub letting_first : (state : State) (names : Held) (log : List ℕ) (from : ℕ) → from ≡ length log → LetsGo state names names from log
+letting_first state names log from all = record {
+  within = omega (arith, all);
   left = λ q is. refl;
   less = λ q p at. at;
-  gone = λ q i low high. absurd (omega arith);
-  noted = λ q i low high. absurd (omega arith);
+  ended = λ q p there at. absurd (omega (arith, all, there.1, there.2));
 }
 
-pub keeping_held : (state : State) (names held : Held) (from at kept name : ℕ) (log now : List ℕ) → at < length log → name ≡ get_or now at 0 → is_left state held name ≡ true
-    → IsKeeping state names held from at kept log now → IsKeeping state names held from (at + 1) (kept + 1) log (set now kept name)
-keeping_held state names held from at kept name log now within read is k = record {
-  low = omega (arith, k.low);
-  high = omega (arith, k.high);
-  sized = length-set now kept name ∙ k.sized;
-  before = λ i below. get_or-set_other now kept i name 0 (λ same. absurd (omega (arith, same, k.low))) ∙ k.before i below;
-  rest = λ i past. get_or-set_other now kept i name 0 (λ same. absurd (omega (arith, same, k.high))) ∙ k.rest i (omega arith);
-  left = k.left;
-  less = k.less;
-  gone = λ q i low high at_i lost. elim (cases_lt i at) [
-    | inl below ↦ k.gone q i low below at_i lost
-    | inr here ↦ absurd (clash q (named i (omega arith) at_i) lost)
-  ];
-  noted = λ q i low high at_i. elim (cases_lt i at) [
-    | inl below ↦ elim (k.noted q i low below at_i) [
-      | inl none ↦ inl none
-      | inr there ↦ inr (there.0, there.1, omega (arith, there.2), get_or-set_other now kept there.0 name 0 (λ same. absurd (omega (arith, same, there.2))) ∙ there.3)
-    ]
-    | inr here ↦ inr (kept, k.low, omega arith, get_or-set_same now kept name 0 (omega (arith, k.high, k.sized)) ∙ named i (omega arith) at_i)
-  ];
-}
+-- one name more was looked at, and let go if its block isn't left
+pub letting_next : (state : State) (names held next : Held) (from name : ℕ) (log : List ℕ) → 0 < from → name ≡ get_or log (from - 1) 0
+    → stands state held name ≡ false
+    → (IsTrue (is_left state held name) → next ≡ held) → (is_left state held name ≡ false → next ≡ finite.remove held name)
+    → LetsGo state names held from log
+    → LetsGo state names next (from - 1) log
+letting_next state names held next from name log some read fallen stays goes lets = by (is_left state held name) refl
   where
-    named : (i : ℕ) {q : ℕ} → i ≡ at → get_or log i 0 ≡ q → name ≡ q
-    named i here at_i = read ∙ k.rest at (omega arith) ∙ ap (λ (j : ℕ). get_or log j 0) (sym here) ∙ at_i
+    of_name : (q i : ℕ) → i < from → from - 1 ≤ i → get_or log i 0 ≡ q → name ≡ q
+    of_name q i below low at_i =
+        let last : i ≡ from - 1 = omega arith in
+        read ∙ ap (λ (j : ℕ). get_or log j 0) (sym last) ∙ at_i
 
-    clash : (q : ℕ) → name ≡ q → is_left state names q ≡ false → ⊥
-    clash q same lost = by (finite.get held name) refl
+    empty : is_left state held name ≡ true → (p : Place) → finite.get held name ≡ Some p → p.size ≡ 0
+    empty left p at =
+        let used : is_place_used state p ≡ true = sym (ap (λ (o : Option Place). option_map_or (is_place_used state) o false) at) ∙ left in
+        let none : nat_lt 0 p.size && is_place_used state p ≡ false =
+        sym (ap (λ (o : Option Place). option_map_or (λ (x : Place). nat_lt 0 x.size && is_place_used state x) o false) at) ∙ fallen in
+        elim (cases_lt 0 p.size) [
+          | inl more ↦ not_both (nat_lt 0 p.size && is_place_used state p) (rw (lt-ltb _ _ more, used) refl) none
+          | inr zero ↦ omega arith
+        ]
+
+    by : (b : Bool) → is_left state held name ≡ b → LetsGo state names next (from - 1) log
+    by true left = rw (stays left) (record {
+      within = omega (arith, lets.within);
+      left = lets.left;
+      less = lets.less;
+      ended = λ q p there at. elim (cases_lt there.0 from) [
+        | inr past ↦ lets.ended q p (there.0, past, there.2, there.3) at
+        | inl here ↦ empty left p (ap (finite.get held) (of_name q there.0 here there.1 there.3) ∙ at)
+      ];
+    })
+    by false gone = rw (goes gone) (record {
+      within = omega (arith, lets.within);
+      left = λ q is. get-remove_other held name q (other q is) ∙ lets.left q is;
+      less = λ q p at. elim (cases_eq q name) [
+        | inl same ↦ absurd (none-some p (sym (get-removed held name) ∙ ap (finite.get (finite.remove held name)) (sym same) ∙ at))
+        | inr differs ↦ lets.less q p (sym (get-remove_other held name q differs) ∙ at)
+      ];
+      ended = λ q p there at. elim (cases_eq q name) [
+        | inl same ↦ absurd (none-some p (sym (get-removed held name) ∙ ap (finite.get (finite.remove held name)) (sym same) ∙ at))
+        | inr differs ↦ elim (cases_lt there.0 from) [
+          | inr past ↦ lets.ended q p (there.0, past, there.2, there.3) (sym (get-remove_other held name q differs) ∙ at)
+          | inl here ↦ absurd (differs (sym (of_name q there.0 here there.1 there.3)))
+        ]
+      ];
+    })
       where
-        by : (o : Option Place) → finite.get held name ≡ o → ⊥
-        by None at = not_both (is_left state held name) is (ap (λ (o : Option Place). option_map_or (is_place_used state) o false) at)
-        by (Some p) at =
-            let there : finite.get held name ≡ finite.get names name = at ∙ sym (k.less name p at) in
-            not_both (is_left state names name) (sym (left_by state names held name there) ∙ is) (ap (is_left state names) same ∙ lost)
+        left_by : (q : ℕ) → finite.get held q ≡ finite.get names q → is_left state held q ≡ is_left state names q
+        left_by q same = ap (λ (o : Option Place). option_map_or (is_place_used state) o false) same
 
-pub keeping_lost : (state : State) (names held : Held) (from at kept name : ℕ) (log now : List ℕ) → name ≡ get_or now at 0 → is_left state held name ≡ false
-    → IsKeeping state names held from at kept log now → IsKeeping state names (finite.remove held name) from (at + 1) kept log now
-keeping_lost state names held from at kept name log now read is k = record {
-  low = k.low;
-  high = omega (arith, k.high);
-  sized = k.sized;
-  before = k.before;
-  rest = λ i past. k.rest i (omega arith);
-  left = λ q stays. get-remove_other held name q (other q stays) ∙ k.left q stays;
-  less = λ q p at_q. elim (cases_eq q name) [
-    | inl same ↦ absurd (none-some p (sym (get-removed held name) ∙ ap (finite.get (finite.remove held name)) (sym same) ∙ at_q))
-    | inr differs ↦ k.less q p (sym (get-remove_other held name q differs) ∙ at_q)
-  ];
-  gone = λ q i low high at_i lost. elim (cases_lt i at) [
-    | inl below ↦ still q (k.gone q i low below at_i lost)
-    | inr here ↦ gone_here q (named i (omega arith) at_i)
-  ];
-  noted = λ q i low high at_i. elim (cases_lt i at) [
-    | inl below ↦ elim (k.noted q i low below at_i) [
-      | inl none ↦ inl (still q none)
-      | inr there ↦ inr there
-    ]
-    | inr here ↦ inl (gone_here q (named i (omega arith) at_i))
-  ];
-}
-  where
-    named : (i : ℕ) {q : ℕ} → i ≡ at → get_or log i 0 ≡ q → name ≡ q
-    named i here at_i = read ∙ k.rest at (omega arith) ∙ ap (λ (j : ℕ). get_or log j 0) (sym here) ∙ at_i
-
-    gone_here : (q : ℕ) → name ≡ q → finite.get (finite.remove held name) q ≡ None
-    gone_here q same = ap (finite.get (finite.remove held name)) (sym same) ∙ get-removed held name
-
-    still : (q : ℕ) → finite.get held q ≡ None → finite.get (finite.remove held name) q ≡ None
-    still q none = elim (cases_eq q name) [
-      | inl same ↦ gone_here q (sym same)
-      | inr differs ↦ get-remove_other held name q differs ∙ none
-    ]
-
-    other : (q : ℕ) → IsTrue (is_left state names q) → q ≢ name
-    other q stays same = not_both (is_left state held name) (ap (is_left state held) (sym same) ∙ left_by state names held q (k.left q stays) ∙ stays) is
-
-pub keeping_over : (state : State) (names held : Held) (from at kept : ℕ) (log now : List ℕ) → length log ≤ at → at ≤ length log → IsKeeping state names held from at kept log now
-    → KeepsLeft state names held from log (take kept now)
-keeping_over state names held from at kept log now over within k = record {
-  long = omega (arith, many, k.low);
-  before = λ i below. get_or-take kept now i 0 (omega (arith, k.low)) ∙ k.before i below;
-  left = k.left;
-  less = k.less;
-  gone = λ q lost there. k.gone q there.0 there.1 (omega (arith, there.2)) there.3 lost;
-  noted = λ q there. elim (k.noted q there.0 there.1 (omega (arith, there.2)) there.3) [
-    | inl none ↦ inl none
-    | inr here ↦ inr (here.0, here.1, omega (arith, here.2, many), get_or-take kept now here.0 0 here.2 ∙ here.3)
-  ];
-}
-  where
-    many : length (take kept now) ≡ kept
-    many = length-take-le kept now (omega (arith, k.high, k.sized))
+        other : (q : ℕ) → IsTrue (is_left state names q) → q ≢ name
+        other q is same = not_both (is_left state held name) (ap (is_left state held) (sym same) ∙ left_by q (lets.left q is) ∙ is) gone

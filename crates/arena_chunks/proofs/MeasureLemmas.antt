@@ -1,11 +1,11 @@
 -- Blocks that lie apart have together no more bytes than are in use.
-use Rattle.std.proofs.Common.{◌≡◌, ℕ, ◌+◌, ◌-◌, ◌<◌, ◌≤◌, ◌⊎◌, List, [], ◌∷◌, map, sum, inl, inr, arith, IsTrue, true, false}
-use Rattle.std.specs.Prelude.{nat_le, ◌&&◌, if◌then◌else◌}
+use Rattle.std.proofs.Common.{◌≡◌, ℕ, ◌+◌, ◌-◌, ◌<◌, ◌≤◌, ◌⊎◌, List, [], ◌∷◌, map, sum, inl, inr, arith, IsTrue, true}
+use Rattle.std.specs.Prelude.{if◌then◌else◌}
 use Rattle.std.specs.List.{AllByRecursion}
 use Rattle.std.proofs.lemmas.Bool.{cases_lt, cases_Bool, or_cases, or_left, or_right}
 use Rattle.std.proofs.lemmas.Bool.Decides.{nat_tests}
 use Rattle.std.proofs.lemmas.List.Sums.{sum_by-cons}
-use Rattle.placement.specs.State.{State, Chunk, AreApart, data_end, used_length, used_bytes, is_used_by, is_range_used}
+use Rattle.placement.specs.State.{State, Chunk, data_end, used_length, used_bytes, is_used_by, is_range_used}
 use Rattle.arena_chunks.specs.Memory.{is_readable}
 use Rattle.arena_chunks.specs.Frame.{IsApart, ArePairwiseApart}
 use Rattle.arena_chunks.specs.declared.block.Block.{Block}

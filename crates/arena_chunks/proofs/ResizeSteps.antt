@@ -72,7 +72,8 @@ module _ (state : State) (p size align new_size new_align : ℕ) where
       → growing state p size align new_size new_align ≡ Anew
   grows_full is fine none = let here = here_test is in rw (here, fine, none) refl
 
-  pub grows_down : (q : ℕ) → IsHere → is_layout (growth state size new_size) align ≡ true → place state (growth state size new_size) align ≡ Some q
+  pub grows_down : (q : ℕ) → IsHere → is_layout (growth state size new_size) align ≡ true
+      → place state (growth state size new_size) align ≡ Some q
       → growing state p size align new_size new_align ≡ Moves q
   grows_down q is fine found = let here = here_test is in rw (here, fine, found) refl
 

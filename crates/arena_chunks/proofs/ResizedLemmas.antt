@@ -1,23 +1,21 @@
 -- A block in place of another: what it shows, and what is left of the rest of an arena.
-use Rattle.std.proofs.Common.{◌≡◌, ℕ, ◌+◌, ◌-◌, ◌%◌, ◌^◌, ◌<◌, ◌≤◌, max, min, inl, inr, ap, sym, refl, subst, ◌∙◌, arith, [], ◌∷◌, IsTrue, Some, Err, true, false, length, eq-eqb}
+use Rattle.std.proofs.Common.{◌≡◌, ℕ, ◌+◌, ◌-◌, ◌%◌, ◌^◌, ◌<◌, ◌≤◌, min, inl, inr, ap, sym, refl, subst, ◌∙◌, arith, [], ◌∷◌, IsTrue, Some, Err, true, false, length, eq-eqb}
 use Rattle.std.specs.Prelude.{◌==◌, ◌&&◌, nat_lt}
 use Rattle.std.proofs.lemmas.Bool.{cases_lt, or_left, or_right}
 use Rattle.std.proofs.lemmas.Bool.Decides.{nat_tests}
-use Rattle.placement.specs.Rounding.{down, up, is_layout}
+use Rattle.placement.specs.Rounding.{is_layout}
 use Rattle.placement.specs.State.{State, IsValid, is_range_used, start_of, cursor_of, top_of, with_cursor, allocated_bytes, AreApart}
-use Rattle.placement.specs.Search.{place}
-use Rattle.placement.specs.Moves.{Resizing, growing, shrinking, shrink_step, resize, grow, shrink}
-use Rattle.placement.specs.Moves.Resizing.{Stays, Moves, Anew, Refused}
+use Rattle.placement.specs.Moves.{Resizing, growing, shrinking, resize, grow, shrink}
+use Rattle.placement.specs.Moves.Resizing.{Anew, Refused}
 use Rattle.placement.specs.Blocks.{IsBlock, IsMovedBlock}
 use Rattle.placement.specs.Causes.{counted}
-use Rattle.placement.specs.Statistics.{Statistics, one_allocation, one_reallocation, one_move}
-use Rattle.placement.proofs.RoundingLemmas.{down_le, up_ge, layout_power, min_align_positive}
-use Rattle.placement.proofs.PlaceLemmas.{is_place}
-use Rattle.placement.proofs.CursorLemmas.{start_positive, cursor_within, valid_set}
-use Rattle.placement.proofs.UsedLemmas.{used_set, used_from, used_beside, used_part}
+use Rattle.placement.specs.Statistics.{Statistics, one_allocation, one_move}
+use Rattle.placement.proofs.RoundingLemmas.{layout_power}
+use Rattle.placement.proofs.CursorLemmas.{valid_set}
+use Rattle.placement.proofs.UsedLemmas.{used_set, used_from, used_beside}
 use Rattle.placement.proofs.AllocLemmas.{alloc_newest}
 use Rattle.placement.proofs.ReturnLemmas.{allocated_moved}
-use Rattle.placement.proofs.MoveLemmas.{step_aligned, grow_moved, shrink_moved}
+use Rattle.placement.proofs.MoveLemmas.{grow_moved, shrink_moved}
 use Rattle.arena_chunks.specs.Memory.{Memory, image, is_readable, bytes_from, written, Writes}
 use Rattle.arena_chunks.specs.Source.{Source, View, view}
 use Rattle.arena_chunks.specs.Frame.{Frame}
@@ -28,43 +26,47 @@ use Rattle.arena_chunks.specs.Resizes.{Resizes, IsResizedUnasked, replaced}
 use Rattle.arena_chunks.specs.declared.block.Block.{Block}
 use Rattle.arena_chunks.specs.declared.block.ArenaErr.{ArenaErr}
 use Rattle.arena_chunks.specs.declared.block.ArenaErr.TheVariants.{AllocErr, OutOfMemory}
-use Rattle.arena_chunks.specs.declared.arena.Arena.TheInside.{Inside}
 use Rattle.arena_chunks.proofs.AskedLemmas.{asked_none}
-use Rattle.arena_chunks.proofs.StoredLemmas.{view_of, Stands}
 use Rattle.arena_chunks.proofs.BytesLemmas.{length-bytes, written_beside}
 use Rattle.arena_chunks.proofs.WrittenLemmas.{bytes_same, bytes_written}
-use Rattle.arena_chunks.proofs.FrameLemmas.{bytes_moved, byte_moved, apart_part, behind, beside_range}
+use Rattle.arena_chunks.proofs.FrameLemmas.{apart_part, behind, beside_range}
 use Rattle.arena_chunks.proofs.FrameRules.{frame_reflexive, frame_weaken}
-use Rattle.arena_chunks.proofs.PartLemmas.{readable_part}
-use Rattle.arena_chunks.proofs.LastLemmas.{IsLast, is_last, last_ends}
+use Rattle.arena_chunks.proofs.StoredListLemmas.{readable_part}
 
 -- the block of the state's generation at an address
 abbrev pub block_in : State → ℕ → ℕ → ℕ → Block
 block_in state p size align = record { generation = state.generation; addr = p; size = size; align = align }
 
-block_of : (state : State) (p size align : ℕ) → (0 < size → IsTrue (is_range_used state.chunks p size)) → IsBlockOf state size align (block_in state p size align)
+block_of : (state : State) (p size align : ℕ) → (0 < size → IsTrue (is_range_used state.chunks p size))
+    → IsBlockOf state size align (block_in state p size align)
 block_of state p size align used = record {
   generation = refl;
   of_size = refl;
   of_align = refl;
   readable = elim (cases_lt 0 size) [
     | inr none ↦ or_left (size == 0) (state.generation == state.generation && is_range_used state.chunks p size) (eq-eqb _ _ (omega arith))
-    | inl some ↦ or_right (size == 0) (state.generation == state.generation && is_range_used state.chunks p size) (rw (eq-eqb state.generation _ refl) (used some))
+    | inl some ↦ or_right (size == 0) (state.generation == state.generation && is_range_used state.chunks p size)
+        (rw (eq-eqb state.generation _ refl) (used some))
   ];
 }
 
-bytes_copied : (f g : ℕ → ℕ) (from to n : ℕ) → ((a : ℕ) → g a ≡ written f to (bytes_from f from n) a) → bytes_from g to n ≡ bytes_from f from n
+bytes_copied : (f g : ℕ → ℕ) (from to n : ℕ) → ((a : ℕ) → g a ≡ written f to (bytes_from f from n) a)
+    → bytes_from g to n ≡ bytes_from f from n
 bytes_copied f g from to n writes =
     subst (λ (k : ℕ). bytes_from g to k ≡ bytes_from f from n) (length-bytes f from n) (bytes_written f g to (bytes_from f from n) writes)
 
 -- a block shrinks where it is
-pub resized_still : (memory : Memory) (block : Block) (size align n : ℕ) → IsValid memory.state → IsTrue (is_readable memory.state block) → size ≤ block.size
+pub resized_still : (memory : Memory) (block : Block) (size align n : ℕ) → IsValid memory.state → IsTrue (is_readable memory.state block)
+    → size ≤ block.size
     → Resizes memory memory block (block_in memory.state block.addr size align) size align n
 resized_still memory block size align n valid readable smaller = record {
-  of_layout = block_of memory.state block.addr size align (λ some. readable_part memory.state block block.addr size readable (omega arith) (omega arith) some);
+  of_layout = block_of memory.state block.addr size align
+      (λ some. readable_part memory.state block block.addr size readable (omega arith) (omega arith) some);
   bytes = refl;
-  frame = frame_weaken memory memory (block ∷ []) (block ∷ []) (block ∷ []) (block_in memory.state block.addr size align ∷ []) (λ addr k some apart. apart)
-      (λ addr k some apart rest. (apart_part addr k block.addr block.size block.addr size apart.0 (omega arith) (omega arith), tt)) (frame_reflexive memory (block ∷ []));
+  frame = frame_weaken memory memory (block ∷ []) (block ∷ []) (block ∷ []) (block_in memory.state block.addr size align ∷ [])
+      (λ addr k some apart. apart)
+      (λ addr k some apart rest. (apart_part addr k block.addr block.size block.addr size apart.0 (omega arith) (omega arith), tt))
+      (frame_reflexive memory (block ∷ []));
   valid = valid;
 }
 
@@ -84,7 +86,8 @@ pub resized_at_cursor : (old new : Memory) (block : Block) (q size align n : ℕ
     → Resizes old new block (block_in old.state q size align) size align n
 resized_at_cursor old new block q size align n is = record {
   of_layout = subst (λ (s : State). IsBlockOf s size align (block_in old.state q size align)) (sym is.state)
-      (block_of (with_cursor q old.state) q size align (λ some. used_from q size old.state.chunks some is.low (omega (arith, is.fits, is.ends))));
+      (block_of (with_cursor q old.state) q size align
+      (λ some. used_from q size old.state.chunks some is.low (omega (arith, is.fits, is.ends))));
   bytes = bytes_copied (image old) (image new) block.addr q n is.bytes;
   frame = record {
     generation = ap (λ (s : State). s.generation) is.state;
@@ -92,21 +95,28 @@ resized_at_cursor old new block q size align n is = record {
     is_growing = ap (λ (s : State). s.is_growing) is.state;
     allocated = λ still. ap allocated_bytes is.state ∙ allocated_moved q old.state.chunks;
     kept = λ addr k some used apart. subst (λ (s : State). IsTrue (is_range_used s.chunks addr k)) (sym is.state)
-        (used_set q addr k old.state.chunks (λ from. omega (arith, behind addr k block.addr block.size some (omega (arith, is.at)) apart.0, is.fits)) used);
+        (used_set q addr k old.state.chunks (λ from. omega (
+          arith,
+          behind addr k block.addr block.size some (omega (arith, is.at)) apart.0,
+          is.fits,
+        )) used);
     apart = λ addr k some used apart. (beside addr k some used apart.0, tt);
     bytes = λ p used apart. is.bytes p
         ∙ written_beside (image old) q p (bytes_from (image old) block.addr n)
-        (beside_range p q size q (length (bytes_from (image old) block.addr n)) (beside p 1 (omega arith) used apart.0) (omega arith) (omega (arith, length-bytes (image old) block.addr n, is.shorter)));
+        (beside_range p q size q (length (bytes_from (image old) block.addr n)) (beside p 1 (omega arith) used apart.0) (omega arith)
+        (omega (arith, length-bytes (image old) block.addr n, is.shorter)));
   };
   valid = subst IsValid (sym is.state) (valid_set old.state q is.valid is.low (omega (arith, is.fits, is.ends)) is.aligned);
 }
   where
     -- what is used apart from the block lies behind it, or below the newest chunk
-    beside : (addr k : ℕ) → 0 < k → IsTrue (is_range_used old.state.chunks addr k) → AreApart addr k block.addr block.size → AreApart addr k q size
-    beside addr k some used apart = λ many filled. elim (used_beside old.state.min_align addr k old.state.chunks is.valid.chunks some used) [
-      | inl from ↦ inr (omega (arith, behind addr k block.addr block.size some (omega (arith, is.at)) apart, is.fits))
-      | inr under ↦ inl (omega (arith, is.low))
-    ]
+    beside : (addr k : ℕ) → 0 < k → IsTrue (is_range_used old.state.chunks addr k) → AreApart addr k block.addr block.size
+        → AreApart addr k q size
+    beside addr k some used apart = λ many filled.
+        elim (used_beside old.state.min_align addr k old.state.chunks is.valid.chunks some used) [
+          | inl from ↦ inr (omega (arith, behind addr k block.addr block.size some (omega (arith, is.at)) apart, is.fits))
+          | inr under ↦ inl (omega (arith, is.low))
+        ]
 
 -- a block that was placed has the first n bytes of another
 pub record CopiesTo (old mid new : Memory) (block b : Block) (size align n : ℕ) : Type 0 where
@@ -119,21 +129,25 @@ pub record CopiesTo (old mid new : Memory) (block b : Block) (size align n : ℕ
   pub state : new.state ≡ mid.state
   pub bytes : Writes mid new b.addr (bytes_from (image mid) block.addr n)
 
-pub resized_copied : (old mid new : Memory) (block b : Block) (size align n : ℕ) → CopiesTo old mid new block b size align n → Resizes old new block b size align n
+pub resized_copied : (old mid new : Memory) (block b : Block) (size align n : ℕ) → CopiesTo old mid new block b size align n
+    → Resizes old new block b size align n
 resized_copied old mid new block b size align n is = record {
   of_layout = subst (λ (s : State). IsBlockOf s size align b) (sym is.state) is.of_layout;
   bytes = bytes_copied (image mid) (image new) block.addr b.addr n is.bytes ∙ bytes_same (image mid) (image old) block.addr n (λ i below.
-      is.placed.bytes (block.addr + i) (readable_part old.state block (block.addr + i) 1 is.source (omega arith) (omega (arith, is.within)) (omega arith)) tt);
+      is.placed.bytes (block.addr + i) (readable_part old.state block (block.addr + i) 1 is.source (omega arith) (omega (arith, is.within))
+      (omega arith)) tt);
   frame = record {
     generation = ap (λ (s : State). s.generation) is.state ∙ is.placed.generation;
     min_align = ap (λ (s : State). s.min_align) is.state ∙ is.placed.min_align;
     is_growing = ap (λ (s : State). s.is_growing) is.state ∙ is.placed.is_growing;
     allocated = λ still. ap allocated_bytes is.state ∙ is.placed.allocated still;
-    kept = λ addr k some used apart. subst (λ (s : State). IsTrue (is_range_used s.chunks addr k)) (sym is.state) (is.placed.kept addr k some used tt);
+    kept = λ addr k some used apart. subst (λ (s : State). IsTrue (is_range_used s.chunks addr k)) (sym is.state)
+        (is.placed.kept addr k some used tt);
     apart = λ addr k some used apart. is.placed.apart addr k some used tt;
     bytes = λ p used apart. is.bytes p
         ∙ written_beside (image mid) b.addr p (bytes_from (image mid) block.addr n)
-        (beside_range p b.addr b.size b.addr (length (bytes_from (image mid) block.addr n)) (is.placed.apart p 1 (omega arith) used tt).0 (omega arith)
+        (beside_range p b.addr b.size b.addr (length (bytes_from (image mid) block.addr n)) (is.placed.apart p 1 (omega arith) used tt).0
+        (omega arith)
         (omega (arith, length-bytes (image mid) block.addr n, is.shorter, is.of_layout.of_size)))
         ∙ is.placed.bytes p used tt;
   };
@@ -143,25 +157,36 @@ resized_copied old mid new block b size align n is = record {
 -- ---- What the calls answer
 
 -- a block from one of the arena's is aligned, after it grew and after it shrank
-aligned_of : (old new : State) (block : Block) (size align : ℕ) (b : Block) → b.align ≡ align → IsMovedBlock old (place_of block) size align b.addr new → IsAligned new b
-aligned_of old new block size align b of_align moved = record { own = rw of_align moved.aligned; least = rw moved.min_align moved.min_aligned }
+aligned_of : (old new : State) (block : Block) (size align : ℕ) (b : Block) → b.align ≡ align
+    → IsMovedBlock old (place_of block) size align b.addr new → IsAligned new b
+aligned_of old new block size align b of_align moved =
+    record { own = rw of_align moved.aligned; least = rw moved.min_align moved.min_aligned }
 
-pub grown_aligned : (old new : State) (block : Block) (size align : ℕ) (b : Block) → IsValid old → IsTrue (is_layout size align) → b.align ≡ align
-    → resize (growing old block.addr block.size block.align size align) old block.addr size align 0 ≡ Some (record { answer = Some b.addr; state = new })
+pub grown_aligned : (old new : State) (block : Block) (size align : ℕ) (b : Block) → IsValid old → IsTrue (is_layout size align)
+    → b.align ≡ align
+    → resize (growing old block.addr block.size block.align size align) old block.addr size align 0
+    ≡ Some (record { answer = Some b.addr; state = new })
     → IsBlock old (place_of block) → IsAligned new b
 unfolding grow
 grown_aligned old new block size align b valid layout of_align step is =
-    aligned_of old new block size align b of_align (grow_moved old (place_of block) size align 0 (record { answer = Some b.addr; state = new }) valid is (layout_power size align layout) step)
+    aligned_of old new block size align b of_align
+    (grow_moved old (place_of block) size align 0 (record { answer = Some b.addr; state = new }) valid is
+    (layout_power size align layout) step)
 
-pub shrunk_aligned : (old new : State) (block : Block) (size align : ℕ) (b : Block) → IsValid old → IsTrue (is_layout size align) → b.align ≡ align → size ≤ block.size
-    → resize (shrinking old block.addr block.size block.align size align) old block.addr size align 0 ≡ Some (record { answer = Some b.addr; state = new })
+pub shrunk_aligned : (old new : State) (block : Block) (size align : ℕ) (b : Block) → IsValid old → IsTrue (is_layout size align)
+    → b.align ≡ align → size ≤ block.size
+    → resize (shrinking old block.addr block.size block.align size align) old block.addr size align 0
+    ≡ Some (record { answer = Some b.addr; state = new })
     → IsBlock old (place_of block) → IsAligned new b
 unfolding shrink
 shrunk_aligned old new block size align b valid layout of_align smaller step is =
-    aligned_of old new block size align b of_align (shrink_moved old (place_of block) size align 0 (record { answer = Some b.addr; state = new }) valid is smaller (layout_power size align layout) step)
+    aligned_of old new block size align b of_align
+    (shrink_moved old (place_of block) size align 0 (record { answer = Some b.addr; state = new }) valid is smaller
+    (layout_power size align layout) step)
 
 -- a move that asks for nothing
-pub resized_unasked : (way : Resizing) (old new : Memory) (source : Source) (block : Block) (size align : ℕ) (b : Block) → (IsBlock old.state (place_of block) → IsAligned new.state b)
+pub resized_unasked : (way : Resizing) (old new : Memory) (source : Source) (block : Block) (size align : ℕ) (b : Block)
+    → (IsBlock old.state (place_of block) → IsAligned new.state b)
     → IsResizedUnasked way old new block size align b → ResizesAfter way (view old source) (view new source) block size align 0 (Placed b)
 resized_unasked way old new source block size align b aligned is = record {
   valid = record { entry = is.entry; exit = is.resizes.valid };
@@ -201,9 +226,12 @@ replaced_move s = elim (cases_lt (counted s.allocations 1) (2 ^ 64 - 1)) [
 ]
 
 -- a block was placed anew, and its first bytes were copied: it lies at the cursor
-pub resized_anew : (old mid new : Memory) (before after : Source) (block b : Block) (size align k : ℕ) → PlacesAfter (view old before) (view mid after) size align k (Placed b)
-    → IsTrue (is_readable old.state block) → new.state ≡ mid.state → new.statistics ≡ replaced mid.statistics → Writes mid new b.addr (bytes_from (image mid) block.addr (min block.size size))
-    → ResizesAfter Anew (view old before) (view new after) block size align k (Placed (block_in new.state (cursor_of new.state.chunks) size align))
+pub resized_anew : (old mid new : Memory) (before after : Source) (block b : Block) (size align k : ℕ)
+    → PlacesAfter (view old before) (view mid after) size align k (Placed b)
+    → IsTrue (is_readable old.state block) → new.state ≡ mid.state → new.statistics ≡ replaced mid.statistics
+    → Writes mid new b.addr (bytes_from (image mid) block.addr (min block.size size))
+    → ResizesAfter Anew (view old before) (view new after) block size align k
+    (Placed (block_in new.state (cursor_of new.state.chunks) size align))
 resized_anew old mid new before after block b size align k places readable state statistics bytes =
     let placed = places.outcome in
     let resizes = resized_copied old mid new block b size align (min block.size size) (record {
@@ -218,7 +246,12 @@ resized_anew old mid new before after block b size align k places readable state
     }) in
     let newest = (alloc_newest old.state size align k _ placed.step).1 in
     let is : b ≡ block_in new.state (cursor_of new.state.chunks) size align =
-    rw (state, newest) (λ i. record { generation = placed.of_layout.generation i; addr = b.addr; size = placed.of_layout.of_size i; align = placed.of_layout.of_align i }) in
+    rw (state, newest) (λ i. record {
+      generation = placed.of_layout.generation i;
+      addr = b.addr;
+      size = placed.of_layout.of_size i;
+      align = placed.of_layout.of_align i;
+    }) in
     subst (λ (b : Block). ResizesAfter Anew (view old before) (view new after) block size align k (Placed b)) is (record {
       valid = record { entry = places.valid.entry; exit = resizes.valid };
       outcome = record {
@@ -231,146 +264,3 @@ resized_anew old mid new before after block b size align k places readable state
         frame = resizes.frame;
       };
     })
-
--- ---- Where a block at the cursor moves
-
-pub record IsShrunk (m : ℕ) (memory : Memory) (block : Block) (size align delta : ℕ) : Type 0 where
-  pub last : IsLast m memory block
-  pub fits : delta + size ≤ block.size
-  pub step : delta ≡ shrink_step memory.state block.size size align
-  pub low : start_of memory.state.chunks ≤ block.addr + delta
-  pub aligned : (block.addr + delta) % memory.state.min_align ≡ 0
-
-pub is_shrunk : (m : ℕ) (a : Inside m) (memory : Memory) (block : Block) (size align unit delta : ℕ) → Stands m a → view_of m a ≡ memory → IsTrue (is_readable memory.state block)
-    → block.addr ≡ a.newest.cursor → size ≤ block.size → IsTrue (is_layout size align) → unit ≡ max align m → delta ≡ down (block.size - size) unit → IsShrunk m memory block size align delta
-is_shrunk m a memory block size align unit delta stands view readable here smaller layout units is =
-    let last = is_last m a memory block stands view readable here in
-    let step : delta ≡ shrink_step memory.state block.size size align = is ∙ ap (down (block.size - size)) (units ∙ ap (max align) last.unit) in
-    record {
-      last = last;
-      fits = omega (arith, step, smaller, down_le (block.size - size) (max align memory.state.min_align));
-      step = step;
-      low = omega (arith, last.at, cursor_within memory.state last.valid);
-      aligned = rw step (step_aligned memory.state (record { addr = block.addr; size = block.size; align = block.align }) size align last.valid (layout_power size align layout) last.at);
-    }
-
--- the bytes moved up, and then the cursor
-pub shrunk : (m : ℕ) (old mid new : Memory) (block : Block) (size align delta : ℕ) → IsShrunk m old block size align delta → mid.state ≡ old.state
-    → Writes old mid (block.addr + delta) (bytes_from (image old) block.addr size)
-    → new ≡ record { state = with_cursor (block.addr + delta) mid.state; statistics = one_reallocation mid.statistics; bytes = mid.bytes }
-    → MovesCursor old new block (block.addr + delta) size size
-shrunk m old mid new block size align delta is same bytes moved = record {
-  valid = is.last.valid;
-  at = is.last.at;
-  ends = is.last.ends;
-  low = is.low;
-  aligned = is.aligned;
-  fits = omega (arith, is.fits);
-  shorter = omega arith;
-  state = ap (λ (w : Memory). w.state) moved ∙ ap (with_cursor (block.addr + delta)) same;
-  bytes = λ p. ap (λ (w : Memory). image w p) moved ∙ byte_moved (block.addr + delta) mid.state.chunks mid.bytes p ∙ bytes p;
-}
-
-pub record IsGrown (memory : Memory) (block : Block) (size q : ℕ) : Type 0 where
-  pub valid : IsValid memory.state
-  pub at : block.addr ≡ cursor_of memory.state.chunks
-  pub ends : block.addr + block.size ≤ top_of memory.state.chunks
-  pub low : start_of memory.state.chunks ≤ q
-  pub below : q ≤ block.addr
-  pub fits : q + size ≤ block.addr + block.size
-  pub aligned : q % memory.state.min_align ≡ 0
-
-pub is_grown : (memory : Memory) (block : Block) (size q : ℕ) → IsValid memory.state → IsTrue (is_readable memory.state block) → block.addr ≡ cursor_of memory.state.chunks
-    → IsTrue (is_layout (up size memory.state.min_align - block.size) block.align) → place memory.state (up size memory.state.min_align - block.size) block.align ≡ Some q → IsGrown memory block size q
-is_grown memory block size q valid readable at layout found =
-    let more : ℕ = up size memory.state.min_align - block.size in
-    let spot = is_place (start_of memory.state.chunks) (cursor_of memory.state.chunks) more block.align memory.state.min_align q (start_positive memory.state valid) (layout_power more block.align layout) valid.min_align found in
-    record {
-      valid = valid;
-      at = at;
-      ends = last_ends memory.state block valid readable at;
-      low = spot.low;
-      below = omega (arith, spot.high, at);
-      fits = omega (arith, spot.high, at, up_ge size memory.state.min_align (min_align_positive memory.state.min_align valid.min_align));
-      aligned = spot.min_aligned;
-    }
-
--- with the cursor there all is in use up to the block's end
-pub grown_used : (memory : Memory) (block : Block) (size q p n : ℕ) → IsGrown memory block size q → q ≤ p → p + n ≤ block.addr + block.size → 0 < n
-    → IsTrue (is_range_used (with_cursor q memory.state).chunks p n)
-grown_used memory block size q p n is low high some =
-    let whole : ℕ = block.addr + block.size - q in
-    used_part q whole p n (with_cursor q memory.state).chunks low (omega (arith, is.below)) (used_from q whole memory.state.chunks (omega arith) is.low (omega (arith, is.below, is.ends)))
-
--- the cursor moved down, and then the bytes
-pub grown : (old mid new : Memory) (block : Block) (size q : ℕ) → IsGrown old block size q → block.size ≤ size
-    → mid ≡ record { state = with_cursor q old.state; statistics = old.statistics; bytes = old.bytes }
-    → new.state ≡ mid.state → Writes mid new q (bytes_from (image mid) block.addr block.size) → MovesCursor old new block q size block.size
-grown old mid new block size q is longer moved same bytes = record {
-  valid = is.valid;
-  at = is.at;
-  ends = is.ends;
-  low = is.low;
-  aligned = is.aligned;
-  fits = is.fits;
-  shorter = longer;
-  state = same ∙ ap (λ (w : Memory). w.state) moved;
-  bytes = subst (λ (f : ℕ → ℕ). (a : ℕ) → image new a ≡ written f q (bytes_from f block.addr block.size) a) (ap image moved ∙ bytes_moved q old.state.chunks old.bytes) bytes;
-}
-
--- ---- Shrinking with no request
-
--- where it is
-pub shrunk_still : (memory : Memory) (block : Block) (size align : ℕ) → IsValid memory.state → IsTrue (is_readable memory.state block) → size ≤ block.size
-    → shrinking memory.state block.addr block.size block.align size align ≡ Stays
-    → IsResizedUnasked (shrinking memory.state block.addr block.size block.align size align) memory memory block size align (block_in memory.state block.addr size align)
-shrunk_still memory block size align valid readable smaller way =
-    let all : min block.size size ≡ size = omega arith in
-    rw way (record {
-      entry = valid;
-      step = refl;
-      unasked = refl;
-      statistics = refl;
-      resizes = rw all (resized_still memory block size align size valid readable smaller);
-    })
-
--- down, with the cursor
-pub grown_down : (old mid new : Memory) (block : Block) (size align q : ℕ) → IsGrown old block size q → block.size ≤ size
-    → mid ≡ record { state = with_cursor q old.state; statistics = old.statistics; bytes = old.bytes }
-    → new.state ≡ mid.state → new.statistics ≡ one_reallocation mid.statistics → Writes mid new q (bytes_from (image mid) block.addr block.size)
-    → IsResizedUnasked (Moves q) old new block size align (block_in old.state q size align)
-grown_down old mid new block size align q is longer moved same statistics bytes =
-    let all : min block.size size ≡ block.size = omega arith in
-    let moves = grown old mid new block size q is longer moved same bytes in
-    record {
-      entry = is.valid;
-      step = rw moves.state refl;
-      unasked = refl;
-      statistics = statistics ∙ ap (λ (w : Memory). one_reallocation w.statistics) moved;
-      resizes = rw all (resized_at_cursor old new block q size align block.size moves);
-    }
-
--- that is what the rule has of a block that grows there
-pub grown_answer : (old mid new : Memory) (source : Source) (block b : Block) (size align q : ℕ) → IsGrown old block size q → block.size ≤ size → IsTrue (is_layout size align)
-    → growing old.state block.addr block.size block.align size align ≡ Moves q → mid ≡ record { state = with_cursor q old.state; statistics = old.statistics; bytes = old.bytes }
-    → new.state ≡ mid.state → new.statistics ≡ one_reallocation mid.statistics → Writes mid new q (bytes_from (image mid) block.addr block.size) → b ≡ block_in mid.state q size align
-    → ResizesAfter (growing old.state block.addr block.size block.align size align) (view old source) (view new source) block size align 0 (Placed b)
-grown_answer old mid new source block b size align q down longer layout way moved same statistics bytes answer =
-    let block_is : b ≡ block_in old.state q size align = answer ∙ ap (λ (w : Memory). block_in w.state q size align) moved in
-    let is : IsResizedUnasked (growing old.state block.addr block.size block.align size align) old new block size align b =
-    rw (way, block_is) (grown_down old mid new block size align q down longer moved same statistics bytes) in
-    resized_unasked (growing old.state block.addr block.size block.align size align) old new source block size align b
-    (grown_aligned old.state new.state block size align b is.entry layout is.resizes.of_layout.of_align is.step) is
-
--- up, with the cursor
-pub shrunk_up : (old new : Memory) (block : Block) (size align q : ℕ) → MovesCursor old new block q size size → size ≤ block.size → new.statistics ≡ one_reallocation old.statistics
-    → IsResizedUnasked (Moves q) old new block size align (block_in old.state q size align)
-shrunk_up old new block size align q moves smaller statistics =
-    let all : min block.size size ≡ size = omega arith in
-    record {
-      entry = moves.valid;
-      step = rw moves.state refl;
-      unasked = refl;
-      statistics = statistics;
-      resizes = rw all (resized_at_cursor old new block q size align size moves);
-    }

@@ -2,11 +2,10 @@
 use Rattle.std.proofs.Common.{◌≡◌, ℕ, ◌+◌, ◌<◌, ◌≤◌, ap, refl, sym, ◌∙◌, arith, List, [], ◌∷◌, ◌++◌, Bool, true, false, IsTrue, Option, Some, None, length, take, sum, append_assoc, append-nil}
 use Rattle.std.specs.Prelude.{◌||◌, slice_get}
 use Rattle.std.specs.Option.{option_map}
-use Rattle.std.specs.List.{list_any, flat_map}
+use Rattle.std.specs.List.{list_any}
 use Rattle.std.specs.FinMap as finite
 use Rattle.std.proofs.lemmas.Grind.{common_steps}
-use Rattle.std.proofs.lemmas.List.{map-append, map-id}
-use Rattle.std.proofs.lemmas.List.Concat.{flat_map_single}
+use Rattle.std.proofs.lemmas.List.{map-append}
 use Rattle.std.proofs.lemmas.List.Folds.{list_any-append}
 use Rattle.std.proofs.lemmas.Option.{same_Some, none-some, option_and_then_some}
 use Rattle.placement.specs.State.{IsValid}
@@ -33,7 +32,8 @@ run_more : (m mid next : Machine) (calls : List Call) (call : Call) (ks : List �
     → run_from m calls ks ≡ Some (replies, mid) → step call k mid ≡ Some (reply, next)
     → (run_from m (calls ++ call ∷ []) (ks ++ k ∷ []) ≡ Some (replies ++ reply ∷ [], next))
     × (requests_from m (calls ++ call ∷ []) (ks ++ k ∷ []) ≡ requests_from m calls ks ++ call_requests call k mid)
-    × ((s : Statistics) → statistics_from m (calls ++ call ∷ []) (ks ++ k ∷ []) s ≡ call_statistics call reply mid (statistics_from m calls ks s))
+    × ((s : Statistics) → statistics_from m (calls ++ call ∷ []) (ks ++ k ∷ []) s ≡ call_statistics call reply mid
+    (statistics_from m calls ks s))
 unfolding run_from requests_from statistics_from
 run_more m mid next [] call [] k replies reply ran stepped =
     let same = same_Some {A = List Reply × Machine} ([], m) (replies, mid) ran in
@@ -61,7 +61,8 @@ pub record IsRunning (entry now : View) (names : Held) (noted : Noted) (calls : 
   pub asked : IsAsked entry.source now.source (sum (told replies)) (requests_of entry.memory.state calls (told replies))
   pub statistics : now.memory.statistics ≡ statistics_of entry.memory.state calls (told replies) entry.memory.statistics
   pub tracks : Tracks now.memory.state names noted
-  pub keeps : list_any is_reset calls ≡ false → Keeps entry.memory now.memory names × KeepEntry entry.memory.state now.memory.state noted.marks
+  pub keeps : list_any is_reset calls ≡ false → Keeps entry.memory now.memory names
+      × KeepEntry entry.memory.state now.memory.state noted.marks
 
 pub running_first : (now : View) → IsValid now.memory.state → IsRunning now now finite.empty (record { marks = []; log = [] }) [] []
 unfolding run_from requests_from statistics_from
@@ -76,13 +77,15 @@ running_first now valid = record {
   keeps = λ kept. (none_kept now.memory, tt);
 }
 
-pub running_more : (entry old new : View) (names others : Held) (noted later : Noted) (calls : List Call) (call : Call) (replies : List Reply) (reply : Reply)
+pub running_more : (entry old new : View) (names others : Held) (noted later : Noted) (calls : List Call) (call : Call)
+    (replies : List Reply) (reply : Reply)
     → IsRunning entry old names noted calls replies → ServesRun call reply old new names others noted later
     → IsRunning entry new others later (calls ++ call ∷ []) (replies ++ reply ∷ [])
 running_more entry old new names others noted later calls call replies reply running serves =
     let stepped = serves.steps running.bytes running.held in
     let k : ℕ = refused_of reply in
-    let more = run_more (fresh entry.memory.state) (machine_of old.memory names (named noted.marks) running.bytes) (machine_of new.memory others (named later.marks) stepped.0) calls call (told replies) k replies reply running.ran stepped.1 in
+    let more = run_more (fresh entry.memory.state) (machine_of old.memory names (named noted.marks) running.bytes)
+    (machine_of new.memory others (named later.marks) stepped.0) calls call (told replies) k replies reply running.ran stepped.1 in
     let telling : told (replies ++ reply ∷ []) ≡ told replies ++ k ∷ [] = map-append refused_of replies (reply ∷ []) in
     record {
       bytes = stepped.0;
@@ -90,9 +93,13 @@ running_more entry old new names others noted later calls call replies reply run
       held = stepped.2;
       holds = serves.holds;
       tracks = serves.tracks;
-      asked = rw (telling, total (told replies) k, more.1) (asked_more entry.source old.source new.source (sum (told replies)) k _ _ running.asked (serves.asks.asked (named noted.marks) running.bytes));
-      statistics = rw (telling, more.2 entry.memory.statistics, ← running.statistics) (serves.asks.statistics (named noted.marks) running.bytes);
-      keeps = λ kept. let both = neither (list_any is_reset calls) (is_reset call) (sym (list_any-append is_reset calls (call ∷ [])) ∙ kept) in
+      asked = rw (telling, total (told replies) k, more.1)
+          (asked_more entry.source old.source new.source (sum (told replies)) k _ _ running.asked
+          (serves.asks.asked (named noted.marks) running.bytes));
+      statistics = rw (telling, more.2 entry.memory.statistics, ← running.statistics)
+          (serves.asks.statistics (named noted.marks) running.bytes);
+      keeps = λ kept. let both = neither (list_any is_reset calls) (is_reset call) (sym (list_any-append is_reset calls (call ∷ [])) ∙ kept)
+          in
           let before = running.keeps both.0 in serves.keeps both.1 entry.memory before.0 before.1;
     }
   where
@@ -105,7 +112,9 @@ running_more entry old new names others noted later calls call replies reply run
     neither true b none = cc
 
 -- the machine that the arena and its names are, and what the calls leave beside it
-stands : (entry now : View) (names : Held) (noted : Noted) (calls : List Call) (replies : List Reply) → (running : IsRunning entry now names noted calls replies) → StandsFor now.memory (machine_of now.memory names (named noted.marks) running.bytes)
+stands : (entry now : View) (names : Held) (noted : Noted) (calls : List Call) (replies : List Reply)
+    → (running : IsRunning entry now names noted calls replies)
+    → StandsFor now.memory (machine_of now.memory names (named noted.marks) running.bytes)
 stands entry now names noted calls replies running = record {
   state = refl;
   valid = running.holds.valid;
@@ -117,16 +126,19 @@ stands entry now names noted calls replies running = record {
   bytes = running.held;
 }
 
-leaves : (entry now : View) (names : Held) (noted : Noted) (calls : List Call) (replies : List Reply) → IsRunning entry now names noted calls replies → RunLeaves entry now calls (told replies)
+leaves : (entry now : View) (names : Held) (noted : Noted) (calls : List Call) (replies : List Reply)
+    → IsRunning entry now names noted calls replies → RunLeaves entry now calls (told replies)
 leaves entry now names noted calls replies running = record {
   asked = running.asked;
   statistics = running.statistics;
   kept = λ kept. (running.keeps kept).0.kept;
-  doubling = λ least small made double. run_doubling least (fresh entry.memory.state) calls (told replies) replies _ small double running.ran made;
+  doubling = λ least small made double. run_doubling least (fresh entry.memory.state) calls
+      (told replies) replies _ small double running.ran made;
 }
 
 pub running_over : (entry now : View) (names : Held) (noted : Noted) (calls : List Call) (replies : List Reply) (blocks : List (ℕ × Block))
-    → IsRunning entry now names noted calls replies → blocks ≡ held_blocks now.memory.state.generation names → Runs entry now calls replies blocks
+    → IsRunning entry now names noted calls replies → blocks ≡ held_blocks now.memory.state.generation names
+    → Runs entry now calls replies blocks
 running_over entry now names noted calls replies blocks running held = record {
   last = machine_of now.memory names (named noted.marks) running.bytes;
   ran = running.ran;
@@ -136,9 +148,11 @@ running_over entry now names noted calls replies blocks running held = record {
 }
 
 -- Where the next call, or what is made of the replies, finds no memory: before the first call, at one that takes memory, or after the last.
-pub running_stopped : (entry now : View) (names : Held) (noted : Noted) (calls : List Call) (done : ℕ) (replies : List Reply) → done ≤ length calls
+pub running_stopped : (entry now : View) (names : Held) (noted : Noted) (calls : List Call) (done : ℕ) (replies : List Reply)
+    → done ≤ length calls
     → (running : IsRunning entry now names noted (take done calls) replies)
-    → ((call : Call) → 0 < done → slice_get calls done ≡ Some call → IsTrue (takes_memory call (machine_of now.memory names (named noted.marks) running.bytes)))
+    → ((call : Call) → 0 < done → slice_get calls done ≡ Some call
+    → IsTrue (takes_memory call (machine_of now.memory names (named noted.marks) running.bytes)))
     → (first : RunsFirst entry now calls done) × (first.replies ≡ replies)
 running_stopped entry now names noted calls done replies within running stops = (
   record {
@@ -152,7 +166,3 @@ running_stopped entry now names noted calls done replies within running stops = 
   },
   refl,
 )
-
--- Replies that went into an empty list are that list.
-pub listed : (replies items none : List Reply) → none ≡ [] → items ≡ none ++ flat_map (λ (reply : Reply). reply ∷ []) replies → replies ≡ items
-listed replies items none empty shown = sym (shown ∙ ap (λ xs. xs ++ flat_map (λ (reply : Reply). reply ∷ []) replies) empty ∙ flat_map_single (λ (reply : Reply). reply) replies ∙ map-id replies)

@@ -21,10 +21,12 @@ length-part xs from n fits = grind (arith, common_steps)
 spliced_below : (xs new : List ℕ) (at i : ℕ) → at + length new ≤ length xs → i < at → get_or (splice xs at new) i 0 ≡ get_or xs i 0
 spliced_below xs new at i fits below = grind (arith, common_steps)
 
-spliced_in : (xs new : List ℕ) (at i : ℕ) → at + length new ≤ length xs → at ≤ i → i < at + length new → get_or (splice xs at new) i 0 ≡ get_or new (i - at) 0
+spliced_in : (xs new : List ℕ) (at i : ℕ) → at + length new ≤ length xs → at ≤ i → i < at + length new
+    → get_or (splice xs at new) i 0 ≡ get_or new (i - at) 0
 spliced_in xs new at i fits low high = grind (arith, common_steps)
 
-spliced_past : (xs new : List ℕ) (at i : ℕ) → at + length new ≤ length xs → at + length new ≤ i → get_or (splice xs at new) i 0 ≡ get_or xs i 0
+spliced_past : (xs new : List ℕ) (at i : ℕ) → at + length new ≤ length xs → at + length new ≤ i
+    → get_or (splice xs at new) i 0 ≡ get_or xs i 0
 spliced_past xs new at i fits past = grind (arith, common_steps)
 
 part_index : (xs : List ℕ) (from n i : ℕ) → from + n ≤ length xs → i < n → get_or (take n (drop from xs)) i 0 ≡ get_or xs (from + i) 0
@@ -43,7 +45,8 @@ stored : (xs new : List ℕ) (at : ℕ) → at + length new ≤ length xs → pu
 stored xs new at fits = grind (arith, common_steps, put_chunk_is)
 
 -- One that is read and stored is moved.
-pub moved_part : (xs : List ℕ) (from to n : ℕ) → from + n ≤ length xs → to + n ≤ length xs → put_chunk to xs (chunk from n xs) ≡ moved xs from to n
+pub moved_part : (xs : List ℕ) (from to n : ℕ) → from + n ≤ length xs → to + n ≤ length xs
+    → put_chunk to xs (chunk from n xs) ≡ moved xs from to n
 moved_part xs from to n source target =
     let sized = length-part xs from n source in
     stored xs (take n (drop from xs)) to (omega (arith, sized))
@@ -65,7 +68,8 @@ moved_ends xs from to n k source target part covered =
     grind (arith, cases_lt i to, cases_lt i (to + last), cases_lt i (to + n), by_index))
 
 -- Downwards, a move and then that of the part past it are one.
-pub moved_on : (xs : List ℕ) (from to n k : ℕ) → from + (n + k) ≤ length xs → to ≤ from → moved (moved xs from to n) (from + n) (to + n) k ≡ moved xs from to (n + k)
+pub moved_on : (xs : List ℕ) (from to n k : ℕ) → from + (n + k) ≤ length xs → to ≤ from
+    → moved (moved xs from to n) (from + n) (to + n) k ≡ moved xs from to (n + k)
 moved_on xs from to n k source down =
     let ys = moved xs from to n in
     let sized = length-moved xs from to n (omega arith) (omega arith) in
@@ -86,7 +90,8 @@ moved_back xs from to n m l k target up some part is =
     grind (arith, cases_lt i (to + l), cases_lt i (to + m), by_index))
 
 -- The same, where that part is all that was left.
-pub moved_first : (xs : List ℕ) (from to n m : ℕ) → to + n ≤ length xs → from ≤ to → m ≤ n → moved (moved xs (from + m) (to + m) (n - m)) from to m ≡ moved xs from to n
+pub moved_first : (xs : List ℕ) (from to n m : ℕ) → to + n ≤ length xs → from ≤ to → m ≤ n
+    → moved (moved xs (from + m) (to + m) (n - m)) from to m ≡ moved xs from to n
 moved_first xs from to n m target up some = simp unary_clauses at (moved_back xs from to n m 0 m target up some (omega arith) (omega arith))
 
 -- ---- A move in the last part of a list

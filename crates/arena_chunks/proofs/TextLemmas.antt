@@ -35,13 +35,16 @@ no_texts f xs m block valid = record {
 }
 
 -- One more is written.
-pub one_more_text : {X : Type 0} (f : X → List ℕ) (xs : List X) (i : ℕ) (x : X) (old mid new : Memory) (block : Block) (at : ℕ) → i < length xs → x ≡ get_or xs i x
+pub one_more_text : {X : Type 0} (f : X → List ℕ) (xs : List X) (i : ℕ) (x : X) (old mid new : Memory) (block : Block) (at : ℕ)
+    → i < length xs → x ≡ get_or xs i x
     → HasTexts f xs i old mid block at → WritesBlock mid new block at (f x) → HasTexts f xs (i + 1) old new block (at + length (f x))
 one_more_text f xs i x old mid new block at below is has writes =
     let list : List ℕ = flat_map f (take i xs) in
     let more : list ++ f x ≡ flat_map f (take (i + 1) xs) = flat_map_more f [] (take i xs) x ∙ rw (take_more xs i x below, ← is) refl in
     record {
-      writes = subst (WritesBlock old new block 0) more (writes_more old mid new block 0 list (f x) has.writes (subst (λ (n : ℕ). WritesBlock mid new block n (f x)) (omega (arith, has.reached)) writes));
+      writes = subst (WritesBlock old new block 0) more
+          (writes_more old mid new block 0 list (f x) has.writes
+          (subst (λ (n : ℕ). WritesBlock mid new block n (f x)) (omega (arith, has.reached)) writes));
       reached = ap (λ (n : ℕ). n + length (f x)) has.reached ∙ sym (length-append list (f x)) ∙ ap length more;
     }
 

@@ -27,76 +27,102 @@ use Rattle.arena_chunks.proofs.LayerLemmas.{readable_used}
 pub placed_least : (old new : View) (size align : ℕ) (b : Block) → IsTrue (is_layout size align) → PlacesBlock old new size align (Placed b)
     → used_bytes old.memory.state + size ≤ used_bytes new.memory.state
 placed_least old new size align b layout places =
-    alloc_least old.memory.state new.memory.state size align places.0 b.addr places.1.valid.entry (layout_power size align layout) places.1.outcome.step
+    alloc_least old.memory.state new.memory.state size align places.0 b.addr places.1.valid.entry
+    (layout_power size align layout) places.1.outcome.step
 
 -- It brings less than a unit more.
 pub placed_most : (old new : View) (size align : ℕ) (b : Block) → IsTrue (is_layout size align) → PlacesBlock old new size align (Placed b)
     → used_bytes new.memory.state ≤ used_bytes old.memory.state + size + (unit_of old.memory.state align - 1)
 placed_most old new size align b layout places =
-    alloc_most old.memory.state new.memory.state size align places.0 b.addr places.1.valid.entry (layout_power size align layout) places.1.outcome.step
+    alloc_most old.memory.state new.memory.state size align places.0 b.addr places.1.valid.entry
+    (layout_power size align layout) places.1.outcome.step
 
 -- Whole units below a cursor at a multiple of the unit bring no more, up to alignment 16.
-pub placed_exact : (old new : View) (size align : ℕ) (b : Block) → IsTrue (is_layout size align) → align ≤ 16 → size % unit_of old.memory.state align ≡ 0
+pub placed_exact : (old new : View) (size align : ℕ) (b : Block) → IsTrue (is_layout size align) → align ≤ 16
+    → size % unit_of old.memory.state align ≡ 0
     → cursor_of old.memory.state.chunks % unit_of old.memory.state align ≡ 0 → PlacesBlock old new size align (Placed b)
     → used_bytes new.memory.state ≡ used_bytes old.memory.state + size
 placed_exact old new size align b layout small by below places = go (place old.memory.state size align) refl
   where
     go : (spot : Option ℕ) → place old.memory.state size align ≡ spot → used_bytes new.memory.state ≡ used_bytes old.memory.state + size
     go (Some p) found =
-        alloc_exact old.memory.state new.memory.state size align places.0 b.addr p places.1.valid.entry (layout_power size align layout) found below by places.1.outcome.step
+        alloc_exact old.memory.state new.memory.state size align places.0 b.addr p places.1.valid.entry
+        (layout_power size align layout) found below by places.1.outcome.step
     go None none =
-        alloc_exact_in_new old.memory.state new.memory.state size align places.0 b.addr places.1.valid.entry (layout_power size align layout) none small by places.1.outcome.step
+        alloc_exact_in_new old.memory.state new.memory.state size align places.0 b.addr places.1.valid.entry
+        (layout_power size align layout) none small by places.1.outcome.step
 
 -- ---- A block of another size
 
 -- A block that moves down as it grows brings into use how far it moves.
-moved_used : (old new : View) (block b : Block) (size align q : ℕ) → GrowsBlock old new block size align (Placed b) → growing_of old.memory block size align ≡ Moves q
+moved_used : (old new : View) (block b : Block) (size align q : ℕ) → GrowsBlock old new block size align (Placed b)
+    → growing_of old.memory block size align ≡ Moves q
     → used_bytes new.memory.state ≡ used_bytes old.memory.state + (block.addr - q)
 unfolding grow
 moved_used old new block b size align q grows is =
-    grow_used old.memory.state block.addr block.size block.align size align grows.0 q (record { answer = Some b.addr; state = new.memory.state }) grows.1.valid.entry is grows.1.outcome.step
+    grow_used old.memory.state block.addr block.size block.align size align grows.0 q
+    (record { answer = Some b.addr; state = new.memory.state }) grows.1.valid.entry is grows.1.outcome.step
 
 -- It brings what it grows by.
-pub grown_least : (old new : View) (block b : Block) (size align q : ℕ) → GrowsBlock old new block size align (Placed b) → growing_of old.memory block size align ≡ Moves q
+pub grown_least : (old new : View) (block b : Block) (size align q : ℕ) → GrowsBlock old new block size align (Placed b)
+    → growing_of old.memory block size align ≡ Moves q
     → used_bytes old.memory.state + (size - block.size) ≤ used_bytes new.memory.state
 grown_least old new block b size align q grows is =
-    omega (arith, moved_used old new block b size align q grows is, growth_least old.memory.state block.addr block.size block.align size align q grows.1.valid.entry is)
+    omega (
+      arith,
+      moved_used old new block b size align q grows is,
+      growth_least old.memory.state block.addr block.size block.align size align q grows.1.valid.entry is,
+    )
 
 -- It brings less than the least alignment and less than a unit more.
-pub grown_most : (old new : View) (block b : Block) (size align q : ℕ) → GrowsBlock old new block size align (Placed b) → growing_of old.memory block size align ≡ Moves q
-    → used_bytes new.memory.state ≤ used_bytes old.memory.state + (size - block.size) + (old.memory.state.min_align - 1) + (unit_of old.memory.state block.align - 1)
+pub grown_most : (old new : View) (block b : Block) (size align q : ℕ) → GrowsBlock old new block size align (Placed b)
+    → growing_of old.memory block size align ≡ Moves q
+    → used_bytes new.memory.state ≤ used_bytes old.memory.state + (size - block.size) + (old.memory.state.min_align - 1)
+    + (unit_of old.memory.state block.align - 1)
 grown_most old new block b size align q grows is =
-    omega (arith, moved_used old new block b size align q grows is, growth_most old.memory.state block.addr block.size block.align size align q grows.1.valid.entry is)
+    omega (
+      arith,
+      moved_used old new block b size align q grows is,
+      growth_most old.memory.state block.addr block.size block.align size align q grows.1.valid.entry is,
+    )
 
 -- By whole units, to a multiple of the least alignment, it brings no more.
-pub grown_exact : (old new : View) (block b : Block) (size align q : ℕ) → GrowsBlock old new block size align (Placed b) → growing_of old.memory block size align ≡ Moves q
+pub grown_exact : (old new : View) (block b : Block) (size align q : ℕ) → GrowsBlock old new block size align (Placed b)
+    → growing_of old.memory block size align ≡ Moves q
     → block.addr % block.align ≡ 0 → size % old.memory.state.min_align ≡ 0 → (size - block.size) % unit_of old.memory.state block.align ≡ 0
     → used_bytes new.memory.state ≡ used_bytes old.memory.state + (size - block.size)
 grown_exact old new block b size align q grows is aligned whole by =
     moved_used old new block b size align q grows is
-    ∙ ap (λ (n : ℕ). used_bytes old.memory.state + n) (growth_exact old.memory.state block.addr block.size block.align size align q grows.1.valid.entry is aligned whole by)
+    ∙ ap (λ (n : ℕ). used_bytes old.memory.state + n)
+    (growth_exact old.memory.state block.addr block.size block.align size align q grows.1.valid.entry is aligned whole by)
 
 -- A block that moves up as it shrinks takes out of use how far it moves.
-pub shrunk_used : (old new : View) (block b : Block) (size align q : ℕ) → IsTrue (is_readable old.memory.state block) → ShrinksBlock old new block size align (Placed b)
+pub shrunk_used : (old new : View) (block b : Block) (size align q : ℕ) → IsTrue (is_readable old.memory.state block)
+    → ShrinksBlock old new block size align (Placed b)
     → shrinking_of old.memory block size align ≡ Moves q → used_bytes new.memory.state + (q - block.addr) ≡ used_bytes old.memory.state
 unfolding shrink
 shrunk_used old new block b size align q readable shrinks is =
-    shrink_used old.memory.state (place_of block) size align shrinks.0 q (record { answer = Some b.addr; state = new.memory.state }) shrinks.1.valid.entry
+    shrink_used old.memory.state (place_of block) size align shrinks.0 q
+    (record { answer = Some b.addr; state = new.memory.state }) shrinks.1.valid.entry
     (readable_used old.memory.state block readable) is shrinks.1.outcome.step
 
 -- A block that stays brings nothing into use.
-pub stays_used : (old new : View) (block b : Block) (size align : ℕ) → ResizesBlock Stays old new block size align (Placed b) → used_bytes new.memory.state ≡ used_bytes old.memory.state
+pub stays_used : (old new : View) (block b : Block) (size align : ℕ) → ResizesBlock Stays old new block size align (Placed b)
+    → used_bytes new.memory.state ≡ used_bytes old.memory.state
 stays_used old new block b size align is =
     ap (λ (s : State). used_bytes s)
-    (resize_stays old.memory.state Stays block.addr size align is.0 (record { answer = Some b.addr; state = new.memory.state }) refl is.1.outcome.step)
+    (resize_stays old.memory.state Stays block.addr size align is.0
+    (record { answer = Some b.addr; state = new.memory.state }) refl is.1.outcome.step)
 
 -- A block that is placed anew is a new block.
-pub anew_least : (old new : View) (block b : Block) (size align : ℕ) → IsTrue (is_layout size align) → ResizesBlock Anew old new block size align (Placed b)
+pub anew_least : (old new : View) (block b : Block) (size align : ℕ) → IsTrue (is_layout size align)
+    → ResizesBlock Anew old new block size align (Placed b)
     → used_bytes old.memory.state + size ≤ used_bytes new.memory.state
 anew_least old new block b size align layout is =
     alloc_least old.memory.state new.memory.state size align is.0 b.addr is.1.valid.entry (layout_power size align layout) is.1.outcome.step
 
-pub anew_most : (old new : View) (block b : Block) (size align : ℕ) → IsTrue (is_layout size align) → ResizesBlock Anew old new block size align (Placed b)
+pub anew_most : (old new : View) (block b : Block) (size align : ℕ) → IsTrue (is_layout size align)
+    → ResizesBlock Anew old new block size align (Placed b)
     → used_bytes new.memory.state ≤ used_bytes old.memory.state + size + (unit_of old.memory.state align - 1)
 anew_most old new block b size align layout is =
     alloc_most old.memory.state new.memory.state size align is.0 b.addr is.1.valid.entry (layout_power size align layout) is.1.outcome.step
@@ -108,25 +134,30 @@ given_state : (old new : Memory) (b : Block) → GivesBack old new b → used_by
 given_state old new b gives = ap (λ (w : Memory). used_bytes w.state) gives.memory
 
 -- At the cursor it takes its bytes out of use, up to the next multiple of the least alignment.
-pub returned_used : (old new : Memory) (b : Block) → IsTrue (is_readable old.state b) → GivesBack old new b → b.addr ≡ cursor_of old.state.chunks
+pub returned_used : (old new : Memory) (b : Block) → IsTrue (is_readable old.state b) → GivesBack old new b
+    → b.addr ≡ cursor_of old.state.chunks
     → used_bytes new.state + padded_size old.state.min_align b.addr b.size ≡ used_bytes old.state
 returned_used old new b readable gives at =
     ap (λ (n : ℕ). n + padded_size old.state.min_align b.addr b.size) (given_state old new b gives)
     ∙ dealloc_used old.state (place_of b) gives.valid.entry (readable_used old.state b readable) at
 
 -- At least alignment 1 these are its size.
-pub returned_size : (old new : Memory) (b : Block) → IsTrue (is_readable old.state b) → GivesBack old new b → b.addr ≡ cursor_of old.state.chunks → old.state.min_align ≡ 1
+pub returned_size : (old new : Memory) (b : Block) → IsTrue (is_readable old.state b) → GivesBack old new b
+    → b.addr ≡ cursor_of old.state.chunks → old.state.min_align ≡ 1
     → used_bytes new.state + b.size ≡ used_bytes old.state
 returned_size old new b readable gives at one =
-    let unpadded : padded_size old.state.min_align b.addr b.size ≡ b.size = rw one (padded_exact 1 b.addr b.size (omega arith) (omega arith) (omega arith)) in
+    let unpadded : padded_size old.state.min_align b.addr b.size ≡ b.size =
+    rw one (padded_exact 1 b.addr b.size (omega arith) (omega arith) (omega arith)) in
     ap (λ (n : ℕ). used_bytes new.state + n) (sym unpadded) ∙ returned_used old new b readable gives at
 
 -- Elsewhere it takes none.
-pub returned_elsewhere : (old new : Memory) (b : Block) → GivesBack old new b → b.addr ≢ cursor_of old.state.chunks → used_bytes new.state ≡ used_bytes old.state
+pub returned_elsewhere : (old new : Memory) (b : Block) → GivesBack old new b → b.addr ≢ cursor_of old.state.chunks
+    → used_bytes new.state ≡ used_bytes old.state
 returned_elsewhere old new b gives other = given_state old new b gives ∙ dealloc_used_elsewhere old.state b.addr b.size other
 
 -- A write changes no number.
-pub wrote_used : (old new : Memory) (b : Block) (at : ℕ) (list : List ℕ) → WritesBlock old new b at list → used_bytes new.state ≡ used_bytes old.state
+pub wrote_used : (old new : Memory) (b : Block) (at : ℕ) (list : List ℕ) → WritesBlock old new b at list
+    → used_bytes new.state ≡ used_bytes old.state
 wrote_used old new b at list writes = ap (λ (s : State). used_bytes s) writes.state
 
 -- ---- Chunks that double
@@ -135,16 +166,21 @@ wrote_used old new b at list writes = ap (λ (s : State). used_bytes s) writes.s
 pub placed_doubling : (z : ℕ) (old new : View) (size align k : ℕ) (b : Block) → z ≤ 16320 → PlacesAfter old new size align k (Placed b)
     → IsTrue (is_made_first old.memory.state size align k) → IsDoubling z old.memory.state.chunks → IsDoubling z new.memory.state.chunks
 placed_doubling z old new size align k b small places first double =
-    alloc_doubling z old.memory.state size align k (record { answer = Some b.addr; state = new.memory.state }) small double first places.outcome.step
+    alloc_doubling z old.memory.state size align k (record { answer = Some b.addr; state = new.memory.state }) small double first
+    places.outcome.step
 
 -- So they do after a block was given another size.
-pub resized_doubling : (z : ℕ) (way : Resizing) (old new : View) (block b : Block) (size align k : ℕ) → z ≤ 16320 → ResizesAfter way old new block size align k (Placed b)
-    → IsTrue (is_resize_made_first way old.memory.state size align k) → IsDoubling z old.memory.state.chunks → IsDoubling z new.memory.state.chunks
+pub resized_doubling : (z : ℕ) (way : Resizing) (old new : View) (block b : Block) (size align k : ℕ) → z ≤ 16320
+    → ResizesAfter way old new block size align k (Placed b)
+    → IsTrue (is_resize_made_first way old.memory.state size align k) → IsDoubling z old.memory.state.chunks
+    → IsDoubling z new.memory.state.chunks
 resized_doubling z way old new block b size align k small resizes first double =
-    resize_doubling z way old.memory.state block.addr size align k (record { answer = Some b.addr; state = new.memory.state }) small double first resizes.outcome.step
+    resize_doubling z way old.memory.state block.addr size align k (record { answer = Some b.addr; state = new.memory.state }) small double
+    first resizes.outcome.step
 
 -- So they do after a block was given back.
-pub returned_doubling : (z : ℕ) (old new : Memory) (b : Block) → GivesBack old new b → IsDoubling z old.state.chunks → IsDoubling z new.state.chunks
+pub returned_doubling : (z : ℕ) (old new : Memory) (b : Block) → GivesBack old new b → IsDoubling z old.state.chunks
+    → IsDoubling z new.state.chunks
 returned_doubling z old new b gives double =
     subst (λ (w : Memory). IsDoubling z w.state.chunks) (sym gives.memory) (dealloc_doubling z b.addr b.size old.state double)
 
@@ -158,4 +194,5 @@ one_chunk (newest ∷ (next ∷ older)) fits = absurd fits
 
 -- So a reset keeps all its bytes.
 pub reset_keeps_bytes : (state : State) → IsValid state → state.is_growing ≡ false → allocated_bytes (reset state) ≡ allocated_bytes state
-reset_keeps_bytes state valid still = reset_allocated state ∙ one_chunk state.chunks (subst (λ (b : Bool). FitsKind b state.chunks) still valid.kind)
+reset_keeps_bytes state valid still = reset_allocated state
+    ∙ one_chunk state.chunks (subst (λ (b : Bool). FitsKind b state.chunks) still valid.kind)

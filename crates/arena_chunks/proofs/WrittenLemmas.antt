@@ -17,7 +17,8 @@ bytes_same f g addr n same =
     byte-bytes f addr n i inside ∙ same i inside ∙ sym (byte-bytes g addr n i inside))
 
 -- A list that is written stands there.
-pub bytes_written : (f g : ℕ → ℕ) (addr : ℕ) (list : List ℕ) → ((a : ℕ) → g a ≡ written f addr list a) → bytes_from g addr (length list) ≡ list
+pub bytes_written : (f g : ℕ → ℕ) (addr : ℕ) (list : List ℕ) → ((a : ℕ) → g a ≡ written f addr list a)
+    → bytes_from g addr (length list) ≡ list
 bytes_written f g addr list writes =
     let sized = length-bytes g addr (length list) in
     same_number_lists (bytes_from g addr (length list)) list sized (λ i below.
@@ -55,7 +56,8 @@ bytes_filled f g addr n at value within writes =
     let sized : length list ≡ n - at = length-replicate (n - at) value in
     let old = length-bytes f addr n in
     let none : drop (at + length list) (bytes_from f addr n) ≡ [] = drop_all (at + length list) (bytes_from f addr n) (omega arith) in
-    bytes_spliced f g addr n at list (omega arith) writes ∙ rw (none, take_bytes f addr n at within) (append-nil (bytes_from f addr at ++ list))
+    bytes_spliced f g addr n at list (omega arith) writes
+    ∙ rw (none, take_bytes f addr n at within) (append-nil (bytes_from f addr at ++ list))
 
 -- A part of the bytes in a range.
 pub bytes_within : (f : ℕ → ℕ) (addr n from k : ℕ) → from + k ≤ n → take k (drop from (bytes_from f addr n)) ≡ bytes_from f (addr + from) k
@@ -78,7 +80,8 @@ written_within f addr n at p list within =
           let right : nat_lt (p - addr) (at + length list) ≡ nat_lt p (addr + at + length list) = grind (arith, nat_tests) in
           let index : p - addr - at ≡ p - (addr + at) = omega arith in
           let here : addr + (p - addr) ≡ p = omega arith in
-          rw inside (splice_index (bytes_from f addr n) list at (p - addr) (omega arith) ∙ rw (left, right, index, byte-bytes f addr n (p - addr) (omega arith), here) refl)
+          rw inside (splice_index (bytes_from f addr n) list at (p - addr) (omega arith)
+          ∙ rw (left, right, index, byte-bytes f addr n (p - addr) (omega arith), here) refl)
       | inr beside ↦
           let apart : (nat_le (addr + at) p && nat_lt p (addr + at + length list)) ≡ false = grind (arith, nat_tests) in
           rw (beside, apart) refl

@@ -1,7 +1,7 @@
 -- Marks of an arena's state.
 use Rattle.std.specs.Prelude.{◌≡◌, IsTrue, ℕ, ◌-◌, ◌==◌, ◌&&◌, Bool, List, length, drop}
 use Rattle.placement.specs.State.{State, cursor_of, is_used, is_range_used}
-use Rattle.placement.specs.Back.{Point, back, first_chunks, raised, accepts}
+use Rattle.placement.specs.Back.{Point, back, first_chunks, raised, accepts, KeepsMark}
 use Rattle.arena_chunks.specs.Memory.{Memory, image}
 use Rattle.arena_chunks.specs.BlockCalls.{AreValid}
 use Rattle.arena_chunks.specs.declared.arena.rewind.Checkpoint.{Checkpoint}
@@ -15,6 +15,10 @@ mark_at c = record { chunks = c.chunks; cursor = c.addr }
 -- the arena is of the mark's generation, and its state accepts the mark
 abbrev pub is_accepted : Checkpoint → State → Bool
 is_accepted c state = c.generation == state.generation && accepts (mark_at c) state
+
+-- The arena accepts the mark still, with its part, and what a call leaves in use lies in it, if it did before.
+abbrev pub KeepsCheckpoint : Checkpoint → State → State → Type 0
+KeepsCheckpoint c old new = IsTrue (is_accepted c new) × KeepsMark (mark_at c) old new
 
 -- the bytes of the oldest chunks, so many; the chunks stand newest first
 abbrev pub first_bytes : ℕ → List (List ℕ) → List (List ℕ)

@@ -1,17 +1,17 @@
 -- The marks of a run beside its names, and the log of names that going back to them may end.
-use Rattle.std.specs.Prelude.{◌≡◌, ℕ, ◌<◌, ◌≤◌, ◌⊎◌, ◌==◌, if◌then◌else◌, false, Some, None, IsTrue, List, [], ◌∷◌, map, length, get_or, nat_eq}
-use Rattle.std.specs.Option.{is_some}
+use Rattle.std.specs.Prelude.{◌≡◌, ◌≢◌, ℕ, ◌+◌, ◌-◌, ◌<◌, ◌≤◌, ◌⊎◌, ◌==◌, ◌&&◌, nat_lt, if◌then◌else◌, Bool, true, false, Some, None, IsTrue, List, [], ◌∷◌, ◌++◌, map, take, length, get_or, nat_eq}
+use Rattle.std.specs.Option.{is_some, option_map_or}
 use Rattle.std.specs.List.{AllByRecursion}
 use Rattle.std.specs.HashSet.{HashSet, contains}
 use Rattle.std.specs.FinMap as finite
-use Rattle.placement.specs.State.{State, is_used}
-use Rattle.placement.specs.Back.{back, accepts}
+use Rattle.placement.specs.State.{State, cursor_of, is_used}
+use Rattle.placement.specs.Back.{back, accepts, is_in_part}
 use Rattle.placement.specs.Machine.{Held, Marks, mark_named, is_place_used, is_left}
 use Rattle.placement.specs.declared.place.Place.{Place}
 use Rattle.arena_chunks.specs.Checkpoints.{mark_at}
 use Rattle.arena_chunks.specs.declared.runs.marks.Mark.{Mark}
 
--- The marks stand newest first.
+-- The marks stand newest first, the names of the log oldest first.
 pub record Noted : Type 0 where
   pub marks : List Mark
   pub log : List ℕ
@@ -41,58 +41,70 @@ pub record Knows {S : Type 0} (known : HashSet ℕ S) (marks : List Mark) : Type
 abbrev pub IsNoted : List ℕ → ℕ → ℕ → Type 0
 IsNoted log from name = (i : ℕ) × (from ≤ i) × (i < length log) × (get_or log i 0 ≡ name)
 
--- The arena can go back to the mark, and the log has from there on each name whose block it would lose.
+-- the name's block has some bytes, and begins in the mark's part, or doesn't
+abbrev pub Lies : Bool → State → Held → Mark → ℕ → Type 0
+Lies inside state names m name =
+    (p : Place) × (finite.get names name ≡ Some p) × (0 < p.size) × (is_in_part (mark_at m.checkpoint) state p.addr ≡ inside)
+
+-- The arena can go back to the mark. The log has each name whose block it would lose, behind all names whose blocks it would leave.
 pub record TracksMark (state : State) (names : Held) (log : List ℕ) (m : Mark) : Type 0 where
   pub generation : m.checkpoint.generation ≡ state.generation
   pub accepted : IsTrue (accepts (mark_at m.checkpoint) state)
-  pub within : m.noted ≤ length log
-  pub lost : (q : ℕ) (p : Place) → finite.get names q ≡ Some p → is_place_used (back (mark_at m.checkpoint) state) p ≡ false
-      → IsNoted log m.noted q
+  pub noted : (name : ℕ) → Lies false state names m name → IsNoted log 0 name
+  pub behind : (i : ℕ) → i < length log → Lies true state names m (get_or log i 0) → (name : ℕ) → Lies false state names m name
+      → IsNoted log (i + 1) name
 
 -- a mark that was set before another
 abbrev pub IsOlder : Mark → Mark → Type 0
-IsOlder m older = (older.checkpoint.chunks ≤ m.checkpoint.chunks) × (older.noted ≤ m.noted)
+IsOlder m older = older.checkpoint.chunks ≤ m.checkpoint.chunks
 
 abbrev pub AreTracked : State → Held → List ℕ → List Mark → Type 0
 AreTracked state names log [] = Unit {0}
-AreTracked state names log (m ∷ older) = TracksMark state names log m × AllByRecursion (IsOlder m) older × AreTracked state names log older
+AreTracked state names log (m ∷ older) =
+    TracksMark state names log m × AllByRecursion (IsOlder m) older × AreTracked state names log older
 
 abbrev pub Tracks : State → Held → Noted → Type 0
 Tracks state names noted = AreTracked state names noted.log noted.marks
 
 -- what was in use at entry lies in each mark's part
 abbrev pub KeepEntry : State → State → List Mark → Type 0
-KeepEntry entry state marks =
-    AllByRecursion (λ (m : Mark). (addr : ℕ) → IsTrue (is_used entry addr) → IsTrue (is_used (back (mark_at m.checkpoint) state) addr)) marks
+KeepEntry entry state marks = AllByRecursion (λ (m : Mark). (addr : ℕ)
+    → IsTrue (is_used entry addr) → IsTrue (is_used (back (mark_at m.checkpoint) state) addr)) marks
 
 -- ---- One call
 
--- Of a call on no mark: where there are marks the log goes on, and has each name that holds another block than before.
-pub record Notes (names held : Held) (old new : Noted) : Type 0 where
-  pub marks : new.marks ≡ old.marks
-  pub longer : 0 < length old.marks → length old.log ≤ length new.log
-  pub before : 0 < length old.marks → (i : ℕ) → i < length old.log → get_or new.log i 0 ≡ get_or old.log i 0
-  pub changed : 0 < length old.marks → (q : ℕ) (p : Place) → finite.get held q ≡ Some p
-      → (finite.get names q ≡ Some p) ⊎ IsNoted new.log (length old.log) q
+-- each name holds a first part of what it held, or nothing
+abbrev pub AreWithin : Held → Held → Type 0
+AreWithin names held = (name : ℕ) (p : Place) → finite.get held name ≡ Some p
+    → (before : Place) × (finite.get names name ≡ Some before) × (before.addr ≡ p.addr) × (p.size ≤ before.size)
 
--- Names in the log from an index on whose blocks aren't left are let go; the log keeps the others.
-pub record KeepsLeft (state : State) (names held : Held) (from : ℕ) (log later : List ℕ) : Type 0 where
-  pub long : from ≤ length later
-  pub before : (i : ℕ) → i < from → get_or later i 0 ≡ get_or log i 0
+-- the name's block lies at the cursor, if it has some bytes, and the others hold what they held
+pub record IsAtCursor (state : State) (names held : Held) (name : ℕ) : Type 0 where
+  pub own : (p : Place) → finite.get held name ≡ Some p → 0 < p.size → p.addr ≡ cursor_of state.chunks
+  pub rest : (q : ℕ) → q ≢ name → finite.get held q ≡ finite.get names q
+
+-- Of a call on no mark: where there are marks, the log has one name more if its block was placed at the cursor, and is as it was if
+-- no block was placed.
+pub record Notes (state : State) (names held : Held) (old new : Noted) : Type 0 where
+  pub marks : new.marks ≡ old.marks
+  pub log : 0 < length old.marks → ((new.log ≡ old.log) × AreWithin names held)
+      ⊎ ((name : ℕ) × (new.log ≡ old.log ++ name ∷ []) × IsAtCursor state names held name)
+
+-- the name's block is in use, and has some bytes
+abbrev pub stands : State → Held → ℕ → Bool
+stands state names name = option_map_or (λ (p : Place). nat_lt 0 p.size && is_place_used state p) (finite.get names name) false
+
+-- Names whose blocks aren't left were let go, of those that the log has from an index on: of these no one holds some bytes.
+pub record LetsGo (state : State) (names held : Held) (from : ℕ) (log : List ℕ) : Type 0 where
+  pub within : from ≤ length log
   pub left : (q : ℕ) → IsTrue (is_left state names q) → finite.get held q ≡ finite.get names q
   pub less : (q : ℕ) (p : Place) → finite.get held q ≡ Some p → finite.get names q ≡ Some p
-  pub gone : (q : ℕ) → is_left state names q ≡ false → IsNoted log from q → finite.get held q ≡ None
-  pub noted : (q : ℕ) → IsNoted log from q → (finite.get held q ≡ None) ⊎ IsNoted later from q
+  pub ended : (q : ℕ) (p : Place) → IsNoted log from q → finite.get held q ≡ Some p → p.size ≡ 0
 
--- the same from the newest mark on, which then stands behind what the log has
-abbrev pub noted_of : List Mark → ℕ
-noted_of [] = 0
-noted_of (m ∷ older) = m.noted
-
-abbrev pub with_noted : ℕ → List Mark → List Mark
-with_noted n [] = []
-with_noted n (m ∷ older) = record m { noted = n } ∷ older
-
+-- That came to an end before the log's first name, or behind one whose block is left.
 pub record Forgets (state : State) (names held : Held) (old new : Noted) : Type 0 where
-  pub marks : new.marks ≡ with_noted (length new.log) old.marks
-  pub keeps : KeepsLeft state names held (noted_of old.marks) old.log new.log
+  pub marks : new.marks ≡ old.marks
+  pub from : ℕ
+  pub log : new.log ≡ take from old.log
+  pub lets : LetsGo state names held from old.log
+  pub over : 0 < from → IsTrue (stands state held (get_or old.log (from - 1) 0))

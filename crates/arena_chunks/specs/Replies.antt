@@ -1,5 +1,5 @@
--- Replies by their length.
-use Rattle.std.specs.Prelude.{Bool, true, false}
+-- Replies by their length, and what takes them.
+use Rattle.std.specs.Prelude.{Bool, true, false, List, ◌++◌}
 use Rattle.placement.specs.declared.calls.Reply.{Reply}
 use Rattle.placement.specs.declared.calls.Reply.TheVariants.{Bytes}
 
@@ -7,3 +7,11 @@ use Rattle.placement.specs.declared.calls.Reply.TheVariants.{Bytes}
 abbrev pub has_bytes : Reply → Bool
 has_bytes (Bytes bytes) = true
 has_bytes reply = false
+
+-- what had taken some replies has taken no others since
+abbrev pub StillTaken : {T : Type 0} → (T → List Reply → Type 0) → T → T → Type 0
+StillTaken has_taken old new = (list : List Reply) → has_taken old list → has_taken new list
+
+-- what had taken some replies has taken these behind them
+abbrev pub TakesMore : {T : Type 0} → (T → List Reply → Type 0) → T → T → List Reply → Type 0
+TakesMore has_taken old new more = (list : List Reply) → has_taken old list → has_taken new (list ++ more)

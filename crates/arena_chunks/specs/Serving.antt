@@ -1,5 +1,5 @@
 -- What one call after another does to an arena and its names.
-use Rattle.std.specs.Prelude.{◌≡◌, ◌≢◌, ℕ, false, Some, IsTrue}
+use Rattle.std.specs.Prelude.{◌≡◌, ◌≢◌, ℕ, ◌-◌, nat_lt, Bool, false, Option, Some, None, replicate, IsTrue}
 use Rattle.std.specs.FinMap as finite
 use Rattle.placement.specs.State.{State, IsValid, is_used, AreApart}
 use Rattle.placement.specs.Back.{Point, accepts, KeepsMark}
@@ -7,13 +7,18 @@ use Rattle.placement.specs.Blocks.{IsBlock, padded_size}
 use Rattle.placement.specs.Machine.{Machine, Held, Contents, Marks, step, refused_of, is_reset}
 use Rattle.placement.specs.Requests.{call_requests, takes_memory}
 use Rattle.placement.specs.Statistics.{call_statistics}
+use Rattle.placement.specs.Moves.{Resizing, growing, shrinking}
 use Rattle.placement.specs.declared.place.Place.{Place}
 use Rattle.placement.specs.declared.calls.Call.{Call}
+use Rattle.placement.specs.declared.calls.Call.TheVariants.{Grow, Shrink}
 use Rattle.placement.specs.declared.calls.Reply.{Reply}
 use Rattle.arena_chunks.specs.Memory.{Memory, KeepsUsed}
-use Rattle.arena_chunks.specs.Source.{View, IsAsked}
-use Rattle.arena_chunks.specs.Runs.{HoldsBytes}
-use Rattle.arena_chunks.specs.Marks.{Noted, named, Tracks, KeepEntry}
+use Rattle.arena_chunks.specs.Source.{View, view, IsAsked}
+use Rattle.arena_chunks.specs.Answers.{Answer, OnAnswer}
+use Rattle.arena_chunks.specs.BlockCalls.{ResizesAfter, WritesBlock}
+use Rattle.arena_chunks.specs.Runs.{HoldsBytes, block_at}
+use Rattle.arena_chunks.specs.declared.block.Block.{Block}
+use Rattle.arena_chunks.specs.Marks.{Noted, named, Tracks, KeepEntry, Notes}
 
 -- the machine that an arena, its names, their bytes and some marks are
 abbrev pub machine_of : Memory → Held → Marks → Contents → Machine
@@ -57,6 +62,11 @@ pub record Serves (call : Call) (reply : Reply) (old new : View) (names held : H
   pub keeps : (entry : Memory) → Keeps entry old.memory names → Keeps entry new.memory held
   pub marks : (mark : Point) → IsTrue (accepts mark old.memory.state) → KeepsMark mark old.memory.state new.memory.state
 
+-- a call that may place a block, and what the log then has
+abbrev pub ServesNoting : Call → Reply → View → View → Held → Held → Noted → Noted → Type 0
+ServesNoting call reply old new names held noted later =
+    Serves call reply old new names held × Notes new.memory.state names held noted later
+
 -- The call of a run is the machine's step, with the marks that there are; and what going back to these needs stays known. What
 -- was kept since any entry is kept, and lies in each mark's part, unless all blocks are given back.
 pub record ServesRun (call : Call) (reply : Reply) (old new : View) (names held : Held) (noted later : Noted) : Type 0 where
@@ -75,3 +85,31 @@ pub record ServesRun (call : Call) (reply : Reply) (old new : View) (names held 
 pub record Wants (call : Call) (old new : View) (names : Held) (marks : Marks) : Type 0 where
   pub takes : (bytes : Contents) → IsTrue (takes_memory call (machine_of old.memory names marks bytes))
   pub same : new ≡ old
+
+-- ---- A block of another size: a greater one, where a byte is given that fills what is new, or a smaller one
+
+abbrev pub resizing : Option ℕ → ℕ → ℕ → ℕ → Call
+resizing (Some fill) name size align = Grow name size align fill
+resizing None name size align = Shrink name size align
+
+-- the size is on the wrong side of the block's
+abbrev pub is_wrong : Option ℕ → ℕ → ℕ → Bool
+is_wrong (Some fill) had size = nat_lt size had
+is_wrong None had size = nat_lt had size
+
+-- what becomes of the block at a place
+abbrev pub way_of : Option ℕ → State → Place → ℕ → ℕ → Resizing
+way_of (Some fill) state p size align = growing state p.addr p.size p.align size align
+way_of None state p size align = shrinking state p.addr p.size p.align size align
+
+-- what is new of a block that had so many bytes has the byte
+abbrev pub Fills : Option ℕ → Memory → Memory → ℕ → Block → Type 0
+Fills (Some fill) mid new had b = WritesBlock mid new b had (replicate (b.size - had) fill)
+Fills None mid new had b = new ≡ mid
+
+-- The block at a place is given the layout, where k requests are refused, and then what is new of it is filled.
+pub record ResizesFilling (fill : Option ℕ) (old new : View) (p : Place) (size align k : ℕ) (answer : Answer) : Type 0 where
+  pub mid : Memory
+  pub resizes : ResizesAfter (way_of fill old.memory.state p size align) old (view mid new.source)
+      (block_at old.memory.state.generation p) size align k answer
+  pub fills : OnAnswer answer (Fills fill mid new.memory p.size) (λ refused. new.memory ≡ mid) (new.memory ≡ mid)

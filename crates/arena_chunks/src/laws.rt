@@ -4,10 +4,12 @@ mod asking;
 mod blocks;
 mod calls;
 mod framing;
+mod marking;
 mod used;
 
 pub use asking::{asks, full, starved};
 pub use blocks::{all_apart, apart, bytes, readable};
 pub use calls::{given_back, placed, resized, written};
 pub use framing::frames;
+pub use marking::marks;
 pub use used::{doubling, used_by_giving_back, used_by_placing, used_by_resizing};

@@ -85,7 +85,8 @@ asks_least [] old new bs fit asked = omega (arith, ap used_bytes asked.2.state)
 asks_least (Room size align ∷ xs) old new bs fit asked =
     takes_least fit.0 asked (least_bytes xs) refl (λ between rest more. asks_least xs between new rest fit.1 more)
 asks_least (Table pairs slot align ∷ xs) old new bs fit (slots, are, asked) =
-    let least = takes_least (fit.0 slots are) asked (least_bytes xs) refl (λ between rest more. asks_least xs between new rest fit.1 more) in
+    let least = takes_least (fit.0 slots are) asked (least_bytes xs) refl (λ between rest more. asks_least xs between new rest fit.1 more)
+    in
     omega (arith, least, slots_least pairs slots slot are)
 asks_least (NoBytes ∷ xs) old new bs fit (b, rest, none, is, more) = omega (arith, asks_least xs old new rest fit.1 more)
 asks_least (Empty align ∷ xs) old new bs fit (rest, is, more) = omega (arith, asks_least xs old new rest fit.1 more)

@@ -41,6 +41,12 @@ pub apart_turned : (bs cs others : List Block) → IsPermutation bs cs → AreAl
 apart_turned bs cs others same apart = apart_from cs others
     (all_in_order (λ (b : Block). IsApart b.addr b.size others) bs cs same (apart_to bs others apart))
 
+-- The blocks of some lists are the blocks of each.
+pub apart_front : (bs cs others : List Block) → AreAllApart (bs ++ cs) others → AreAllApart bs others × AreAllApart cs others
+apart_front [] cs others apart = (tt, apart)
+apart_front (b ∷ bs) cs others apart =
+    let rest = apart_front bs cs others apart.1 in ((apart.0, rest.0), rest.1)
+
 -- ---- Values beside a call
 
 module _ {T : Type 0} {kind : Kind T} (is : IsLawful kind) {old new : Memory} {before after : List Block}
@@ -99,11 +105,6 @@ apart_of_none (b ∷ bs) = (tt, apart_of_none bs)
 pub placed_stays : {T : Type 0} {kind : Kind T} (is : IsLawful kind) {old new : Memory} {blocks : List Block} (v : T)
     → Frame old new [] blocks → kind.is_held old v → StaysWhole kind old new blocks v
 placed_stays {kind} is {old} v frame held = deep_stays is frame v held (apart_of_none (kind.deep old v))
-
-pub copies_placed : {T : Type 0} {kind : Kind T} (is : IsLawful kind) {old mid : Memory} {blocks : List Block} → Frame old mid [] blocks
-    → (ids : CloneInSemanticIds) (v : T) {to new : View} {result : Result T AllocError} → kind.is_held old v
-    → Copies kind ids mid to new v result → Copies kind ids old to new v result
-copies_placed {kind} is {old} frame ids v held copies = copies_earlier is frame ids v held (apart_of_none (kind.deep old v)) copies
 
 -- Readable blocks lie apart from those that a call places.
 pub beside_new : (old new : Memory) (bs after : List Block) → AreReadable old.state bs → Frame old new [] after → AreAllApart bs after

@@ -1,12 +1,12 @@
 -- Values whose bytes are copied in one move of memory.
-use Rattle.std.proofs.Common.{◌≡◌, ℕ, ◌*◌, ◌≤◌, refl, List, [], Ok, take, arith, IsTrue, subst, sym}
+use Rattle.std.proofs.Common.{◌≡◌, ℕ, ◌*◌, ◌≤◌, refl, List, [], Ok, arith, IsTrue, subst, sym}
 use Rattle.std.specs.Prelude.{IsPermutation}
 use Rattle.std.proofs.lemmas.List.Sorted.{IsPermutation-refl}
-use Rattle.arena_chunks.specs.Memory.{Memory, image, is_readable}
+use Rattle.arena_chunks.specs.Memory.{Memory, image, bytes_from, is_readable}
 use Rattle.arena_chunks.specs.Source.{View}
 use Rattle.arena_chunks.specs.BlockCalls.{WritesBlock}
 use Rattle.arena_chunks.specs.declared.block.Block.{Block}
-use Rattle.arena_chunks.proofs.Layers.{length-bytes, take_bytes, wrote_first, wrote_readable}
+use Rattle.arena_chunks.proofs.Layers.{length-bytes, wrote_first, wrote_readable}
 use Rattle.arena_items.specs.Values.{bytes_of, elements}
 use Rattle.arena_items.proofs.Layers.{values_kept, wrote_same}
 use Rattle.arena_clone.specs.Kinds.{Kind, row_of}
@@ -43,10 +43,9 @@ module _ {T : Type 0} (kind : Kind T) (ids : CloneInSemanticIds) (flat : IsFlat 
 
 -- The first values of a block whose front was written with the front of another.
 pub front_written : {T : Type 0} (dec : List ℕ → T) (source old new : Memory) (from target : Block) (size n : ℕ)
-    → n * size ≤ from.size → n * size ≤ target.size → WritesBlock old new target 0 (take (n * size) (bytes_of source from))
+    → n * size ≤ from.size → n * size ≤ target.size → WritesBlock old new target 0 (bytes_from (image source) from.addr (n * size))
     → elements size dec n (bytes_of new target) ≡ elements size dec n (bytes_of source from)
 front_written dec source old new from target size n within room writes =
-    let front = take_bytes (image source) from.addr from.size (n * size) within in
     let long = length-bytes (image source) from.addr (n * size) in
-    let wrote = rw (front, long) at (wrote_first old new target (take (n * size) (bytes_of source from)) writes) in
+    let wrote = rw long at (wrote_first old new target (bytes_from (image source) from.addr (n * size)) writes) in
     values_kept dec source new from target size n (n * size) (omega arith) within room wrote

@@ -1,6 +1,21 @@
 -- The lemmas that a crate above cites: what calls leave of values at every depth, and values that are made of parts.
 pub use Rattle.arena_clone.proofs.AsksLemmas.{same_places, same_asked, asked_then, asked_refused, asked_same}
-pub use Rattle.arena_clone.proofs.CopyLemmas.{deep_agree, deep_stays, placed_stays, copies_earlier, made_stays, made_readable, apart_of_none, beside_new, frame_more, places_then, places_refused, makes_none, makes_one, makes_refused}
+pub use Rattle.arena_clone.proofs.CopyLemmas.{
+  deep_agree,
+  deep_stays,
+  placed_stays,
+  copies_earlier,
+  made_stays,
+  made_readable,
+  apart_of_none,
+  beside_new,
+  frame_more,
+  places_then,
+  places_refused,
+  makes_none,
+  makes_one,
+  makes_refused,
+}
 pub use Rattle.arena_clone.proofs.LawLemmas.{all_turned}
 pub use Rattle.arena_clone.proofs.BoxLemmas.{makes_box}
 pub use Rattle.arena_clone.proofs.BothLemmas.{makes_both, second_refused}

@@ -1,9 +1,10 @@
 mod AsksLemmas
 mod AskBytesLemmas
+mod ListBytesLemmas
 mod CopyLemmas
 mod FlatLemmas
 mod RowLemmas
-mod WithinLemmas
+mod OriginLemmas
 mod ThroughLemmas
 mod AlikeLemmas
 mod LawLemmas
@@ -12,10 +13,11 @@ mod LayoutLemmas
 mod SliceLemmas
 mod VectorLemmas
 mod CopiedLemmas
+mod BuilderLemmas
 mod PairLemmas
 mod FiniteLemmas
 mod PutLemmas
-mod PutWithinLemmas
+mod PutOriginLemmas
 mod MapLemmas
 mod TableLemmas
 mod BothLemmas

@@ -33,9 +33,8 @@ use Rattle.arena_clone.specs.MapCopies.{HoldsCopies, PutsCopies}
 use Rattle.arena_clone.specs.Copies.{Copies}
 use Rattle.arena_clone.specs.Rows.{CopiesRow}
 use Rattle.arena_clone.specs.declared.ids.CloneInSemanticIds.{CloneInSemanticIds}
-use Rattle.arena_clone.proofs.CopyLemmas.{apart_of_none, apart_to, apart_turned, deep_agree}
+use Rattle.arena_clone.proofs.CopyLemmas.{apart_front, apart_of_none, apart_to, apart_turned, deep_agree}
 use Rattle.arena_clone.proofs.RowLemmas.{take_more, cut_at, row_none, row_refused, row_added, made_between, apart_between}
-use Rattle.arena_clone.proofs.WithinLemmas.{apart_front}
 use Rattle.arena_clone.proofs.FiniteLemmas.{AreOthers, none_found, found_more, once_others}
 
 module _ {K V S : Type 0} (k : MapTypes K V S) {keys : Kind K} {values : Kind V} (keeps : KeepsContent k.key keys) (one : IsLawful keys)

@@ -4,9 +4,9 @@ use Rattle.std.specs.Prelude.{Result, IsPermutation}
 use Rattle.std.proofs.lemmas.List.Sorted.{IsPermutation-cons, IsPermutation-refl}
 use Rattle.arena_chunks.specs.Memory.{Memory, is_readable}
 use Rattle.arena_chunks.specs.Source.{View}
-use Rattle.arena_chunks.specs.Frame.{Frame, AreAllApart, Stays}
+use Rattle.arena_chunks.specs.Frame.{Frame}
 use Rattle.arena_chunks.specs.declared.block.Block.{Block}
-use Rattle.arena_chunks.proofs.Layers.{frame_then, frame_keeps_new}
+use Rattle.arena_chunks.proofs.Layers.{frame_then}
 use Rattle.arena_items.specs.Values.{bytes_of, elements}
 use Rattle.arena_items.specs.declared.item.Item.{Ghosts}
 use Rattle.arena_items.specs.declared.room.AllocError.{AllocError}
@@ -15,11 +15,13 @@ use Rattle.arena_vec.specs.Held.{empty_block}
 use Rattle.arena_clone.specs.Asks.Ask.{Empty}
 use Rattle.arena_clone.specs.Kinds.{Kind, plain, row_of, row_in}
 use Rattle.arena_clone.specs.KindLaws.{IsLawful, row_lawful}
-use Rattle.arena_clone.specs.Copies.{Copies, MakesNew, StaysWhole}
+use Rattle.arena_clone.specs.Copies.{Copies, MakesNew}
+use Rattle.arena_clone.specs.Origins.{IsKept, IsOrigin, AreBeside}
 use Rattle.arena_clone.specs.Rows.{CopiesRow}
 use Rattle.arena_clone.specs.declared.ids.CloneInSemanticIds.{CloneInSemanticIds}
 use Rattle.arena_clone.proofs.AsksLemmas.{asked_then}
-use Rattle.arena_clone.proofs.CopyLemmas.{apart_of_none, makes_empty, deep_agree, placed_stays, places_refused}
+use Rattle.arena_clone.proofs.CopyLemmas.{makes_empty, places_refused}
+use Rattle.arena_clone.proofs.OriginLemmas.{placed_held, placed_beside, placed_agrees}
 
 module _ {V T : Type 0} (item : Ghosts T) (kind : Kind T) (block : V → Block) (is_in : Memory → V → Type 0)
     (values : Memory → V → List T) (is_trim : V → Type 0) (ask : V → Ask) (ids : CloneInSemanticIds) (source : Memory) {old : View}
@@ -76,40 +78,41 @@ makes_no_values item block is_in values is_trim ask align a w held at none trim 
           (IsPermutation-refl (empty_block align ∷ [])));
     })
 
--- ---- Within one arena
+-- ---- Beside the block that is placed for them
 
-module _ {T : Type 0} (item : Ghosts T) {kind : Kind T} (is : IsLawful kind) {old now : Memory} {target : Block} (from : Block) (n : ℕ)
-    (frame : Frame old now [] (target ∷ [])) (readable : IsTrue (is_readable old.state from))
-    (held : (row_of kind).is_held old (elements item.SIZE item.decoded n (bytes_of old from))) where
+module _ {there : Memory → Memory} {is_beside : Block → List Block → Type 0} (origin : IsOrigin there is_beside) {T : Type 0}
+    (item : Ghosts T) {kind : Kind T} (is : IsLawful kind) {old now : Memory} {target : Block} (from : Block) (n : ℕ)
+    (frame : Frame old now [] (target ∷ [])) (readable : IsTrue (is_readable (there old).state from))
+    (held : (row_of kind).is_held (there old) (elements item.SIZE item.decoded n (bytes_of (there old) from))) where
   abbrev values_in : Memory → List T
-  values_in m = elements item.SIZE item.decoded n (bytes_of m from)
+  values_in m = elements item.SIZE item.decoded n (bytes_of (there m) from)
 
-  -- When a block is placed, values and their own block are what they were,
-  pub from_stays : Stays old now (target ∷ []) from
-  from_stays = frame_keeps_new old now (target ∷ []) from frame readable
+  -- Values and their own block are what they were,
+  pub from_kept : IsKept (there old) (there now) (is_beside from (target ∷ [])) from
+  from_kept = origin.kept old now [] (target ∷ []) from frame readable (origin.none from)
 
-  row_stays : StaysWhole (row_of kind) old now (target ∷ []) (values_in old)
-  row_stays = placed_stays (row_lawful kind is) (values_in old) frame held
+  pub row_held : (row_of kind).is_held (there now) (values_in now)
+  row_held = rw (sym from_kept.bytes) (placed_held origin frame (row_lawful kind is) (values_in old) held)
 
-  pub row_held : (row_of kind).is_held now (values_in now)
-  row_held = rw from_stays.bytes row_stays.held
-
-  -- and lie apart from it.
-  pub row_apart : AreAllApart (from ∷ (row_of kind).deep now (values_in now)) (target ∷ [])
-  row_apart = (from_stays.apart, rw from_stays.bytes row_stays.apart)
+  -- and stand beside it.
+  pub row_beside : AreBeside is_beside (from ∷ (row_of kind).deep (there now) (values_in now)) (target ∷ [])
+  row_beside =
+      (from_kept.beside, rw (sym from_kept.bytes) (placed_beside origin frame (row_lawful kind is) (values_in old) held))
 
   -- So copies of them are copies of what they were.
   pub row_before : {X : Type 0} {ids : CloneInSemanticIds} {mid new : View} {ys : List T} {r : Result X AllocError}
-      → CopiesRow kind ids now mid new target (values_in now) ys r → CopiesRow kind ids old mid new target (values_in old) ys r
+      → CopiesRow kind ids (there now) mid new target (values_in now) ys r
+      → CopiesRow kind ids (there old) mid new target (values_in old) ys r
   row_before {X} {ids} {mid} {new} {ys} {r} row =
-      let here : CopiesRow {X = X} kind ids now mid new target (values_in old) ys r = rw from_stays.bytes at row in
-      let apart = apart_of_none ((row_of kind).deep old (values_in old)) in
-      let asks = (row_lawful kind is).asks old now (values_in old) (deep_agree (row_lawful kind is) frame (values_in old) held apart) in
+      let here : CopiesRow {X = X} kind ids (there now) mid new target (values_in old) ys r = rw (sym from_kept.bytes) at row in
+      let agree = placed_agrees origin frame (row_lawful kind is) (values_in old) held in
+      let asks = (row_lawful kind is).asks (there old) (there now) (values_in old) agree in
+      let whole = (row_lawful kind is).whole (there old) (there now) (values_in old) agree in
       record {
         blocks = here.blocks;
         asked = rw asks at here.asked;
         apart = here.apart;
         frame = here.frame;
         readable = here.readable;
-        made = rw row_stays.whole at here.made;
+        made = rw whole at here.made;
       }

@@ -59,7 +59,7 @@ new_trim Overflows cap n c none to is enough = omega arith
 
 module _ {X : Type 0} (f : X → Block) (size align cap : ℕ) (old new : View) where
   -- Room that is made where there was none is one thing that is asked for.
-  made_asked : (growth : Growth) → ((more : ℕ) → growth ≡ GrowsTo more → cap ≡ 0) → (result : Result X AllocError)
+  pub made_asked : (growth : Growth) → ((more : ℕ) → growth ≡ GrowsTo more → cap ≡ 0) → (result : Result X AllocError)
       → MakesRoom size align old new (empty_block align) cap growth f result → OnErr result (new.memory ≡ old.memory)
       → AsksFor (ask_by size align growth ∷ []) old new (block_of f result) (refusal result)
   made_asked Stays none (Ok x) made same = ([], ap (λ b. b ∷ []) made.0, (refl, refl, made.1))

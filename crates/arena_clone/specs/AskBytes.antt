@@ -1,9 +1,10 @@
 -- How many bytes what a call asks of its arena brings into use.
-use Rattle.std.specs.Prelude.{ℕ, ◌+◌, ◌-◌, ◌*◌, max, List, [], ◌∷◌, IsTrue}
+use Rattle.std.specs.Prelude.{◌≡◌, ℕ, ◌+◌, ◌-◌, ◌*◌, ◌≤◌, max, Option, Some, None, List, [], ◌∷◌, IsTrue}
 use Rattle.std.specs.List.{AllByRecursion}
 use Rattle.placement.specs.Rounding.{is_layout}
 use Rattle.placement.specs.State.{used_bytes}
 use Rattle.arena_chunks.specs.Source.{View}
+use Rattle.arena_items.specs.declared.room.AllocError.{AllocError}
 use Rattle.arena_hash.specs.Policy.{IsSlotsFor}
 use Rattle.arena_clone.specs.Asks.{Ask}
 use Rattle.arena_clone.specs.Asks.Ask.{Room, Table, NoBytes, Empty, TooMuch}
@@ -46,3 +47,9 @@ most_bytes (ask ∷ asks) = most_of ask + most_bytes asks
 
 abbrev pub used : View → ℕ
 used a = used_bytes a.memory.state
+
+-- A call brings so many bytes into use, and at most 15 before them. Refused, it leaves the arena's state as it was.
+pub record BringsBytes (bytes : ℕ) (old new : View) (end : Option AllocError) : Type 0 where
+  pub least : end ≡ None → used old + bytes ≤ used new
+  pub most : used new ≤ used old + (bytes + 15)
+  pub refused : (e : AllocError) → end ≡ Some e → new.memory.state ≡ old.memory.state

@@ -12,6 +12,7 @@ use Rattle.arena_items.specs.declared.room.AllocError.{AllocError}
 use Rattle.arena_items.specs.declared.room.AllocError.TheVariants.{AllocErr, CapacityOverflow, OutOfMemory}
 use Rattle.arena_hash.specs.Policy.{IsSlotsFor}
 use Rattle.arena_vec.specs.Held.{empty_block}
+use Rattle.arena_text.specs.Growth.{new_growth as text_growth}
 use Rattle.arena_vec.specs.Growth.{new_growth}
 
 -- A block of this size and this alignment; the block of a new map's table for so many pairs, with slots of this size and of this
@@ -31,6 +32,10 @@ ask_by size align Overflows = TooMuch
 
 abbrev pub vector_ask : ℕ → ℕ → ℕ → Ask
 vector_ask size align n = ask_by size align (new_growth size n)
+
+-- and a text that is put together, for n bytes
+abbrev pub text_ask : ℕ → Ask
+text_ask n = ask_by 1 1 (text_growth n)
 
 -- why a call was refused, if it was
 abbrev pub refusal : {X : Type 0} → Result X AllocError → Option AllocError

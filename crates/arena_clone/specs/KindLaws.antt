@@ -1,5 +1,5 @@
 -- The blocks of a value determine what it is, for each kind of values.
-use Rattle.std.proofs.Common.{◌≡◌, ◌*◌, ◌<◌, ap, sym, refl, subst, ◌∙◌, Option, Some, None, List, [], ◌∷◌, ◌++◌, IsTrue}
+use Rattle.std.proofs.Common.{◌≡◌, ◌*◌, ◌<◌, ap, sym, refl, subst, ◌∙◌, Option, Some, None, List, [], ◌∷◌, ◌++◌, take, IsTrue}
 use Rattle.std.specs.List.{AllByRecursion}
 use Rattle.std.specs.Int.{from_le_bytes, w64}
 use Rattle.std.proofs.lemmas.Bool.{and_parts, false≢true}
@@ -16,7 +16,7 @@ use Rattle.arena_clone.specs.Asks.{Ask, vector_ask}
 use Rattle.arena_clone.specs.Asks.Ask.{Room}
 use Rattle.arena_clone.specs.Copies.{IsFlat}
 use Rattle.arena_clone.specs.FlatLaws.{plain_flat, id_flat, option_flat, row_flat, both_flat}
-use Rattle.arena_clone.specs.Kinds.{Kind, plain, semantic_id, text, bit_set, option_of, both_of, row_of, row_in, box_of, slice_of, vec_of}
+use Rattle.arena_clone.specs.Kinds.{Kind, plain, semantic_id, text, builder, bit_set, option_of, both_of, row_of, row_in, box_of, slice_of, vec_of}
 use Rattle.arena_clone.specs.declared.ids.CloneInSemanticIds.{CloneInSemanticIds}
 use Rattle.arena_clone.specs.declared.ids.CloneInSemanticIds.TheVariants.{With}
 
@@ -71,6 +71,21 @@ text_lawful = record {
   flat = λ ids is. absurd (false≢true is);
 }
 
+pub builder_lawful : IsLawful builder
+builder_lawful = record {
+  readable = λ m t held. (held.place.readable, tt);
+  held = λ a c t held agree readable. record {
+    place = held_again t.cap 1 a.state c.state t.block held.place readable.0;
+    within = held.within;
+  };
+  trim = λ a c t trim agree. trim;
+  deep = λ a c t agree. refl;
+  whole = λ a c t agree. ap (take t.len) (sym agree.0);
+  asks = λ a c t agree. refl;
+  kept = λ w. refl;
+  flat = λ ids is. absurd (false≢true is);
+}
+
 pub bit_set_lawful : IsLawful bit_set
 bit_set_lawful = record {
   readable = λ m v held. (held.place.readable, tt);
@@ -92,7 +107,7 @@ all_both : {X : Type 0} (P : X → Type 0) (xs ys : List X) → AllByRecursion P
 all_both P [] ys first second = second
 all_both P (x ∷ xs) ys first second = (first.0, all_both P xs ys first.1 second)
 
-all_each : {X : Type 0} (P : X → Type 0) (xs ys : List X) → AllByRecursion P (xs ++ ys) → AllByRecursion P xs × AllByRecursion P ys
+pub all_each : {X : Type 0} (P : X → Type 0) (xs ys : List X) → AllByRecursion P (xs ++ ys) → AllByRecursion P xs × AllByRecursion P ys
 all_each P [] ys all = (tt, all)
 all_each P (x ∷ xs) ys all = let rest = all_each P xs ys all.1 in ((all.0, rest.0), rest.1)
 

@@ -8,12 +8,14 @@ use Rattle.arena_items.specs.declared.item.Item.{Ghosts}
 use Rattle.arena_items.specs.declared.boxes.Box.{Box}
 use Rattle.arena_items.specs.declared.slices.BoxSlice.{BoxSlice}
 use Rattle.arena_items.specs.Values.{IsBoxIn, box_value, IsSliceIn, slice_list, IsTextIn, text_bytes}
+use Rattle.arena_text.specs.Builders.{IsBuilderIn, builder_bytes}
+use Rattle.arena_text.specs.declared.text.StringBuilder.{StringBuilder}
 use Rattle.arena_vec.specs.Vecs.{IsVecIn, vec_list}
 use Rattle.arena_vec.specs.declared.vec.Vec.{Vec}
 use Rattle.arena_bits.specs.Bits.{Set, words_for}
 use Rattle.arena_bits.specs.Sets.{IsSetIn, set_of}
 use Rattle.arena_bits.specs.declared.set.BitSet.{BitSet}
-use Rattle.arena_clone.specs.Asks.{Ask, vector_ask}
+use Rattle.arena_clone.specs.Asks.{Ask, vector_ask, text_ask}
 use Rattle.arena_clone.specs.Asks.Ask.{Room}
 use Rattle.arena_clone.specs.declared.ids.CloneInSemanticIds.{CloneInSemanticIds}
 use Rattle.arena_clone.specs.declared.ids.CloneInSemanticIds.TheVariants.{With, Without}
@@ -95,6 +97,20 @@ text = record {
   by_ids = λ ids bytes. bytes;
   is_trim = λ m s. Unit {0};
   asks = λ m s. Room s.block.size 1 ∷ [];
+  is_flat = λ ids. false;
+}
+
+-- a text that is put together is its bytes, for which alone a copy has room
+abbrev pub builder : Kind StringBuilder
+builder = record {
+  Whole = List ℕ;
+  whole = builder_bytes;
+  deep = λ m t. t.block ∷ [];
+  is_small = Unit {0};
+  is_held = IsBuilderIn;
+  by_ids = λ ids bytes. bytes;
+  is_trim = λ m t. t.cap ≡ t.len;
+  asks = λ m t. text_ask t.len ∷ [];
   is_flat = λ ids. false;
 }
 

@@ -7,6 +7,7 @@ pub mod EitherKind
 pub mod EitherLaws
 pub mod Alike
 pub mod Copies
+pub mod Origins
 pub mod Rows
 pub mod Placing
 pub mod Dummies

@@ -7,8 +7,9 @@ ghost use Rattle.arena_items.specs.Room.{RoomAnswer};
 ghost use Rattle.arena_items.specs.Values.{bytes_of};
 ghost use Rattle.arena_clone.specs.Placing.{Boxes};
 
-use arena_chunks::{Allocator, ArenaErr, Block, ChunkSource};
-use arena_items::{AllocError, Box, Grown, Item, ItemErr};
+use crate::origin::Origin;
+use arena_chunks::{Allocator, Block, ChunkSource};
+use arena_items::{Box, Grown, Item, grown};
 use arena_place::Layout;
 
 // A new block.
@@ -20,49 +21,26 @@ pub(crate) fn place<C: ChunkSource>(a: &mut Allocator<C>, size: u64, align: u64)
     let Some(layout) = Layout::new(size, align) else {
         unreachable!();
     };
-    match a.alloc_layout(layout) {
-        Ok(block) => Ok(block),
-        Err(ArenaErr::AllocErr { refused }) => Err(AllocError::AllocErr { refused }),
-        Err(ArenaErr::OutOfMemory) => Err(AllocError::OutOfMemory),
-    }
+    grown(a.alloc_layout(layout))
 }
 
-// A new block with the first bytes of another arena's block.
-pub(crate) fn place_copy<C: ChunkSource, D: ChunkSource>(
-    from: &Allocator<C>,
+// A new block with the first bytes of another block.
+pub(crate) fn place_copy<O: Origin<D>, D: ChunkSource>(
+    from: &O,
     source: Block,
     to: &mut Allocator<D>,
     size: u64,
     align: u64,
 ) -> Grown<Block>
-    requires readable { IsTrue (is_readable from.now.memory.state source) }
+    requires readable { IsTrue (is_readable (O.there from.now to.old.memory).state source) }
     requires enough { size ≤ source.size }
     requires fits { IsTrue (is_layout size align) }
     ensures placed { RoomAnswer (λ b. b) result (PlacesBlock to.old to.new size align) }
     ensures bytes { IfOk result (λ b. bytes_of to.new.memory b
-        ≡ bytes_from (image from.now.memory) source.addr size) }
+        ≡ bytes_from (image (O.there from.now to.old.memory)) source.addr size) }
 {
     let block = place(to, size, align)?;
-    to.write(block, 0, &from.read(source)[..size as usize]);
-    Ok(block)
-}
-
-// A new block with the first bytes of another block of the arena.
-pub(crate) fn place_copy_within<C: ChunkSource>(
-    a: &mut Allocator<C>,
-    source: Block,
-    size: u64,
-    align: u64,
-) -> Grown<Block>
-    requires readable { IsTrue (is_readable a.old.memory.state source) }
-    requires enough { size ≤ source.size }
-    requires fits { IsTrue (is_layout size align) }
-    ensures placed { RoomAnswer (λ b. b) result (PlacesBlock a.old a.new size align) }
-    ensures bytes { IfOk result (λ b. bytes_of a.new.memory b
-        ≡ bytes_from (image a.old.memory) source.addr size) }
-{
-    let block = place(a, size, align)?;
-    a.copy_between(source, 0, block, 0, size);
+    from.copy_front(source, to, block, size);
     Ok(block)
 }
 
@@ -71,10 +49,5 @@ pub(crate) fn place_box<T: Item, C: ChunkSource>(a: &mut Allocator<C>, value: T)
     requires { T.SIZE ≤ 2 ^ 24 }
     ensures { Boxes T.Item a.old a.new value result }
 {
-    match Box::new_in(value, a) {
-        Ok(boxed) => Ok(boxed),
-        Err(ItemErr::AllocErr { refused }) => Err(AllocError::AllocErr { refused }),
-        Err(ItemErr::OutOfMemory) => Err(AllocError::OutOfMemory),
-        Err(ItemErr::TooFew { .. }) => unreachable!(),
-    }
+    Ok(Box::new_in(value, a)?)
 }

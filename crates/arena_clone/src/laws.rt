@@ -1,12 +1,12 @@
 // What becomes of values and of their copies while an arena is used. Each law is a call that does nothing: made in a body, it
 // gives its facts there.
-ghost use Rattle.std.specs.Prelude.{◌≡◌, ◌+◌, ◌*◌, ◌≤◌, ◌↔◌, Option, Some, None, List, [], ◌∷◌};
+ghost use Rattle.std.specs.Prelude.{◌≡◌, ℕ, ◌+◌, ◌*◌, ◌≤◌, ◌↔◌, Option, Some, None, List, [], ◌∷◌};
 ghost use Rattle.arena_chunks.specs.Memory.{Memory};
 ghost use Rattle.arena_chunks.specs.Source.{View};
 ghost use Rattle.arena_chunks.specs.Frame.{Frame, AreAllApart};
 ghost use Rattle.arena_chunks.specs.declared.block.Block.{Block};
-ghost use Rattle.arena_clone.specs.Asks.{Ask, AsksFor, vector_ask};
-ghost use Rattle.arena_clone.specs.AskBytes.{have_layouts, least_bytes, most_bytes, used};
+ghost use Rattle.arena_clone.specs.Asks.{Ask, AsksFor, vector_ask, text_ask};
+ghost use Rattle.arena_clone.specs.AskBytes.{have_layouts, least_bytes, most_bytes, used, BringsBytes};
 ghost use Rattle.arena_clone.specs.Asks.Ask.{Room};
 ghost use Rattle.arena_clone.specs.Kinds.{AreAlike, option_of, box_of, slice_of, vec_of};
 ghost use Rattle.arena_clone.specs.Alike.{AreOptionsAlike, AreListsAlike, AreMapsAlike};
@@ -110,4 +110,13 @@ pub fn asks_law()
     ensures refused { (ask : Ask) (old new : View) (blocks : List Block) (e : AllocError)
         → have_layouts (ask ∷ []) → AsksFor (ask ∷ []) old new blocks (Some e)
         → new.memory.state ≡ old.memory.state }
+{}
+
+/// What a copy of a list of values that place nothing brings into use, and a copy of a text that is put together, by what it
+/// asks of its arena: its bytes, and at most 15 before them. Refused, it leaves the arena's state as it was.
+pub fn list_bytes_law<T: Item>()
+    ensures vector { (n : ℕ) (old new : View) (blocks : List Block) (end : Option AllocError)
+        → AsksFor (vector_ask T.SIZE T.ALIGN n ∷ []) old new blocks end → BringsBytes (n * T.SIZE) old new end }
+    ensures text { (n : ℕ) (old new : View) (blocks : List Block) (end : Option AllocError)
+        → AsksFor (text_ask n ∷ []) old new blocks end → BringsBytes n old new end }
 {}

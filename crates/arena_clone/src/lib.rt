@@ -3,6 +3,7 @@
 
 mod blocks;
 mod boxes;
+mod builders;
 mod clone_in;
 mod convert;
 mod dummy;
@@ -12,6 +13,7 @@ pub mod laws;
 mod maps;
 mod numbers;
 mod options;
+mod origin;
 mod replace_with;
 mod rows;
 mod semantic_id;

@@ -6,10 +6,11 @@ ghost use Rattle.arena_clone.specs.Copies.{Copies};
 ghost use Rattle.arena_clone.specs.MapKind.{map_of};
 ghost use Rattle.arena_clone.specs.declared.ids.CloneInSemanticIds.{CloneInSemanticIds};
 
-use crate::blocks::{place_copy, place_copy_within};
+use crate::blocks::place_copy;
 use crate::clone_in::CloneIn;
 use crate::ids::CloneInSemanticIds;
 use crate::keys::CloneKey;
+use crate::origin::Origin;
 use arena_chunks::{Allocator, ChunkSource};
 use arena_hash::{HashMap, KeyHasher, Table};
 use arena_items::{Grown, Item};
@@ -34,41 +35,20 @@ pub(crate) fn copy_table<
     K: CloneKey,
     V: CloneIn + Item,
     S: KeyHasher + Copy,
-    C: ChunkSource,
+    O: Origin<D>,
     D: ChunkSource,
->(map: &HashMap<K, V, S>, from: &Allocator<C>, to: &mut Allocator<D>) -> Grown<HashMap<K, V, S>>
-    requires held { (map_of (kind K.Item K.key V.Item S.hash_of) K.kind V.kind).is_held from.now.memory map.now }
+>(map: &HashMap<K, V, S>, from: &O, to: &mut Allocator<D>) -> Grown<HashMap<K, V, S>>
+    requires held { (map_of (kind K.Item K.key V.Item S.hash_of) K.kind V.kind).is_held
+        (O.there from.now to.old.memory) map.now }
     requires full { map.now.table.slots < 4 * map.now.len }
     ensures { (ids : CloneInSemanticIds) → IsTrue (K.kind.is_flat ids) → IsTrue (V.kind.is_flat ids)
         → Copies (map_of (kind K.Item K.key V.Item S.hash_of) K.kind V.kind) ids
-        from.now.memory to.old to.new map.now result }
+        (O.there from.now to.old.memory) to.old to.new map.now result }
 {
     // So the arena's state is known to be valid, and the table small enough for a layout.
-    let _ = from.min_align();
+    let _ = from.arena(to).min_align();
     let table = map.table.block;
     let block = place_copy(from, table, to, table.size, table.align)?;
-    Ok(HashMap {
-        table: Table { block, ..map.table },
-        ..*map
-    })
-}
-
-// A copy of a map of the same arena with the bytes of its table.
-pub(crate) fn copy_table_within<
-    K: CloneKey,
-    V: CloneIn + Item,
-    S: KeyHasher + Copy,
-    C: ChunkSource,
->(map: &HashMap<K, V, S>, a: &mut Allocator<C>) -> Grown<HashMap<K, V, S>>
-    requires held { (map_of (kind K.Item K.key V.Item S.hash_of) K.kind V.kind).is_held a.old.memory map.now }
-    requires full { map.now.table.slots < 4 * map.now.len }
-    ensures { (ids : CloneInSemanticIds) → IsTrue (K.kind.is_flat ids) → IsTrue (V.kind.is_flat ids)
-        → Copies (map_of (kind K.Item K.key V.Item S.hash_of) K.kind V.kind) ids
-        a.old.memory a.old a.new map.now result }
-{
-    let _ = a.min_align();
-    let table = map.table.block;
-    let block = place_copy_within(a, table, table.size, table.align)?;
     Ok(HashMap {
         table: Table { block, ..map.table },
         ..*map

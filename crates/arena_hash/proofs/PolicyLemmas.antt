@@ -77,10 +77,13 @@ pub unit-covers : (k v ka va : ℕ) → 8 * slot_size k v + (max (table_align ka
 unit-covers k v ka va = omega arith
 
 -- the size of a table is below 2 ^ 62
-pub table-fits : (k v slots : ℕ) → k ≤ 2 ^ 24 → v ≤ 2 ^ 24 → slots ≤ 2 ^ 33 → slots * slot_size k v ≤ 2 ^ 62
-table-fits k v slots small small' few =
+pub table-small : (k v slots : ℕ) → k ≤ 2 ^ 24 → v ≤ 2 ^ 24 → slots ≤ 2 ^ 33 → slots * slot_size k v ≤ 2 ^ 60
+table-small k v slots small small' few =
     let a : slots * slot_size k v ≤ slots * 2 ^ 26 = mul-le-mul_left slots (let s : slot_size k v ≤ 2 ^ 26 = omega arith in s) in
     omega (arith, a)
+
+pub table-fits : (k v slots : ℕ) → k ≤ 2 ^ 24 → v ≤ 2 ^ 24 → slots ≤ 2 ^ 33 → slots * slot_size k v ≤ 2 ^ 62
+table-fits k v slots small small' few = omega (arith, table-small k v slots small small' few)
 
 -- a block has at least the bytes of the pairs
 pub table-holds : (k v slots len : ℕ) → len ≤ limit slots → (k + v) * len ≤ slots * slot_size k v

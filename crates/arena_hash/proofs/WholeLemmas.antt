@@ -159,7 +159,8 @@ pub refused-as : {K V S X Y : Type 0} (k : Kind K V S) (f : X → HashMap K V S)
 refused-as k f h old new pairs e p = record {
   none = λ is. absurd (p.none is).1;
   overflows = λ many. let o = p.overflows many in (o.0, (let is : e ≡ CapacityOverflow = (let no = o.1 in cc) in ap Err is));
-  made = λ some few. let a = p.made some few in (a.0, a.1, took-refused (λ x. (f x).table.block) (λ y. (h y).table.block) e old new _ _ a.2);
+  made = λ some few. let a = p.made some few in
+      (a.0, a.1, took-refused (λ x. (f x).table.block) (λ y. (h y).table.block) e old new _ _ a.2);
   asks = λ some few. let a = p.asks some few in record {
     size = a.size;
     bounded = a.bounded;

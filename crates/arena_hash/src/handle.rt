@@ -9,13 +9,10 @@ use crate::hasher::KeyHasher;
 use crate::key::ArenaKey;
 use crate::map::HashMap;
 use crate::set::HashSet;
-use arena_chunks::Block;
 use arena_items::{InArena, Item};
 
 impl<K: ArenaKey, V: Item, S: KeyHasher + Copy> InArena for HashMap<K, V, S> {
     ghost Meaning = { Finite K V };
-
-    ghost block = { λ m. m.table.block };
 
     ghost footprint = { footprint (kind K.Item K.key V.Item S.hash_of) };
 
@@ -33,16 +30,10 @@ impl<K: ArenaKey, V: Item, S: KeyHasher + Copy> InArena for HashMap<K, V, S> {
 
     ghost held_again = { λ a c m held agree readable.
         held-agree (kind ⟦<K as Item>⟧ K.key ⟦<V as Item>⟧ S.hash_of) a c m agree held readable };
-
-    fn own_block(&self) -> Block {
-        self.table.block
-    }
 }
 
 impl<T: ArenaKey, S: KeyHasher + Copy> InArena for HashSet<T, S> {
     ghost Meaning = { Finite T (Unit {0}) };
-
-    ghost block = { λ s. s.map.table.block };
 
     ghost footprint = { λ a s. footprint (set_kind T.Item T.key S.hash_of) a s.map };
 
@@ -60,8 +51,4 @@ impl<T: ArenaKey, S: KeyHasher + Copy> InArena for HashSet<T, S> {
 
     ghost held_again = { λ a c s held agree readable.
         held-agree (set_kind ⟦<T as Item>⟧ T.key S.hash_of) a c s.map agree held readable };
-
-    fn own_block(&self) -> Block {
-        self.map.table.block
-    }
 }

@@ -1,7 +1,8 @@
 // Hashes of contents.
 ghost use Rattle.std.specs.Prelude.{◌≡◌, ℕ, ◌/◌, List, length, bit_xor};
-ghost use Rattle.std.specs.Int.{w32, w64, from_le_bytes};
 ghost use Rattle.arena_hash.specs.Fx.{factor, mixed, number_of, folded, fx_of};
+
+use arena_items::Item;
 
 /// Hashes contents. Nothing is promised of a hash but that it is a function of the hasher and of the
 /// content. A map is right under every hasher; it is fast where few keys have one hash.
@@ -33,26 +34,6 @@ fn mixed(word: u64) -> u64
     (product % SPAN) as u64 ^ (product / SPAN) as u64
 }
 
-// The number of four bytes.
-#[inline]
-pub(crate) fn half_of(bytes: &[u8]) -> u32
-    requires { length bytes.now ≡ 4 }
-    ensures { result ≡ from_le_bytes w32 bytes.now }
-{
-    u32::from_le_bytes([bytes[0], bytes[1], bytes[2], bytes[3]])
-}
-
-// The number of eight bytes. So written it is one load.
-#[inline]
-pub(crate) fn word_of(bytes: &[u8]) -> u64
-    requires { length bytes.now ≡ 8 }
-    ensures { result ≡ from_le_bytes w64 bytes.now }
-{
-    u64::from_le_bytes([
-        bytes[0], bytes[1], bytes[2], bytes[3], bytes[4], bytes[5], bytes[6], bytes[7],
-    ])
-}
-
 // The number of a few bytes.
 #[inline]
 fn number_of(bytes: &[u8]) -> u64
@@ -72,7 +53,7 @@ fn folded(content: &[u8]) -> u64
     let mut hash = mixed(content.len() as u64 ^ FACTOR);
     let words = content.len() / 8;
     for i in 0..words {
-        let word = word_of(&content[8 * i..8 * i + 8]).wrapping_add(FACTOR);
+        let word = u64::decode(&content[8 * i..8 * i + 8]).wrapping_add(FACTOR);
         hash = mixed(hash ^ word);
     }
     mixed(hash ^ number_of(&content[8 * words..]))
@@ -85,10 +66,10 @@ impl KeyHasher for FxHasher {
     fn hash(&self, content: &[u8]) -> u64 {
         match content.len() {
             4 => {
-                let number = half_of(content) as u64;
+                let number = u32::decode(content) as u64;
                 number.wrapping_mul(FACTOR).rotate_left(26)
             }
-            8 => mixed(word_of(content)),
+            8 => mixed(u64::decode(content)),
             _ => folded(content),
         }
     }

@@ -1,10 +1,11 @@
 // Laws of maps. Each is a call that does nothing: made in a body, it gives its facts there.
-ghost use Rattle.std.specs.Prelude.{◌≡◌, ◌+◌, ◌-◌, ◌*◌, ◌<◌, ◌≤◌, ◌↔◌, ℕ, List, Bool, Option, Some, Result};
+ghost use Rattle.std.specs.Prelude.{◌≡◌, ◌+◌, ◌-◌, ◌*◌, ◌^◌, ◌<◌, ◌≤◌, ◌↔◌, ℕ, List, Bool, Option, Some, Result};
 ghost use Rattle.std.specs.List.{Contains};
 ghost use Rattle.arena_chunks.specs.Memory.{Memory};
 ghost use Rattle.arena_chunks.specs.Frame.{Frame, AreAllApart};
 ghost use Rattle.arena_chunks.specs.Source.{View};
 ghost use Rattle.arena_chunks.specs.declared.block.Block.{Block};
+ghost use Rattle.arena_items.specs.Costs.{Costs, farthest};
 ghost use Rattle.arena_items.specs.declared.room.AllocError.{AllocError};
 ghost use Rattle.arena_hash.specs.Accounts.{used, credit_of, unit_of};
 ghost use Rattle.arena_hash.specs.Changes.{Becomes, Puts, is_new, is_value};
@@ -83,4 +84,25 @@ pub fn costs_law<K: ArenaKey, V: Item, S: KeyHasher>()
         → Becomes (kind K.Item K.key V.Item S.hash_of) old new m is w
         → used new + credit_of (kind K.Item K.key V.Item S.hash_of) w
         ≤ used old + credit_of (kind K.Item K.key V.Item S.hash_of) m }
+{}
+
+/// What an insert costs, over an arena of least alignment 1, as `arena_items::laws::costs_law` joins costs: two units, less
+/// what the map's credit rises and more by what it falls, whatever is answered. A refusal over a growing arena is starved,
+/// and over any other it means that the arena has fewer bytes. So n inserts cost 2 * n units with the credit before.
+pub fn insert_law<K: ArenaKey, V: Item, S: KeyHasher>()
+    ensures map { (old new : View) (m w : HashMap K V S) (key : K) (value : V)
+        (result : Result (Option V) AllocError)
+        → old.memory.state.min_align ≡ 1 → K.SIZE ≤ 2 ^ 24 → V.SIZE ≤ 2 ^ 24
+        → IsMapIn (kind K.Item K.key V.Item S.hash_of) old.memory m
+        → Puts (kind K.Item K.key V.Item S.hash_of) old new m key value is_value w result
+        → Costs farthest (2 * unit_of (kind K.Item K.key V.Item S.hash_of))
+        (credit_of (kind K.Item K.key V.Item S.hash_of) m)
+        (credit_of (kind K.Item K.key V.Item S.hash_of) w) old new result }
+    ensures set { (old new : View) (m w : HashMap K V S) (item : K) (value : V) (result : Result Bool AllocError)
+        → old.memory.state.min_align ≡ 1 → K.SIZE ≤ 2 ^ 24 → V.SIZE ≤ 2 ^ 24
+        → IsMapIn (kind K.Item K.key V.Item S.hash_of) old.memory m
+        → Puts (kind K.Item K.key V.Item S.hash_of) old new m item value is_new w result
+        → Costs farthest (2 * unit_of (kind K.Item K.key V.Item S.hash_of))
+        (credit_of (kind K.Item K.key V.Item S.hash_of) m)
+        (credit_of (kind K.Item K.key V.Item S.hash_of) w) old new result }
 {}

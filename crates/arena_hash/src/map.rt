@@ -14,7 +14,7 @@ ghost use Rattle.arena_hash.specs.Finite.{has, value_of};
 ghost use Rattle.arena_hash.specs.Maps.{IsMapIn, map_in};
 ghost use Rattle.arena_hash.specs.Changes.{Puts, TakesOut, is_value};
 
-use crate::hasher::{FxHasher, KeyHasher, half_of, word_of};
+use crate::hasher::{FxHasher, KeyHasher};
 use crate::key::ArenaKey;
 use crate::marks::{farther, home_mark, least, ring};
 use crate::pairs::{key_at, value_at};
@@ -57,8 +57,8 @@ fn same(one: &[u8], other: &[u8]) -> bool
         return false;
     }
     match one.len() {
-        4 => half_of(one) == half_of(other),
-        8 => word_of(one) == word_of(other),
+        4 => u32::decode(one) == u32::decode(other),
+        8 => u64::decode(one) == u64::decode(other),
         _ => one == other,
     }
 }

@@ -26,10 +26,10 @@ use crate::marks::{AWAY, FAR, distance, mark_of, ring};
 use crate::pairs::{key_at, value_at};
 use crate::policy::next_slots;
 use crate::put::PutPair;
-use crate::table::{Table, Zeros};
+use crate::table::Table;
 use crate::walk::{Scan, start, step};
 use arena_chunks::{Allocator, ChunkSource};
-use arena_items::{AllocError, Grown, Item};
+use arena_items::{AllocError, Grown, Item, Zeros};
 use std::marker::PhantomData;
 
 // The mark of the pair of a slot when it has moved back by one.

@@ -13,8 +13,8 @@ ghost use Rattle.arena_hash.specs.Tables.{IsTableHandle};
 
 use crate::marks::{farther, home_mark, least, ring};
 use crate::pairs::pair_size;
-use arena_chunks::{Allocator, ArenaErr, Block, ChunkSource, Edit};
-use arena_items::{AllocError, Grown, Item};
+use arena_chunks::{Allocator, Block, ChunkSource};
+use arena_items::{Grown, Item, Zeros, grown};
 use arena_place::Layout;
 use std::marker::PhantomData;
 
@@ -28,23 +28,6 @@ pub struct Table<K, V> {
     pub slots: u64,
     /// The types of the pairs, which take no place in the handle.
     pub of: PhantomData<(K, V)>,
-}
-
-/// Clears all bytes of the place.
-#[derive(Clone, Copy)]
-pub(crate) struct Zeros;
-
-impl Edit for Zeros {
-    ghost use Rattle.std.specs.Prelude.{◌≡◌, length, replicate};
-
-    ghost suits = { λ e old. Unit {0} };
-
-    ghost relates = { λ e old new. new ≡ replicate (length old) 0 };
-
-    #[inline]
-    fn edit(&self, place: &mut [u8]) {
-        place.fill(0);
-    }
 }
 
 /// Where the search for a content ended: at its slot, or where a pair of that content would go, with the
@@ -94,11 +77,7 @@ impl<K: Item, V: Item> Table<K, V> {
         let Some(layout) = Layout::new(size, table_align::<K, V>()) else {
             unreachable!();
         };
-        let block = match a.alloc_layout(layout) {
-            Ok(block) => block,
-            Err(ArenaErr::AllocErr { refused }) => return Err(AllocError::AllocErr { refused }),
-            Err(ArenaErr::OutOfMemory) => return Err(AllocError::OutOfMemory),
-        };
+        let block = grown(a.alloc_layout(layout))?;
         let table = Table {
             block,
             slots,

@@ -1,17 +1,16 @@
 -- What it costs to take room: the bytes that come into use, at least alignment 1, and what a refusal is.
-use Rattle.std.proofs.Common.{◌≡◌, ℕ, ◌+◌, ◌-◌, ◌*◌, ◌^◌, ◌<◌, ◌≤◌, ◌==◌, ◌&&◌, nat_le, Bool, true, false, refl, sym, ap, ◌∙◌, subst, arith, IsTrue, Option, Some, None, Result, Ok, Err, inl, inr}
+use Rattle.std.proofs.Common.{◌≡◌, ℕ, ◌-◌, ◌*◌, ◌^◌, ◌≤◌, ◌==◌, ◌&&◌, nat_le, Bool, true, false, refl, sym, ap, ◌∙◌, subst, arith, IsTrue, Option, Some, None, Result, Ok, Err, inl, inr}
 use Rattle.std.specs.Prelude.{if◌then◌else◌}
 use Rattle.std.proofs.Math.Nat.{mul-le-mul_right}
 use Rattle.std.proofs.lemmas.Bool.Decides.{nat_tests}
 use Rattle.std.proofs.lemmas.Option.{cond_some}
 use Rattle.placement.specs.Rounding.{up, is_layout}
 use Rattle.placement.specs.State.{State, cursor_of, used_bytes}
-use Rattle.placement.specs.Moves.{Outcome, Resizing, placed, stays, fails, growth, down_to}
+use Rattle.placement.specs.Moves.{Outcome, Resizing, placed, fails, growth, down_to}
 use Rattle.placement.specs.Moves.Resizing.{Stays, Moves, Anew, Refused}
 use Rattle.placement.proofs.RoundingLemmas.{up_same, up_mono, power_positive, layout_power, layout_fits}
 use Rattle.placement.proofs.UsedResizeLemmas.{growing_stays}
 use Rattle.arena_chunks.specs.Source.{View}
-use Rattle.arena_chunks.specs.Answers.{Answer}
 use Rattle.arena_chunks.specs.Answers.Answer.{Placed, Wanting, Refused as Denied}
 use Rattle.arena_chunks.specs.BlockCalls.{PlacesBlock, GrowsBlock, ResizesBlock, growing_of}
 use Rattle.arena_chunks.specs.declared.block.Block.{Block}

@@ -1,5 +1,5 @@
 -- What calls cost: one that takes room, and one after another.
-use Rattle.std.proofs.Common.{◌≡◌, ℕ, ◌+◌, ◌-◌, ◌*◌, ◌^◌, ◌≤◌, ap, sym, ◌∙◌, subst, arith, IsTrue, true, false, Result, Ok, Err, inl, inr}
+use Rattle.std.proofs.Common.{◌≡◌, ℕ, ◌+◌, ◌-◌, ◌*◌, ◌^◌, ◌≤◌, ap, sym, ◌∙◌, subst, arith, IsTrue, false, Result, Ok, Err, inl, inr}
 use Rattle.std.specs.Prelude.{IsOk}
 use Rattle.placement.specs.Rounding.{is_layout}
 use Rattle.placement.specs.State.{used_bytes, allocated_bytes}
@@ -7,20 +7,20 @@ use Rattle.placement.specs.Asking.{IsRefusedBySource}
 use Rattle.placement.proofs.AskingLemmas.{asks_more, asks_then, starved_by, starved_nearer, starved_after}
 use Rattle.placement.specs.Source.{Source}
 use Rattle.arena_chunks.specs.Source.{View}
-use Rattle.arena_chunks.specs.Asking.{AsksWithin, IsStarved, IsFull}
+use Rattle.arena_chunks.specs.Asking.{AsksWithin}
 use Rattle.arena_chunks.specs.Answers.{Answer}
 use Rattle.arena_chunks.specs.Answers.Answer.{Placed, Wanting, Refused}
 use Rattle.arena_chunks.specs.BlockCalls.{PlacesBlock, growing_of}
 use Rattle.arena_chunks.specs.declared.block.Block.{Block}
 use Rattle.arena_chunks.proofs.Layers.{asks_same, asks_placed, asks_resized, placed_starved, placed_full}
-use Rattle.arena_items.specs.Costs.{used, Brings, Costs, Covers, farthest}
-use Rattle.arena_items.specs.Room.{MakesRoom, TakesRoom, RoomAnswer, SamePlaces}
+use Rattle.arena_items.specs.Costs.{used, Costs, Covers, farthest}
+use Rattle.arena_items.specs.Room.{MakesRoom, TakesRoom, SamePlaces}
 use Rattle.arena_items.specs.Values.{IsHeld}
 use Rattle.arena_items.specs.declared.room.Growth.TheVariants as growth
 use Rattle.arena_items.specs.declared.room.AllocError.{AllocError}
 use Rattle.arena_items.specs.declared.room.AllocError.TheVariants.{AllocErr, CapacityOverflow, OutOfMemory}
 use Rattle.arena_items.proofs.RoomLemmas.{zero_or_more, refused_same, wanting_same}
-use Rattle.arena_items.proofs.CostLemmas.{same_used, taken_brings, taken_refused, room_brings}
+use Rattle.arena_items.proofs.CostLemmas.{same_used, taken_refused, room_brings}
 
 -- ---- No memory
 

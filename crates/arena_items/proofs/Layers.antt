@@ -18,9 +18,44 @@ use Rattle.arena_items.specs.declared.item.Item.{Ghosts}
 use Rattle.arena_items.specs.declared.boxes.Box.{Box}
 pub use Rattle.arena_items.proofs.HeldLemmas.{placed_held, written_held}
 pub use Rattle.arena_items.proofs.ArrayLemmas.{array_layout, array_held, Yields-push}
-pub use Rattle.arena_items.proofs.ElementLemmas.{rows_before, length-elements, elements-empty, elements-get, elements-set, elements-same, elements-append, elements-push, elements-all}
-pub use Rattle.arena_items.proofs.RowLemmas.{elements-cut, elements-drop, elements-front, elements-over, moved_values, copied_values, drop_item}
-pub use Rattle.arena_items.proofs.RoomLemmas.{zero_or_more, row_is_layout, front_readable, fronts_kept, values_kept, taken_held, taken_frame, taken_front, refused_same, wanting_same, same_then, wrote_same, room_then, room_refused, grown_as, refused_as}
+pub use Rattle.arena_items.proofs.ElementLemmas.{
+  rows_before,
+  length-elements,
+  elements-empty,
+  elements-get,
+  elements-set,
+  elements-same,
+  elements-append,
+  elements-push,
+  elements-all,
+}
+pub use Rattle.arena_items.proofs.RowLemmas.{
+  elements-cut,
+  elements-drop,
+  elements-front,
+  elements-over,
+  moved_values,
+  copied_values,
+  drop_item,
+}
+pub use Rattle.arena_items.proofs.RoomLemmas.{
+  zero_or_more,
+  row_is_layout,
+  front_readable,
+  fronts_kept,
+  values_kept,
+  taken_held,
+  taken_frame,
+  taken_front,
+  refused_same,
+  wanting_same,
+  same_then,
+  wrote_same,
+  room_then,
+  room_refused,
+  grown_as,
+  refused_as,
+}
 pub use Rattle.arena_items.proofs.CostLemmas.{taken_brings, taken_refused, stays_brings, room_brings, room_refused_as}
 pub use Rattle.arena_items.proofs.CostRules.{costs_nothing, room_costs, costs_weaken, costs_ok, costs_then}
 pub use Rattle.arena_items.proofs.AddressLemmas.{new_address, no_dummy}

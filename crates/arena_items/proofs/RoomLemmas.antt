@@ -101,13 +101,15 @@ module _ (old new : View) (b c : Block) (cap size align : ℕ) (takes : TakesRoo
   ]
 
   -- What stood in the old block stands in front.
-  pub taken_front : (cap ≡ 0 → b.size ≡ 0) → (n : ℕ) → n ≤ b.size → b.size ≤ size → take n (bytes_of new.memory c) ≡ take n (bytes_of old.memory b)
+  pub taken_front : (cap ≡ 0 → b.size ≡ 0) → (n : ℕ) → n ≤ b.size → b.size ≤ size
+      → take n (bytes_of new.memory c) ≡ take n (bytes_of old.memory b)
   taken_front no_bytes n within more = elim (zero_or_more cap) [
     | inl none ↦ (let zero : n ≡ 0 = omega (arith, no_bytes none) in rw zero refl)
     | inr some ↦ (
         let grown = (takes.grown some).1.outcome in
         let least : min b.size size ≡ b.size = omega arith in
-        fronts_kept old.memory new.memory b c n b.size within (omega arith) (omega (arith, grown.of_layout.of_size)) (rw least at grown.bytes))
+        fronts_kept old.memory new.memory b c n b.size within (omega arith) (omega (arith, grown.of_layout.of_size))
+        (rw least at grown.bytes))
   ]
 
 -- A refusal leaves the arena as it was.

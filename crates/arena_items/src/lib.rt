@@ -19,6 +19,7 @@ mod sizes;
 mod slices;
 mod typed;
 mod values;
+mod zeros;
 
 pub use address::{Address, GetAddress};
 pub use boxes::{ArenaBox, Box};
@@ -31,3 +32,4 @@ pub use rows::{copy_items, move_items};
 pub use slices::{BoxSlice, SliceIter};
 pub use typed::ArenaItems;
 pub use values::InArena;
+pub use zeros::Zeros;

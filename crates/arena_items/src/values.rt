@@ -1,36 +1,29 @@
 // What values in an arena mean, and the blocks that they name.
-ghost use Rattle.std.specs.Prelude.{◌≡◌, ℕ, List, [], ◌∷◌, IsTrue, refl};
+ghost use Rattle.std.specs.Prelude.{◌≡◌, ℕ, List, [], ◌∷◌, ◌++◌, IsTrue, refl};
 ghost use Rattle.std.proofs.Common.{ap};
 ghost use Rattle.arena_chunks.specs.Memory.{Memory, is_readable};
 ghost use Rattle.arena_chunks.specs.declared.block.Block.{Block};
 ghost use Rattle.arena_items.specs.Footprint.{AreReadable, Agree};
 ghost use Rattle.arena_items.specs.Values.{elements, IsBoxIn, box_value, IsSliceIn, slice_list, IsTextIn, text_bytes};
-ghost use Rattle.arena_items.specs.FootprintLaws.{held_readable, held_again};
+ghost use Rattle.arena_items.specs.FootprintLaws.{held_readable, held_again, readable_both, readable_parts, agree_parts};
 
 use crate::boxes::Box;
 use crate::item::Item;
 use crate::slices::BoxSlice;
-use arena_chunks::{Block, Str};
+use arena_chunks::Str;
 
-/// A value that names a block of an arena.
+/// A value that names blocks of an arena: one, as a handle does, or several, or by its case one or another.
 pub trait InArena: Copy {
     // What values of the type mean.
     ghost Meaning: { Type 0 };
 
-    // The value's own block.
-    ghost block: { Self → Block };
-
-    // All blocks whose bytes the value reads: its own, and those that its bytes name as texts of its keys.
+    // All blocks whose bytes the value reads: those that it names, and those that their bytes name as texts of its keys.
     ghost footprint: { Memory → Self → List Block };
 
     // The handle is well formed and its footprint may be read.
     ghost is_held: { Memory → Self → Type 0 };
 
     ghost means: { Memory → Self → Meaning };
-
-    /// The value's own block.
-    fn own_block(&self) -> Block
-        ensures { result ≡ block self.now };
 
     ghost readable: { (m : Memory) (v : Self) → is_held m v → AreReadable m.state (footprint m v) };
 
@@ -47,8 +40,6 @@ pub trait InArena: Copy {
 impl<T: Item> InArena for Box<T> {
     ghost Meaning = { T };
 
-    ghost block = { λ b. b.block };
-
     ghost footprint = { λ m b. b.block ∷ [] };
 
     ghost is_held = { IsBoxIn T.Item };
@@ -63,16 +54,10 @@ impl<T: Item> InArena for Box<T> {
 
     ghost held_again = { λ a c b held agree readable.
         held_again T.SIZE T.ALIGN a.state c.state b.block held readable.0 };
-
-    fn own_block(&self) -> Block {
-        self.block
-    }
 }
 
 impl<T: Item> InArena for BoxSlice<T> {
     ghost Meaning = { List T };
-
-    ghost block = { λ s. s.block };
 
     ghost footprint = { λ m s. s.block ∷ [] };
 
@@ -88,16 +73,10 @@ impl<T: Item> InArena for BoxSlice<T> {
 
     ghost held_again = { λ a c s held agree readable.
         held_again _ T.ALIGN a.state c.state s.block held readable.0 };
-
-    fn own_block(&self) -> Block {
-        self.block
-    }
 }
 
 impl InArena for Str {
     ghost Meaning = { List ℕ };
-
-    ghost block = { λ s. s.block };
 
     ghost footprint = { λ m s. s.block ∷ [] };
 
@@ -112,8 +91,31 @@ impl InArena for Str {
     ghost same_meaning = { λ a c s agree. agree.0 };
 
     ghost held_again = { λ a c s held agree readable. readable.0 };
+}
 
-    fn own_block(&self) -> Block {
-        self.block
-    }
+/// Two values at once, as the parts of a value of one's own: it names the blocks of both.
+impl<V: InArena, W: InArena> InArena for (V, W) {
+    ghost Meaning = { V.Meaning × W.Meaning };
+
+    ghost footprint = { λ m p. V.footprint m p.0 ++ W.footprint m p.1 };
+
+    ghost is_held = { λ m p. V.is_held m p.0 × W.is_held m p.1 };
+
+    ghost means = { λ m p. (V.means m p.0, W.means m p.1) };
+
+    ghost readable = { λ m p held. readable_both m.state (V.footprint m p.0) (W.footprint m p.1)
+        (V.readable m p.0 held.0) (W.readable m p.1 held.1) };
+
+    ghost same_footprint = { λ a c p agree.
+        let parts = agree_parts a c (V.footprint a p.0) (W.footprint a p.1) agree in
+        λ i. V.same_footprint a c p.0 parts.0 i ++ W.same_footprint a c p.1 parts.1 i };
+
+    ghost same_meaning = { λ a c p agree.
+        let parts = agree_parts a c (V.footprint a p.0) (W.footprint a p.1) agree in
+        λ i. (V.same_meaning a c p.0 parts.0 i, W.same_meaning a c p.1 parts.1 i) };
+
+    ghost held_again = { λ a c p held agree readable.
+        let parts = agree_parts a c (V.footprint a p.0) (W.footprint a p.1) agree in
+        let again = readable_parts c.state (V.footprint a p.0) (W.footprint a p.1) readable in
+        (V.held_again a c p.0 held.0 parts.0 again.0, W.held_again a c p.1 held.1 parts.1 again.1) };
 }

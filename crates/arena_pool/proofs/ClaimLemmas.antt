@@ -58,14 +58,16 @@ claimers-is w (v ∷ vs) few = omega (arith, has-once w v.claimed (omega arith),
 pub claims-set : (w : ℕ) (views : List ClaimView) (id : ℕ) (v u : ClaimView) → get_elem? views id ≡ some v
     → claims_of w (set views id u) + times w v.claimed ≡ claims_of w views + times w u.claimed
 claims-set w [] id v u at = absurd (some-ne-none v (sym at))
-claims-set w (x ∷ xs) zero v u at = let e : times w x.claimed ≡ times w v.claimed = ap (λ (y : ClaimView). times w y.claimed) (some-injective x v at) in omega arith
+claims-set w (x ∷ xs) zero v u at = let e : times w x.claimed ≡ times w v.claimed =
+    ap (λ (y : ClaimView). times w y.claimed) (some-injective x v at) in omega arith
 claims-set w (x ∷ xs) (suc id) v u at = omega (arith, claims-set w xs id v u at)
 
 -- a view has no more claims than all
 pub claims-at : (w : ℕ) (views : List ClaimView) (id : ℕ) (v : ClaimView) → get_elem? views id ≡ some v
     → times w v.claimed ≤ claims_of w views
 claims-at w [] id v at = absurd (some-ne-none v (sym at))
-claims-at w (x ∷ xs) zero v at = let e : times w x.claimed ≡ times w v.claimed = ap (λ (y : ClaimView). times w y.claimed) (some-injective x v at) in omega arith
+claims-at w (x ∷ xs) zero v at = let e : times w x.claimed ≡ times w v.claimed =
+    ap (λ (y : ClaimView). times w y.claimed) (some-injective x v at) in omega arith
 claims-at w (x ∷ xs) (suc id) v at = omega (arith, claims-at w xs id v at)
 
 -- nor have two
@@ -73,8 +75,10 @@ pub claims-two : (w : ℕ) (views : List ClaimView) (i j : ℕ) (u v : ClaimView
     → i ≢ j → times w u.claimed + times w v.claimed ≤ claims_of w views
 claims-two w [] i j u v at there apart = absurd (some-ne-none u (sym at))
 claims-two w (x ∷ xs) zero zero u v at there apart = absurd (apart refl)
-claims-two w (x ∷ xs) zero (suc j) u v at there apart = let e = ap (λ (y : ClaimView). times w y.claimed) (some-injective x u at) in omega (arith, e, claims-at w xs j v there)
-claims-two w (x ∷ xs) (suc i) zero u v at there apart = let e = ap (λ (y : ClaimView). times w y.claimed) (some-injective x v there) in omega (arith, e, claims-at w xs i u at)
+claims-two w (x ∷ xs) zero (suc j) u v at there apart = let e = ap (λ (y : ClaimView). times w y.claimed) (some-injective x u at) in
+    omega (arith, e, claims-at w xs j v there)
+claims-two w (x ∷ xs) (suc i) zero u v at there apart = let e = ap (λ (y : ClaimView). times w y.claimed) (some-injective x v there) in
+    omega (arith, e, claims-at w xs i u at)
 claims-two w (x ∷ xs) (suc i) (suc j) u v at there apart = omega (arith, claims-two w xs i j u v at there (λ e. apart (ap suc e)))
 
 -- the claims once there is a further view
@@ -96,7 +100,8 @@ zero_or (suc k) = inr (omega arith)
 -- the words after a write: the word itself, or another
 pub written : (ws : List ℕ) (i k w : ℕ) → i < length ws
     → ((w ≡ i) × (get_or (set ws i k) w 0 ≡ k)) ⊎ ((w ≢ i) × (get_or (set ws i k) w 0 ≡ get_or ws w 0))
-written ws i k w h = dite (ℕ_discrete w i) (λ e. inl (e, subst (λ (j : ℕ). get_or (set ws i k) j 0 ≡ k) (sym e) (rw get_or-set_same))) (λ ne. inr (ne, rw get_or-set_other))
+written ws i k w h = dite (ℕ_discrete w i) (λ e. inl (e, subst (λ (j : ℕ). get_or (set ws i k) j 0 ≡ k) (sym e) (rw get_or-set_same)))
+    (λ ne. inr (ne, rw get_or-set_other))
 
 -- a change of one view that fits the change of the words keeps the rule
 pub changed : (n : ℕ) (words : List ℕ) (views : List ClaimView) (id : ℕ) (v u : ClaimView) (after : List ℕ) → IsKept n words views
@@ -111,20 +116,23 @@ changed n words views id v u after kept at size counted bits grows own = record 
   size = size;
   counted = λ w. omega (arith, kept.counted w, counted w, claims-set w views id v u at);
   bits = bits;
-  taken = λ seat x found w some_times. ⊎_elim (λ t. own w (subst (λ (y : ClaimView). 0 < times w y.taken) (sym t.1) some_times)) (λ t. grows w (kept.taken seat x t.1 w some_times)) (at_set views id seat u x found);
+  taken = λ seat x found w some_times. ⊎_elim (λ t. own w (subst (λ (y : ClaimView). 0 < times w y.taken) (sym t.1) some_times))
+      (λ t. grows w (kept.taken seat x t.1 w some_times)) (at_set views id seat u x found);
 }
 
 -- a word that is 0 was not claimed, nor found taken
 pub unknown : (n : ℕ) (words : List ℕ) (views : List ClaimView) (id : ℕ) (v : ClaimView) (i : ℕ) → IsKept n words views
     → get_elem? views id ≡ some v → get_or words i 0 ≡ 0 → times i v.claimed + times i v.taken ≡ 0
 unknown n words views id v i kept at z =
-    ⊎_elim (λ none_taken. omega (arith, kept.counted i, claims-at i views id v at)) (λ some_taken. absurd (omega (arith, kept.taken id v at i some_taken))) (zero_or (times i v.taken))
+    ⊎_elim (λ none_taken. omega (arith, kept.counted i, claims-at i views id v at))
+    (λ some_taken. absurd (omega (arith, kept.taken id v at i some_taken))) (zero_or (times i v.taken))
 
 -- a word that one of two seats found taken is 1
 pub either_one : (n : ℕ) (words : List ℕ) (views : List ClaimView) (id other : ℕ) (v u : ClaimView) (w : ℕ) → IsKept n words views
     → get_elem? views id ≡ some v → get_elem? views other ≡ some u → 0 < times w v.taken + times w u.taken → get_or words w 0 ≡ 1
 either_one n words views id other v u w kept at there some_times =
-    ⊎_elim (λ none_taken. kept.taken other u there w (omega arith)) (λ some_taken. kept.taken id v at w some_taken) (zero_or (times w v.taken))
+    ⊎_elim (λ none_taken. kept.taken other u there w (omega arith)) (λ some_taken. kept.taken id v at w some_taken)
+    (zero_or (times w v.taken))
 
 -- two views that claim a word are one
 pub one_claims : (n : ℕ) (words : List ℕ) (views : List ClaimView) → IsKept n words views → ClaimedOnce views
@@ -143,19 +151,23 @@ once_each n words views kept i u at w = omega (arith, kept.counted w, kept.bits 
 -- the seat that changed claims no word twice
 own_once : (n : ℕ) (views : List ClaimView) (id : ℕ) (v u : ClaimView) (after : List ℕ) → IsKept n after (set views id u)
     → get_elem? views id ≡ some v → IsOnce u
-own_once n views id v u after kept at w = omega (arith, kept.counted w, kept.bits w, claims-set w views id v u at, claims-at w views id v at)
+own_once n views id v u after kept at w =
+    omega (arith, kept.counted w, kept.bits w, claims-set w views id v u at, claims-at w views id v at)
 
 -- a swap finds 1 where an earlier one was of its word, and else what the word was at first
 pub happened : (words : List ℕ) (swaps : List (ℕ × ℕ)) → Happen words swaps → (i w found : ℕ) → w < length words
     → get_elem? swaps i ≡ some (w, found)
     → found ≡ (if has w (map (λ (s : ℕ × ℕ). s.0) (take i swaps)) then 1 else get_or words w 0)
 happened words [] h i w found inside at = absurd (some-ne-none (w, found) (sym at))
-happened words (s ∷ later) h zero w found inside at = let e : s ≡ (w, found) = some-injective s (w, found) at in sym (ap (λ (t : ℕ × ℕ). t.1) e) ∙ (h.0 ∙ ap (λ (t : ℕ × ℕ). get_or words t.0 0) e)
+happened words (s ∷ later) h zero w found inside at = let e : s ≡ (w, found) = some-injective s (w, found) at in
+    sym (ap (λ (t : ℕ × ℕ). t.1) e) ∙ (h.0 ∙ ap (λ (t : ℕ × ℕ). get_or words t.0 0) e)
 happened words (s ∷ later) h (suc i) w found inside at =
     let now = set words s.0 1 in
-    let ih : found ≡ (if has w (map (λ (t : ℕ × ℕ). t.0) (take i later)) then 1 else get_or now w 0) = happened now later h.1 i w found (let e : length now ≡ length words = simp length-set in omega arith) at in
+    let ih : found ≡ (if has w (map (λ (t : ℕ × ℕ). t.0) (take i later)) then 1 else get_or now w 0) =
+    happened now later h.1 i w found (let e : length now ≡ length words = simp length-set in omega arith) at in
     dite (ℕ_discrete w s.0)
-    (λ e. let one : get_or now w 0 ≡ 1 = subst (λ (j : ℕ). get_or (set words j 1) w 0 ≡ 1) e (rw get_or-set_same) in grind (arith, nat_tests, ih, e, one))
+    (λ e. let one : get_or now w 0 ≡ 1 = subst (λ (j : ℕ). get_or (set words j 1) w 0 ≡ 1) e (rw get_or-set_same) in
+    grind (arith, nat_tests, ih, e, one))
     (λ ne. let stays : get_or now w 0 ≡ get_or words w 0 = rw get_or-set_other in grind (arith, nat_tests, ih, ne, stays))
 
 module _ {S : Type 0} where
@@ -165,7 +177,9 @@ module _ {S : Type 0} where
     size = kept.size;
     counted = λ w. omega (arith, kept.counted w, claims-snoc w s.views new_view);
     bits = kept.bits;
-    taken = λ seat x found w some_times. ⊎_elim (λ t. kept.taken seat x t w some_times) (λ e. absurd (let z : times w x.taken ≡ 0 = ap (λ (y : ClaimView). times w y.taken) (sym e) in omega arith)) (at_snoc s.views new_view x seat found);
+    taken = λ seat x found w some_times. ⊎_elim (λ t. kept.taken seat x t w some_times)
+        (λ e. absurd (let z : times w x.taken ≡ 0 = ap (λ (y : ClaimView). times w y.taken) (sym e) in omega arith))
+        (at_snoc s.views new_view x seat found);
   })
 
   -- so does a swap to 1
@@ -174,21 +188,31 @@ module _ {S : Type 0} where
   swaps n slots id me i here s kept homes at fits =
       let inside : i < length s.words = omega (arith, kept.size) in
       let size : length (set s.words i 1) ≡ n = simp length-set kept.size in
-      let bits : (w : ℕ) → get_or (set s.words i 1) w 0 ≤ 1 = λ w. ⊎_elim (λ t. omega arith) (λ t. omega (arith, kept.bits w)) (written s.words i 1 w inside) in
-      let grows : (w : ℕ) → get_or s.words w 0 ≡ 1 → get_or (set s.words i 1) w 0 ≡ 1 = λ w one. ⊎_elim (λ t. t.1) (λ t. t.1 ∙ one) (written s.words i 1 w inside) in
+      let bits : (w : ℕ) → get_or (set s.words i 1) w 0 ≤ 1 =
+      λ w. ⊎_elim (λ t. omega arith) (λ t. omega (arith, kept.bits w)) (written s.words i 1 w inside) in
+      let grows : (w : ℕ) → get_or s.words w 0 ≡ 1 → get_or (set s.words i 1) w 0 ≡ 1 = λ w one.
+      ⊎_elim (λ t. t.1) (λ t. t.1 ∙ one) (written s.words i 1 w inside) in
       ⊎_elim
       (λ z.
       let claimed = changed n s.words s.views id me.0 (with_claimed i me.0) (set s.words i 1) kept at size
       (λ w. ⊎_elim
-      (λ t. let one : times w (i ∷ []) ≡ 1 = subst (λ (j : ℕ). times w (j ∷ []) ≡ 1) t.0 (times-same w) in let was : get_or s.words w 0 ≡ 0 = ap (λ (j : ℕ). get_or s.words j 0) t.0 ∙ z in omega (arith, times-append w me.0.claimed (i ∷ [])))
+      (λ t. let one : times w (i ∷ []) ≡ 1 = subst (λ (j : ℕ). times w (j ∷ []) ≡ 1) t.0 (times-same w) in
+      let was : get_or s.words w 0 ≡ 0 = ap (λ (j : ℕ). get_or s.words j 0) t.0 ∙ z in
+      omega (arith, times-append w me.0.claimed (i ∷ [])))
       (λ t. omega (arith, times-append w me.0.claimed (i ∷ []), times-other w i t.0))
       (written s.words i 1 w inside))
       bits grows
-      (λ w some_times. grows w (kept.taken id me.0 at w some_times)) in
-      (with_claimed i me.0, keeps, tt, claimed, (refl, inl (z, refl, unknown n s.words s.views id me.0 i kept at z), own_once n s.views id me.0 _ _ claimed at)))
+      (λ w some_times. grows w (kept.taken id me.0 at w some_times)) in (
+        with_claimed i me.0,
+        keeps,
+        tt,
+        claimed,
+        (refl, inl (z, refl, unknown n s.words s.views id me.0 i kept at z), own_once n s.views id me.0 _ _ claimed at),
+      ))
       (λ o.
       let taken = changed n s.words s.views id me.0 (with_taken i me.0) (set s.words i 1) kept at size
-      (λ w. ⊎_elim (λ t. let was : get_or s.words w 0 ≡ 1 = ap (λ (j : ℕ). get_or s.words j 0) t.0 ∙ o in omega arith) (λ t. omega arith) (written s.words i 1 w inside))
+      (λ w. ⊎_elim (λ t. let was : get_or s.words w 0 ≡ 1 = ap (λ (j : ℕ). get_or s.words j 0) t.0 ∙ o in omega arith) (λ t. omega arith)
+      (written s.words i 1 w inside))
       bits grows
       (λ w some_times. ⊎_elim
       (λ t. t.1)
@@ -204,15 +228,25 @@ module _ {S : Type 0} where
       let inside : i < length s.words = omega (arith, kept.size) in
       let now = set s.words i (get_or s.words i 0) in
       let size : length now ≡ n = simp length-set kept.size in
-      let stays : (w : ℕ) → get_or now w 0 ≡ get_or s.words w 0 = λ w. ⊎_elim (λ t. t.1 ∙ ap (λ (j : ℕ). get_or s.words j 0) (sym t.0)) (λ t. t.1) (written s.words i (get_or s.words i 0) w inside) in
+      let stays : (w : ℕ) → get_or now w 0 ≡ get_or s.words w 0 = λ w. ⊎_elim (λ t. t.1 ∙ ap (λ (j : ℕ). get_or s.words j 0) (sym t.0))
+      (λ t. t.1) (written s.words i (get_or s.words i 0) w inside) in
       let bits : (w : ℕ) → get_or now w 0 ≤ 1 = λ w. omega (arith, stays w, kept.bits w) in
       let grows : (w : ℕ) → get_or s.words w 0 ≡ 1 → get_or now w 0 ≡ 1 = λ w one. stays w ∙ one in
       ⊎_elim
       (λ z.
       let free = changed n s.words s.views id me.0 (with_free i me.0) now kept at size
       (λ w. omega (arith, stays w)) bits grows
-      (λ w some_times. grows w (kept.taken id me.0 at w some_times)) in
-      (with_free i me.0, keeps, tt, free, (refl, inl (z, refl, unknown n s.words s.views id me.0 i kept at z), own_once n s.views id me.0 _ _ free at)))
+      (λ w some_times. grows w (kept.taken id me.0 at w some_times)) in (
+        with_free i me.0,
+        keeps,
+        tt,
+        free,
+        (
+          refl,
+          inl (z, refl, unknown n s.words s.views id me.0 i kept at z),
+          own_once n s.views id me.0 _ _ free at,
+        ),
+      ))
       (λ o.
       let taken = changed n s.words s.views id me.0 (with_taken i me.0) now kept at size
       (λ w. omega (arith, stays w)) bits grows
@@ -229,12 +263,19 @@ module _ {S : Type 0} where
       let at_other : get_elem? s.views other ≡ some u = sym (set_else s.views id other (joined v u) apart) ∙ there in
       record {
         size = kept.size;
-        counted = λ w. omega (arith, kept.counted w, claims-set w s.views id v (joined v u) at, claims-set w views other u new_view there, times-append w v.claimed u.claimed);
+        counted = λ w. omega (
+          arith,
+          kept.counted w,
+          claims-set w s.views id v (joined v u) at,
+          claims-set w views other u new_view there,
+          times-append w v.claimed u.claimed,
+        );
         bits = kept.bits;
         taken = λ seat x found w some_times. ⊎_elim
             (λ t. absurd (let z : times w x.taken ≡ 0 = ap (λ (y : ClaimView). times w y.taken) (sym t.1) in omega arith))
             (λ t. ⊎_elim
-            (λ h. let sum : times w x.taken ≡ times w v.taken + times w u.taken = ap (λ (y : ClaimView). times w y.taken) (sym h.1) ∙ times-append w v.taken u.taken in either_one n s.words s.views id other v u w kept at at_other (omega arith))
+            (λ h. let sum : times w x.taken ≡ times w v.taken + times w u.taken = ap (λ (y : ClaimView). times w y.taken) (sym h.1)
+            ∙ times-append w v.taken u.taken in either_one n s.words s.views id other v u w kept at at_other (omega arith))
             (λ h. kept.taken seat x h.1 w some_times)
             (at_set s.views id seat (joined v u) x t.1))
             (at_set views other seat new_view x found);

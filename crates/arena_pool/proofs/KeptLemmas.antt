@@ -20,7 +20,8 @@ use Rattle.arena_pool.specs.Kinds.{IsOfKind}
 use Rattle.arena_pool.proofs.KindLemmas.{still}
 
 -- a frame does
-pub frame_of_kind : (kind : PoolKind) (old new : Memory) (before after : List Block) → Frame old new before after → IsOfKind kind old.state → IsOfKind kind new.state
+pub frame_of_kind : (kind : PoolKind) (old new : Memory) (before after : List Block) → Frame old new before after → IsOfKind kind old.state
+    → IsOfKind kind new.state
 frame_of_kind kind old new before after frame of_kind = record {
   growing = frame.is_growing ∙ of_kind.growing;
   region = λ bytes is. frame.allocated (still kind bytes old.state of_kind is) ∙ of_kind.region bytes is;
@@ -37,7 +38,8 @@ same_view kind old new same of_kind = subst (λ (a : View). IsOfKind kind a.memo
 
 placed_after : (kind : PoolKind) (old new : View) (size align k : ℕ) (answer : Answer) → PlacesAfter old new size align k answer
     → IsOfKind kind old.memory.state → IsOfKind kind new.memory.state
-placed_after kind old new size align k (Placed b) after of_kind = frame_of_kind kind old.memory new.memory [] (b ∷ []) after.outcome.frame of_kind
+placed_after kind old new size align k (Placed b) after of_kind =
+    frame_of_kind kind old.memory new.memory [] (b ∷ []) after.outcome.frame of_kind
 placed_after kind old new size align k (Refused n) after of_kind = same_of_kind kind old.memory new.memory after.outcome.1.memory of_kind
 placed_after kind old new size align k Wanting after of_kind = same_view kind old new after.outcome.same of_kind
 
@@ -49,14 +51,17 @@ resized_after : (kind : PoolKind) (way : Resizing) (old new : View) (block : Blo
     → ResizesAfter way old new block size align k answer → IsOfKind kind old.memory.state → IsOfKind kind new.memory.state
 resized_after kind way old new block size align k (Placed b) after of_kind =
     frame_of_kind kind old.memory new.memory (block ∷ []) (b ∷ []) after.outcome.frame of_kind
-resized_after kind way old new block size align k (Refused n) after of_kind = same_of_kind kind old.memory new.memory after.outcome.1.memory of_kind
+resized_after kind way old new block size align k (Refused n) after of_kind =
+    same_of_kind kind old.memory new.memory after.outcome.1.memory of_kind
 resized_after kind way old new block size align k Wanting after of_kind = same_view kind old new after.outcome.1.same of_kind
 
 pub resized_of_kind : (kind : PoolKind) (way : Resizing) (old new : View) (block : Block) (size align : ℕ) (answer : Answer)
     → ResizesBlock way old new block size align answer → IsOfKind kind old.memory.state → IsOfKind kind new.memory.state
-resized_of_kind kind way old new block size align answer resizes = resized_after kind way old new block size align resizes.0 answer resizes.1
+resized_of_kind kind way old new block size align answer resizes =
+    resized_after kind way old new block size align resizes.0 answer resizes.1
 
-pub returned_of_kind : (kind : PoolKind) (old new : Memory) (block : Block) → GivesBack old new block → IsOfKind kind old.state → IsOfKind kind new.state
+pub returned_of_kind : (kind : PoolKind) (old new : Memory) (block : Block) → GivesBack old new block → IsOfKind kind old.state
+    → IsOfKind kind new.state
 returned_of_kind kind old new block gives = frame_of_kind kind old new (padded old.state.min_align block ∷ []) [] gives.frame
 
 pub wrote_of_kind : (kind : PoolKind) (old new : Memory) (block : Block) (at : ℕ) (list : List ℕ) → WritesBlock old new block at list
@@ -83,9 +88,11 @@ answered kind new P block (Err (TooFew taken)) keeps answers = absurd answers
 pub box_of_kind : {T : Type 0} (kind : PoolKind) (old new : View) (size align : ℕ) (result : Result (Box T) ItemErr)
     → Answers (λ b. b.block) result (PlacesBlock old new size align) → IsOfKind kind old.memory.state → IsOfKind kind new.memory.state
 box_of_kind kind old new size align result placed of_kind =
-    answered kind new.memory (PlacesBlock old new size align) (λ b. b.block) result (λ answer places. placed_of_kind kind old new size align answer places of_kind) placed
+    answered kind new.memory (PlacesBlock old new size align) (λ b. b.block) result
+    (λ answer places. placed_of_kind kind old new size align answer places of_kind) placed
 
 pub slice_of_kind : {T : Type 0} (kind : PoolKind) (old new : View) (size align n : ℕ) (result : Result (BoxSlice T) ItemErr)
     → Answers (λ s. s.block) result (PlacesArray old new size align n) → IsOfKind kind old.memory.state → IsOfKind kind new.memory.state
 slice_of_kind kind old new size align n result placed of_kind =
-    answered kind new.memory (PlacesArray old new size align n) (λ s. s.block) result (λ answer places. array_of_kind kind old new size align n answer places of_kind) placed
+    answered kind new.memory (PlacesArray old new size align n) (λ s. s.block) result
+    (λ answer places. array_of_kind kind old new size align n answer places of_kind) placed

@@ -26,7 +26,8 @@ reset_of_kind kind state valid of_kind = record {
 }
 
 -- After a reset nothing is used, and the kind is as before.
-pub reset_is_unused : (kind : PoolKind) (arena : View) → IsValid arena.memory.state → IsOfKind kind arena.memory.state → IsUnused kind (reset_view arena)
+pub reset_is_unused : (kind : PoolKind) (arena : View) → IsValid arena.memory.state → IsOfKind kind arena.memory.state
+    → IsUnused kind (reset_view arena)
 reset_is_unused kind arena valid of_kind = record {
   valid = reset_valid arena.memory.state valid;
   used = reset_used arena.memory.state;
@@ -38,7 +39,12 @@ reset_is_unused kind arena valid of_kind = record {
 pub new_standard : (arena : View) → IsNew Standard arena → IsUnused Standard arena
 new_standard arena new =
     let P : Memory → Type 0 = λ memory. IsUnused Standard (view memory arena.source) in
-    subst P (sym new.memory) (record { valid = growing_valid 1 refl; used = refl; statistics = refl; of_kind = record { growing = refl; region = λ bytes is. cc } })
+    subst P (sym new.memory) (record {
+      valid = growing_valid 1 refl;
+      used = refl;
+      statistics = refl;
+      of_kind = record { growing = refl; region = λ bytes is. cc };
+    })
 
 -- the memory over a region, but for its last 48 bytes
 abbrev region_memory : List ℕ → Memory

@@ -1,7 +1,16 @@
 -- The lemmas that a layer above cites: which arenas are of a kind, what the events of a pool come to, what a seat knows, and what the rules
 -- of claims and of two owners come to.
 pub use Rattle.arena_pool.proofs.KindLemmas.{reset_of_kind, reset_is_unused, none_readable}
-pub use Rattle.arena_pool.proofs.KeptLemmas.{frame_of_kind, placed_of_kind, resized_of_kind, returned_of_kind, wrote_of_kind, array_of_kind, box_of_kind, slice_of_kind}
+pub use Rattle.arena_pool.proofs.KeptLemmas.{
+  frame_of_kind,
+  placed_of_kind,
+  resized_of_kind,
+  returned_of_kind,
+  wrote_of_kind,
+  array_of_kind,
+  box_of_kind,
+  slice_of_kind,
+}
 pub use Rattle.arena_pool.proofs.PoolLemmas.{got_is_lent, got_is_pool, lent_is_pooled, put_is_pool, given_up_is_pool}
 pub use Rattle.arena_pool.proofs.PoolLemmas.{answers_stored, answers_empty, answers_limit, answers_at_once, answers_waiting, put_is_newest}
 pub use Rattle.arena_pool.proofs.ClaimLemmas.{times-append, times-same, times-other, knows_claimed, knows_taken, is_taken}

@@ -70,7 +70,8 @@ module _ {X : Type 0} where
   shared : (a : X) (s : State (Option X) (OwnerView X)) (id : ℕ) (v : OwnerView X) → Shares a s → get_elem? s.views id ≡ some v
       → v.stage ≡ 3 → IsShared a s
   shared a s id v holds at stage = ⊎_elim
-      (λ l. ⊎_elim (λ h. absurd (other_stage a 0 3 s id v h.0 at stage (omega arith))) (λ h. absurd (other_stage a 1 3 s id v h.0 at stage (omega arith))) l)
+      (λ l. ⊎_elim (λ h. absurd (other_stage a 0 3 s id v h.0 at stage (omega arith)))
+      (λ h. absurd (other_stage a 1 3 s id v h.0 at stage (omega arith))) l)
       (λ r. ⊎_elim (λ h. absurd (other_stage a 2 3 s id v h.0 at stage (omega arith))) (λ h. h) r)
       holds
 
@@ -107,7 +108,17 @@ module _ {X : Type 0} where
       let o = other s.views i v sh.pair at in
       let none0 : times 0 v.lists.claimed ≡ 0 = ap (times 0) claimed in
       let none1 : times 1 v.lists.claimed ≡ 0 = ap (times 1) claimed in
-      let free : get_or s.words 1 0 ≡ 0 = omega (arith, one, none0, none1, sh.kept.counted 0, sh.kept.counted 1, sum 0 s.views i o.0 v o.1 sh.pair at o.2 o.3, sum 1 s.views i o.0 v o.1 sh.pair at o.2 o.3, (sh.each o.0 o.1 o.2).2) in
+      let free : get_or s.words 1 0 ≡ 0 = omega (
+        arith,
+        one,
+        none0,
+        none1,
+        sh.kept.counted 0,
+        sh.kept.counted 1,
+        sum 0 s.views i o.0 v o.1 sh.pair at o.2 o.3,
+        sum 1 s.views i o.0 v o.1 sh.pair at o.2 o.3,
+        (sh.each o.0 o.1 o.2).2,
+      ) in
       (free, sh.home free)
 
   -- word 0 is taken exactly where the other owner claims it
@@ -116,7 +127,8 @@ module _ {X : Type 0} where
       → (get_or s.words 0 0 ≡ 1) ↔ (0 < times 0 u.lists.claimed)
   later a s i j v u sh at to apart claimed =
       let none0 : times 0 v.lists.claimed ≡ 0 = ap (times 0) claimed in
-      let both : get_or s.words 0 0 ≡ times 0 v.lists.claimed + times 0 u.lists.claimed = sh.kept.counted 0 ∙ sum 0 s.views i j v u sh.pair at to apart in
+      let both : get_or s.words 0 0 ≡ times 0 v.lists.claimed + times 0 u.lists.claimed = sh.kept.counted 0
+      ∙ sum 0 s.views i j v u sh.pair at to apart in
       (λ one. omega (arith, one, none0, both), λ some_times. omega (arith, some_times, none0, both, sh.kept.bits 0))
 
   -- a step on the first slot while the table is made: the views and the words afterwards
@@ -147,17 +159,20 @@ module _ {X : Type 0} where
       ))
       (λ h. absurd (other_stage a 1 0 s id v h.0 at refl (omega arith)))
       l)
-      (λ r. ⊎_elim (λ h. absurd (other_stage a 2 0 s id v h.0 at refl (omega arith))) (λ h. absurd (not_shared a 0 s id v h at refl (omega arith))) r)
+      (λ r. ⊎_elim (λ h. absurd (other_stage a 2 0 s id v h.0 at refl (omega arith)))
+      (λ h. absurd (not_shared a 0 s id v h at refl (omega arith))) r)
       holds
 
   -- the same for a seat that is known to be so
   pub takes_slot : (a : X) (slots id : ℕ) (me : Me (Option X) (OwnerView X)) → me ≡ (owner_view a 0, [])
       → Allows (Shares a) slots id me 0 (λ n. n) (Took (step slots 0 0 0 none) me)
-  takes_slot a slots id me is = subst (λ (m : Me (Option X) (OwnerView X)). Allows (Shares a) slots id m 0 (λ n. n) (Took (step slots 0 0 0 none) m)) (sym is) (takes_here a slots id)
+  takes_slot a slots id me is = subst (λ (m : Me (Option X) (OwnerView X)). Allows (Shares a) slots id m 0 (λ n. n)
+      (Took (step slots 0 0 0 none) m)) (sym is) (takes_here a slots id)
 
   -- the seat gives the full slot
   gives_here : (a : X) (slots id : ℕ)
-      → Allows (Shares a) slots id (owner_view a 1, (0, Some a) ∷ []) 0 (λ n. n) (Gave (step slots 0 0 0 none) (owner_view a 1, (0, Some a) ∷ []))
+      → Allows (Shares a) slots id (owner_view a 1, (0, Some a) ∷ []) 0 (λ n. n)
+      (Gave (step slots 0 0 0 none) (owner_view a 1, (0, Some a) ∷ []))
   gives_here a slots id s holds homes at fits =
       let v : OwnerView X = owner_view a 1 in
       ⊎_elim
@@ -171,31 +186,36 @@ module _ {X : Type 0} where
         refl,
       ))
       l)
-      (λ r. ⊎_elim (λ h. absurd (other_stage a 2 1 s id v h.0 at refl (omega arith))) (λ h. absurd (not_shared a 1 s id v h at refl (omega arith))) r)
+      (λ r. ⊎_elim (λ h. absurd (other_stage a 2 1 s id v h.0 at refl (omega arith)))
+      (λ h. absurd (not_shared a 1 s id v h at refl (omega arith))) r)
       holds
 
   -- the same for a seat that is known to be so
   pub gives_slot : (a : X) (slots id : ℕ) (me : Me (Option X) (OwnerView X)) → me ≡ (owner_view a 1, (0, Some a) ∷ [])
       → Allows (Shares a) slots id me 0 (λ n. n) (Gave (step slots 0 0 0 none) me)
-  gives_slot a slots id me is = subst (λ (m : Me (Option X) (OwnerView X)). Allows (Shares a) slots id m 0 (λ n. n) (Gave (step slots 0 0 0 none) m)) (sym is) (gives_here a slots id)
+  gives_slot a slots id me is = subst (λ (m : Me (Option X) (OwnerView X)). Allows (Shares a) slots id m 0 (λ n. n)
+      (Gave (step slots 0 0 0 none) m)) (sym is) (gives_here a slots id)
 
   -- two owners that know nothing share
   begun : (a : X) (s : State (Option X) (OwnerView X)) → s.words ≡ 0 ∷ 0 ∷ [] → s.views ≡ owner_view a 3 ∷ owner_view a 3 ∷ []
       → s.homes ≡ some (Some a) ∷ [] → IsShared a s
   begun a s words views homes = record {
-    kept = subst (λ (ws : List ℕ). IsKept 2 ws (map lists_of s.views)) (sym words) (subst (λ (vs : List (OwnerView X)). IsKept 2 (0 ∷ 0 ∷ []) (map lists_of vs)) (sym views) (record {
-      size = refl;
-      counted = zeros;
-      bits = λ w. omega (arith, zeros w);
-      taken = λ seat v at w some_times. absurd (let z : times w v.taken ≡ 0 = ap (λ (y : ClaimView). times w y.taken) (sym (both new_view v seat at)) in omega arith);
-    }));
+    kept = subst (λ (ws : List ℕ). IsKept 2 ws (map lists_of s.views)) (sym words)
+        (subst (λ (vs : List (OwnerView X)). IsKept 2 (0 ∷ 0 ∷ []) (map lists_of vs)) (sym views) (record {
+          size = refl;
+          counted = zeros;
+          bits = λ w. omega (arith, zeros w);
+          taken = λ seat v at w some_times. absurd
+              (let z : times w v.taken ≡ 0 = ap (λ (y : ClaimView). times w y.taken) (sym (both new_view v seat at)) in omega arith);
+        }));
     pair = ap length views;
-    each = λ seat v at. let e : owner_view a 3 ≡ v = both (owner_view a 3) v seat (subst (λ (vs : List (OwnerView X)). get_elem? vs seat ≡ some v) views at) in (
-      ap (λ (u : OwnerView X). u.stage) (sym e),
-      ap (λ (u : OwnerView X). u.shared) (sym e),
-      let p : times 0 v.lists.claimed ≡ 0 = ap (λ (u : OwnerView X). times 0 u.lists.claimed) (sym e) in
-          let q : times 1 v.lists.claimed ≡ 0 = ap (λ (u : OwnerView X). times 1 u.lists.claimed) (sym e) in omega arith,
-    );
+    each = λ seat v at. let e : owner_view a 3 ≡ v =
+        both (owner_view a 3) v seat (subst (λ (vs : List (OwnerView X)). get_elem? vs seat ≡ some v) views at) in (
+          ap (λ (u : OwnerView X). u.stage) (sym e),
+          ap (λ (u : OwnerView X). u.shared) (sym e),
+          let p : times 0 v.lists.claimed ≡ 0 = ap (λ (u : OwnerView X). times 0 u.lists.claimed) (sym e) in
+              let q : times 1 v.lists.claimed ≡ 0 = ap (λ (u : OwnerView X). times 1 u.lists.claimed) (sym e) in omega arith,
+        );
     home = λ z. homes;
   }
 
@@ -204,9 +224,11 @@ module _ {X : Type 0} where
   parts_here a id s holds at =
       let v : OwnerView X = owner_view a 2 in
       ⊎_elim
-      (λ l. ⊎_elim (λ h. absurd (other_stage a 0 2 s id v h.0 at refl (omega arith))) (λ h. absurd (other_stage a 1 2 s id v h.0 at refl (omega arith))) l)
+      (λ l. ⊎_elim (λ h. absurd (other_stage a 0 2 s id v h.0 at refl (omega arith)))
+      (λ h. absurd (other_stage a 1 2 s id v h.0 at refl (omega arith))) l)
       (λ r. ⊎_elim
-      (λ h. inr (inr (begun a _ h.0.0 (ap (λ (vs : List (OwnerView X)). vs ++ owner_view a 3 ∷ []) (views_after a a 2 3 s id v h.0 at)) h.1)))
+      (λ h. inr (inr (begun a _ h.0.0 (ap (λ (vs : List (OwnerView X)). vs ++ owner_view a 3 ∷ []) (views_after a a 2 3 s id v h.0 at))
+      h.1)))
       (λ h. absurd (not_shared a 2 s id v h at refl (omega arith)))
       r)
       holds
@@ -214,10 +236,12 @@ module _ {X : Type 0} where
   -- the same for a seat that is known to be so
   pub parts : (a : X) (id : ℕ) (v : OwnerView X) → v ≡ owner_view a 2
       → Splits (Shares a) id v (owner_view v.shared 3) (owner_view v.shared 3)
-  parts a id v is = subst (λ (u : OwnerView X). Splits (Shares a) id u (owner_view u.shared 3) (owner_view u.shared 3)) (sym is) (parts_here a id)
+  parts a id v is = subst (λ (u : OwnerView X). Splits (Shares a) id u (owner_view u.shared 3) (owner_view u.shared 3)) (sym is)
+      (parts_here a id)
 
   -- the claims of an owner keep the rule where its view does
-  stays : (a : X) (s : State (Option X) (OwnerView X)) (id : ℕ) (v : OwnerView X) (l : ClaimView) (ws : List ℕ) (t : State (Option X) (OwnerView X))
+  stays : (a : X) (s : State (Option X) (OwnerView X)) (id : ℕ) (v : OwnerView X) (l : ClaimView) (ws : List ℕ)
+      (t : State (Option X) (OwnerView X))
       → IsShared a s → get_elem? s.views id ≡ some v
       → IsKept 2 ws (set (map lists_of s.views) id l)
       → times 0 l.claimed + times 1 l.claimed ≤ 1
@@ -225,7 +249,9 @@ module _ {X : Type 0} where
       → (get_or ws 1 0 ≡ 0 → t.homes ≡ some (Some a) ∷ [])
       → IsShared a t
   stays a s id v l ws t sh at kept few words views home = record {
-    kept = subst (λ (xs : List ℕ). IsKept 2 xs (map lists_of t.views)) (sym words) (subst (λ (vs : List ClaimView). IsKept 2 ws vs) (sym (ap (map lists_of) views ∙ map-set lists_of s.views id (with_lists l v))) kept);
+    kept = subst (λ (xs : List ℕ). IsKept 2 xs (map lists_of t.views)) (sym words)
+        (subst (λ (vs : List ClaimView). IsKept 2 ws vs) (sym (ap (map lists_of) views ∙ map-set lists_of s.views id (with_lists l v)))
+        kept);
     pair = ap length views ∙ simp length-set sh.pair;
     each = λ seat x found. ⊎_elim
         (λ h. let e : with_lists l v ≡ x = h.1 in let old = sh.each id v at in (
@@ -243,13 +269,20 @@ module _ {X : Type 0} where
       → Allows (Shares a) slots id me 0 (λ _. 1) (FirstSwapped (step slots 0 1 0 none) me)
   firsts a slots id me stage claimed s holds homes at fits =
       let sh = shared a s id me.0 holds at stage in
-      let r = swaps {S = Option X} 2 0 id (me.0.lists, []) 0 (omega arith) (record { words = s.words; homes = []; views = map lists_of s.views }) sh.kept refl (at_map lists_of s.views id me.0 at) fits in
-      let little : times 0 r.0.claimed + times 1 r.0.claimed ≤ 1 = few r.0.claimed (⊎_elim (λ h. inl (ap (λ (l : ClaimView). l.claimed) h.1 ∙ ap (λ (xs : List ℕ). xs ++ 0 ∷ []) claimed)) (λ h. inr (inr (ap (λ (l : ClaimView). l.claimed) h.1 ∙ claimed))) r.4.1) in (
+      let r = swaps {S = Option X} 2 0 id (me.0.lists, []) 0 (omega arith)
+      (record { words = s.words; homes = []; views = map lists_of s.views }) sh.kept refl (at_map lists_of s.views id me.0 at) fits in
+      let little : times 0 r.0.claimed + times 1 r.0.claimed ≤ 1 =
+      few r.0.claimed (⊎_elim (λ h. inl (ap (λ (l : ClaimView). l.claimed) h.1 ∙ ap (λ (xs : List ℕ). xs ++ 0 ∷ []) claimed))
+      (λ h. inr (inr (ap (λ (l : ClaimView). l.claimed) h.1 ∙ claimed))) r.4.1) in (
         with_lists r.0 me.0,
         keeps,
         tt,
         inr (inr (stays a s id me.0 r.0 (set s.words 0 1) _ sh at r.3 little refl refl (λ z. sh.home (sym (second_stays s.words 1) ∙ z)))),
-        (refl, ⊎_elim (λ h. inl (h.0, ap (λ (l : ClaimView). with_lists l me.0) h.1, omega (arith, h.2))) (λ h. inr (h.0, ap (λ (l : ClaimView). with_lists l me.0) h.1)) r.4.1),
+        (
+          refl,
+          ⊎_elim (λ h. inl (h.0, ap (λ (l : ClaimView). with_lists l me.0) h.1, omega (arith, h.2)))
+              (λ h. inr (h.0, ap (λ (l : ClaimView). with_lists l me.0) h.1)) r.4.1,
+        ),
       )
 
   -- an owner loads word 0
@@ -257,13 +290,21 @@ module _ {X : Type 0} where
       → Allows (Shares a) slots id me 0 (λ n. n) (Looked (step slots 0 0 0 none) me)
   looks a slots id me stage claimed s holds homes at fits =
       let sh = shared a s id me.0 holds at stage in
-      let r = loads {S = Option X} 2 0 id (me.0.lists, []) 0 (omega arith) (record { words = s.words; homes = []; views = map lists_of s.views }) sh.kept refl (at_map lists_of s.views id me.0 at) fits in
-      let little : times 0 r.0.claimed + times 1 r.0.claimed ≤ 1 = few r.0.claimed (inr (inr (⊎_elim (λ h. ap (λ (l : ClaimView). l.claimed) h.1 ∙ claimed) (λ h. ap (λ (l : ClaimView). l.claimed) h.1 ∙ claimed) r.4.1))) in (
+      let r = loads {S = Option X} 2 0 id (me.0.lists, []) 0 (omega arith)
+      (record { words = s.words; homes = []; views = map lists_of s.views }) sh.kept refl (at_map lists_of s.views id me.0 at) fits in
+      let little : times 0 r.0.claimed + times 1 r.0.claimed ≤ 1 =
+      few r.0.claimed (inr (inr (⊎_elim (λ h. ap (λ (l : ClaimView). l.claimed) h.1 ∙ claimed)
+      (λ h. ap (λ (l : ClaimView). l.claimed) h.1 ∙ claimed) r.4.1))) in (
         with_lists r.0 me.0,
         keeps,
         tt,
-        inr (inr (stays a s id me.0 r.0 (set s.words 0 (get_or s.words 0 0)) _ sh at r.3 little refl refl (λ z. sh.home (sym (second_stays s.words (get_or s.words 0 0)) ∙ z)))),
-        (refl, ⊎_elim (λ h. inl (h.0, ap (λ (l : ClaimView). with_lists l me.0) h.1, omega (arith, h.2))) (λ h. inr (h.0, ap (λ (l : ClaimView). with_lists l me.0) h.1)) r.4.1),
+        inr (inr (stays a s id me.0 r.0 (set s.words 0 (get_or s.words 0 0)) _ sh at r.3 little refl refl
+            (λ z. sh.home (sym (second_stays s.words (get_or s.words 0 0)) ∙ z)))),
+        (
+          refl,
+          ⊎_elim (λ h. inl (h.0, ap (λ (l : ClaimView). with_lists l me.0) h.1, omega (arith, h.2)))
+              (λ h. inr (h.0, ap (λ (l : ClaimView). with_lists l me.0) h.1)) r.4.1,
+        ),
       )
 
   -- an owner that found word 0 taken swaps word 1, which is free, and takes the slot
@@ -275,9 +316,11 @@ module _ {X : Type 0} where
       let one : get_or s.words 0 0 ≡ 1 = sh.kept.taken id me.0.lists at_list 0 taken in
       let free = there a s id me.0 sh at claimed one in
       let zero_there = free.0 in
-      let r = swaps {S = Option X} 2 0 id (me.0.lists, []) 1 (omega arith) (record { words = s.words; homes = []; views = map lists_of s.views }) sh.kept refl at_list fits in
+      let r = swaps {S = Option X} 2 0 id (me.0.lists, []) 1 (omega arith)
+      (record { words = s.words; homes = []; views = map lists_of s.views }) sh.kept refl at_list fits in
       let is : r.0 ≡ with_claimed 1 me.0.lists = ⊎_elim (λ h. h.1) (λ h. absurd (omega (arith, h.0, zero_there))) r.4.1 in
-      let little : times 0 r.0.claimed + times 1 r.0.claimed ≤ 1 = few r.0.claimed (inr (inl (ap (λ (l : ClaimView). l.claimed) is ∙ ap (λ (xs : List ℕ). xs ++ 1 ∷ []) claimed))) in
+      let little : times 0 r.0.claimed + times 1 r.0.claimed ≤ 1 =
+      few r.0.claimed (inr (inl (ap (λ (l : ClaimView). l.claimed) is ∙ ap (λ (xs : List ℕ). xs ++ 1 ∷ []) claimed))) in
       let gone : get_or (set s.words 1 1) 1 0 ≡ 1 = let inside : 1 < length s.words = omega (arith, sh.kept.size) in rw get_or-set_same in (
         with_lists r.0 me.0,
         takes 0 (Some a),

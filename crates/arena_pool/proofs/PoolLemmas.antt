@@ -32,7 +32,8 @@ got_is_pool p q (Ok lent) pool (inl stored) = subst IsPool (sym stored.pool) (re
   stored = omega (arith, pool.stored, ap length stored.stack, length-append q.stack (lent ∷ []));
   stack = (All-pop (IsPooled p.kind) p.stack q.stack (Some lent) stored.stack pool.stack).0;
 })
-got_is_pool p q (Ok lent) pool (inr new) = subst IsPool (sym new.pool) (record { made = omega (arith, pool.made); stored = pool.stored; stack = pool.stack })
+got_is_pool p q (Ok lent) pool (inr new) =
+    subst IsPool (sym new.pool) (record { made = omega (arith, pool.made); stored = pool.stored; stack = pool.stack })
 got_is_pool p q (Err e) pool refused = subst IsPool (sym refused.1) pool
 
 pub lent_is_pooled : (p q : Pool) (lent : Pooled) → IsPool p → Gets p (Ok lent) q → IsPooled p.kind lent
@@ -40,12 +41,14 @@ lent_is_pooled p q lent pool (inl stored) = (All-pop (IsPooled p.kind) p.stack q
 lent_is_pooled p q lent pool (inr new) =
     record { unused = rw new.standard (new_standard lent.0 new.arena); id = rw (new.standard, new.id) refl }
 
-pub put_is_pool : (p : Pool) (arena : View) (id : Option ℕ) → IsPool p → 0 < p.lent → IsValid arena.memory.state → IsOfKind p.kind arena.memory.state → HasId p.kind id
+pub put_is_pool : (p : Pool) (arena : View) (id : Option ℕ) → IsPool p → 0 < p.lent → IsValid arena.memory.state
+    → IsOfKind p.kind arena.memory.state → HasId p.kind id
     → IsPool (put p arena id)
 put_is_pool p arena id pool lent valid of_kind has_id = record {
   made = omega (arith, pool.made);
   stored = omega (arith, pool.stored, length-append p.stack ((reset_view arena, id) ∷ []));
-  stack = All-push (IsPooled p.kind) p.stack (reset_view arena, id) pool.stack (record { unused = reset_is_unused p.kind arena valid of_kind; id = has_id });
+  stack = All-push (IsPooled p.kind) p.stack (reset_view arena, id) pool.stack
+      (record { unused = reset_is_unused p.kind arena valid of_kind; id = has_id });
 }
 
 pub given_up_is_pool : (p : Pool) → IsPool p → 0 < p.lent → IsPool (give_up p)
@@ -59,14 +62,16 @@ answers_stored p q (Err PoolEmpty) gets some = absurd (omega (arith, ap length g
 answers_stored p q (Err Limit) gets some = absurd (omega (arith, ap length gets.0.0))
 answers_stored p q (Err OutOfMemory) gets some = absurd (omega (arith, ap length gets.0.0))
 
-pub answers_empty : (p q : Pool) (answer : Result Pooled PoolErr) → Gets p answer q → p.stack ≡ [] → IsTrue (is_fixed p.kind) → answer ≡ Err PoolEmpty
+pub answers_empty : (p q : Pool) (answer : Result Pooled PoolErr) → Gets p answer q → p.stack ≡ [] → IsTrue (is_fixed p.kind)
+    → answer ≡ Err PoolEmpty
 answers_empty p q (Ok lent) (inl stored) none fixed = absurd (some_stored p q.stack lent none stored.stack)
 answers_empty p q (Ok lent) (inr new) none fixed = absurd (standard_is_not_fixed p.kind new.standard fixed)
 answers_empty p q (Err PoolEmpty) gets none fixed = refl
 answers_empty p q (Err Limit) gets none fixed = absurd (standard_is_not_fixed p.kind gets.0.1 fixed)
 answers_empty p q (Err OutOfMemory) gets none fixed = absurd (standard_is_not_fixed p.kind gets.0.1 fixed)
 
-pub answers_limit : (p q : Pool) (answer : Result Pooled PoolErr) → Gets p answer q → p.stack ≡ [] → p.kind ≡ Standard → p.made ≡ 2 ^ 64 - 1 → answer ≡ Err Limit
+pub answers_limit : (p q : Pool) (answer : Result Pooled PoolErr) → Gets p answer q → p.stack ≡ [] → p.kind ≡ Standard → p.made ≡ 2 ^ 64 - 1
+    → answer ≡ Err Limit
 answers_limit p q (Ok lent) (inl stored) none standard most = absurd (some_stored p q.stack lent none stored.stack)
 answers_limit p q (Ok lent) (inr new) none standard most = absurd (omega (arith, new.room))
 answers_limit p q (Err PoolEmpty) gets none standard most = absurd (standard_is_not_fixed p.kind standard gets.0.1)
@@ -101,11 +106,13 @@ answers_waiting p q (Err OutOfMemory) gets waits few = let can = takes_new p few
 
 -- ---- The newest
 
-restored : (p : Pool) (stack : List Pooled) (stored lent : ℕ) → stack ≡ p.stack → stored ≡ p.stored → lent ≡ p.lent → record p { stack = stack; stored = stored; lent = lent } ≡ p
+restored : (p : Pool) (stack : List Pooled) (stored lent : ℕ) → stack ≡ p.stack → stored ≡ p.stored → lent ≡ p.lent
+    → record p { stack = stack; stored = stored; lent = lent } ≡ p
 restored p stack stored lent same_stack same_stored same_lent = rw (same_stack, same_stored, same_lent) refl
 
 -- What was put last is lent next.
-pub put_is_newest : (p q : Pool) (arena : View) (id : Option ℕ) (lent : Pooled) → 0 < p.lent → Gets (put p arena id) (Ok lent) q → (lent ≡ (reset_view arena, id)) × (q ≡ p)
+pub put_is_newest : (p q : Pool) (arena : View) (id : Option ℕ) (lent : Pooled) → 0 < p.lent → Gets (put p arena id) (Ok lent) q
+    → (lent ≡ (reset_view arena, id)) × (q ≡ p)
 put_is_newest p q arena id lent some (inl stored) =
     let same = same_from_push p.stack q.stack (reset_view arena, id) lent stored.stack in
     (sym same.1, stored.pool ∙ restored p q.stack (p.stored + 1 - 1) (p.lent - 1 + 1) (sym same.0) (omega arith) (omega arith))

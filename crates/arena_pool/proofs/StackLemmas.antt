@@ -21,11 +21,13 @@ has_first_id Standard i = refl
 has_first_id (FixedSize bytes) i = refl
 
 -- One more arena is stored, with the next id.
-pub one_more : (kind : PoolKind) (n : ℕ) (stack : List Pooled) (arena : View) → AreFirst kind n stack → IsNew kind arena → IsUnused kind arena
+pub one_more : (kind : PoolKind) (n : ℕ) (stack : List Pooled) (arena : View) → AreFirst kind n stack → IsNew kind arena
+    → IsUnused kind arena
     → AreFirst kind (n + 1) (stack ++ (arena, first_id kind n) ∷ [])
 one_more kind n stack arena first new unused = record {
   arenas = All-push (λ (a : Pooled). IsNew kind a.0) stack (arena, first_id kind n) first.arenas new;
   ids = map-append (λ (a : Pooled). a.1) stack ((arena, first_id kind n) ∷ [])
-      ∙ (ap (λ (ids : List (Option ℕ)). ids ++ first_id kind n ∷ []) first.ids ∙ sym (map-range_with_len_more (first_id kind) 0 n n (zero-add n)));
+      ∙ (ap (λ (ids : List (Option ℕ)). ids ++ first_id kind n ∷ []) first.ids
+      ∙ sym (map-range_with_len_more (first_id kind) 0 n n (zero-add n)));
   pooled = All-push (IsPooled kind) stack (arena, first_id kind n) first.pooled (record { unused = unused; id = has_first_id kind n });
 }

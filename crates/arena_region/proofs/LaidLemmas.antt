@@ -34,7 +34,8 @@ written_first (suc n) (suc i) [] ws le fits = absurd (omega arith)
 written_first (suc n) (suc i) (x ∷ xs) ws le fits = ap (λ l. x ∷ l) (written_first n i xs ws (omega arith) (omega arith))
 
 -- what is written behind zeros
-written_behind : (low k from : ℕ) (xs ws : List ℕ) → from ≡ low + k → replicate low 0 ++ written_from xs k ws ≡ written_from (replicate low 0 ++ xs) from ws
+written_behind : (low k from : ℕ) (xs ws : List ℕ) → from ≡ low + k
+    → replicate low 0 ++ written_from xs k ws ≡ written_from (replicate low 0 ++ xs) from ws
 written_behind zero k from xs ws e = let same : k ≡ from = omega arith in ap (λ i. written_from xs i ws) same
 written_behind (suc low) k zero xs ws e = absurd (omega arith)
 written_behind (suc low) k (suc from) xs ws e = ap (λ l. 0 ∷ l) (written_behind low k from xs ws (omega arith))
@@ -44,7 +45,8 @@ pub written_shown : (low n from : ℕ) (xs ws : List ℕ) → low ≤ from → f
     → take n (replicate low 0 ++ written_from xs (from - low) ws) ≡ written_from (take n (replicate low 0 ++ xs)) from ws
 written_shown low n from xs ws above within fits =
     ap (take n) (written_behind low (from - low) from xs ws (omega arith))
-    ∙ written_first n from (replicate low 0 ++ xs) ws within (omega (arith, length-append (replicate low 0) xs, length-replicate {A = ℕ} low 0))
+    ∙ written_first n from (replicate low 0 ++ xs) ws within
+    (omega (arith, length-append (replicate low 0) xs, length-replicate {A = ℕ} low 0))
 
 behind : (low k from : ℕ) (xs : List ℕ) → from ≡ low + k → drop from (replicate low 0 ++ xs) ≡ drop k xs
 behind zero k from xs e = let same : from ≡ k = omega arith in ap (λ i. drop i xs) same
@@ -64,7 +66,8 @@ part_shown low n from size xs above le =
     sym (within_first n from size (replicate low 0 ++ xs) le ∙ ap (take size) (behind low (from - low) from xs (omega arith)))
 
 -- a list written in front of what was written before is one list with it
-pub written_joined : (i k : ℕ) (xs us ws : List ℕ) → k ≡ i + length us → k + length ws ≤ length xs → written_from (written_from xs k ws) i us ≡ written_from xs i (us ++ ws)
+pub written_joined : (i k : ℕ) (xs us ws : List ℕ) → k ≡ i + length us → k + length ws ≤ length xs
+    → written_from (written_from xs k ws) i us ≡ written_from xs i (us ++ ws)
 written_joined zero zero xs [] ws e fits = take-length (written_from xs 0 ws)
 written_joined zero (suc k) xs [] ws e fits = absurd (omega arith)
 written_joined zero zero xs (u ∷ us) ws e fits = absurd (omega arith)
@@ -76,13 +79,17 @@ written_joined (suc i) (suc k) (x ∷ xs) us ws e fits = ap (λ l. x ∷ l) (wri
 
 -- so are the parts of a list that are written from its end on
 pub written_part : (from start end : ℕ) (xs ws : List ℕ) → start ≤ end → end ≤ length ws → from + length ws ≤ length xs
-    → written_from (written_from xs (from + end) (drop end ws)) (from + start) (take (end - start) (drop start ws)) ≡ written_from xs (from + start) (drop start ws)
+    → written_from (written_from xs (from + end) (drop end ws)) (from + start) (take (end - start) (drop start ws)) ≡ written_from xs
+    (from + start) (drop start ws)
 written_part from start end xs ws below within fits =
     let rest = length-drop start ws in
     let first = length-take-le (end - start) (drop start ws) (omega (arith, rest)) in
-    let last : drop end ws ≡ drop (end - start) (drop start ws) = ap (λ n. drop n ws) (omega arith) ∙ sym (drop-drop (end - start) start ws) in
-    written_joined (from + start) (from + end) xs (take (end - start) (drop start ws)) (drop end ws) (omega (arith, first)) (omega (arith, length-drop end ws))
-    ∙ ap (written_from xs (from + start)) (ap (λ l. take (end - start) (drop start ws) ++ l) last ∙ take-append-drop (end - start) (drop start ws))
+    let last : drop end ws ≡ drop (end - start) (drop start ws) = ap (λ n. drop n ws) (omega arith) ∙ sym (drop-drop (end - start) start ws)
+    in
+    written_joined (from + start) (from + end) xs (take (end - start) (drop start ws)) (drop end ws) (omega (arith, first))
+    (omega (arith, length-drop end ws))
+    ∙ ap (written_from xs (from + start)) (ap (λ l. take (end - start) (drop start ws) ++ l) last
+    ∙ take-append-drop (end - start) (drop start ws))
 
 -- nothing written is no change
 pub written_nothing : (xs : List ℕ) (i : ℕ) → written_from xs i [] ≡ xs

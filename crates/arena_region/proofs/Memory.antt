@@ -20,16 +20,32 @@ abbrev pub byte : Ty
 byte = ty_int w8
 
 -- where a list fits, it is written in the place of as many
-pub written_as : (xs ws : List ℕ) (i : ℕ) → i + length ws ≤ length xs → written_from xs i ws ≡ take i xs ++ (ws ++ drop (length ws) (drop i xs))
+pub written_as : (xs ws : List ℕ) (i : ℕ) → i + length ws ≤ length xs
+    → written_from xs i ws ≡ take i xs ++ (ws ++ drop (length ws) (drop i xs))
 written_as xs ws i fits =
     let rest = drop (length ws) (drop i xs) in
     take_all (length xs) (take i xs ++ (ws ++ rest))
-    (omega (arith, length-append (take i xs) (ws ++ rest), length-append ws rest, length-take-le i xs (omega arith), length-drop i xs, length-drop (length ws) (drop i xs)))
+    (omega (
+      arith,
+      length-append (take i xs) (ws ++ rest),
+      length-append ws rest,
+      length-take-le i xs (omega arith),
+      length-drop i xs,
+      length-drop (length ws) (drop i xs),
+    ))
 
 pub written_long : (xs ws : List ℕ) (i : ℕ) → length (written_from xs i ws) ≡ length xs
 written_long xs ws i =
     let last = drop (length ws) (drop i xs) in
-    omega (arith, length-take (length xs) (take i xs ++ (ws ++ last)), length-append (take i xs) (ws ++ last), length-append ws last, length-take i xs, length-drop i xs, length-drop (length ws) (drop i xs))
+    omega (
+      arith,
+      length-take (length xs) (take i xs ++ (ws ++ last)),
+      length-append (take i xs) (ws ++ last),
+      length-append ws last,
+      length-take i xs,
+      length-drop i xs,
+      length-drop (length ws) (drop i xs),
+    )
 
 module _ {M : Type 1} {𝓤 : Ura M} (𝓛 : Logic 𝓤) where
   open 𝓛 use {H}
@@ -39,7 +55,8 @@ module _ {M : Type 1} {𝓤 : Ura M} (𝓛 : Logic 𝓤) where
   last_out n m b o e =
       qed 𝓛 (‵ (froom (block_of m) b o) ∷ []) ∵ rewrite ! 0 (λ k. ‵ (froom (block_of k) b o)) (sym e) refl $
       use1 𝓛 (‵ (froom (block_of n) b o) ⊛ ‵ (froom (block_of 1) b (past byte n o))) (room_cut 𝓛 byte n 1 b o) $ split ! $ move ! (1 ∷ []) $
-      use1 𝓛 (‵ (froom byte b (past byte n o)) ⊛ ‵ (froom (block_of 0) b (past byte n o + 1))) (𝓛.laws.room_uncons byte 0 b (past byte n o)) $ split ! $
+      use1 𝓛 (‵ (froom byte b (past byte n o)) ⊛ ‵ (froom (block_of 0) b (past byte n o + 1)))
+      (𝓛.laws.room_uncons byte 0 b (past byte n o)) $ split ! $
       rewrite ! 0 (λ k. ‵ (froom byte b k)) {x = n + o} (past_bytes n o ∙ omega arith) refl $ keep ! (0 ∷ 2 ∷ []) $ done !
 
   -- bytes behind room are room
@@ -60,7 +77,8 @@ module _ {M : Type 1} {𝓤 : Ura M} (𝓛 : Logic 𝓤) where
     pub seen_from : (i : ℕ) (xs : List ℕ) (o k : ℕ) → k ≡ o + i → ent 𝓤 (sem 𝓛 (Seen xs o)) (sem 𝓛 (Seen (drop i xs) k))
     seen_from zero xs o k e = let same : o ≡ k = omega arith in subst (λ j. ent 𝓤 (sem 𝓛 (Seen xs o)) (sem 𝓛 (Seen xs j))) same (id⊢ 𝓤 _)
     seen_from (suc i) [] o k e = id⊢ 𝓤 _
-    seen_from (suc i) (x ∷ xs) o k e = via 𝓤 (sem 𝓛 (Seen xs (o + 1))) (snd∗ 𝓤 (sem 𝓛 (shared_of u8 x b o κ)) (sem 𝓛 (Seen xs (o + 1)))) (seen_from i xs (o + 1) k (omega arith))
+    seen_from (suc i) (x ∷ xs) o k e = via 𝓤 (sem 𝓛 (Seen xs (o + 1))) (snd∗ 𝓤 (sem 𝓛 (shared_of u8 x b o κ)) (sem 𝓛 (Seen xs (o + 1))))
+        (seen_from i xs (o + 1) k (omega arith))
 
     -- and the first n of them
     pub seen_first : (n : ℕ) (xs : List ℕ) (o : ℕ) → ent 𝓤 (sem 𝓛 (Seen xs o)) (sem 𝓛 (Seen (take n xs) o))
@@ -76,12 +94,14 @@ module _ {M : Type 1} {𝓤 : Ura M} (𝓛 : Logic 𝓤) where
     at : k ≡ o + i → i ≤ length xs → o + length (take i xs) ≡ k
     at is le = omega (arith, length-take-le i xs le)
 
-    pub part_out : k ≡ o + i → (n : ℕ) → i + n ≤ length xs → ent 𝓤 (sem 𝓛 (bytes full_share xs b o)) (sep 𝓤 (sem 𝓛 (bytes full_share (take n (drop i xs)) b k)) (sem 𝓛 (Around n)))
+    pub part_out : k ≡ o + i → (n : ℕ) → i + n ≤ length xs
+        → ent 𝓤 (sem 𝓛 (bytes full_share xs b o)) (sep 𝓤 (sem 𝓛 (bytes full_share (take n (drop i xs)) b k)) (sem 𝓛 (Around n)))
     part_out is n le =
         let part = take n (drop i xs) in let rest = drop n (drop i xs) in let row = bytes full_share in
         let long : length part ≡ n = length-take-le n (drop i xs) (omega (arith, length-drop i xs)) in
         qed 𝓛 (‵ (row xs b o) ∷ []) ∵ rewrite ! 0 (λ l. ‵ (row l b o)) (sym (take-append-drop i xs)) refl $
-        use1 𝓛 (‵ (row (take i xs) b o) ⊛ ‵ (row (drop i xs) b (o + length (take i xs)))) (bytes_cut 𝓛 full_share (take i xs) (drop i xs) b o) $ split ! $ move ! (1 ∷ []) $
+        use1 𝓛 (‵ (row (take i xs) b o) ⊛ ‵ (row (drop i xs) b (o + length (take i xs))))
+        (bytes_cut 𝓛 full_share (take i xs) (drop i xs) b o) $ split ! $ move ! (1 ∷ []) $
         rewrite ! 0 (λ j. ‵ (row (drop i xs) b j)) {x = k} (at is (omega arith)) refl $
         rewrite ! 0 (λ l. ‵ (row l b k)) (sym (take-append-drop n (drop i xs))) refl $
         use1 𝓛 (‵ (row part b k) ⊛ ‵ (row rest b (k + length part))) (bytes_cut 𝓛 full_share part rest b k) $ split ! $

@@ -33,7 +33,8 @@ module _ {M : Type 1} {𝓤 : Ura M} (𝓛 : Logic 𝓤) (l : Lft) where
   pub Lends-store : (p : Ptr) (n : ℕ) (xs : List ℕ) → Lends 𝓛 (store_owns p n xs) (store_lends p n xs) l
   Lends-store (block_ptr b o) n xs =
       let F = bytes full_share xs b (o + n) in let G = froom (block_of n) b o in let s = elements_shared u8 xs b (o + n) in
-      Lends-both 𝓛 (fit n xs) (fsep F G) (said (fit n xs)) s l (Lends-said 𝓛 (fit n xs) tt l) (Lends-first 𝓛 F G s l (Lends-bytes xs b (o + n)))
+      Lends-both 𝓛 (fit n xs) (fsep F G) (said (fit n xs)) s l (Lends-said 𝓛 (fit n xs) tt l)
+      (Lends-first 𝓛 F G s l (Lends-bytes xs b (o + n)))
   Lends-store null_ptr n xs = Lends-false 𝓛 (said ffalse) l
 
 u8-send : IsSend u8

@@ -123,8 +123,10 @@ module _ {M : Type 1} {𝓤 : Ura M} {𝓛 : Logic 𝓤} {K : Type 0} {Γ : List
       fpack t (Valss (R ∷ S ∷ [])) (within (tuple_shape (tuple_type (R ∷ S ∷ []))) (x, (y, tt)) (two u v ∷ [])) (u ∷ [], (v ∷ [], tt)) $ s)
 
   pub three_made : K → (R S T : RattleType) (x : R.Denot) (y : S.Denot) (z : T.Denot) (u v w : Val)
-      → Step K 𝓛 (‵ ((Tuple (R ∷ S ∷ T ∷ [])).own_val (x, y, z) (three u v w ∷ [])) ∷ Γ) G (‵ (R.own_val x (u ∷ [])) ∷ ‵ (S.own_val y (v ∷ [])) ∷ ‵ (T.own_val z (w ∷ [])) ∷ Γ) G
+      → Step K 𝓛 (‵ ((Tuple (R ∷ S ∷ T ∷ [])).own_val (x, y, z) (three u v w ∷ [])) ∷ Γ) G
+      (‵ (R.own_val x (u ∷ [])) ∷ ‵ (S.own_val y (v ∷ [])) ∷ ‵ (T.own_val z (w ∷ [])) ∷ Γ) G
   three_made t R S T x y z u v w = step (λ s.
       nothing t $ move t (3 ∷ 0 ∷ []) $ fjoin t $ move t (2 ∷ 0 ∷ []) $ fjoin t $ move t (1 ∷ 0 ∷ []) $ fjoin t $
       feq_i t (List Val) (three u v w ∷ []) (three u v w ∷ []) refl $ fjoin t $
-      fpack t (Valss (R ∷ S ∷ T ∷ [])) (within (tuple_shape (tuple_type (R ∷ S ∷ T ∷ []))) (x, (y, (z, tt))) (three u v w ∷ [])) (u ∷ [], (v ∷ [], (w ∷ [], tt))) $ s)
+      fpack t (Valss (R ∷ S ∷ T ∷ [])) (within (tuple_shape (tuple_type (R ∷ S ∷ T ∷ []))) (x, (y, (z, tt))) (three u v w ∷ []))
+      (u ∷ [], (v ∷ [], (w ∷ [], tt))) $ s)

@@ -3,14 +3,10 @@
 mod allocators;
 mod beside;
 mod blocks;
-mod calls;
 mod creation;
-mod forms;
 mod growth;
 mod layers;
 mod marks;
-mod nested;
-mod placing;
 mod reallocation;
 mod regions;
 mod replies;
@@ -22,7 +18,6 @@ mod steps;
 mod tables;
 mod texts;
 mod traits;
-mod values;
 
 ghost use Rattle.std.specs.Prelude.{◌≡◌, Ok, IsTrue};
 ghost use Rattle.arena_chunks.specs.Memory.{is_readable};
@@ -30,6 +25,7 @@ ghost use Rattle.arena_chunks.specs.Memory.{is_readable};
 use arena_chunks::{Allocator, ArenaErr, Block, ChunkSource, MemoryChunks, RefusingChunks};
 use arena_place::Layout;
 use std::alloc::{AllocError, Global};
+use std::fmt::Debug;
 use std::process::Abort;
 
 fn layout(rt: &impl Abort, size: u64, align: u64) -> Layout
@@ -95,6 +91,25 @@ fn has<C: ChunkSource>(
     used: u64,
     counts: (u64, u64),
 ) {
-    assert_eq!(rt; a.used_bytes(), used, "{what}");
-    assert_eq!(rt; a.get_allocation_stats(), counts, "{what}");
+    same_at(
+        rt,
+        what,
+        (a.used_bytes(), a.get_allocation_stats()),
+        (used, counts),
+    );
+}
+
+// What was found is what is wanted.
+fn same<T: Copy + PartialEq + Debug>(rt: &impl Abort, found: T, wanted: T) {
+    assert_eq!(rt; found, wanted);
+}
+
+// What was found there is what is wanted.
+fn same_at<A: Copy + Debug, T: Copy + PartialEq + Debug>(
+    rt: &impl Abort,
+    at: A,
+    found: T,
+    wanted: T,
+) {
+    assert_eq!(rt; found, wanted, "{at:?}");
 }

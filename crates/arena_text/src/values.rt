@@ -5,13 +5,10 @@ ghost use Rattle.arena_items.specs.FootprintLaws.{held_readable, held_again};
 ghost use Rattle.arena_text.specs.Builders.{IsBuilderIn, builder_bytes};
 
 use crate::text::StringBuilder;
-use arena_chunks::Block;
 use arena_items::InArena;
 
 impl InArena for StringBuilder {
     ghost Meaning = { List ℕ };
-
-    ghost block = { λ t. t.block };
 
     ghost footprint = { λ m t. t.block ∷ [] };
 
@@ -29,8 +26,4 @@ impl InArena for StringBuilder {
       place = held_again t.cap 1 a.state c.state t.block held.place readable.0;
       within = held.within;
     } };
-
-    fn own_block(&self) -> Block {
-        self.block
-    }
 }

@@ -73,7 +73,8 @@ scaled : (size m a b n : ℕ) → m + 2 * a ≤ 2 * b + 4 * n → m * size + 2 *
 scaled size m a b n h = let all : size * (m + 2 * a) ≤ size * (2 * b + 4 * n) = mul-le-mul_left size h in omega (arith, all)
 
 pub asks : (size cap len n : ℕ) → len ≤ cap → 0 < size → (len + n) * (2 * size) ≤ 2 ^ 32
-    → asked_by size (amortised_growth size cap (len + n)) + credit_of size (len + n) (capacity_after (amortised_growth size cap (len + n)) cap)
+    → asked_by size (amortised_growth size cap (len + n)) + credit_of size (len + n)
+    (capacity_after (amortised_growth size cap (len + n)) cap)
     ≤ credit_of size len cap + 4 * n * size
 asks size cap len n within some few = elim (cases_lt cap (len + n)) [
   | inl full ↦

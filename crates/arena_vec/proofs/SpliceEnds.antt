@@ -74,7 +74,8 @@ module _ {T I : Type 0} (item : Ghosts T) (steps : I → Option T → I → Type
     }
 
     -- Nothing was put, and these items are lost.
-    replaces_none : (e : AllocError) (lost : List T) (now : I) → end ≡ start → IsVecIn item new w → vec_list item new w ≡ vec_list item old v
+    replaces_none : (e : AllocError) (lost : List T) (now : I) → end ≡ start → IsVecIn item new w
+        → vec_list item new w ≡ vec_list item old v
         → Yields steps iter lost now → Frame old new (v.raw.block ∷ []) (w.raw.block ∷ [])
         → Replaces item steps iter old new v start end w (Err e)
     replaces_none e lost now none held same yields frame =
@@ -130,7 +131,8 @@ module _ {T I : Type 0} (item : Ghosts T) (steps : I → Option T → I → Type
   -- Items stand in the places that were filled, and what followed behind them.
   fills_replaces : (iter : I) (old new : View) (v w : Vec T) (growth : Growth) (start end places at : ℕ)
       (result : Result (Unit {0}) AllocError) (follows : I → View → Vec T → Type 0) → start ≤ v.raw.len → at ≡ start + places
-      → ((e : AllocError) (mid : View) (u : Vec T) (list : List T) → Grows {X = Unit {0}} item old mid v growth list u (Err e) → end ≡ start)
+      → ((e : AllocError) (mid : View) (u : Vec T) (list : List T) → Grows {X = Unit {0}} item old mid v growth list u (Err e)
+      → end ≡ start)
       → ((now : I) (mid : View) (u : Vec T) → at ≤ u.raw.len → follows now mid u
       → Replaces item steps now mid.memory new.memory u at at w result)
       → FillsThen item steps iter old new v growth start end places w result follows

@@ -265,7 +265,8 @@ module _ {T : Type 0} {item : Ghosts T} where
       let none : other.raw.block.addr + 0 * size ≡ other.raw.block.addr = omega arith in
       let same : elements size item.decoded n bytes ≡ zs =
       ap (λ p. elements size item.decoded n (bytes_from (image mid.memory) p (n * size))) none
-      ∙ ap (elements size item.decoded n) (sym (take_bytes (image mid.memory) other.raw.block.addr other.raw.block.size (n * size) source_fits))
+      ∙ ap (elements size item.decoded n) (sym
+      (take_bytes (image mid.memory) other.raw.block.addr other.raw.block.size (n * size) source_fits))
       ∙ elements-front size item.decoded n (bytes_of mid.memory other.raw.block) ∙ ap (elements size item.decoded n) beside.bytes in
       grows_then wide.grows (becomes item mid new w w.raw.len (replace_range xs at at zs) wide.grows.held wide.grows.held.within
       (wrote_same mid new w.raw.block (at * size) bytes writes source) writes.frame

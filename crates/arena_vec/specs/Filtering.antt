@@ -25,8 +25,8 @@ pub record IsFilter {T S F : Type 0} (item : Ghosts T) (can : List T → F → T
   pub callable : can (untested item d) d.pred
 
 -- One call of next: the test saw the values in turn, up to the first that it picked.
-pub record Filters {T S F : Type 0} (item : Ghosts T) (can : List T → F → Type 0) (R : F → T → Bool → F → T → Type 0) (d : DrainFilter T S F)
-    (r : Option T) (e : DrainFilter T S F) : Type 0 where
+pub record Filters {T S F : Type 0} (item : Ghosts T) (can : List T → F → Type 0) (R : F → T → Bool → F → T → Type 0)
+    (d : DrainFilter T S F) (r : Option T) (e : DrainFilter T S F) : Type 0 where
   pub kept : List T
   pub extracts : ExtractsNext R d.pred (untested item d) r e.pred kept (untested item e)
   pub stays : stayed item e ≡ stayed item d ++ kept

@@ -65,8 +65,6 @@ impl<T: Item> Item for Vec<T> {
 impl<T: Item> InArena for Vec<T> {
     ghost Meaning = { List T };
 
-    ghost block = { λ v. v.raw.block };
-
     ghost footprint = { λ m v. v.raw.block ∷ [] };
 
     ghost is_held = { IsVecIn T.Item };
@@ -84,8 +82,4 @@ impl<T: Item> InArena for Vec<T> {
       within = held.within;
       no_bytes = held.no_bytes;
     } };
-
-    fn own_block(&self) -> Block {
-        self.raw.block
-    }
 }

@@ -36,7 +36,8 @@ module _ (number : Ghosts ℕ) (old new : View) (n size align : ℕ) where
       inr (record { between = mid; box = box; placed = places; follows = takes.placed refl })
   row_refused mid box empty CapacityOverflow places takes = absurd takes
 
-module _ (number : Ghosts ℕ) (handle : Ghosts (Box ℕ)) (old mid last : View) (new : Memory) (n at size align : ℕ) (list : List ℕ) (box : Box ℕ) (row : Block)
+module _ (number : Ghosts ℕ) (handle : Ghosts (Box ℕ)) (old mid last : View) (new : Memory) (n at size align : ℕ) (list : List ℕ)
+    (box : Box ℕ) (row : Block)
     (places : PlacesBox number old mid (λ v. v ≡ n) (Ok box)) (taken : PlacesBlock mid last size align (Placed row))
     (writes : WritesBlock last.memory new row at list) where
   frame : Frame mid.memory last.memory [] (row ∷ [])

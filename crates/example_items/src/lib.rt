@@ -9,6 +9,7 @@ mod growing;
 mod lender;
 mod linked;
 mod metres;
+mod objects;
 mod tries;
 
 pub use beside::{place_another, place_pair, place_two, read_either, set_beside};
@@ -18,4 +19,5 @@ pub use growing::begin_row;
 pub use lender::{Guard, put, put_guarded};
 pub use linked::{Chain, set_last_beside};
 pub use metres::Metres;
+pub use objects::{Object, set_beside_both, set_beside_object};
 pub use tries::try_beside;

@@ -7,7 +7,7 @@ ghost use Rattle.example_items.specs.Chains.{IsChain, third, blocks, numbers};
 ghost use Rattle.example_items.specs.TwoCalls.{PlacesThen, box_in};
 ghost use Rattle.example_items.specs.ChainLaws.{chain_readable, chain_blocks, chain_numbers, chain_again};
 
-use arena_chunks::{Allocator, Block, ChunkSource};
+use arena_chunks::{Allocator, ChunkSource};
 use arena_items::laws::frame_law;
 use arena_items::{Box, InArena, Item, ItemErr};
 
@@ -26,8 +26,6 @@ pub struct Chain {
 impl InArena for Chain {
     ghost Meaning = { List ℕ };
 
-    ghost block = { λ v. v.first.block };
-
     ghost footprint = { blocks ⟦<First as Item>⟧ ⟦<Second as Item>⟧ };
 
     ghost is_held = { IsChain ⟦<First as Item>⟧ ⟦<Second as Item>⟧ ⟦<u32 as Item>⟧ };
@@ -42,10 +40,6 @@ impl InArena for Chain {
 
     ghost held_again = { λ a c v held agree readable.
         chain_again ⟦<First as Item>⟧ ⟦<Second as Item>⟧ ⟦<u32 as Item>⟧ a c v agree held readable };
-
-    fn own_block(&self) -> Block {
-        self.first.block
-    }
 }
 
 #[tactic(auto, unfolding(placement::specs::Rounding::up, arena_items::specs::Layout::pair_size, arena_items::specs::Layout::second_at))]

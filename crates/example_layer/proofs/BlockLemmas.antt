@@ -7,7 +7,8 @@ use Rattle.arena_chunks.proofs.Layers.{frame_keeps_new}
 use Rattle.example_layer.specs.Blocks.{AreReadable}
 
 -- All of them may be read.
-pub added_readable : (old new : Memory) (bs : List Block) (b : Block) → Frame old new [] (b ∷ []) → AreReadable old bs → IsTrue (is_readable new.state b) → AreReadable new (bs ++ b ∷ [])
+pub added_readable : (old new : Memory) (bs : List Block) (b : Block) → Frame old new [] (b ∷ []) → AreReadable old bs
+    → IsTrue (is_readable new.state b) → AreReadable new (bs ++ b ∷ [])
 added_readable old new [] b frame readable is = (is, tt)
 added_readable old new (c ∷ bs) b frame readable is = (
   (frame_keeps_new old new (b ∷ []) c frame readable.0).readable,

@@ -10,8 +10,14 @@ use Rattle.example_layer.specs.Buffers.{IsBuffer, Has, HasRoom, contents, double
 use Rattle.example_layer.specs.declared.buffer.Buffer.{Buffer}
 
 -- a block that isn't full
-pub room_left : (memory : Memory) (buffer : Buffer) → IsBuffer memory buffer → buffer.length < buffer.block.size → HasRoom memory memory buffer buffer.block
-room_left memory buffer is room = record { room = room; readable = is.readable; bytes = refl; frame = frame_reflexive memory (buffer.block ∷ []) }
+pub room_left : (memory : Memory) (buffer : Buffer) → IsBuffer memory buffer → buffer.length < buffer.block.size
+    → HasRoom memory memory buffer buffer.block
+room_left memory buffer is room = record {
+  room = room;
+  readable = is.readable;
+  bytes = refl;
+  frame = frame_reflexive memory (buffer.block ∷ []);
+}
 
 -- a full one that grew
 pub room_made : (old new : View) (buffer : Buffer) (b : Block) → IsBuffer old.memory buffer → buffer.block.size ≤ buffer.length
@@ -27,7 +33,8 @@ room_made old new buffer b is full grows =
     }
 
 -- One more byte behind the others.
-pub pushed : (old mid new : Memory) (buffer : Buffer) (b : Block) (byte : ℕ) → HasRoom old mid buffer b → WritesBlock mid new b buffer.length (byte ∷ [])
+pub pushed : (old mid new : Memory) (buffer : Buffer) (b : Block) (byte : ℕ) → HasRoom old mid buffer b
+    → WritesBlock mid new b buffer.length (byte ∷ [])
     → Has new (record { block = b; length = buffer.length + 1 }) (contents old buffer ++ byte ∷ [])
 pushed old mid new buffer b byte has writes = record {
   buffer = record { readable = rw writes.state has.readable; room = omega (arith, has.room) };
@@ -35,7 +42,8 @@ pushed old mid new buffer b byte has writes = record {
 }
 
 -- a block that was placed for no bytes yet
-pub empty_buffer : (old new : View) (size align : ℕ) (b : Block) → PlacesBlock old new size align (Placed b) → Has new.memory (record { block = b; length = 0 }) []
+pub empty_buffer : (old new : View) (size align : ℕ) (b : Block) → PlacesBlock old new size align (Placed b)
+    → Has new.memory (record { block = b; length = 0 }) []
 empty_buffer old new size align b places = record {
   buffer = record { readable = places.1.outcome.of_layout.readable; room = omega arith };
   bytes = no_bytes (image new.memory) b.addr 0 refl;

@@ -6,6 +6,7 @@ ghost use Rattle.arena_chunks.specs.Answers.{answer_of};
 ghost use Rattle.arena_chunks.specs.BlockCalls.{PlacesBlock};
 ghost use Rattle.arena_chunks.specs.Checkpoints.{checkpoint_of, sent_back};
 
+use arena_chunks::laws::marks;
 use arena_chunks::{Arena, ArenaErr, Block, ChunkSource};
 use arena_place::Layout;
 
@@ -26,6 +27,7 @@ pub fn would_lie<const M: usize, C: ChunkSource>(
         × (arena.new ≡ sent_back (checkpoint_of arena.old.state) between.memory) }
     ensures kept { KeepsUsed arena.old arena.new }
 {
+    marks();
     let mark = arena.checkpoint();
     let placed = arena.try_alloc_layout(chunks, layout);
     arena.rewind(mark);

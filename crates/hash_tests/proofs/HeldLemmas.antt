@@ -53,7 +53,8 @@ module _ {K V S : Type 0} (k : Kind K V S) (m : HashMap K V S) where
       let held = kept.held in
       let blocks = footprint k old.memory m in
       let is = placed.1.outcome in
-      let stays = frame_keeps_all old.memory new.memory [] (b ∷ []) blocks is.frame (held.handle.place.readable, held.texts) (apart_none blocks) in
+      let stays = frame_keeps_all old.memory new.memory [] (b ∷ []) blocks is.frame (held.handle.place.readable, held.texts)
+      (apart_none blocks) in
       let apart = stays_apart old.memory new.memory (b ∷ []) blocks stays in (
         kept_beside old.memory new.memory (b ∷ []) is.frame kept,
         is.of_layout.readable,

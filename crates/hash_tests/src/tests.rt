@@ -12,6 +12,8 @@ mod texts;
 use arena_chunks::{Allocator, MemoryChunks};
 use arena_hash::KeyHasher;
 use std::alloc::Global;
+use std::fmt::Debug;
+use std::process::Abort;
 
 // An allocator with ample memory.
 fn ample(alloc: Global) -> Allocator<MemoryChunks> {
@@ -28,4 +30,19 @@ impl KeyHasher for Zero {
     fn hash(&self, _content: &[u8]) -> u64 {
         0
     }
+}
+
+// What was found is what is wanted.
+fn same<T: Copy + PartialEq + Debug>(rt: &impl Abort, found: T, wanted: T) {
+    assert_eq!(rt; found, wanted);
+}
+
+// What was found there is what is wanted.
+fn same_at<A: Copy + Debug, T: Copy + PartialEq + Debug>(
+    rt: &impl Abort,
+    at: A,
+    found: T,
+    wanted: T,
+) {
+    assert_eq!(rt; found, wanted, "{at:?}");
 }

@@ -39,9 +39,11 @@ pub entry_of : (state : State) (size align k : ℕ) (e : ℕ × ℕ) → state.i
     → slice_get (asked state size align) k ≡ Some e → IsEntry (next_base (floor_of state.chunks) align) size align e
 unfolding asked asked_above
 entry_of state size align k e growing power at =
-    is_entry (next_base (floor_of state.chunks) align) size align (max (least_size size) (2 * newest_size state.chunks)) (least_size size) k e (omega arith) power (rw growing at at)
+    is_entry (next_base (floor_of state.chunks) align) size align (max (least_size size) (2 * newest_size state.chunks))
+    (least_size size) k e (omega arith) power (rw growing at at)
 
-kind_grown : (growing : Bool) (chunk : Chunk) (chunks : List Chunk) → growing ≡ true → 64 ≤ chunk.size → FitsKind growing chunks → FitsKind growing (chunk ∷ chunks)
+kind_grown : (growing : Bool) (chunk : Chunk) (chunks : List Chunk) → growing ≡ true → 64 ≤ chunk.size → FitsKind growing chunks
+    → FitsKind growing (chunk ∷ chunks)
 kind_grown true chunk chunks is large fits = (large, fits)
 kind_grown false chunk chunks is large fits = cc
 
@@ -50,9 +52,11 @@ pub valid_grown : (state : State) (size align : ℕ) (e : ℕ × ℕ) → IsVali
     → IsEntry (next_base (floor_of state.chunks) align) size align e → IsValid (with_chunk e state)
 valid_grown state size align e valid growing power entry =
     let unit = max_power align 16 power (pow_power 4 (omega arith)) in
-    let above : floor_of state.chunks ≤ e.0 = omega (arith, entry.based, up_ge (floor_of state.chunks) (chunk_align align) (power_positive (chunk_align align) unit)) in
+    let above : floor_of state.chunks ≤ e.0 =
+    omega (arith, entry.based, up_ge (floor_of state.chunks) (chunk_align align) (power_positive (chunk_align align) unit)) in
     let aligned : e.0 % 16 ≡ 0 =
-    power_multiple e.0 16 (chunk_align align) (pow_power 4 (omega arith)) unit (omega arith) (rw entry.based (up_mod (floor_of state.chunks) (chunk_align align))) in
+    power_multiple e.0 16 (chunk_align align) (pow_power 4 (omega arith)) unit (omega arith)
+    (rw entry.based (up_mod (floor_of state.chunks) (chunk_align align))) in
     record {
       min_align = valid.min_align;
       chunks = (
@@ -68,7 +72,8 @@ valid_grown state size align e valid growing power entry =
         valid.chunks,
       );
       top = entry.top;
-      kind = kind_grown state.is_growing (record { base = e.0; size = e.1; cursor = e.0 + e.1 }) state.chunks growing entry.large valid.kind;
+      kind = kind_grown state.is_growing (record { base = e.0; size = e.1; cursor = e.0 + e.1 }) state.chunks growing entry.large
+          valid.kind;
       generation = valid.generation;
     }
 
@@ -78,7 +83,8 @@ pub record IsGranted (state : State) (size align k : ℕ) (e : ℕ × ℕ) (p : 
   pub place : IsPlace e.0 (e.0 + e.1) size align state.min_align p
 
 pub is_granted : (state : State) (size align k : ℕ) (e : ℕ × ℕ) (p : ℕ) → IsValid state → state.is_growing ≡ true → IsTrue (is_power align)
-    → place state size align ≡ None → slice_get (asked state size align) k ≡ Some e → p ≡ down (e.0 + e.1 - size) (max align state.min_align)
+    → place state size align ≡ None → slice_get (asked state size align) k ≡ Some e
+    → p ≡ down (e.0 + e.1 - size) (max align state.min_align)
     → IsGranted state size align k e p
 unfolding alloc
 is_granted state size align k e p valid growing power none at is =
@@ -87,9 +93,12 @@ is_granted state size align k e p valid growing power none at is =
     let unit = max_power align 16 power (pow_power 4 (omega arith)) in
     let both = max_power align m power (min_align_power m valid.min_align) in
     let aligned : e.0 % max align m ≡ 0 =
-    power_multiple e.0 (max align m) (chunk_align align) both unit (omega (arith, min_align_le m valid.min_align)) (rw entry.based (up_mod (floor_of state.chunks) (chunk_align align))) in
-    let fits : e.0 + size ≤ e.0 + e.1 = omega (arith, entry.holds, up_ge size (chunk_align align) (power_positive (chunk_align align) unit)) in
-    let found : place_below e.0 (e.0 + e.1) size align m ≡ Some p = place_found e.0 (e.0 + e.1) size align m power valid.min_align aligned fits ∙ ap Some (sym is) in
+    power_multiple e.0 (max align m) (chunk_align align) both unit (omega (arith, min_align_le m valid.min_align))
+    (rw entry.based (up_mod (floor_of state.chunks) (chunk_align align))) in
+    let fits : e.0 + size ≤ e.0 + e.1 = omega (arith, entry.holds, up_ge size (chunk_align align) (power_positive (chunk_align align) unit))
+    in
+    let found : place_below e.0 (e.0 + e.1) size align m ≡ Some p =
+    place_found e.0 (e.0 + e.1) size align m power valid.min_align aligned fits ∙ ap Some (sym is) in
     let grown = valid_grown state size align e valid growing power entry in
     record {
       step = rw (none, at, found) refl;
@@ -105,16 +114,21 @@ IsNewest outcome = MatchOption outcome.answer (Unit {0}) (λ p. (start_of outcom
 placed_newest : (state : State) (size align p : ℕ) → place state size align ≡ Some p → IsNewest (placed state p)
 placed_newest state size align p found =
     let n = cursor_of state.chunks - size in
-    let tested = cond_some (nat_le (start_of state.chunks) (down n (max align state.min_align))) (down n (max align state.min_align)) p found in
-    let low : start_of state.chunks ≤ p = omega (arith, leb-true _ _ tested.0, tested.1) in
-    (omega (arith, start_set p state.chunks, low), cursor_set p state.chunks low (omega (arith, down_le n (max align state.min_align), tested.1)))
+    let tested = cond_some (nat_le (start_of state.chunks) (down n (max align state.min_align)))
+    (down n (max align state.min_align)) p found in
+    let low : start_of state.chunks ≤ p = omega (arith, leb-true _ _ tested.0, tested.1) in (
+      omega (arith, start_set p state.chunks, low),
+      cursor_set p state.chunks low (omega (arith, down_le n (max align state.min_align), tested.1)),
+    )
 
 pub alloc_newest : (state : State) (size align k : ℕ) (outcome : Outcome) → alloc state size align k ≡ Some outcome → IsNewest outcome
 unfolding alloc
 alloc_newest state size align k outcome step = by_place (place state size align) refl step
   where
-    in_chunk : (e : ℕ × ℕ) (o : Option ℕ) → place (with_chunk e state) size align ≡ o → option_map (placed (with_chunk e state)) o ≡ Some outcome → IsNewest outcome
-    in_chunk e (Some p) found at = subst IsNewest (same_Some (placed (with_chunk e state) p) outcome at) (placed_newest (with_chunk e state) size align p found)
+    in_chunk : (e : ℕ × ℕ) (o : Option ℕ) → place (with_chunk e state) size align ≡ o
+        → option_map (placed (with_chunk e state)) o ≡ Some outcome → IsNewest outcome
+    in_chunk e (Some p) found at = subst IsNewest (same_Some (placed (with_chunk e state) p) outcome at)
+        (placed_newest (with_chunk e state) size align p found)
     in_chunk e None none at = absurd (none-some outcome at)
 
     by_chunk : (o : Option (ℕ × ℕ)) → alloc_in_new o state size align k ≡ Some outcome → IsNewest outcome

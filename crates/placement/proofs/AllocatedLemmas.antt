@@ -9,7 +9,8 @@ use Rattle.placement.proofs.AllocLemmas.{growing_of}
 use Rattle.placement.proofs.ReturnLemmas.{allocated_moved}
 
 -- An allocation adds no chunk where the arena doesn't grow.
-pub alloc_allocated : (state : State) (size align k : ℕ) (outcome : Outcome) → state.is_growing ≡ false → alloc state size align k ≡ Some outcome
+pub alloc_allocated : (state : State) (size align k : ℕ) (outcome : Outcome) → state.is_growing ≡ false
+    → alloc state size align k ≡ Some outcome
     → allocated_bytes outcome.state ≡ allocated_bytes state
 unfolding alloc
 alloc_allocated state size align k outcome still step = by_place (place state size align) step
@@ -17,7 +18,8 @@ alloc_allocated state size align k outcome still step = by_place (place state si
     Same : Outcome → Type 0
     Same o = allocated_bytes o.state ≡ allocated_bytes state
 
-    by_chunk : (o : Option (ℕ × ℕ)) → slice_get (asked state size align) k ≡ o → alloc_in_new o state size align k ≡ Some outcome → Same outcome
+    by_chunk : (o : Option (ℕ × ℕ)) → slice_get (asked state size align) k ≡ o → alloc_in_new o state size align k ≡ Some outcome
+        → Same outcome
     by_chunk (Some e) found at = let growing = growing_of state size align k e found in absurd (cc)
     by_chunk None found at = subst Same (cond_some (k == length (asked state size align)) (fails state) outcome at).1 refl
 

@@ -10,7 +10,7 @@ use Rattle.placement.specs.Back.{Point, mark_of, first_chunks, raised, back, acc
 
 -- ---- The oldest chunks
 
-valid_after : (m k : ℕ) (chunks : List Chunk) → AreChunks m chunks → AreChunks m (drop k chunks)
+pub valid_after : (m k : ℕ) (chunks : List Chunk) → AreChunks m chunks → AreChunks m (drop k chunks)
 valid_after m zero chunks valid = valid
 valid_after m (suc k) [] valid = tt
 valid_after m (suc k) (newest ∷ older) valid = valid_after m k older valid.2
@@ -36,7 +36,8 @@ kind_fixed n (newest ∷ (next ∷ older)) some fits = absurd fits
 used_after : (k addr n : ℕ) (chunks : List Chunk) → IsTrue (is_range_used (drop k chunks) addr n) → IsTrue (is_range_used chunks addr n)
 used_after zero addr n chunks used = used
 used_after (suc k) addr n [] used = used
-used_after (suc k) addr n (newest ∷ older) used = or_right (is_used_by addr n newest) (is_range_used older addr n) (used_after k addr n older used)
+used_after (suc k) addr n (newest ∷ older) used =
+    or_right (is_used_by addr n newest) (is_range_used older addr n) (used_after k addr n older used)
 
 total_after : (f : Chunk → ℕ) (k : ℕ) (chunks : List Chunk) → sum (map f (drop k chunks)) ≤ sum (map f chunks)
 total_after f zero chunks = omega arith
@@ -83,10 +84,11 @@ kind_raised false c (newest ∷ (next ∷ older)) fits = fits
 
 used_raised : (c addr n : ℕ) (chunks : List Chunk) → IsTrue (is_range_used (raised c chunks) addr n) → IsTrue (is_range_used chunks addr n)
 used_raised c addr n [] used = used
-used_raised c addr n (newest ∷ older) used = elim (or_cases (is_used_by addr n (record newest { cursor = max newest.cursor c })) (is_range_used older addr n) used) [
-  | inl here ↦ or_left (is_used_by addr n newest) (is_range_used older addr n) (lower here)
-  | inr there ↦ or_right (is_used_by addr n newest) (is_range_used older addr n) there
-]
+used_raised c addr n (newest ∷ older) used =
+    elim (or_cases (is_used_by addr n (record newest { cursor = max newest.cursor c })) (is_range_used older addr n) used) [
+      | inl here ↦ or_left (is_used_by addr n newest) (is_range_used older addr n) (lower here)
+      | inr there ↦ or_right (is_used_by addr n newest) (is_range_used older addr n) there
+    ]
   where
     lower : IsTrue (is_used_by addr n (record newest { cursor = max newest.cursor c })) → IsTrue (is_used_by addr n newest)
     lower here =
@@ -99,7 +101,11 @@ used_raised c addr n (newest ∷ older) used = elim (or_cases (is_used_by addr n
 total_raised : (c : ℕ) (chunks : List Chunk) → sum (map used_length (raised c chunks)) ≤ sum (map used_length chunks)
 total_raised c [] = omega arith
 total_raised c (newest ∷ older) =
-    omega (arith, sum_by-cons (λ (n : ℕ). n) (used_length newest) (map used_length older), sum_by-cons (λ (n : ℕ). n) (data_end newest - max newest.cursor c) (map used_length older))
+    omega (
+      arith,
+      sum_by-cons (λ (n : ℕ). n) (used_length newest) (map used_length older),
+      sum_by-cons (λ (n : ℕ). n) (data_end newest - max newest.cursor c) (map used_length older),
+    )
 
 doubling_raised : (z c : ℕ) (chunks : List Chunk) → IsDoubling z chunks → IsDoubling z (raised c chunks)
 doubling_raised z c [] double = tt
@@ -137,7 +143,8 @@ is_mark mark state holds = go (mark.chunks == 0) refl holds
     go false is holds =
         let outer = and_parts _ (mark.cursor % state.min_align == 0) holds in
         let next = and_parts _ (nat_le mark.cursor (top_of (first_chunks mark.chunks state.chunks))) outer.0 in
-        let first = and_parts (nat_le mark.chunks (length state.chunks)) (nat_le (start_of (first_chunks mark.chunks state.chunks)) mark.cursor) next.0 in
+        let first = and_parts (nat_le mark.chunks (length state.chunks))
+        (nat_le (start_of (first_chunks mark.chunks state.chunks)) mark.cursor) next.0 in
         record {
           aligned = λ some. eqb-true _ _ outer.1;
           high = λ some. leb-true _ _ next.1;
@@ -157,7 +164,8 @@ none_left chunks n none = rw none (all_dropped chunks (length chunks - 0) (omega
     all_dropped (x ∷ l) (suc k) fits = all_dropped l k (omega arith)
 
 -- the oldest chunks make a valid state, too; of an arena that doesn't grow one is left
-pub first_valid : (n : ℕ) (state : State) → IsValid state → (n ≡ 0 → state.is_growing ≡ true) → IsValid (record state { chunks = first_chunks n state.chunks })
+pub first_valid : (n : ℕ) (state : State) → IsValid state → (n ≡ 0 → state.is_growing ≡ true)
+    → IsValid (record state { chunks = first_chunks n state.chunks })
 first_valid n state valid growing = record {
   min_align = valid.min_align;
   chunks = valid_after state.min_align (length state.chunks - n) state.chunks valid.chunks;
@@ -183,7 +191,8 @@ back_valid mark state valid holds = record {
     | inl some ↦ valid_raised state.min_align mark.cursor kept first (is.aligned some) (is.high some)
     | inr none ↦ rw (none_left state.chunks mark.chunks (omega arith)) tt
   ];
-  top = rw (floor_raised mark.cursor kept) (omega (arith, floor_after state.min_align (length state.chunks - mark.chunks) state.chunks valid.chunks, valid.top));
+  top = rw (floor_raised mark.cursor kept)
+      (omega (arith, floor_after state.min_align (length state.chunks - mark.chunks) state.chunks valid.chunks, valid.top));
   kind = kind_raised state.is_growing mark.cursor kept (kind state.is_growing refl);
   generation = valid.generation;
 }
@@ -208,16 +217,23 @@ back_valid mark state valid holds = record {
     ]
 
 -- Nothing comes into use.
-pub back_fewer : (mark : Point) (state : State) (addr n : ℕ) → IsTrue (is_range_used (back mark state).chunks addr n) → IsTrue (is_range_used state.chunks addr n)
+pub back_fewer : (mark : Point) (state : State) (addr n : ℕ) → IsTrue (is_range_used (back mark state).chunks addr n)
+    → IsTrue (is_range_used state.chunks addr n)
 back_fewer mark state addr n used =
-    used_after (length state.chunks - mark.chunks) addr n state.chunks (used_raised mark.cursor addr n (first_chunks mark.chunks state.chunks) used)
+    used_after (length state.chunks - mark.chunks) addr n state.chunks
+    (used_raised mark.cursor addr n (first_chunks mark.chunks state.chunks) used)
 
 pub back_used : (mark : Point) (state : State) → used_bytes (back mark state) ≤ used_bytes state
-back_used mark state = omega (arith, total_raised mark.cursor (first_chunks mark.chunks state.chunks), total_after used_length (length state.chunks - mark.chunks) state.chunks)
+back_used mark state = omega (
+  arith,
+  total_raised mark.cursor (first_chunks mark.chunks state.chunks),
+  total_after used_length (length state.chunks - mark.chunks) state.chunks,
+)
 
 -- Chunks still double.
 pub back_doubling : (z : ℕ) (mark : Point) (state : State) → IsDoubling z state.chunks → IsDoubling z (back mark state).chunks
-back_doubling z mark state double = doubling_raised z mark.cursor (first_chunks mark.chunks state.chunks) (doubling_after z (length state.chunks - mark.chunks) state.chunks double)
+back_doubling z mark state double = doubling_raised z mark.cursor (first_chunks mark.chunks state.chunks)
+    (doubling_after z (length state.chunks - mark.chunks) state.chunks double)
 
 -- ---- A state's own mark
 
@@ -236,7 +252,8 @@ pub own_accepted : (state : State) → IsValid state → IsTrue (accepts (mark_o
 own_accepted state valid = go state.is_growing state.min_align state.chunks valid.chunks valid.kind
   where
     go : (growing : Bool) (m : ℕ) (chunks : List Chunk) → AreChunks m chunks → FitsKind growing chunks
-        → IsTrue (accepts (record { chunks = length chunks; cursor = cursor_of chunks }) (record { min_align = m; is_growing = growing; generation = 0; chunks = chunks }))
+        → IsTrue (accepts (record { chunks = length chunks; cursor = cursor_of chunks })
+        (record { min_align = m; is_growing = growing; generation = 0; chunks = chunks }))
     go true m [] valid fits = refl
     go false m [] valid fits = absurd fits
     go growing m (newest ∷ older) valid fits =

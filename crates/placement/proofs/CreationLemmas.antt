@@ -46,7 +46,8 @@ pub capacity_entry : (m capacity : ℕ) (e : ℕ × ℕ) → IsTrue (is_min_alig
 unfolding capacity_chunk
 capacity_entry m capacity e min_align some is = go (is_layout capacity m) is
   where
-    go : (fine : Bool) → (if fine then possible (next_base 4096 m) capacity m capacity else None) ≡ Some e → IsEntry (next_base 4096 m) capacity m e
+    go : (fine : Bool) → (if fine then possible (next_base 4096 m) capacity m capacity else None) ≡ Some e
+        → IsEntry (next_base 4096 m) capacity m e
     go true at = possible_entry (next_base 4096 m) capacity m capacity e some (min_align_power m min_align) at
     go false at = absurd (none-some e at)
 
@@ -54,21 +55,24 @@ capacity_entry m capacity e min_align some is = go (is_layout capacity m) is
 pub capacity_valid : (m capacity : ℕ) (e : ℕ × ℕ) → IsTrue (is_min_align m) → 0 < capacity → capacity_chunk capacity m ≡ Some e
     → IsValid (with_chunk e (empty_state m))
 capacity_valid m capacity e min_align some is =
-    valid_grown (empty_state m) capacity m e (growing_valid m min_align) refl (min_align_power m min_align) (capacity_entry m capacity e min_align some is)
+    valid_grown (empty_state m) capacity m e (growing_valid m min_align) refl (min_align_power m min_align)
+    (capacity_entry m capacity e min_align some is)
 
 -- an arena that is made is valid
 pub created_valid : (m capacity k : ℕ) (state : State) → IsTrue (is_min_align m) → create m capacity k ≡ Some (Some state) → IsValid state
 unfolding create
 created_valid m capacity k state min_align =
     cond_both (capacity == 0) _ _ (λ (o : Option (Option State)). o ≡ Some (Some state) → IsValid state)
-    (λ none made. subst IsValid (same_Some (empty_state m) state (cond_some (k == 0) (Some (empty_state m)) (Some state) made).1) (growing_valid m min_align))
+    (λ none made. subst IsValid (same_Some (empty_state m) state (cond_some (k == 0) (Some (empty_state m)) (Some state) made).1)
+    (growing_valid m min_align))
     (λ more. go (capacity_chunk capacity m) k refl (omega (arith, eqb-false capacity 0 more)))
   where
     go : (o : Option (ℕ × ℕ)) (k : ℕ) → capacity_chunk capacity m ≡ o → 0 < capacity → create_at o m k ≡ Some (Some state) → IsValid state
     go None zero is some at = absurd (none-some state (same_Some None (Some state) at))
     go None (suc k) is some at = absurd (none-some (Some state) at)
     go (Some e) zero is some at =
-        subst IsValid (same_Some (with_chunk e (empty_state m)) state (same_Some (Some (with_chunk e (empty_state m))) (Some state) at)) (capacity_valid m capacity e min_align some is)
+        subst IsValid (same_Some (with_chunk e (empty_state m)) state (same_Some (Some (with_chunk e (empty_state m))) (Some state) at))
+        (capacity_valid m capacity e min_align some is)
     go (Some e) (suc zero) is some at = absurd (none-some state (same_Some None (Some state) at))
     go (Some e) (suc (suc k)) is some at = absurd (none-some (Some state) at)
 
@@ -85,7 +89,8 @@ created_unused m capacity k state =
     go None zero at = cc
     go None (suc k) at = cc
     go (Some e) zero at =
-        subst (λ (s : State). used_bytes s ≡ 0) (same_Some (with_chunk e (empty_state m)) state (same_Some (Some (with_chunk e (empty_state m))) (Some state) at))
+        subst (λ (s : State). used_bytes s ≡ 0) (same_Some (with_chunk e (empty_state m)) state
+        (same_Some (Some (with_chunk e (empty_state m))) (Some state) at))
         (used_with_chunk (empty_state m) e)
     go (Some e) (suc zero) at = cc
     go (Some e) (suc (suc k)) at = cc

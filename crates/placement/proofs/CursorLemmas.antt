@@ -15,10 +15,12 @@ start_positive state valid = go state.chunks valid.chunks
     go [] fine = omega arith
     go (newest ∷ older) fine = omega (arith, fine.1, floor_positive older)
 
-pub cursor_within : (state : State) → IsValid state → (start_of state.chunks ≤ cursor_of state.chunks) × (cursor_of state.chunks ≤ top_of state.chunks)
+pub cursor_within : (state : State) → IsValid state → (start_of state.chunks ≤ cursor_of state.chunks)
+    × (cursor_of state.chunks ≤ top_of state.chunks)
 cursor_within state valid = go state.chunks valid.chunks
   where
-    go : (chunks : List Chunk) → AreChunks state.min_align chunks → (start_of chunks ≤ cursor_of chunks) × (cursor_of chunks ≤ top_of chunks)
+    go : (chunks : List Chunk) → AreChunks state.min_align chunks → (start_of chunks ≤ cursor_of chunks)
+        × (cursor_of chunks ≤ top_of chunks)
     go [] fine = (omega arith, omega arith)
     go (newest ∷ older) fine = (fine.0.cursor_low, fine.0.cursor_high)
 
@@ -48,7 +50,8 @@ top_le state valid = go state.chunks valid.top
     go [] top = omega arith
     go (newest ∷ older) top = top
 
-chunks_set : (m p : ℕ) → (chunks : List Chunk) → AreChunks m chunks → start_of chunks ≤ p → p ≤ top_of chunks → p % m ≡ 0 → AreChunks m (with_newest_cursor p chunks)
+chunks_set : (m p : ℕ) → (chunks : List Chunk) → AreChunks m chunks → start_of chunks ≤ p → p ≤ top_of chunks → p % m ≡ 0
+    → AreChunks m (with_newest_cursor p chunks)
 chunks_set m p [] valid low high aligned = tt
 chunks_set m p (newest ∷ older) valid low high aligned = (
   record {
@@ -84,7 +87,8 @@ valid_set state p valid low high aligned = record {
   generation = valid.generation;
 }
 
-pub set_cursor_valid : (state : State) (p : ℕ) → IsValid state → start_of state.chunks ≤ p → p ≤ top_of state.chunks → p % state.min_align ≡ 0
+pub set_cursor_valid : (state : State) (p : ℕ) → IsValid state → start_of state.chunks ≤ p → p ≤ top_of state.chunks
+    → p % state.min_align ≡ 0
     → IsValid (set_cursor p state)
 set_cursor_valid state p valid low high aligned =
     let moved = valid_set state p valid low high aligned in

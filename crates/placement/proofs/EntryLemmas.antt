@@ -12,7 +12,8 @@ use Rattle.placement.proofs.SizeLemmas.{rounded_small, power_at_least_ge, power_
 use Rattle.placement.proofs.SearchLemmas.{size_is}
 
 -- what a filter gives stems from an element
-filtered_at : {X Y : Type 0} (h : X → Option Y) (P : X → Type 0) → (xs : List X) (k : ℕ) (y : Y) → AllByRecursion P xs → slice_get (filter_map h xs) k ≡ Some y
+filtered_at : {X Y : Type 0} (h : X → Option Y) (P : X → Type 0) → (xs : List X) (k : ℕ) (y : Y) → AllByRecursion P xs
+    → slice_get (filter_map h xs) k ≡ Some y
     → (x : X) × P x × (h x ≡ Some y)
 filtered_at h P [] k y all found = cc
 filtered_at {X} {Y} h P (x ∷ xs) k y all found = go (h x) k refl (λ i at. filtered_at h P xs i y all.1 at) found
@@ -43,7 +44,8 @@ pub possible_is : (base size align tried : ℕ) (e : ℕ × ℕ) → possible ba
     → (size_for tried size align ≡ Some e.1) × (e.0 ≡ base) × (e.0 + e.1 + 48 ≤ 2 ^ 64 - 1)
 unfolding possible
 possible_is base size align tried e is =
-    option_and_then_some {B = ℕ × ℕ} (λ n. if nat_le (base + n + 48) (2 ^ 64 - 1) then Some (base, n) else None) (size_for tried size align) e is (λ n sized made.
+    option_and_then_some {B = ℕ × ℕ} (λ n. if nat_le (base + n + 48) (2 ^ 64 - 1) then Some (base, n) else None)
+    (size_for tried size align) e is (λ n sized made.
     let tested = cond_some (nat_le (base + n + 48) (2 ^ 64 - 1)) (base, n) e made in
     let first : base ≡ e.0 = ap (λ (x : ℕ × ℕ). x.0) tested.1 in
     let second : n ≡ e.1 = ap (λ (x : ℕ × ℕ). x.1) tested.1 in
@@ -79,7 +81,8 @@ rounded_whole w n some is = elim (cases_lt w 4096) [
 ]
 
 -- a possible chunk holds the block, and has its tried size or more
-pub possible_entry : (base size align tried : ℕ) (e : ℕ × ℕ) → 0 < tried → IsTrue (is_power align) → possible base size align tried ≡ Some e → IsEntry base size align e
+pub possible_entry : (base size align tried : ℕ) (e : ℕ × ℕ) → 0 < tried → IsTrue (is_power align) → possible base size align tried ≡ Some e
+    → IsEntry base size align e
 possible_entry base size align tried e some power is =
     let made = possible_is base size align tried e is in
     let sized = size_is tried size align e.1 made.0 in
@@ -87,7 +90,8 @@ possible_entry base size align tried e some power is =
     let unit = max_power align 16 power (pow_power 4 (omega arith)) in
     let padded = up_ge (e.1 + 48) (chunk_align align) (power_positive (chunk_align align) unit) in
     let multiple : up (e.1 + 48) (chunk_align align) % 16 ≡ 0 =
-    power_multiple (up (e.1 + 48) (chunk_align align)) 16 (chunk_align align) (pow_power 4 (omega arith)) unit (omega arith) (up_mod (e.1 + 48) (chunk_align align)) in
+    power_multiple (up (e.1 + 48) (chunk_align align)) 16 (chunk_align align) (pow_power 4 (omega arith)) unit (omega arith)
+    (up_mod (e.1 + 48) (chunk_align align)) in
     let bound = layout_fits (e.1 + 48) (chunk_align align) sized.1 in
     record {
       based = made.1;
@@ -98,7 +102,8 @@ possible_entry base size align tried e some power is =
       top = made.2;
     }
 
-pub is_entry : (base size align first least k : ℕ) (e : ℕ × ℕ) → 4096 ≤ least → IsTrue (is_power align) → slice_get (entries base size align first least) k ≡ Some e
+pub is_entry : (base size align first least k : ℕ) (e : ℕ × ℕ) → 4096 ≤ least → IsTrue (is_power align)
+    → slice_get (entries base size align first least) k ≡ Some e
     → IsEntry base size align e
 is_entry base size align first least k e large power found =
     let tried = entry_tried base size align first least k e found in

@@ -33,3 +33,7 @@ pub mod TextRows
 pub mod MapLemmas
 pub mod BackLemmas
 pub mod MarkLemmas
+pub mod MarkPartLemmas
+pub mod PlacedLemmas
+pub mod GeneratorLemmas
+pub mod SummaryLemmas

@@ -37,7 +37,8 @@ read_fields_back (n ∷ ns) rest s =
 abbrev pub read_field : {A : Type 0} → (ℕ → A) → List ℕ → A × List ℕ
 read_field make text = let f = read_fields 1 text in (make (get_or f.0 0 0), f.1)
 
-pub read_field_back : {A : Type 0} (make : ℕ → A) (n : ℕ) (rest : List ℕ) → Stops rest → read_field make (fields (n ∷ []) ++ rest) ≡ (make n, rest)
+pub read_field_back : {A : Type 0} (make : ℕ → A) (n : ℕ) (rest : List ℕ) → Stops rest
+    → read_field make (fields (n ∷ []) ++ rest) ≡ (make n, rest)
 read_field_back make n rest s = ap (λ f. (make (get_or f.0 0 0), f.1)) (read_fields_back (n ∷ []) rest s)
 
 abbrev digit_value : ℕ → ℕ
@@ -47,9 +48,11 @@ digit_value c = if nat_lt c 58 then c - 48 else c - 87
 read_pairs : List ℕ → List ℕ × List ℕ
 read_pairs [] = ([], [])
 read_pairs (a ∷ []) = ([], a ∷ [])
-read_pairs (a ∷ b ∷ cs) = if a == 10 then ([], a ∷ b ∷ cs) else (let more = read_pairs cs in ((digit_value a * 16 + digit_value b) ∷ more.0, more.1))
+read_pairs (a ∷ b ∷ cs) = if a == 10 then ([], a ∷ b ∷ cs) else (let more = read_pairs cs in
+    ((digit_value a * 16 + digit_value b) ∷ more.0, more.1))
 
-read_pairs_back : (bytes rest : List ℕ) → AllByRecursion IsByte bytes → read_pairs (flat_map hex_pair bytes ++ 10 ∷ rest) ≡ (bytes, 10 ∷ rest)
+read_pairs_back : (bytes rest : List ℕ) → AllByRecursion IsByte bytes
+    → read_pairs (flat_map hex_pair bytes ++ 10 ∷ rest) ≡ (bytes, 10 ∷ rest)
 unfolding read_pairs
 read_pairs_back [] [] h = refl
 read_pairs_back [] (c ∷ cs) h = refl

@@ -55,5 +55,6 @@ module _ {X : Type 0} where
   pub tree_entries : (es : List (ℕ × X)) → IsStrictlySortedBy nat_cmp (keys_of es) → map.entries (map.from_entries {R = nat_cmp} es) ≡ es
   tree_entries es sorted =
       let order = subst T (sym (rising es sorted)) tt in
-      ap map.entries (same_map nat_cmp_total nat_cmp-IsAntisymmetric (map.from_entries es) (map.from_sorted es) (λ q. get-from_entries nat_cmp_total es q ∙ sym (get-from_sorted nat_cmp es q order)))
+      ap map.entries (same_map nat_cmp_total nat_cmp-IsAntisymmetric (map.from_entries es) (map.from_sorted es)
+      (λ q. get-from_entries nat_cmp_total es q ∙ sym (get-from_sorted nat_cmp es q order)))
       ∙ entries-from_sorted nat_cmp es order

@@ -18,7 +18,8 @@ use Rattle.placement.proofs.BackLemmas.{is_mark, all_kept}
 
 -- The oldest n chunks are as they were; or there are no others, and the cursor moved.
 abbrev StayBelow : ℕ → List Chunk → List Chunk → Type 0
-StayBelow n old new = (first_chunks n new ≡ first_chunks n old) ⊎ ((c : ℕ) × (length new ≡ n) × (new ≡ with_newest_cursor c (first_chunks n old)))
+StayBelow n old new = (first_chunks n new ≡ first_chunks n old)
+    ⊎ ((c : ℕ) × (length new ≡ n) × (new ≡ with_newest_cursor c (first_chunks n old)))
 
 length_first : (n : ℕ) (chunks : List Chunk) → n ≤ length chunks → length (first_chunks n chunks) ≡ n
 length_first n chunks within = omega (arith, length-drop (length chunks - n) chunks)
@@ -38,7 +39,8 @@ record IsBelow (n : ℕ) (old new : List Chunk) : Type 0 where
   used : (c addr k : ℕ) → IsTrue (is_range_used new addr k) → IsTrue (is_range_used (raised c (first_chunks n old)) addr k)
       → IsTrue (is_range_used (raised c (first_chunks n new)) addr k)
 
-used_moved : (c p addr k : ℕ) (chunks : List Chunk) → IsTrue (is_range_used (with_newest_cursor p chunks) addr k) → IsTrue (is_range_used (raised c chunks) addr k)
+used_moved : (c p addr k : ℕ) (chunks : List Chunk) → IsTrue (is_range_used (with_newest_cursor p chunks) addr k)
+    → IsTrue (is_range_used (raised c chunks) addr k)
     → IsTrue (is_range_used (raised c (with_newest_cursor p chunks)) addr k)
 used_moved c p addr k [] used marked = used
 used_moved c p addr k (newest ∷ older) used marked =
@@ -50,7 +52,8 @@ used_moved c p addr k (newest ∷ older) used marked =
       ]
     ]
   where
-    both : IsTrue (is_used_by addr k (record newest { cursor = p })) → IsTrue (is_used_by addr k (record newest { cursor = max newest.cursor c }))
+    both : IsTrue (is_used_by addr k (record newest { cursor = p }))
+        → IsTrue (is_used_by addr k (record newest { cursor = max newest.cursor c }))
         → IsTrue (is_used_by addr k (record newest { cursor = max p c }))
     both here too =
         let first = and_parts _ _ here in
@@ -77,18 +80,28 @@ is_below n old new within stay = elim stay [
         top = ap top_of (all ∙ moved.2) ∙ top_moved moved.0 (first_chunks n old);
         used = λ c addr k used marked.
             subst (λ (l : List Chunk). IsTrue (is_range_used (raised c l) addr k)) (sym (all ∙ moved.2))
-            (used_moved c moved.0 addr k (first_chunks n old) (subst (λ (l : List Chunk). IsTrue (is_range_used l addr k)) moved.2 used) marked);
+            (used_moved c moved.0 addr k (first_chunks n old) (subst (λ (l : List Chunk). IsTrue (is_range_used l addr k)) moved.2 used)
+            marked);
       }
 ]
 
 -- ---- A mark
 
-accepts_same : (mark : Point) (old new : State) → new.min_align ≡ old.min_align → new.is_growing ≡ old.is_growing → mark.chunks ≤ length old.chunks
+accepts_same : (mark : Point) (old new : State) → new.min_align ≡ old.min_align → new.is_growing ≡ old.is_growing
+    → mark.chunks ≤ length old.chunks
     → IsBelow mark.chunks old.chunks new.chunks → accepts mark new ≡ accepts mark old
 accepts_same mark old new same kind within below =
-    rw (same, kind, below.start, below.top, le-leb mark.chunks (length old.chunks) within, le-leb mark.chunks (length new.chunks) below.within) refl
+    rw (
+      same,
+      kind,
+      below.start,
+      below.top,
+      le-leb mark.chunks (length old.chunks) within,
+      le-leb mark.chunks (length new.chunks) below.within,
+    ) refl
 
-mark_kept : (mark : Point) (old new : State) → new.generation ≡ old.generation → new.min_align ≡ old.min_align → new.is_growing ≡ old.is_growing → IsTrue (accepts mark old)
+mark_kept : (mark : Point) (old new : State) → new.generation ≡ old.generation → new.min_align ≡ old.min_align
+    → new.is_growing ≡ old.is_growing → IsTrue (accepts mark old)
     → StayBelow mark.chunks old.chunks new.chunks → KeepsMark mark old new
 mark_kept mark old new generation same kind holds stay =
     let within = (is_mark mark old holds).within in
@@ -96,6 +109,7 @@ mark_kept mark old new generation same kind holds stay =
     record {
       generation = generation;
       accepted = rw (accepts_same mark old new same kind within below) holds;
+      part = λ addr. rw (below.start, below.top) refl;
       used = λ addr n used marked. below.used mark.cursor addr n used marked;
     }
 
@@ -138,7 +152,8 @@ record IsNext (old new : State) : Type 0 where
 
 next_keeps : (mark : Point) (old new : State) → IsTrue (accepts mark old) → IsNext old new → KeepsMark mark old new
 next_keeps mark old new holds next =
-    mark_kept mark old new next.generation next.min_align next.is_growing holds (follows_below mark.chunks old.chunks new.chunks (is_mark mark old holds).within next.follows)
+    mark_kept mark old new next.generation next.min_align next.is_growing holds
+    (follows_below mark.chunks old.chunks new.chunks (is_mark mark old holds).within next.follows)
 
 next_still : (state : State) → IsNext state state
 next_still state = record { generation = refl; min_align = refl; is_growing = refl; follows = still state.chunks }
@@ -146,7 +161,8 @@ next_still state = record { generation = refl; min_align = refl; is_growing = re
 next_placed : (p : ℕ) (state : State) → IsNext state (with_cursor p state)
 next_placed p state = record { generation = refl; min_align = refl; is_growing = refl; follows = inl (p, refl) }
 
-next_unasked : (k : ℕ) (state : State) (r outcome : Outcome) → IsNext state r.state → unasked k r ≡ Some outcome → IsNext state outcome.state
+next_unasked : (k : ℕ) (state : State) (r outcome : Outcome) → IsNext state r.state → unasked k r ≡ Some outcome
+    → IsNext state outcome.state
 next_unasked k state r outcome next at = subst (λ (o : Outcome). IsNext state o.state) (cond_some (k == 0) r outcome at).1 next
 
 next_alloc : (state : State) (size align k : ℕ) (outcome : Outcome) → alloc state size align k ≡ Some outcome → IsNext state outcome.state
@@ -155,18 +171,25 @@ next_alloc state size align k outcome step = by_place (place state size align) s
   where
     in_chunk : (e : ℕ × ℕ) (o : Option ℕ) → option_map (placed (with_chunk e state)) o ≡ Some outcome → IsNext state outcome.state
     in_chunk e (Some p) at = subst (λ (o : Outcome). IsNext state o.state) (same_Some (placed (with_chunk e state) p) outcome at)
-        (record { generation = refl; min_align = refl; is_growing = refl; follows = inr (record { base = e.0; size = e.1; cursor = p }, refl) })
+        (record {
+          generation = refl;
+          min_align = refl;
+          is_growing = refl;
+          follows = inr (record { base = e.0; size = e.1; cursor = p }, refl);
+        })
     in_chunk e None at = absurd (none-some outcome at)
 
     by_chunk : (o : Option (ℕ × ℕ)) → alloc_in_new o state size align k ≡ Some outcome → IsNext state outcome.state
     by_chunk (Some e) at = in_chunk e (place (with_chunk e state) size align) at
-    by_chunk None at = subst (λ (o : Outcome). IsNext state o.state) (cond_some (k == length (asked state size align)) (fails state) outcome at).1 (next_still state)
+    by_chunk None at = subst (λ (o : Outcome). IsNext state o.state)
+        (cond_some (k == length (asked state size align)) (fails state) outcome at).1 (next_still state)
 
     by_place : (o : Option ℕ) → alloc_at o state size align k ≡ Some outcome → IsNext state outcome.state
     by_place (Some p) at = next_unasked k state (placed state p) outcome (next_placed p state) at
     by_place None at = by_chunk (slice_get (asked state size align) k) at
 
-next_resize : (way : Resizing) (state : State) (p size align k : ℕ) (outcome : Outcome) → resize way state p size align k ≡ Some outcome → IsNext state outcome.state
+next_resize : (way : Resizing) (state : State) (p size align k : ℕ) (outcome : Outcome) → resize way state p size align k ≡ Some outcome
+    → IsNext state outcome.state
 next_resize Stays state p size align k outcome step = next_unasked k state (stays state p) outcome (next_still state) step
 next_resize (Moves q) state p size align k outcome step = next_unasked k state (placed state q) outcome (next_placed q state) step
 next_resize Anew state p size align k outcome step = next_alloc state size align k outcome step
@@ -181,15 +204,19 @@ next_dealloc state p size =
 pub still_keeps : (mark : Point) (state : State) → IsTrue (accepts mark state) → KeepsMark mark state state
 still_keeps mark state holds = next_keeps mark state state holds (next_still state)
 
-pub alloc_keeps : (mark : Point) (state : State) (size align k : ℕ) (outcome : Outcome) → IsTrue (accepts mark state) → alloc state size align k ≡ Some outcome
+pub alloc_keeps : (mark : Point) (state : State) (size align k : ℕ) (outcome : Outcome) → IsTrue (accepts mark state)
+    → alloc state size align k ≡ Some outcome
     → KeepsMark mark state outcome.state
-alloc_keeps mark state size align k outcome holds step = next_keeps mark state outcome.state holds (next_alloc state size align k outcome step)
+alloc_keeps mark state size align k outcome holds step =
+    next_keeps mark state outcome.state holds (next_alloc state size align k outcome step)
 
 pub resize_keeps : (mark : Point) (way : Resizing) (state : State) (p size align k : ℕ) (outcome : Outcome) → IsTrue (accepts mark state)
     → resize way state p size align k ≡ Some outcome → KeepsMark mark state outcome.state
-resize_keeps mark way state p size align k outcome holds step = next_keeps mark state outcome.state holds (next_resize way state p size align k outcome step)
+resize_keeps mark way state p size align k outcome holds step =
+    next_keeps mark state outcome.state holds (next_resize way state p size align k outcome step)
 
-pub dealloc_keeps_mark : (mark : Point) (state : State) (p size : ℕ) → IsTrue (accepts mark state) → KeepsMark mark state (dealloc state p size)
+pub dealloc_keeps_mark : (mark : Point) (state : State) (p size : ℕ) → IsTrue (accepts mark state)
+    → KeepsMark mark state (dealloc state p size)
 dealloc_keeps_mark mark state p size holds = next_keeps mark state (dealloc state p size) holds (next_dealloc state p size)
 
 -- ---- Going back to a newer mark
@@ -210,12 +237,16 @@ back_below n mark chunks below within =
     let under : first_chunks n kept ≡ first_chunks n chunks = drop-drop (length kept - n) (length chunks - mark.chunks) chunks
     ∙ ap (λ (k : ℕ). drop k chunks) (omega (arith, many)) in
     let moved : StayBelow n kept (raised mark.cursor kept) =
-    subst (StayBelow n kept) (sym (raised_is mark.cursor kept)) (moved_below n (max (cursor_of kept) mark.cursor) kept (omega (arith, many))) in
-    subst (λ (l : List Chunk). (first_chunks n (raised mark.cursor kept) ≡ l) ⊎ ((c : ℕ) × (length (raised mark.cursor kept) ≡ n) × (raised mark.cursor kept ≡ with_newest_cursor c l)))
+    subst (StayBelow n kept) (sym (raised_is mark.cursor kept))
+    (moved_below n (max (cursor_of kept) mark.cursor) kept (omega (arith, many))) in
+    subst (λ (l : List Chunk). (first_chunks n (raised mark.cursor kept) ≡ l)
+    ⊎ ((c : ℕ) × (length (raised mark.cursor kept) ≡ n) × (raised mark.cursor kept ≡ with_newest_cursor c l)))
     under moved
 
 -- An older mark stands as a newer one is gone back to.
-pub back_keeps : (older newer : Point) (state : State) → older.chunks ≤ newer.chunks → IsTrue (accepts older state) → IsTrue (accepts newer state)
+pub back_keeps : (older newer : Point) (state : State) → older.chunks ≤ newer.chunks → IsTrue (accepts older state)
+    → IsTrue (accepts newer state)
     → KeepsMark older state (back newer state)
 back_keeps older newer state below holds newer_holds =
-    mark_kept older state (back newer state) refl refl refl holds (back_below older.chunks newer state.chunks below (is_mark newer state newer_holds).within)
+    mark_kept older state (back newer state) refl refl refl holds
+    (back_below older.chunks newer state.chunks below (is_mark newer state newer_holds).within)

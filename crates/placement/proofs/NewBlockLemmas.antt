@@ -14,7 +14,8 @@ use Rattle.placement.proofs.AllocLemmas.{is_granted, growing_of}
 use Rattle.placement.proofs.UsedLemmas.{used_set, used_grown, used_under, used_beside, used_from}
 
 -- a block below the cursor, padded, lies apart from what was in use
-beside : (state : State) (addr n p size : ℕ) → IsValid state → 0 < n → start_of state.chunks ≤ p → p + size ≤ cursor_of state.chunks → IsTrue (is_range_used state.chunks addr n)
+beside : (state : State) (addr n p size : ℕ) → IsValid state → 0 < n → start_of state.chunks ≤ p → p + size ≤ cursor_of state.chunks
+    → IsTrue (is_range_used state.chunks addr n)
     → LieBeside state p size addr n
 beside state addr n p size valid some low high used = λ filled many.
     let positive = min_align_positive state.min_align valid.min_align in
@@ -29,7 +30,8 @@ pub record IsAllocated (old : State) (size align : ℕ) (outcome : Outcome) : Ty
   pub valid : IsValid outcome.state
   pub answer : MatchOption outcome.answer (outcome.state ≡ old) (λ p. IsNewBlock old size align p outcome.state)
 
-in_newest : (state : State) (size align p : ℕ) → IsValid state → IsPlace (start_of state.chunks) (cursor_of state.chunks) size align state.min_align p
+in_newest : (state : State) (size align p : ℕ) → IsValid state
+    → IsPlace (start_of state.chunks) (cursor_of state.chunks) size align state.min_align p
     → IsAllocated state size align (placed state p)
 in_newest state size align p valid place = record {
   valid = valid_moved state p valid place.low (omega (arith, place.high)) place.min_aligned;
@@ -47,7 +49,8 @@ in_newest state size align p valid place = record {
   };
 }
 
-in_new : (state : State) (size align p : ℕ) (e : ℕ × ℕ) → IsValid state → IsValid (with_chunk e state) → IsPlace e.0 (e.0 + e.1) size align state.min_align p
+in_new : (state : State) (size align p : ℕ) (e : ℕ × ℕ) → IsValid state → IsValid (with_chunk e state)
+    → IsPlace e.0 (e.0 + e.1) size align state.min_align p
     → IsAllocated state size align (placed (with_chunk e state) p)
 in_new state size align p e valid grown place = record {
   valid = valid_moved (with_chunk e state) p grown place.low (omega (arith, place.high)) place.min_aligned;
@@ -61,7 +64,8 @@ in_new state size align p e valid grown place = record {
     within = place.high;
     later = omega (arith, top_floor state.chunks, grown.chunks.1);
     keeps = λ addr n used. used_grown addr n (record { base = e.0; size = e.1; cursor = p }) state.chunks used;
-    beside = λ addr n some used filled many. inr (omega (arith, used_under state.min_align addr n state.chunks valid.chunks some used, grown.chunks.1, place.low));
+    beside = λ addr n some used filled many.
+        inr (omega (arith, used_under state.min_align addr n state.chunks valid.chunks some used, grown.chunks.1, place.low));
   };
 }
 
@@ -76,13 +80,17 @@ is_allocated state size align k outcome valid power step = by_place (place state
         let p : ℕ = down (e.0 + e.1 - size) (max align state.min_align) in
         let granted = is_granted state size align k e p valid (growing_of state size align k e found) power none found refl in
         let step : alloc_in_new (Some e) state size align k ≡ Some (placed (with_chunk e state) p) = rw (none, found) at granted.step in
-        subst (IsAllocated state size align) (same_Some (placed (with_chunk e state) p) outcome (sym step ∙ at)) (in_new state size align p e valid granted.valid granted.place)
+        subst (IsAllocated state size align) (same_Some (placed (with_chunk e state) p) outcome (sym step ∙ at))
+        (in_new state size align p e valid granted.valid granted.place)
     by_chunk None found none at =
-        subst (IsAllocated state size align) (cond_some (k == length (asked state size align)) (fails state) outcome at).1 (record { valid = valid; answer = refl })
+        subst (IsAllocated state size align) (cond_some (k == length (asked state size align)) (fails state) outcome at).1
+        (record { valid = valid; answer = refl })
 
-    by_place : (o : Option ℕ) → place state size align ≡ o → alloc_at o state size align k ≡ Some outcome → IsAllocated state size align outcome
+    by_place : (o : Option ℕ) → place state size align ≡ o → alloc_at o state size align k ≡ Some outcome
+        → IsAllocated state size align outcome
     by_place (Some p) found at =
-        let place = is_place (start_of state.chunks) (cursor_of state.chunks) size align state.min_align p (start_positive state valid) power valid.min_align found in
+        let place = is_place (start_of state.chunks) (cursor_of state.chunks) size align state.min_align p
+        (start_positive state valid) power valid.min_align found in
         subst (IsAllocated state size align) (cond_some (k == 0) (placed state p) outcome at).1 (in_newest state size align p valid place)
     by_place None none at = by_chunk (slice_get (asked state size align) k) refl none at
 

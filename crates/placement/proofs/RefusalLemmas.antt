@@ -31,7 +31,8 @@ unfolding alloc
 step_in_new state size align k valid power none = elim (slice_get_cases (asked state size align) k).1 [
   | inl inside ↦
       let e : ℕ × ℕ = inside.0 in
-      let granted = is_granted state size align k e (down (e.0 + e.1 - size) (max align state.min_align)) valid (growing_of state size align k e inside.2) power none inside.2 refl in
+      let granted = is_granted state size align k e (down (e.0 + e.1 - size) (max align state.min_align)) valid
+      (growing_of state size align k e inside.2) power none inside.2 refl in
       let step : IsSome (alloc state size align k) = rw granted.step refl in
       (λ some. omega (arith, inside.1), λ within. step)
   | inr past ↦ rw (none, past.1) (
@@ -44,6 +45,8 @@ step_in_new state size align k valid power none = elim (slice_get_cases (asked s
 pub asked_most : (state : State) (size align : ℕ) → length (asked state size align) ≤ 64
 unfolding asked asked_above
 asked_most state size align =
-    cond_both state.is_growing (asked_above (floor_of state.chunks) (newest_size state.chunks) size align) [] (λ (l : List (ℕ × ℕ)). length l ≤ 64)
-    (λ growing. length-entries (next_base (floor_of state.chunks) align) size align (max (least_size size) (2 * newest_size state.chunks)) (least_size size))
+    cond_both state.is_growing (asked_above (floor_of state.chunks) (newest_size state.chunks) size align) []
+    (λ (l : List (ℕ × ℕ)). length l ≤ 64)
+    (λ growing. length-entries (next_base (floor_of state.chunks) align) size align (max (least_size size) (2 * newest_size state.chunks))
+    (least_size size))
     (λ still. omega arith)

@@ -46,7 +46,8 @@ repeated zero fill p = tt
 repeated (suc n) fill p = (p, repeated n fill p)
 
 spliced : (old new : List ℕ) (at : ℕ) → AreBytes old → AreBytes new → AreBytes (splice old at new)
-spliced old new at p q = joined (take at old ++ new) (drop (at + length new) old) (joined (take at old) new (taken at old p) q) (dropped (at + length new) old p)
+spliced old new at p q = joined (take at old ++ new) (drop (at + length new) old) (joined (take at old) new (taken at old p) q)
+    (dropped (at + length new) old p)
 
 -- ---- The bytes of the names
 
@@ -57,15 +58,18 @@ HoldsBytes contents = (name : ℕ) (bytes : List ℕ) → finite.get contents na
 holds_none : HoldsBytes finite.empty
 holds_none name bytes found = absurd (none-some bytes (rw (get-empty nat_cmp name) at found))
 
-holds_more : (contents : Contents) (name : ℕ) (bytes : List ℕ) → HoldsBytes contents → AreBytes bytes → HoldsBytes (finite.insert contents name bytes)
-holds_more contents name bytes held are other bs found = go (eq_by_cmp nat_cmp other name) (rw (get-insert nat_cmp_total contents name bytes other) at found)
+holds_more : (contents : Contents) (name : ℕ) (bytes : List ℕ) → HoldsBytes contents → AreBytes bytes
+    → HoldsBytes (finite.insert contents name bytes)
+holds_more contents name bytes held are other bs found =
+    go (eq_by_cmp nat_cmp other name) (rw (get-insert nat_cmp_total contents name bytes other) at found)
   where
     go : (b : Bool) → cond b (Some bytes) (finite.get contents other) ≡ Some bs → AreBytes bs
     go true same = subst AreBytes (same_Some bytes bs same) are
     go false same = held other bs same
 
 holds_less : (contents : Contents) (name : ℕ) → HoldsBytes contents → HoldsBytes (finite.remove contents name)
-holds_less contents name held other bs found = go (eq_by_cmp nat_cmp other name) (rw (get-remove nat_cmp_total contents name other) at found)
+holds_less contents name held other bs found =
+    go (eq_by_cmp nat_cmp other name) (rw (get-remove nat_cmp_total contents name other) at found)
   where
     go : (b : Bool) → cond b None (finite.get contents other) ≡ Some bs → AreBytes bs
     go true same = absurd (none-some bs same)
@@ -75,7 +79,8 @@ holds_some : (contents : Contents) (test : ℕ → Bool) → HoldsBytes contents
 holds_some contents test held other bs found =
     go (test other) (get-retain_keys contents test other (λ x same. ap test (sym (nat_cmp-IsAntisymmetric other x same)))) found
   where
-    go : (b : Bool) → finite.get (finite.retain_keys contents test) other ≡ cond b (finite.get contents other) None → finite.get (finite.retain_keys contents test) other ≡ Some bs → AreBytes bs
+    go : (b : Bool) → finite.get (finite.retain_keys contents test) other ≡ cond b (finite.get contents other) None
+        → finite.get (finite.retain_keys contents test) other ≡ Some bs → AreBytes bs
     go true is same = held other bs (sym is ∙ same)
     go false is same = absurd (none-some bs (sym is ∙ same))
 
@@ -85,7 +90,8 @@ abbrev GivesBytes : Next → Type 0
 GivesBytes next = HasBytes next.0 × HoldsBytes next.1.bytes
 
 -- a call that asks for nothing
-answered : (k : ℕ) (reply : Reply) (m : Machine) (next : Next) → HasBytes reply → HoldsBytes m.bytes → answers k reply m ≡ Some next → GivesBytes next
+answered : (k : ℕ) (reply : Reply) (m : Machine) (next : Next) → HasBytes reply → HoldsBytes m.bytes → answers k reply m ≡ Some next
+    → GivesBytes next
 answered k reply m next has held at = subst GivesBytes (cond_some (k == 0) (reply, m) next at).1 (has, held)
 
 -- a call that places
@@ -114,7 +120,8 @@ found k name m place go next held each at = by place (finite.get m.bytes name) r
 -- an allocation, by whether the name is taken and the layout is one
 alloc_called : (k name size align fill : ℕ) (m : Machine) (next : Next) → IsByte fill → HoldsBytes m.bytes → (taken fine : Bool)
     → (if taken then answers k NameTaken m else (if not fine then answers k BadLayout m
-    else option_map (λ (o : Outcome). settles m k name size align (replicate size fill) o.state o.answer) (alloc m.state size align k))) ≡ Some next
+    else option_map (λ (o : Outcome). settles m k name size align (replicate size fill) o.state o.answer) (alloc m.state size align k)))
+    ≡ Some next
     → GivesBytes next
 alloc_called k name size align fill m next byte held true fine at = answered k NameTaken m next tt held at
 alloc_called k name size align fill m next byte held false false at = answered k BadLayout m next tt held at
@@ -122,7 +129,8 @@ alloc_called k name size align fill m next byte held false true at =
     settled k name size align (replicate size fill) m (alloc m.state size align k) next (repeated size fill byte) held at
 
 -- a grow or a shrink, by whether the layout is one and the size is on the wrong side
-resize_called : (k name size align : ℕ) (m : Machine) (o : Option Outcome) (bytes : List ℕ) (next : Next) → HoldsBytes m.bytes → AreBytes bytes → (fine wrong : Bool)
+resize_called : (k name size align : ℕ) (m : Machine) (o : Option Outcome) (bytes : List ℕ) (next : Next) → HoldsBytes m.bytes
+    → AreBytes bytes → (fine wrong : Bool)
     → (if not fine then answers k BadLayout m else (if wrong then answers k OutOfRange m
     else option_map (λ (o : Outcome). settles m k name size align bytes o.state o.answer) o)) ≡ Some next
     → GivesBytes next
@@ -138,17 +146,20 @@ write_called k m next bytes false held new is = answered k Done (record m { byte
 
 -- a call on marks
 mark_called : (k name : ℕ) (m : Machine) (next : Next) (taken : Bool) → HoldsBytes m.bytes
-    → (if taken then answers k NameTaken m else answers k Done (record m { marks = (name, mark_of m.state) ∷ m.marks })) ≡ Some next → GivesBytes next
+    → (if taken then answers k NameTaken m else answers k Done (record m { marks = (name, mark_of m.state) ∷ m.marks })) ≡ Some next
+    → GivesBytes next
 mark_called k name m next true held at = answered k NameTaken m next tt held at
 mark_called k name m next false held at = answered k Done (record m { marks = (name, mark_of m.state) ∷ m.marks }) next tt held at
 
 back_called : (k name : ℕ) (m : Machine) (next : Next) (o : Option Point) → HoldsBytes m.bytes
     → at_mark o (answers k NoSuchName m) (λ mark. answers k Done (goes_back m mark name)) ≡ Some next → GivesBytes next
 back_called k name m next None held at = answered k NoSuchName m next tt held at
-back_called k name m next (Some mark) held at = answered k Done (goes_back m mark name) next tt (holds_some m.bytes (is_left (back mark m.state) m.held) held) at
+back_called k name m next (Some mark) held at =
+    answered k Done (goes_back m mark name) next tt (holds_some m.bytes (is_left (back mark m.state) m.held) held) at
 
 -- Each call whose numbers fit gives a reply with bytes, and leaves bytes.
-step_bytes : (call : Call) (k : ℕ) (m : Machine) (next : Next) → Fits call → HoldsBytes m.bytes → step call k m ≡ Some next → GivesBytes next
+step_bytes : (call : Call) (k : ℕ) (m : Machine) (next : Next) → Fits call → HoldsBytes m.bytes → step call k m ≡ Some next
+    → GivesBytes next
 unfolding step
 step_bytes (Alloc name size align fill) k m next fits held at =
     alloc_called k name size align fill m next fits.3 held (finite.contains_key m.held name) (is_layout size align) at
@@ -158,7 +169,8 @@ step_bytes (Grow name size align fill) k m next fits held at =
     (joined bs (replicate (size - p.size) fill) are (repeated (size - p.size) fill fits.3)) (is_layout size align) (nat_lt size p.size)) at
 step_bytes (Shrink name size align) k m next fits held at =
     found k name m (finite.get m.held name) _ next held
-    (λ p bs are. resize_called k name size align m _ (take size bs) next held (taken size bs are) (is_layout size align) (nat_lt p.size size)) at
+    (λ p bs are. resize_called k name size align m _ (take size bs) next held (taken size bs are) (is_layout size align)
+    (nat_lt p.size size)) at
 step_bytes (Dealloc name) k m next fits held at =
     found k name m (finite.get m.held name) _ next held
     (λ p bs are. answered k Done (lets_go m (dealloc m.state p.addr p.size) name) next tt (holds_less m.bytes name held)) at
@@ -176,7 +188,8 @@ step_bytes Allocated k m next fits held at = answered k (Number (allocated_bytes
 
 -- ---- A run
 
-run_bytes : (m : Machine) (calls : List Call) (ks : List ℕ) (replies : List Reply) (last : Machine) → AllByRecursion Fits calls → HoldsBytes m.bytes
+run_bytes : (m : Machine) (calls : List Call) (ks : List ℕ) (replies : List Reply) (last : Machine) → AllByRecursion Fits calls
+    → HoldsBytes m.bytes
     → run_from m calls ks ≡ Some (replies, last) → AllByRecursion HasBytes replies
 unfolding run_from
 run_bytes m [] [] replies last fit held ran =
@@ -191,10 +204,12 @@ run_bytes m (call ∷ calls) (k ∷ ks) replies last fit held ran =
   where
     go : (next : Next) (o : Option (List Reply × Machine)) → run_from next.1 calls ks ≡ o
         → option_map {T = List Reply × Machine} {U = List Reply × Machine} (reply_first next.0) o ≡ Some (replies, last) → HasBytes next.0
-        → ((tail : List Reply × Machine) → run_from next.1 calls ks ≡ Some tail → AllByRecursion HasBytes tail.0) → AllByRecursion HasBytes replies
+        → ((tail : List Reply × Machine) → run_from next.1 calls ks ≡ Some tail → AllByRecursion HasBytes tail.0)
+        → AllByRecursion HasBytes replies
     go next None is rest first more = cc
     go next (Some tail) is rest first more =
-        subst (λ (r : List Reply × Machine). AllByRecursion HasBytes r.0) (same_Some {A = List Reply × Machine} (reply_first next.0 tail) (replies, last) rest) (first, more tail is)
+        subst (λ (r : List Reply × Machine). AllByRecursion HasBytes r.0)
+        (same_Some {A = List Reply × Machine} (reply_first next.0 tail) (replies, last) rest) (first, more tail is)
 
 -- the replies of a run that begins with no names
 pub replies_bytes : (state : State) (calls : List Call) (ks : List ℕ) (replies : List Reply) (last : Machine) → AllByRecursion Fits calls
@@ -214,7 +229,10 @@ pub calls_fit : (bytes : List ℕ) (calls : List Call) → CallsOf bytes (Ok cal
 calls_fit bytes calls are = lines_fit (lines_of bytes) calls are
 
 -- two runs whose replies have one text have the same replies
-pub same_run_replies : (text other : List ℕ) (calls others : List Call) (state from : State) (ks js : List ℕ) (a b : List Reply) (last end : Machine)
-    → CallsOf text (Ok calls) → CallsOf other (Ok others) → run state calls ks ≡ Some (a, last) → run from others js ≡ Some (b, end) → text_of a ≡ text_of b → a ≡ b
+pub same_run_replies : (text other : List ℕ) (calls others : List Call) (state from : State) (ks js : List ℕ) (a b : List Reply)
+    (last end : Machine)
+    → CallsOf text (Ok calls) → CallsOf other (Ok others) → run state calls ks ≡ Some (a, last) → run from others js ≡ Some (b, end)
+    → text_of a ≡ text_of b → a ≡ b
 same_run_replies text other calls others state from ks js a b last end are other_are ran other_ran same =
-    same_replies a b (replies_bytes state calls ks a last (calls_fit text calls are) ran) (replies_bytes from others js b end (calls_fit other others other_are) other_ran) same
+    same_replies a b (replies_bytes state calls ks a last (calls_fit text calls are) ran)
+    (replies_bytes from others js b end (calls_fit other others other_are) other_ran) same

@@ -127,8 +127,10 @@ one_bit n small one =
 -- std's test, by the number of bits
 pub power_by_bits : (n : ℕ) → n < 2 ^ 64 → is_power_of_two n ≡ is_power n
 unfolding count_ones
-power_by_bits n small = same_from_decides (is_power_of_two n) (is_power n)
-    (λ bits. one_bit n small (eqb-true _ _ bits), λ power. eq-eqb _ _ (ap count_ones (omega (arith, power.1)) ∙ ones_cat power.0 1 0 (pow_pos power.0)))
+power_by_bits n small = same_from_decides (is_power_of_two n) (is_power n) (
+  λ bits. one_bit n small (eqb-true _ _ bits),
+  λ power. eq-eqb _ _ (ap count_ones (omega (arith, power.1)) ∙ ones_cat power.0 1 0 (pow_pos power.0)),
+)
     (λ power. let k = exponent n power in (k.0, k.2), power_from n small)
 
 -- of two powers of two the smaller one divides the other
@@ -140,7 +142,8 @@ power_mod a b low high below =
       | inl over ↦ absurd (omega (arith, j.2, k.2, pow_below k.0 j.0 over))
       | inr fine ↦ fine
     ] in
-    let parts : b ≡ 2 ^ (k.0 - j.0) * a = k.2 ∙ ap (λ (e : ℕ). 2 ^ e) (omega arith) ∙ pow-add 2 (k.0 - j.0) j.0 ∙ ap (λ (n : ℕ). 2 ^ (k.0 - j.0) * n) (sym j.2) in
+    let parts : b ≡ 2 ^ (k.0 - j.0) * a = k.2 ∙ ap (λ (e : ℕ). 2 ^ e) (omega arith) ∙ pow-add 2 (k.0 - j.0) j.0
+    ∙ ap (λ (n : ℕ). 2 ^ (k.0 - j.0) * n) (sym j.2) in
     ap (λ (n : ℕ). n % a) parts ∙ mul-mod_left (2 ^ (k.0 - j.0)) a
 
 pub power_multiple : (x a b : ℕ) → IsTrue (is_power a) → IsTrue (is_power b) → a ≤ b → x % b ≡ 0 → x % a ≡ 0
@@ -155,7 +158,8 @@ min_align_le m is = grind (arith, nat_tests)
 pub min_align_power : (m : ℕ) → IsTrue (is_min_align m) → IsTrue (is_power m)
 unfolding is_power_among
 min_align_power m is =
-    (and_parts (is_min_align m) (is_power m) (agree_below_at (λ n. is_min_align n && is_power n) is_min_align 17 m refl (omega (arith, min_align_le m is)) ∙ is)).1
+    (and_parts (is_min_align m) (is_power m)
+    (agree_below_at (λ n. is_min_align n && is_power n) is_min_align 17 m refl (omega (arith, min_align_le m is)) ∙ is)).1
 
 pub min_align_positive : (m : ℕ) → IsTrue (is_min_align m) → 0 < m
 min_align_positive m is = grind (arith, nat_tests)
@@ -169,7 +173,8 @@ pub mask_down : (n d : ℕ) → IsTrue (is_power d) → n < 2 ^ 64 → bit_and n
 unfolding down
 mask_down n d power small =
     let k = exponent d power in
-    ap (bit_and n) (omega (arith, k.2, pow_pos k.0)) ∙ and_high_mask 64 k.0 (omega (arith, k.1)) n small ∙ ap (λ (e : ℕ). n / e * e) (sym k.2)
+    ap (bit_and n) (omega (arith, k.2, pow_pos k.0)) ∙ and_high_mask 64 k.0 (omega (arith, k.1)) n small
+    ∙ ap (λ (e : ℕ). n / e * e) (sym k.2)
 
 pub mask_mod : (n d : ℕ) → IsTrue (is_power d) → bit_and n (d - 1) ≡ n % d
 mask_mod n d power =
@@ -183,7 +188,8 @@ up_fits n d power fits =
     let whole : 2 ^ 64 % d ≡ 0 = multiple_of_multiple (2 ^ 64) d (2 ^ 63) (omega arith) half in
     omega (arith, multiples_apart (up n d) (2 ^ 64) d (up_mod n d) whole fits, up_ge n d (power_positive d power))
 
-pub some_up : (r : Option ℕ) (n d : ℕ) → IsTrue (is_power d) → SomeIff r (n + (d - 1) < 2 ^ 64) (up n d) → SomeIff r (up n d < 2 ^ 64) (up n d)
+pub some_up : (r : Option ℕ) (n d : ℕ) → IsTrue (is_power d) → SomeIff r (n + (d - 1) < 2 ^ 64) (up n d)
+    → SomeIff r (up n d < 2 ^ 64) (up n d)
 some_up None n d power over = λ fits. over (up_fits n d power fits)
 some_up (Some x) n d power is = (omega (arith, is.0, up_close n d (power_positive d power)), is.1)
 
@@ -196,7 +202,11 @@ pub layout_fits : (size align : ℕ) → IsTrue (is_layout size align) → up si
 layout_fits size align valid = grind (arith, nat_tests)
 
 pub layout_small : (size align : ℕ) → IsTrue (is_layout size align) → size ≤ 2 ^ 63 - 1
-layout_small size align valid = omega (arith, layout_fits size align valid, up_ge size align (power_positive align (layout_power size align valid)))
+layout_small size align valid = omega (
+  arith,
+  layout_fits size align valid,
+  up_ge size align (power_positive align (layout_power size align valid)),
+)
 
 -- the sum that a size is rounded from fits
 pub layout_pads : (size align : ℕ) → IsTrue (is_layout size align) → size + (align - 1) < 2 ^ 64
@@ -207,4 +217,5 @@ not_layout size align over = sym (false_from_ne_true (is_layout size align) (λ 
 
 -- a size that no 64 bits hold
 pub not_layout_above : (size align : ℕ) → (size < 2 ^ 64 → ⊥) → false ≡ is_layout size align
-not_layout_above size align over = sym (false_from_ne_true (is_layout size align) (λ valid. over (omega (arith, layout_small size align valid))))
+not_layout_above size align over = sym (false_from_ne_true (is_layout size align)
+    (λ valid. over (omega (arith, layout_small size align valid))))

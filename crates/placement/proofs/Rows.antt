@@ -79,7 +79,8 @@ largest_alignment_asks_nothing = refl
 -- chunks at multiples of a large alignment, until none is left below the last address
 large_alignments :
     places ((0, 2 ^ 62) ∷ (1, 1) ∷ (0, 2 ^ 62) ∷ (1, 1) ∷ (0, 2 ^ 62) ∷ (1, 1) ∷ (0, 2 ^ 62) ∷ []) (empty_state 1)
-    ≡ Some (2 ^ 62) ∷ Some (2 ^ 62 + 49071) ∷ Some (2 ^ 63) ∷ Some (2 ^ 63 + 196527) ∷ Some (3 * 2 ^ 62) ∷ Some (3 * 2 ^ 62 + 786351) ∷ None ∷ []
+    ≡ Some (2 ^ 62) ∷ Some (2 ^ 62 + 49071) ∷ Some (2 ^ 63) ∷ Some (2 ^ 63 + 196527) ∷ Some (3 * 2 ^ 62) ∷ Some (3 * 2 ^ 62 + 786351) ∷ None
+    ∷ []
 unfolding places alloc asked asked_above entries possible halves size_for is_power_among power_at_least doubled up down
 large_alignments = refl
 
@@ -153,7 +154,8 @@ two_chunks : List Chunk
 two_chunks =
     record { base = 20464; size = 32704; cursor = 36848 } ∷ record { base = 4096; size = 16320; cursor = 20411 } ∷ []
 
-second_block : alloc (first_chunk 20411) 16320 1 0 ≡ Some (record { answer = Some 36848; state = record (first_chunk 20411) { chunks = two_chunks } })
+second_block : alloc (first_chunk 20411) 16320 1 0
+    ≡ Some (record { answer = Some 36848; state = record (first_chunk 20411) { chunks = two_chunks } })
 unfolding alloc asked asked_above entries possible halves size_for is_power_among power_at_least doubled up down first_chunk two_chunks
 second_block = refl
 

@@ -71,7 +71,8 @@ past_end : (base size align n : ℕ) → 2 ^ 64 ≤ base → possible base size 
 unfolding possible
 past_end base size align n high = go (size_for n size align)
   where
-    go : (o : Option ℕ) → option_and_then {U = ℕ × ℕ} (λ bytes. if nat_le (base + bytes + 48) (2 ^ 64 - 1) then Some (base, bytes) else None) o ≡ None
+    go : (o : Option ℕ) → option_and_then {U = ℕ × ℕ}
+        (λ bytes. if nat_le (base + bytes + 48) (2 ^ 64 - 1) then Some (base, bytes) else None) o ≡ None
     go None = refl
     go (Some bytes) = grind (arith, nat_tests)
 
@@ -102,20 +103,23 @@ pub size_is : (tried size align bytes : ℕ) → size_for tried size align ≡ S
     → (rounded_size (max tried (up size (chunk_align align))) ≡ Some bytes) × IsTrue (is_layout (bytes + 48) (chunk_align align))
 unfolding size_for
 size_is tried size align bytes is =
-    option_and_then_some (λ n. if is_layout (n + 48) (chunk_align align) then Some n else None) (rounded_size (max tried (up size (chunk_align align)))) bytes is (λ n rounded made.
+    option_and_then_some (λ n. if is_layout (n + 48) (chunk_align align) then Some n else None)
+    (rounded_size (max tried (up size (chunk_align align)))) bytes is (λ n rounded made.
     let tested = cond_some (is_layout (n + 48) (chunk_align align)) n bytes made in
     (rounded ∙ ap Some tested.1, rw (← tested.1) tested.0))
 
 pub size_valid : (tried size align bytes : ℕ) → Some bytes ≡ size_for tried size align → IsTrue (is_layout (bytes + 48) (chunk_align align))
 size_valid tried size align bytes is = (size_is tried size align bytes (sym is)).1
 
-pub asked_above_is : (floor newest size align base first least : ℕ) → base ≡ up floor (chunk_align align) → least ≡ max size 16320 → first ≡ max least (2 * newest)
+pub asked_above_is : (floor newest size align base first least : ℕ) → base ≡ up floor (chunk_align align) → least ≡ max size 16320
+    → first ≡ max least (2 * newest)
     → asked_above floor newest size align ≡ entries base size align first least
 unfolding asked_above
 asked_above_is floor newest size align base first least is_base is_least is_first =
     rw (is_base, is_first, is_least) refl
 
-pub asked_above-past_end : (floor newest size align : ℕ) → (up floor (chunk_align align) < 2 ^ 64 → ⊥) → asked_above floor newest size align ≡ []
+pub asked_above-past_end : (floor newest size align : ℕ) → (up floor (chunk_align align) < 2 ^ 64 → ⊥)
+    → asked_above floor newest size align ≡ []
 unfolding asked_above
 asked_above-past_end floor newest size align high = elim (cases_lt (up floor (chunk_align align)) (2 ^ 64)) [
   | inl low ↦ absurd (high low)

@@ -31,7 +31,11 @@ doubled_least (suc turns) j n fits = elim (cases_lt (2 ^ j) n) [
       let test : nat_le n (2 ^ j) ≡ false = grind (arith, nat_tests) in
       let double : 2 * 2 ^ j ≡ 2 ^ suc j = omega (arith, pow-suc 2 j) in
       let next = doubled_least turns (suc j) n (subst (λ (e : ℕ). n ≤ 2 ^ e) (omega arith) fits) in
-      rw (test, double) (record { power = next.power; enough = next.enough; least = λ k low above. next.least k (larger_exponent j k n short above) above })
+      rw (test, double) (record {
+        power = next.power;
+        enough = next.enough;
+        least = λ k low above. next.least k (larger_exponent j k n short above) above;
+      })
   | inr enough ↦ let test : nat_le n (2 ^ j) ≡ true = grind (arith, nat_tests) in rw test (already j n enough)
 ]
 
@@ -57,7 +61,15 @@ next_power n p fits next =
     elim (cases_lt (power_at_least n) p) [
       | inl less ↦
           let more = larger_exponent j.0 next.0.0 p (omega (arith, j.1)) (omega (arith, next.0.1)) in
-          absurd (omega (arith, j.1, next, pow_pos j.0, pow-suc 2 j.0, power_at_least_ge n fits, pow_mono {i = suc j.0} {j = next.0.0} more))
+          absurd (omega (
+            arith,
+            j.1,
+            next,
+            pow_pos j.0,
+            pow-suc 2 j.0,
+            power_at_least_ge n fits,
+            pow_mono {i = suc j.0} {j = next.0.0} more,
+          ))
       | inr same ↦ omega arith
     ]
 

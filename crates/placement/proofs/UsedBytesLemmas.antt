@@ -32,7 +32,8 @@ taken_exact cursor size unit positive within from by =
 -- ---- Another cursor
 
 -- used bytes fall as the cursor rises: their sum stays
-pub used_at : (state : State) (p : ℕ) → IsValid state → start_of state.chunks ≤ p → p ≤ top_of state.chunks → used_bytes (with_cursor p state) + p ≡ used_bytes state + cursor_of state.chunks
+pub used_at : (state : State) (p : ℕ) → IsValid state → start_of state.chunks ≤ p → p ≤ top_of state.chunks
+    → used_bytes (with_cursor p state) + p ≡ used_bytes state + cursor_of state.chunks
 used_at state p valid low high = go state.chunks valid.chunks low high
   where
     go : (chunks : List Chunk) → AreChunks state.min_align chunks → start_of chunks ≤ p → p ≤ top_of chunks
@@ -48,7 +49,11 @@ used_at state p valid low high = go state.chunks valid.chunks low high
 
 -- a further chunk has no used byte
 pub used_with_chunk : (state : State) (e : ℕ × ℕ) → used_bytes (with_chunk e state) ≡ used_bytes state
-used_with_chunk state e = omega (arith, sum_by-cons (λ (n : ℕ). n) (used_length (record { base = e.0; size = e.1; cursor = e.0 + e.1 })) (map used_length state.chunks))
+used_with_chunk state e = omega (
+  arith,
+  sum_by-cons (λ (n : ℕ). n) (used_length (record { base = e.0; size = e.1; cursor = e.0 + e.1 }))
+      (map used_length state.chunks),
+)
 
 -- ---- Bounds
 
@@ -72,7 +77,12 @@ allocated_within state valid = omega (arith, go state.chunks valid.chunks, valid
   where
     go : (chunks : List Chunk) → AreChunks state.min_align chunks → sum (map (λ (c : Chunk). c.size) chunks) + 4096 ≤ floor_of chunks
     go [] fine = omega arith
-    go (newest ∷ older) fine = omega (arith, sum_by-cons (λ (n : ℕ). n) newest.size (map (λ (c : Chunk). c.size) older), go older fine.2, fine.1)
+    go (newest ∷ older) fine = omega (
+      arith,
+      sum_by-cons (λ (n : ℕ). n) newest.size (map (λ (c : Chunk). c.size) older),
+      go older fine.2,
+      fine.1,
+    )
 
 -- ---- An allocation
 
@@ -87,7 +97,8 @@ TakesFrom state spot size align outcome =
     MatchOption outcome.answer (Unit {0}) (λ p. IsTaken state outcome.state (placed_below spot state outcome.state) size align)
 
 -- a place in the newest chunk
-in_newest : (state : State) (size align p : ℕ) → IsValid state → IsPlace (start_of state.chunks) (cursor_of state.chunks) size align state.min_align p
+in_newest : (state : State) (size align p : ℕ) → IsValid state
+    → IsPlace (start_of state.chunks) (cursor_of state.chunks) size align state.min_align p
     → IsTaken state (with_cursor p state) (cursor_of state.chunks) size align
 in_newest state size align p valid place =
     let moved = used_at state p valid place.low (omega (arith, place.high, cursor_within state valid)) in
@@ -102,7 +113,8 @@ in_new state size align k e p granted =
     record { fits = omega (arith, place.high); used = omega (arith, moved, used_with_chunk state e, place.is, place.high) }
 
 -- an allocation that answers moves a cursor down
-alloc_from : (state : State) (size align k : ℕ) (outcome : Outcome) → IsValid state → IsTrue (is_power align) → alloc state size align k ≡ Some outcome
+alloc_from : (state : State) (size align k : ℕ) (outcome : Outcome) → IsValid state → IsTrue (is_power align)
+    → alloc state size align k ≡ Some outcome
     → TakesFrom state (place state size align) size align outcome
 unfolding alloc
 alloc_from state size align k outcome valid power step = by_place (place state size align) refl step
@@ -112,23 +124,30 @@ alloc_from state size align k outcome valid power step = by_place (place state s
     by_chunk (Some e) found none at =
         let p : ℕ = down (e.0 + e.1 - size) (unit_of state align) in
         let granted = is_granted state size align k e p valid (growing_of state size align k e found) power none found refl in
-        subst (TakesFrom state None size align) (same_Some (placed (with_chunk e state) p) outcome (sym granted.step ∙ step)) (in_new state size align k e p granted)
+        subst (TakesFrom state None size align) (same_Some (placed (with_chunk e state) p) outcome (sym granted.step ∙ step))
+        (in_new state size align k e p granted)
     by_chunk None found none at =
         subst (TakesFrom state None size align) (cond_some (k == length (asked state size align)) (fails state) outcome at).1 tt
 
-    by_place : (o : Option ℕ) → place state size align ≡ o → alloc_at o state size align k ≡ Some outcome → TakesFrom state o size align outcome
+    by_place : (o : Option ℕ) → place state size align ≡ o → alloc_at o state size align k ≡ Some outcome
+        → TakesFrom state o size align outcome
     by_place (Some p) found at =
-        let spot = is_place (start_of state.chunks) (cursor_of state.chunks) size align state.min_align p (start_positive state valid) power valid.min_align found in
-        subst (TakesFrom state (Some p) size align) (cond_some (k == 0) (placed state p) outcome at).1 (in_newest state size align p valid spot)
+        let spot = is_place (start_of state.chunks) (cursor_of state.chunks) size align state.min_align p
+        (start_positive state valid) power valid.min_align found in
+        subst (TakesFrom state (Some p) size align) (cond_some (k == 0) (placed state p) outcome at).1
+        (in_newest state size align p valid spot)
     by_place None none at = by_chunk (slice_get (asked state size align) k) refl none at
 
 -- the same of an allocation that answered p
-pub alloc_taken : (state new : State) (size align k p : ℕ) → IsValid state → IsTrue (is_power align) → alloc state size align k ≡ Some (record { answer = Some p; state = new })
+pub alloc_taken : (state new : State) (size align k p : ℕ) → IsValid state → IsTrue (is_power align)
+    → alloc state size align k ≡ Some (record { answer = Some p; state = new })
     → IsTaken state new (placed_below (place state size align) state new) size align
-alloc_taken state new size align k p valid power step = alloc_from state size align k (record { answer = Some p; state = new }) valid power step
+alloc_taken state new size align k p valid power step =
+    alloc_from state size align k (record { answer = Some p; state = new }) valid power step
 
 -- a new block takes its size or more
-pub alloc_least : (state new : State) (size align k p : ℕ) → IsValid state → IsTrue (is_power align) → alloc state size align k ≡ Some (record { answer = Some p; state = new })
+pub alloc_least : (state new : State) (size align k p : ℕ) → IsValid state → IsTrue (is_power align)
+    → alloc state size align k ≡ Some (record { answer = Some p; state = new })
     → used_bytes state + size ≤ used_bytes new
 alloc_least state new size align k p valid power step =
     let takes = alloc_taken state new size align k p valid power step in
@@ -139,21 +158,30 @@ pub unit_positive : (state : State) (align : ℕ) → IsValid state → 0 < unit
 unit_positive state align valid = omega (arith, min_align_positive state.min_align valid.min_align)
 
 -- and less than a unit more
-pub alloc_most : (state new : State) (size align k p : ℕ) → IsValid state → IsTrue (is_power align) → alloc state size align k ≡ Some (record { answer = Some p; state = new })
+pub alloc_most : (state new : State) (size align k p : ℕ) → IsValid state → IsTrue (is_power align)
+    → alloc state size align k ≡ Some (record { answer = Some p; state = new })
     → used_bytes new ≤ used_bytes state + size + (unit_of state align - 1)
 alloc_most state new size align k p valid power step =
     let takes = alloc_taken state new size align k p valid power step in
-    omega (arith, takes, taken_most (placed_below (place state size align) state new) size (unit_of state align) (unit_positive state align valid) takes.fits)
+    omega (
+      arith,
+      takes,
+      taken_most (placed_below (place state size align) state new) size (unit_of state align)
+          (unit_positive state align valid) takes.fits,
+    )
 
 -- a block of whole units that is placed below a multiple takes no more than its size
-exact_below : (state new : State) (from size align : ℕ) → IsValid state → IsTaken state new from size align → from % unit_of state align ≡ 0 → size % unit_of state align ≡ 0
+exact_below : (state new : State) (from size align : ℕ) → IsValid state → IsTaken state new from size align → from % unit_of state align ≡ 0
+    → size % unit_of state align ≡ 0
     → used_bytes new ≡ used_bytes state + size
 exact_below state new from size align valid takes below by =
     omega (arith, takes, taken_exact from size (unit_of state align) (unit_positive state align valid) takes.fits below by)
 
 -- below a cursor at a multiple of the unit, a block of whole units takes its size
-pub alloc_exact : (state new : State) (size align k p spot : ℕ) → IsValid state → IsTrue (is_power align) → place state size align ≡ Some spot
-    → cursor_of state.chunks % unit_of state align ≡ 0 → size % unit_of state align ≡ 0 → alloc state size align k ≡ Some (record { answer = Some p; state = new })
+pub alloc_exact : (state new : State) (size align k p spot : ℕ) → IsValid state → IsTrue (is_power align)
+    → place state size align ≡ Some spot
+    → cursor_of state.chunks % unit_of state align ≡ 0 → size % unit_of state align ≡ 0
+    → alloc state size align k ≡ Some (record { answer = Some p; state = new })
     → used_bytes new ≡ used_bytes state + size
 alloc_exact state new size align k p spot valid power found below by step =
     let takes = alloc_taken state new size align k p valid power step in
@@ -167,5 +195,6 @@ alloc_exact_in_new state new size align k p valid power none small by step =
     let takes = alloc_taken state new size align k p valid power step in
     let after = alloc_valid state size align k (record { answer = Some p; state = new }) valid power step in
     let unit = max_power align state.min_align power (min_align_power state.min_align valid.min_align) in
-    let below = power_multiple (top_of new.chunks) (unit_of state align) 16 unit (pow_power 4 (omega arith)) (omega (arith, min_align_le state.min_align valid.min_align)) (top_units new after) in
+    let below = power_multiple (top_of new.chunks) (unit_of state align) 16 unit (pow_power 4 (omega arith))
+    (omega (arith, min_align_le state.min_align valid.min_align)) (top_units new after) in
     exact_below state new (top_of new.chunks) size align valid (rw none at takes) below by

@@ -26,11 +26,13 @@ used_set q addr n (newest ∷ older) low used = elim (or_cases (is_used_by addr 
 ]
 
 -- a further chunk leaves in use what was
-pub used_grown : (addr n : ℕ) (chunk : Chunk) (chunks : List Chunk) → IsTrue (is_range_used chunks addr n) → IsTrue (is_range_used (chunk ∷ chunks) addr n)
+pub used_grown : (addr n : ℕ) (chunk : Chunk) (chunks : List Chunk) → IsTrue (is_range_used chunks addr n)
+    → IsTrue (is_range_used (chunk ∷ chunks) addr n)
 used_grown addr n chunk chunks used = or_right (is_used_by addr n chunk) (is_range_used chunks addr n) used
 
 -- what is in use lies below the floor of the next chunk
-pub used_under : (m addr n : ℕ) → (chunks : List Chunk) → AreChunks m chunks → 0 < n → IsTrue (is_range_used chunks addr n) → addr + n ≤ floor_of chunks
+pub used_under : (m addr n : ℕ) → (chunks : List Chunk) → AreChunks m chunks → 0 < n → IsTrue (is_range_used chunks addr n)
+    → addr + n ≤ floor_of chunks
 used_under m addr n [] valid some used = cc
 used_under m addr n (newest ∷ older) valid some used = elim (or_cases (is_used_by addr n newest) (is_range_used older addr n) used) [
   | inl here ↦ omega (arith, within addr n newest here)
@@ -54,7 +56,8 @@ used_low state addr n valid some = go state.chunks valid.chunks
     ]
 
 -- what is in use ends with the newest chunk's data or before
-pub used_high : (state : State) (addr n : ℕ) → IsValid state → 0 < n → IsTrue (is_range_used state.chunks addr n) → addr + n ≤ top_of state.chunks
+pub used_high : (state : State) (addr n : ℕ) → IsValid state → 0 < n → IsTrue (is_range_used state.chunks addr n)
+    → addr + n ≤ top_of state.chunks
 used_high state addr n valid some = go state.chunks valid.chunks
   where
     go : (chunks : List Chunk) → AreChunks state.min_align chunks → IsTrue (is_range_used chunks addr n) → addr + n ≤ top_of chunks
@@ -85,7 +88,8 @@ used_from p size (newest ∷ older) some low high =
     or_left (is_used_by p size (record newest { cursor = p })) (is_range_used older p size) (grind (arith, nat_tests))
 
 -- a range in use from the newest chunk on ends there
-pub used_top : (m addr n : ℕ) → (chunks : List Chunk) → AreChunks m chunks → 0 < n → start_of chunks ≤ addr → IsTrue (is_range_used chunks addr n)
+pub used_top : (m addr n : ℕ) → (chunks : List Chunk) → AreChunks m chunks → 0 < n → start_of chunks ≤ addr
+    → IsTrue (is_range_used chunks addr n)
     → addr + n ≤ top_of chunks
 used_top m addr n [] valid some low used = cc
 used_top m addr n (newest ∷ older) valid some low used = elim (or_cases (is_used_by addr n newest) (is_range_used older addr n) used) [
@@ -94,17 +98,20 @@ used_top m addr n (newest ∷ older) valid some low used = elim (or_cases (is_us
 ]
 
 -- what is in use above a higher cursor was in use
-pub used_before : (q addr n : ℕ) → (chunks : List Chunk) → cursor_of chunks ≤ q → IsTrue (is_range_used (with_newest_cursor q chunks) addr n)
+pub used_before : (q addr n : ℕ) → (chunks : List Chunk) → cursor_of chunks ≤ q
+    → IsTrue (is_range_used (with_newest_cursor q chunks) addr n)
     → IsTrue (is_range_used chunks addr n)
 used_before q addr n [] higher used = used
-used_before q addr n (newest ∷ older) higher used = elim (or_cases (is_used_by addr n (record newest { cursor = q })) (is_range_used older addr n) used) [
-  | inl here ↦
-      let bounds = within addr n (record newest { cursor = q }) here in
-      or_left (is_used_by addr n newest) (is_range_used older addr n) (grind (arith, nat_tests))
-  | inr there ↦ or_right (is_used_by addr n newest) (is_range_used older addr n) there
-]
+used_before q addr n (newest ∷ older) higher used =
+    elim (or_cases (is_used_by addr n (record newest { cursor = q })) (is_range_used older addr n) used) [
+      | inl here ↦
+          let bounds = within addr n (record newest { cursor = q }) here in
+          or_left (is_used_by addr n newest) (is_range_used older addr n) (grind (arith, nat_tests))
+      | inr there ↦ or_right (is_used_by addr n newest) (is_range_used older addr n) there
+    ]
 
-pub used_part : (addr n a k : ℕ) → (chunks : List Chunk) → addr ≤ a → a + k ≤ addr + n → IsTrue (is_range_used chunks addr n) → IsTrue (is_range_used chunks a k)
+pub used_part : (addr n a k : ℕ) → (chunks : List Chunk) → addr ≤ a → a + k ≤ addr + n → IsTrue (is_range_used chunks addr n)
+    → IsTrue (is_range_used chunks a k)
 used_part addr n a k [] low high used = used
 used_part addr n a k (newest ∷ older) low high used = elim (or_cases (is_used_by addr n newest) (is_range_used older addr n) used) [
   | inl here ↦

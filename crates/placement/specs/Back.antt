@@ -1,5 +1,5 @@
 -- Going back to a marked state.
-use Rattle.std.specs.Prelude.{◌≡◌, ℕ, ◌-◌, ◌%◌, max, nat_le, ◌==◌, ◌&&◌, if◌then◌else◌, Bool, IsTrue, List, [], ◌∷◌, length, drop}
+use Rattle.std.specs.Prelude.{◌≡◌, ℕ, ◌-◌, ◌%◌, max, nat_le, nat_lt, ◌==◌, ◌&&◌, ◌||◌, if◌then◌else◌, Bool, IsTrue, List, [], ◌∷◌, length, drop}
 use Rattle.placement.specs.State.{State, Chunk, start_of, cursor_of, top_of, is_range_used}
 
 -- how many chunks there were, and the newest cursor, which is 16 without a chunk
@@ -31,9 +31,16 @@ accepts mark state =
     else nat_le mark.chunks (length state.chunks) && nat_le (start_of (first_chunks mark.chunks state.chunks)) mark.cursor
     && nat_le mark.cursor (top_of (first_chunks mark.chunks state.chunks)) && mark.cursor % state.min_align == 0
 
--- A mark that was accepted still is, in the same generation, and what is in use lies in its part, if it did.
+-- the mark's part: the addresses of the chunks that there were, of the newest of them those from the mark's cursor on
+abbrev pub is_in_part : Point → State → ℕ → Bool
+is_in_part mark state addr =
+    nat_lt addr (top_of (first_chunks mark.chunks state.chunks))
+    && (nat_lt addr (start_of (first_chunks mark.chunks state.chunks)) || nat_le mark.cursor addr)
+
+-- A mark that was accepted still is, in the same generation, with the same part, and what is in use lies in it, if it did.
 pub record KeepsMark (mark : Point) (old new : State) : Type 0 where
   pub generation : new.generation ≡ old.generation
   pub accepted : IsTrue (accepts mark new)
+  pub part : (addr : ℕ) → is_in_part mark new addr ≡ is_in_part mark old addr
   pub used : (addr n : ℕ) → IsTrue (is_range_used new.chunks addr n) → IsTrue (is_range_used (back mark old).chunks addr n)
       → IsTrue (is_range_used (back mark new).chunks addr n)

@@ -17,3 +17,5 @@ pub mod Replies
 pub mod Bits
 pub mod PrintedBits
 pub mod Back
+pub mod Generator
+pub mod Summary

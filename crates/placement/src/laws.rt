@@ -2,6 +2,7 @@
 mod asking;
 mod back;
 mod chunks;
+mod generator;
 mod moves;
 mod numbers;
 mod resizes;
@@ -11,6 +12,7 @@ mod used;
 pub use asking::{asked_together, starved_together};
 pub use back::{kept_marks, sent_back};
 pub use chunks::{doubling, doubling_moves};
+pub use generator::{generated_calls, one_summary};
 pub use moves::{
     all_given_back, first_states, given_back, moved_block, new_block, refusals, valid_moves,
 };

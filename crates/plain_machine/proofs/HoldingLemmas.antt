@@ -29,8 +29,10 @@ end_none top name p found some = absurd (none-some p (rw (get-empty nat_cmp name
 pub end_later : (old new : ℕ) (held : Held) → old ≤ new → EndBelow old held → EndBelow new held
 end_later old new held later below name p found some = omega (arith, later, below name p found some)
 
-pub end_insert : (top : ℕ) (held : Held) (name : ℕ) (place : Place) → EndBelow top held → (0 < place.size → place.addr + place.size ≤ top) → EndBelow top (map.insert held name place)
-end_insert top held name place below end other p found = go (eq_by_cmp nat_cmp other name) (rw (get-insert nat_cmp_total held name place other) at found)
+pub end_insert : (top : ℕ) (held : Held) (name : ℕ) (place : Place) → EndBelow top held → (0 < place.size → place.addr + place.size ≤ top)
+    → EndBelow top (map.insert held name place)
+end_insert top held name place below end other p found =
+    go (eq_by_cmp nat_cmp other name) (rw (get-insert nat_cmp_total held name place other) at found)
   where
     go : (b : Bool) → cond b (Some place) (map.get held other) ≡ Some p → 0 < p.size → p.addr + p.size ≤ top
     go true same = subst (λ (q : Place). 0 < q.size → q.addr + q.size ≤ top) (same_Some place p same) end
@@ -47,7 +49,8 @@ end_remove top held name below other p found = go (eq_by_cmp nat_cmp other name)
 pub end_left : (state : State) (held : Held) → IsValid state → EndBelow (top_of state.chunks) (map.retain_keys held (is_left state held))
 end_left state held valid name p found some =
     used_high state p.addr p.size valid some (used_filled state p some (go (map.get held name)
-    (sym (get-retain_keys held (is_left state held) name (λ x same. ap (is_left state held) (sym (nat_cmp-IsAntisymmetric name x same)))) ∙ found)))
+    (sym (get-retain_keys held (is_left state held) name (λ x same. ap (is_left state held) (sym (nat_cmp-IsAntisymmetric name x same))))
+    ∙ found)))
   where
     go : (o : Option Place) → cond (option_map_or (is_place_used state) o false) o None ≡ Some p → IsTrue (is_place_used state p)
     go None same = absurd (none-some p same)

@@ -18,9 +18,11 @@ module _ {X : Type 0} where
       → map.from_entries {R = nat_cmp} n.entries ≡ map.retain_keys (map.from_entries m.entries) test
   tree_left m n test left = same_map nat_cmp_total nat_cmp-IsAntisymmetric _ _ (λ q.
       tree_get n q ∙ ap (lookup (is_at (nat_cmp q))) left
-      ∙ lookup-filter-keys (is_at (nat_cmp q)) test (test q) (λ k same. ap test (sym (nat_cmp-IsAntisymmetric q k ((Equal-is (nat_cmp q k)).0 same)))) m.entries
+      ∙ lookup-filter-keys (is_at (nat_cmp q)) test (test q)
+      (λ k same. ap test (sym (nat_cmp-IsAntisymmetric q k ((Equal-is (nat_cmp q k)).0 same)))) m.entries
       ∙ ap (λ (o : Option X). cond (test q) o None) (sym (tree_get m q))
-      ∙ sym (get-retain_keys (map.from_entries {R = nat_cmp} m.entries) test q (λ x same. ap test (sym (nat_cmp-IsAntisymmetric q x same)))))
+      ∙ sym (get-retain_keys (map.from_entries {R = nat_cmp} m.entries) test q
+      (λ x same. ap test (sym (nat_cmp-IsAntisymmetric q x same)))))
 
   tested : (p : X → Bool) (o : Option X) → option_filter p o ≡ cond (option_map_or p o false) o None
   tested p None = refl
@@ -35,5 +37,7 @@ module _ {X : Type 0} where
       ∙ lookup-filter-values (eq_by_cmp_equiv nat_cmp_total) test q m.entries (IsDistinct-from_sorted nat_cmp (keys m) order)
       ∙ ap (option_filter test) (sym (tree_get m q))
       ∙ tested test (map.get (map.from_entries {R = nat_cmp} m.entries) q)
-      ∙ sym (get-retain_keys (map.from_entries {R = nat_cmp} m.entries) (λ q. option_map_or test (map.get (map.from_entries {R = nat_cmp} m.entries) q) false) q
-      (λ x same. ap (λ (k : ℕ). option_map_or test (map.get (map.from_entries {R = nat_cmp} m.entries) k) false) (sym (nat_cmp-IsAntisymmetric q x same)))))
+      ∙ sym (get-retain_keys (map.from_entries {R = nat_cmp} m.entries)
+      (λ q. option_map_or test (map.get (map.from_entries {R = nat_cmp} m.entries) q) false) q
+      (λ x same. ap (λ (k : ℕ). option_map_or test (map.get (map.from_entries {R = nat_cmp} m.entries) k) false)
+      (sym (nat_cmp-IsAntisymmetric q x same)))))

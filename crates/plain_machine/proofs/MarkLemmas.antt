@@ -18,7 +18,8 @@ use Rattle.plain_machine.specs.Holding.{AreMarks}
 named_at : (marks : Marks) (i : ℕ) (mark : ℕ × Point) (name : ℕ) → i < length marks → mark ≡ get_or marks i mark
     → mark_named (drop i marks) name ≡ (if mark.0 == name then Some mark.1 else mark_named (drop (i + 1) marks) name)
 named_at marks i mark name low is =
-    rw add-one (ap (λ (l : Marks). mark_named l name) (drop-cons marks i mark low ∙ ap (λ (m : ℕ × Point). m ∷ drop (suc i) marks) (sym is)))
+    rw add-one (ap (λ (l : Marks). mark_named l name)
+    (drop-cons marks i mark low ∙ ap (λ (m : ℕ × Point). m ∷ drop (suc i) marks) (sym is)))
 
 pub named_here : (marks : Marks) (i : ℕ) (mark : ℕ × Point) (name : ℕ) → i < length marks → mark ≡ get_or marks i mark → mark.0 ≡ name
     → mark_named (drop i marks) name ≡ Some mark.1
@@ -42,7 +43,8 @@ no_chunk_less n chunks few = let none : length chunks - n ≡ 0 = omega arith in
 
 -- ---- The marks of a state
 
-each_later : (old new : State) (n : ℕ) (marks : Marks) → ((mark : Point) → IsTrue (accepts mark old) → KeepsMark mark old new) → AreMarks old n marks → AreMarks new n marks
+each_later : (old new : State) (n : ℕ) (marks : Marks) → ((mark : Point) → IsTrue (accepts mark old) → KeepsMark mark old new)
+    → AreMarks old n marks → AreMarks new n marks
 each_later old new n [] keeps are = tt
 each_later old new n (m ∷ older) keeps are = (are.0, (keeps m.1 are.1).accepted, each_later old new m.1.chunks older keeps are.2)
 
@@ -50,11 +52,13 @@ within : (state : State) (n : ℕ) (marks : Marks) → AreMarks state n marks �
 within state n [] are = tt
 within state n (m ∷ older) are = ((is_mark m.1 state are.1).within, are.1, are.2)
 
-marks_later : (old new : State) (n : ℕ) (marks : Marks) → ((mark : Point) → IsTrue (accepts mark old) → KeepsMark mark old new) → AreMarks old n marks
+marks_later : (old new : State) (n : ℕ) (marks : Marks) → ((mark : Point) → IsTrue (accepts mark old) → KeepsMark mark old new)
+    → AreMarks old n marks
     → AreMarks new (length new.chunks) marks
 marks_later old new n marks keeps are = within new n marks (each_later old new n marks keeps are)
 
-pub marks_alloc : (old new : State) (size align k n : ℕ) (a : Option ℕ) (marks : Marks) → leaves new (Some a) ≡ alloc old size align k → AreMarks old n marks
+pub marks_alloc : (old new : State) (size align k n : ℕ) (a : Option ℕ) (marks : Marks) → leaves new (Some a) ≡ alloc old size align k
+    → AreMarks old n marks
     → AreMarks new (length new.chunks) marks
 marks_alloc old new size align k n a marks step are =
     marks_later old new n marks (λ mark holds. alloc_keeps mark old size align k (record { answer = a; state = new }) holds (sym step)) are
@@ -64,34 +68,45 @@ pub marks_grow : (old new : State) (p size align new_size new_align k n : ℕ) (
 unfolding grow
 marks_grow old new p size align new_size new_align k n a marks step are =
     marks_later old new n marks
-    (λ mark holds. resize_keeps mark (growing old p size align new_size new_align) old p new_size new_align k (record { answer = a; state = new }) holds (sym step)) are
+    (λ mark holds. resize_keeps mark (growing old p size align new_size new_align) old p new_size new_align k
+    (record { answer = a; state = new }) holds (sym step)) are
 
 pub marks_shrink : (old new : State) (p size align new_size new_align k n : ℕ) (a : Option ℕ) (marks : Marks)
     → leaves new (Some a) ≡ shrink old p size align new_size new_align k → AreMarks old n marks → AreMarks new (length new.chunks) marks
 unfolding shrink
 marks_shrink old new p size align new_size new_align k n a marks step are =
     marks_later old new n marks
-    (λ mark holds. resize_keeps mark (shrinking old p size align new_size new_align) old p new_size new_align k (record { answer = a; state = new }) holds (sym step)) are
+    (λ mark holds. resize_keeps mark (shrinking old p size align new_size new_align) old p new_size new_align k
+    (record { answer = a; state = new }) holds (sym step)) are
 
-pub marks_dealloc : (state : State) (p size n : ℕ) (marks : Marks) → AreMarks state n marks → AreMarks (dealloc state p size) (length (dealloc state p size).chunks) marks
+pub marks_dealloc : (state : State) (p size n : ℕ) (marks : Marks) → AreMarks state n marks
+    → AreMarks (dealloc state p size) (length (dealloc state p size).chunks) marks
 marks_dealloc state p size n marks are =
     marks_later state (dealloc state p size) n marks (λ mark holds. dealloc_keeps_mark mark state p size holds) are
 
-each_back : (newer : Point) (state : State) (n : ℕ) (marks : Marks) → n ≤ newer.chunks → IsTrue (accepts newer state) → AreMarks state n marks → AreMarks (back newer state) n marks
+each_back : (newer : Point) (state : State) (n : ℕ) (marks : Marks) → n ≤ newer.chunks → IsTrue (accepts newer state)
+    → AreMarks state n marks → AreMarks (back newer state) n marks
 each_back newer state n [] low holds are = tt
 each_back newer state n (m ∷ older) low holds are =
     let lower : m.1.chunks ≤ newer.chunks = omega (arith, low, are.0) in
     (are.0, (back_keeps m.1 newer state lower are.1 holds).accepted, each_back newer state m.1.chunks older lower holds are.2)
 
 -- The state accepts a name's mark, and there the mark and the older ones stand.
-pub marks_back : (state : State) (n : ℕ) (marks : Marks) (name : ℕ) (mark : Point) → AreMarks state n marks → mark_named marks name ≡ Some mark
+pub marks_back : (state : State) (n : ℕ) (marks : Marks) (name : ℕ) (mark : Point) → AreMarks state n marks
+    → mark_named marks name ≡ Some mark
     → IsTrue (accepts mark state) × AreMarks (back mark state) (length (back mark state).chunks) (marks_to marks name)
 marks_back state n [] name mark are found = absurd (none-some mark found)
 marks_back state n (m ∷ older) name mark are found = go (m.0 == name) found (marks_back state m.1.chunks older name mark are.2)
   where
     go : (b : Bool) → (if b then Some m.1 else mark_named older name) ≡ Some mark
-        → (mark_named older name ≡ Some mark → IsTrue (accepts mark state) × AreMarks (back mark state) (length (back mark state).chunks) (marks_to older name))
-        → IsTrue (accepts mark state) × AreMarks (back mark state) (length (back mark state).chunks) (if b then m ∷ older else marks_to older name)
-    go true same rest = subst (λ (p : Point). IsTrue (accepts p state) × AreMarks (back p state) (length (back p state).chunks) (m ∷ older)) (same_Some m.1 mark same)
-        (are.1, within (back m.1 state) m.1.chunks (m ∷ older) (each_back m.1 state m.1.chunks (m ∷ older) (omega arith) are.1 (omega arith, are.1, are.2)))
+        → (mark_named older name ≡ Some mark → IsTrue (accepts mark state)
+        × AreMarks (back mark state) (length (back mark state).chunks) (marks_to older name))
+        → IsTrue (accepts mark state) × AreMarks (back mark state) (length (back mark state).chunks)
+        (if b then m ∷ older else marks_to older name)
+    go true same rest = subst (λ (p : Point). IsTrue (accepts p state) × AreMarks (back p state) (length (back p state).chunks) (m ∷ older))
+        (same_Some m.1 mark same) (
+          are.1,
+          within (back m.1 state) m.1.chunks (m ∷ older)
+              (each_back m.1 state m.1.chunks (m ∷ older) (omega arith) are.1 (omega arith, are.1, are.2)),
+        )
     go false same rest = rest same

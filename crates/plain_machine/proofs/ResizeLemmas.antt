@@ -16,7 +16,8 @@ use Rattle.plain_machine.specs.Answers.{EndsWithin}
 pub placed : (state : State) (size align p : ℕ) → IsValid state → IsTrue (is_power align) → place state size align ≡ Some p
     → IsPlace (start_of state.chunks) (cursor_of state.chunks) size align state.min_align p
 placed state size align p valid power found =
-    is_place (start_of state.chunks) (cursor_of state.chunks) size align state.min_align p (start_positive state valid) power valid.min_align found
+    is_place (start_of state.chunks) (cursor_of state.chunks) size align state.min_align p
+    (start_positive state valid) power valid.min_align found
 
 pub place_moved : (state : State) (size align : ℕ) (o : Option ℕ) → IsValid state → IsTrue (is_power align) → o ≡ place state size align
     → IfSome o (λ p. IsValid (with_cursor p state))
@@ -31,20 +32,25 @@ place_within state size align None valid power found = tt
 place_within state size align (Some p) valid power found = (placed state size align p valid power (sym found)).high
 
 -- a block at the cursor ends in the newest chunk
-pub block_top : (state : State) (p size : ℕ) → IsValid state → p ≡ cursor_of state.chunks → (0 < size → p + size ≤ top_of state.chunks) → p + size ≤ top_of state.chunks
+pub block_top : (state : State) (p size : ℕ) → IsValid state → p ≡ cursor_of state.chunks → (0 < size → p + size ≤ top_of state.chunks)
+    → p + size ≤ top_of state.chunks
 block_top state p size valid at end = elim (cases_lt 0 size) [
   | inl some ↦ end some
   | inr none ↦ omega (arith, cursor_within state valid)
 ]
 
 -- A block at the cursor may move up, where it ends in the newest chunk.
-pub shrink_moved : (state : State) (block : Place) (size align : ℕ) → IsValid state → IsTrue (is_power align) → block.addr ≡ cursor_of state.chunks
-    → (0 < block.size → block.addr + block.size ≤ top_of state.chunks) → IsValid (with_cursor (block.addr + shrink_step state block.size size align) state)
+pub shrink_moved : (state : State) (block : Place) (size align : ℕ) → IsValid state → IsTrue (is_power align)
+    → block.addr ≡ cursor_of state.chunks
+    → (0 < block.size → block.addr + block.size ≤ top_of state.chunks)
+    → IsValid (with_cursor (block.addr + shrink_step state block.size size align) state)
 shrink_moved state block size align valid power at end =
     valid_set state (block.addr + shrink_step state block.size size align) valid (omega (arith, cursor_within state valid))
-    (omega (arith, down_le (block.size - size) (max align state.min_align), block_top state block.addr block.size valid at end)) (step_aligned state block size align valid power at)
+    (omega (arith, down_le (block.size - size) (max align state.min_align), block_top state block.addr block.size valid at end))
+    (step_aligned state block size align valid power at)
 
 -- a block that was answered at p ends there or before, if one at p does
-pub ends_within : (size p top : ℕ) (told : Option (Option ℕ)) → IfSome told (λ answer. answer ≡ Some p) → (0 < size → p + size ≤ top) → EndsWithin size told top
+pub ends_within : (size p top : ℕ) (told : Option (Option ℕ)) → IfSome told (λ answer. answer ≡ Some p) → (0 < size → p + size ≤ top)
+    → EndsWithin size told top
 ends_within size p top None is end = tt
 ends_within size p top (Some answer) is end = rw is end

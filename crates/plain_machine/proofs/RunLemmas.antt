@@ -19,7 +19,8 @@ record IsNext (calls : List Call) (ks : List ℕ) (i : ℕ) (call : Call) : Type
   first_call : drop i calls ≡ call ∷ drop (i + 1) calls
   first_number : drop i ks ≡ get_or ks i 0 ∷ drop (i + 1) ks
 
-is_next : (calls : List Call) (ks : List ℕ) (i : ℕ) (call : Call) → i < length calls → length calls ≡ length ks → call ≡ get_or calls i call → IsNext calls ks i call
+is_next : (calls : List Call) (ks : List ℕ) (i : ℕ) (call : Call) → i < length calls → length calls ≡ length ks → call ≡ get_or calls i call
+    → IsNext calls ks i call
 is_next calls ks i call low even is = record {
   first_call = rw add-one (drop-cons calls i call low ∙ ap (λ (c : Call). c ∷ drop (suc i) calls) (sym is));
   first_number = rw add-one (drop-cons ks i 0 (omega arith));
@@ -34,7 +35,8 @@ run_more replies m next calls ks i call reply low even is one =
     let here = is_next calls ks i call low even is in
     rw (here.first_call, here.first_number, one) (go (run_from next (drop (i + 1) calls) (drop (i + 1) ks)))
   where
-    go : (rest : Option (List Reply × Machine)) → option_map (replies_first replies) (option_map (reply_first reply) rest) ≡ option_map (replies_first (replies ++ reply ∷ [])) rest
+    go : (rest : Option (List Reply × Machine))
+        → option_map (replies_first replies) (option_map (reply_first reply) rest) ≡ option_map (replies_first (replies ++ reply ∷ [])) rest
     go None = refl
     go (Some rest) = ap (λ (l : List Reply). Some (l, rest.1)) (sym (append_assoc replies (reply ∷ []) rest.0))
 
@@ -61,6 +63,7 @@ run_uneven m [] (k ∷ ks) uneven = refl
 run_uneven m (call ∷ calls) [] uneven = refl
 run_uneven m (call ∷ calls) (k ∷ ks) uneven = go (step call k m) (λ next. run_uneven next calls ks (omega arith))
   where
-    go : (o : Option Next) → ((next : Machine) → run_from next calls ks ≡ None) → option_and_then {U = List Reply × Machine} (λ next. option_map (reply_first next.0) (run_from next.1 calls ks)) o ≡ None
+    go : (o : Option Next) → ((next : Machine) → run_from next calls ks ≡ None)
+        → option_and_then {U = List Reply × Machine} (λ next. option_map (reply_first next.0) (run_from next.1 calls ks)) o ≡ None
     go None rest = refl
     go (Some next) rest = ap (option_map {T = List Reply × Machine} {U = List Reply × Machine} (reply_first next.0)) (rest next.1)

@@ -1,2 +1,1 @@
-mod MapLemmas
 mod LoopLemmas

@@ -1,5 +1,5 @@
 -- Entries by rising keys: what holds of each, and sums over them.
-use Rattle.std.proofs.Common.{◌≡◌, ℕ, ◌+◌, ◌<◌, ◌≤◌, refl, sym, ap, ◌∙◌, subst, arith, Bool, true, false, cond, not, T, ◌&&◌, is_some, IsTrue, Some, None, Option, List, [], ◌∷◌, length, Less, Equal, Greater, nat_cmp, is_lt, is_eq}
+use Rattle.std.proofs.Common.{◌≡◌, ℕ, ◌+◌, ◌-◌, ◌<◌, ◌≤◌, refl, sym, ap, ◌∙◌, subst, arith, Bool, true, false, cond, not, T, ◌&&◌, is_some, IsTrue, Some, None, Option, List, [], ◌∷◌, length, Less, Equal, Greater, nat_cmp, is_lt, is_eq}
 use Rattle.std.specs.Prelude.{nat_lt, IfSome, if◌then◌else◌}
 use Rattle.std.specs.Ordering.{eq_by_cmp}
 use Rattle.std.specs.Cmp.{nat_cmp_total}
@@ -86,12 +86,12 @@ rising_united end bits (e ∷ more) h = rising_united end (if nat_lt e.0 end the
 abbrev pub need_held : Option Object → ℕ
 need_held o = option_map_or need_of o 0
 
-both_true : (a b : Bool) → IsTrue (a && b) → IsTrue a × IsTrue b
+pub both_true : (a b : Bool) → IsTrue (a && b) → IsTrue a × IsTrue b
 both_true true b h = (refl, h)
 both_true false b h = absurd (subst T (sym h) tt)
 
 -- a key below all others is not found
-none_below : {X : Type 0} (k m : ℕ) (es : Entries X) → k < m → IsTrue (below_all nat_cmp m es) → get es k ≡ None
+pub none_below : {X : Type 0} (k m : ℕ) (es : Entries X) → k ≤ m → IsTrue (below_all nat_cmp m es) → get es k ≡ None
 none_below k m [] h all = refl
 none_below k m (e ∷ es) h all =
     let both = both_true (is_lt (nat_cmp m e.0)) (below_all nat_cmp m es) all in
@@ -105,9 +105,43 @@ none_below k m (e ∷ es) h all =
     apart : (x y : ℕ) → x < y → eq_by_cmp nat_cmp x y ≡ false
     apart x y l = grind (arith, nat_tests)
 
+-- a key that is let go is one entry less, where it was among them
+pub length_unbind : {X : Type 0} (es : Entries X) (k : ℕ) → IsTrue (are_rising es)
+    → length (unbind es k) ≡ cond (is_some (get es k)) (length es - 1) (length es)
+length_unbind {X} es k h =
+    elim (is_some (get es k)) as (λ b. is_some (get es k) ≡ b → length (unbind es k) ≡ cond b (length es - 1) (length es)) [
+      | true ↦ λ t. omega (arith, rw t at (with_gone es h))
+      | false ↦ λ t. omega (arith, rw t at (with_gone es h))
+    ] refl
+  where
+    same_key : (x y : ℕ) → eq_by_cmp nat_cmp x y ≡ true → x ≡ y
+    same_key x y t = grind (arith, nat_tests)
+
+    with_gone : (fs : Entries X) → IsTrue (are_rising fs) → length (unbind fs k) + cond (is_some (get fs k)) 1 0 ≡ length fs
+    with_gone [] rises = refl
+    with_gone (e ∷ fs) rises =
+        let both = both_true (below_all nat_cmp e.0 fs) (is_sorted nat_cmp fs) rises in
+        let rest = with_gone fs both.1 in
+        elim (eq_by_cmp nat_cmp k e.0) as (λ b. eq_by_cmp nat_cmp k e.0 ≡ b
+        → length (cond (not b) (e ∷ unbind fs k) (unbind fs k)) + cond (is_some (cond b (Some e.1) (get fs k))) 1 0 ≡ length (e ∷ fs)) [
+          | true ↦ λ t.
+              let none : get fs k ≡ None = none_below k e.0 fs (omega (arith, same_key k e.0 t)) both.0 in
+              let gone : length (unbind fs k) + 0 ≡ length fs = rw none at rest in omega arith
+          | false ↦ λ t. omega arith
+        ] refl
+
 -- what all entries weigh, by their values
 abbrev weight : {X : Type 0} → (X → ℕ) → Entries X → ℕ
 weight {X} w es = total (λ (e : ℕ × X). w e.1) es
+
+-- what a key holds weighs no more than all
+pub total_get : {X : Type 0} (w : X → ℕ) (es : Entries X) (k : ℕ) → option_map_or w (get es k) 0 ≤ weight w es
+total_get w [] k = omega arith
+total_get w (e ∷ es) k =
+    elim (eq_by_cmp nat_cmp k e.0) as (λ b. option_map_or w (cond b (Some e.1) (get es k)) 0 ≤ weight w (e ∷ es)) [
+      | true ↦ omega arith
+      | false ↦ omega (arith, total_get w es k)
+    ]
 
 -- what a key gets takes the place of what it held
 pub total_bind : {X : Type 0} (w : X → ℕ) (es : Entries X) (k : ℕ) (v : X) → IsTrue (are_rising es)
@@ -120,7 +154,7 @@ total_bind {X} w (e ∷ es) k v h =
     (cond (is_eq r) (Some e.1) (get es k)) 0 ≡ weight w (e ∷ es) + w v) [
       | Less ↦ λ c.
           let none : option_map_or w (get es k) 0
-          ≡ 0 = ap (λ (o : Option X). option_map_or w o 0) (none_below k e.0 es (sooner k e.0 c) parts.0) in
+          ≡ 0 = ap (λ (o : Option X). option_map_or w o 0) (none_below k e.0 es (omega (arith, sooner k e.0 c)) parts.0) in
           omega (arith, none)
       | Equal ↦ λ c. omega arith
       | Greater ↦ λ c. omega (arith, total_bind w es k v parts.1)

@@ -1,6 +1,7 @@
 pub mod EntryLemmas
 pub mod EffectLemmas
 pub mod LookupLemmas
+pub mod TableLemmas
 pub mod RunLemmas
 mod TextLemmas
 mod ReadingLemmas

@@ -7,11 +7,13 @@
 
 mod commands;
 pub mod laws;
+mod names;
 mod numbers;
 mod outcome;
 mod script;
 
 pub use commands::{Command, Ended, ScriptReply};
+pub use names::Names;
 pub use numbers::Numbers;
 pub use outcome::{Outcome, Replies};
 pub use script::Script;

@@ -1,5 +1,6 @@
 // What tests of scripts share: tables of commands, each with its reply and its cost.
 mod commands;
+mod engine;
 mod examples;
 mod refusals;
 

@@ -4,6 +4,7 @@ mod texts;
 
 use arena_chunks::{Allocator, MemoryChunks};
 use std::alloc::Global;
+use std::fmt::Debug;
 use std::process::Abort;
 
 // An allocator with ample memory.
@@ -17,4 +18,9 @@ fn small(rt: &impl Abort, alloc: Global, bytes: u64) -> Allocator<MemoryChunks> 
     let region = vec![in alloc; 7u8; bytes as usize + 48].expect(rt, "memory");
     let made = Allocator::from_raw_parts(alloc, region, MemoryChunks::new(alloc, 0));
     made.ok().expect(rt, "an arena")
+}
+
+// What was found is what is wanted.
+fn same<T: Copy + PartialEq + Debug>(rt: &impl Abort, found: T, wanted: T) {
+    assert_eq!(rt; found, wanted);
 }

@@ -20,6 +20,7 @@ ghost use Rattle.arena_chunks.specs.Memory.{is_readable};
 
 use arena_chunks::{Allocator, Block, ChunkSource, MemoryChunks};
 use std::alloc::Global;
+use std::fmt::Debug;
 use std::process::Abort;
 
 // An allocator with ample memory.
@@ -44,6 +45,25 @@ fn has<C: ChunkSource>(
     used: u64,
     counts: (u64, u64),
 ) {
-    assert_eq!(rt; a.used_bytes(), used, "{what}");
-    assert_eq!(rt; a.get_allocation_stats(), counts, "{what}");
+    same_at(
+        rt,
+        what,
+        (a.used_bytes(), a.get_allocation_stats()),
+        (used, counts),
+    );
+}
+
+// What was found is what is wanted.
+fn same<T: Copy + PartialEq + Debug>(rt: &impl Abort, found: T, wanted: T) {
+    assert_eq!(rt; found, wanted);
+}
+
+// What was found there is what is wanted.
+fn same_at<A: Copy + Debug, T: Copy + PartialEq + Debug>(
+    rt: &impl Abort,
+    at: A,
+    found: T,
+    wanted: T,
+) {
+    assert_eq!(rt; found, wanted, "{at:?}");
 }

@@ -1,7 +1,7 @@
 // Reads numbers from the front of a line.
 ghost use Rattle.std.specs.Prelude.{◌<◌, ◌≤◌, ◌^◌, ◌-◌, ◌++◌, ◌∷◌};
 ghost use Rattle.placement.specs.Grammar.{number};
-ghost use Rattle.arena_calls.specs.Lines.{Reads};
+ghost use Rattle.arena_calls.specs.Lines.{Reads, IsNumber};
 
 // The number that the digits of `n`, and then those at the front, spell.
 fn digits(bytes: &[u8], n: u64, max: u64) -> Option<(u64, &[u8])>
@@ -35,6 +35,18 @@ fn number(bytes: &[u8], max: u64) -> Option<(u64, &[u8])>
         return None;
     }
     digits(rest, u64::from(*first - b'0'), max)
+}
+
+/// The number that the bytes are.
+pub fn whole_number(bytes: &[u8], max: u64) -> Option<u64>
+    requires { 9 ≤ max }
+    ensures { IsNumber max bytes.now result }
+{
+    let (n, rest) = number(bytes, max)?;
+    if !rest.is_empty() {
+        return None;
+    }
+    Some(n)
 }
 
 /// A space and a number, and what comes behind them.

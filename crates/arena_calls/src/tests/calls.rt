@@ -8,6 +8,12 @@ use std::test::Fail;
 const ROWS: &[(&str, &str)] = &[
     // no calls
     ("", ""),
+    // the greatest numbers, between empty lines
+    (
+        "\nread 4294967295\n\nalloc 4294967295 18446744073709551615 18446744073709551615 255\n\
+         write 0 18446744073709551615 -\n\n",
+        "no such name\nbad layout\nno such name\n",
+    ),
     // first block
     (
         "alloc 7 5 1 46\nwrite 7 0 68656c6c6f\nread 7\nused\nallocated\n",
@@ -138,7 +144,7 @@ fn replies_where_requests_are_refused(rt: HostRuntime) -> Result<(), Fail> {
         let mut arena = Arena::<1>::new(rt.alloc());
         let mut chunks = RefusingChunks::new(rt.alloc(), refuse.to_vec(rt.alloc())?);
         let calls = calls.as_bytes();
-        let ended = run_over(rt.alloc(), &mut arena, &mut chunks, b"calls", calls)?;
+        let ended = run_over(rt.alloc(), &mut arena, &mut chunks, &["calls"], calls)?;
         assert!(rt; matches!(ended.status, Status::Done));
         assert_eq!(rt; ended.text.as_slice(), replies.as_bytes());
         assert!(rt; matches!(chunks.requests(), Some(told) if told == requests));

@@ -1,7 +1,7 @@
 // How the program ends where something is wrong, and what inputs and outputs do.
 ghost use Rattle.std.specs.Prelude.{◌<◌};
 
-use super::{Ended, run_over, words};
+use super::{Ended, run_over, same, words};
 use crate::status::Status;
 use crate::streams::{MemoryInput, MemoryOutput, Output, StdInput, StdOutput};
 use crate::whole_run::arena_main;
@@ -15,8 +15,9 @@ fn other_words_are_usage(rt: HostRuntime) -> Result<(), Fail> {
     for word in ["", "call", "calls ", "Calls", "gen 1 1000001"] {
         let mut arena = Arena::<1>::new(rt.alloc());
         let mut chunks = MemoryChunks::new(rt.alloc(), 1 << 30);
-        let word = word.as_bytes();
-        let Ended { status, text } = run_over(rt.alloc(), &mut arena, &mut chunks, word, b"used")?;
+        let list = [word];
+        let list = list.as_slice();
+        let Ended { status, text } = run_over(rt.alloc(), &mut arena, &mut chunks, list, b"used")?;
         assert!(rt; matches!(status, Status::Usage));
         assert_eq!(rt; text.len(), 0);
     }
@@ -33,7 +34,7 @@ fn faulty(
 ) -> Result<Ended, Fail>
     requires { 0 < step }
 {
-    let words = words(alloc, b"calls")?;
+    let words = words(alloc, &["calls"])?;
     let mut arena = Arena::<1>::new(alloc);
     let mut chunks = MemoryChunks::new(alloc, 1 << 30);
     let mut input = MemoryInput::new(alloc, text, step, reads);
@@ -52,35 +53,27 @@ fn faulty(
     })
 }
 
-// Reads give 2 bytes of 4, so the third one meets the end, and a fourth one never comes.
-#[test]
-fn each_read_fails_in_turn(rt: HostRuntime) -> Result<(), Fail> {
-    let alloc = rt.alloc();
-    for (number, code, written) in [(1, 4, ""), (2, 4, ""), (3, 4, ""), (4, 0, "number 0\n")] {
-        let input = b"used".to_vec(alloc)?;
-        let reads = vec![in alloc; number]?;
-        let Ended { status, text } = faulty(alloc, input, 2, reads, Vec::new(alloc))?;
-        assert_eq!(rt; status.code(), code);
-        assert_eq!(rt; text.as_slice(), written.as_bytes());
-    }
-    Ok(())
-}
+// The reads and the writes that fail, the status, and what was written. Reads give 2 bytes of 4, so the third one meets the
+// end, and a fourth one never comes; writes take 4 bytes of 9.
+const FAULTS: [(&[u64], &[u64], u8, &str); 8] = [
+    (&[1], &[], 4, ""),
+    (&[2], &[], 4, ""),
+    (&[3], &[], 4, ""),
+    (&[4], &[], 0, "number 0\n"),
+    (&[], &[1], 5, ""),
+    (&[], &[2], 5, "numb"),
+    (&[], &[3], 5, "number 0"),
+    (&[], &[4], 0, "number 0\n"),
+];
 
-// Writes take 4 bytes of 9.
 #[test]
-fn each_write_fails_in_turn(rt: HostRuntime) -> Result<(), Fail> {
+fn each_read_and_each_write_fails_in_turn(rt: HostRuntime) -> Result<(), Fail> {
     let alloc = rt.alloc();
-    for (number, code, written) in [
-        (1, 5, ""),
-        (2, 5, "numb"),
-        (3, 5, "number 0"),
-        (4, 0, "number 0\n"),
-    ] {
+    for (reads, writes, code, written) in FAULTS {
         let input = b"used".to_vec(alloc)?;
-        let writes = vec![in alloc; number]?;
-        let Ended { status, text } = faulty(alloc, input, 2, Vec::new(alloc), writes)?;
-        assert_eq!(rt; status.code(), code);
-        assert_eq!(rt; text.as_slice(), written.as_bytes());
+        let ended = faulty(alloc, input, 2, reads.to_vec(alloc)?, writes.to_vec(alloc)?)?;
+        same(&rt, ended.status.code(), code);
+        same(&rt, ended.text.as_slice(), written.as_bytes());
     }
     Ok(())
 }
@@ -97,8 +90,8 @@ fn the_longest_input_and_one_byte_more(rt: HostRuntime) -> Result<(), Fail> {
             Vec::new(alloc),
             Vec::new(alloc),
         )?;
-        assert_eq!(rt; status.code(), code);
-        assert_eq!(rt; text.len(), 0);
+        same(&rt, status.code(), code);
+        same(&rt, text.len(), 0);
     }
     Ok(())
 }
@@ -125,7 +118,7 @@ fn over_a_reader_and_a_writer_of_std(rt: HostRuntime) -> Result<(), Fail> {
     let mut chunks = MemoryChunks::new(alloc, 1 << 30);
     let status = arena_main(
         alloc,
-        words(alloc, b"calls")?.as_slice(),
+        words(alloc, &["calls"])?.as_slice(),
         &mut arena,
         &mut chunks,
         &mut input,

@@ -1,106 +1,95 @@
 // Lines that are calls, and lines that aren't.
 use super::{Ended, run};
 use crate::status::Status;
-use std::alloc::Global;
-use std::process::Abort;
 use std::test::Fail;
 
-// The input's first refused line has this number, and nothing is written.
-fn refuses(rt: &impl Abort, alloc: Global, input: &[u8], number: u64) -> Result<(), Fail> {
-    let Ended { status, text } = run(alloc, input)?;
-    match status {
-        Status::BadLine(n) => assert_eq!(rt; n, number),
-        _ => assert!(rt; false),
+// An input, and the number of its first refused line.
+type Refused = (&'static str, u64);
+
+const FIRST_OF_SOME: [Refused; 2] = [("used\nfree 1", 2), ("\n\nused\n\nfree 1\nfree 2\n", 5)];
+
+const OTHER_WORDS: [Refused; 6] = [
+    ("resets", 1),
+    ("Used", 1),
+    ("usedx", 1),
+    ("use", 1),
+    ("allocatedx", 1),
+    ("used\r\n", 1),
+];
+
+const SPACES: [Refused; 7] = [
+    (" ", 1),
+    (" used", 1),
+    ("used ", 1),
+    ("reset ", 1),
+    ("read  1", 1),
+    ("read 1 ", 1),
+    ("read\t1", 1),
+];
+
+const NUMBERS: [Refused; 12] = [
+    ("read", 1),
+    ("read ", 1),
+    ("read 01", 1),
+    ("read 00", 1),
+    ("read -1", 1),
+    ("read 1a", 1),
+    ("read 1 2", 1),
+    ("read 4294967296", 1),
+    ("alloc 1 18446744073709551616 1 0", 1),
+    ("alloc 1 1 1 256", 1),
+    ("alloc 1 1 1", 1),
+    ("alloc 1 1 1 0 0", 1),
+];
+
+const NUMBERS_OF_GROW_SHRINK_AND_RESET: [Refused; 6] = [
+    ("grow 1 1 1", 1),
+    ("grow 1 1 1 1 1", 1),
+    ("grow 1 1 1 256", 1),
+    ("shrink 1 1", 1),
+    ("shrink 1 1 1 1", 1),
+    ("reset 1", 1),
+];
+
+const MARKS: [Refused; 5] = [
+    ("mark", 1),
+    ("back", 1),
+    ("mark 1 2", 1),
+    ("marks 1", 1),
+    ("back 4294967296", 1),
+];
+
+const HEXADECIMAL_DIGITS: [Refused; 9] = [
+    ("write 1 0", 1),
+    ("write 1 0 ", 1),
+    ("write 1 0 a", 1),
+    ("write 1 0 A0", 1),
+    ("write 1 0 0g", 1),
+    ("write 1 0 abc", 1),
+    ("write 1 0 --", 1),
+    ("write 1 0 ab-", 1),
+    ("write 1 0 ab cd", 1),
+];
+
+const REFUSED: [&[Refused]; 7] = [
+    &FIRST_OF_SOME,
+    &OTHER_WORDS,
+    &SPACES,
+    &NUMBERS,
+    &NUMBERS_OF_GROW_SHRINK_AND_RESET,
+    &MARKS,
+    &HEXADECIMAL_DIGITS,
+];
+
+// The first refused line is named, and nothing is written.
+#[test]
+fn refused_lines(rt: HostRuntime) -> Result<(), Fail> {
+    for rows in REFUSED {
+        for (input, wanted) in rows {
+            let Ended { status, text } = run(rt.alloc(), input.as_bytes())?;
+            let is_named = matches!(status, Status::BadLine(n) if n == *wanted);
+            assert!(rt; is_named && text.is_empty(), "{input:?}");
+        }
     }
-    assert_eq!(rt; text.len(), 0);
-    Ok(())
-}
-
-#[test]
-fn first_refused_line_is_named(rt: HostRuntime) -> Result<(), Fail> {
-    refuses(&rt, rt.alloc(), b"used\nfree 1", 2)?;
-    refuses(&rt, rt.alloc(), b"\n\nused\n\nfree 1\nfree 2\n", 5)
-}
-
-#[test]
-fn other_words(rt: HostRuntime) -> Result<(), Fail> {
-    refuses(&rt, rt.alloc(), b"resets", 1)?;
-    refuses(&rt, rt.alloc(), b"Used", 1)?;
-    refuses(&rt, rt.alloc(), b"usedx", 1)?;
-    refuses(&rt, rt.alloc(), b"use", 1)?;
-    refuses(&rt, rt.alloc(), b"allocatedx", 1)?;
-    refuses(&rt, rt.alloc(), b"used\r\n", 1)
-}
-
-#[test]
-fn spaces(rt: HostRuntime) -> Result<(), Fail> {
-    refuses(&rt, rt.alloc(), b" ", 1)?;
-    refuses(&rt, rt.alloc(), b" used", 1)?;
-    refuses(&rt, rt.alloc(), b"used ", 1)?;
-    refuses(&rt, rt.alloc(), b"reset ", 1)?;
-    refuses(&rt, rt.alloc(), b"read  1", 1)?;
-    refuses(&rt, rt.alloc(), b"read 1 ", 1)?;
-    refuses(&rt, rt.alloc(), b"read\t1", 1)
-}
-
-#[test]
-fn numbers(rt: HostRuntime) -> Result<(), Fail> {
-    refuses(&rt, rt.alloc(), b"read", 1)?;
-    refuses(&rt, rt.alloc(), b"read ", 1)?;
-    refuses(&rt, rt.alloc(), b"read 01", 1)?;
-    refuses(&rt, rt.alloc(), b"read 00", 1)?;
-    refuses(&rt, rt.alloc(), b"read -1", 1)?;
-    refuses(&rt, rt.alloc(), b"read 1a", 1)?;
-    refuses(&rt, rt.alloc(), b"read 1 2", 1)?;
-    refuses(&rt, rt.alloc(), b"read 4294967296", 1)?;
-    refuses(&rt, rt.alloc(), b"alloc 1 18446744073709551616 1 0", 1)?;
-    refuses(&rt, rt.alloc(), b"alloc 1 1 1 256", 1)?;
-    refuses(&rt, rt.alloc(), b"alloc 1 1 1", 1)?;
-    refuses(&rt, rt.alloc(), b"alloc 1 1 1 0 0", 1)
-}
-
-#[test]
-fn numbers_of_grow_shrink_and_reset(rt: HostRuntime) -> Result<(), Fail> {
-    refuses(&rt, rt.alloc(), b"grow 1 1 1", 1)?;
-    refuses(&rt, rt.alloc(), b"grow 1 1 1 1 1", 1)?;
-    refuses(&rt, rt.alloc(), b"grow 1 1 1 256", 1)?;
-    refuses(&rt, rt.alloc(), b"shrink 1 1", 1)?;
-    refuses(&rt, rt.alloc(), b"shrink 1 1 1 1", 1)?;
-    refuses(&rt, rt.alloc(), b"reset 1", 1)
-}
-
-#[test]
-fn marks(rt: HostRuntime) -> Result<(), Fail> {
-    refuses(&rt, rt.alloc(), b"mark", 1)?;
-    refuses(&rt, rt.alloc(), b"back", 1)?;
-    refuses(&rt, rt.alloc(), b"mark 1 2", 1)?;
-    refuses(&rt, rt.alloc(), b"marks 1", 1)?;
-    refuses(&rt, rt.alloc(), b"back 4294967296", 1)
-}
-
-#[test]
-fn hexadecimal_digits(rt: HostRuntime) -> Result<(), Fail> {
-    refuses(&rt, rt.alloc(), b"write 1 0", 1)?;
-    refuses(&rt, rt.alloc(), b"write 1 0 ", 1)?;
-    refuses(&rt, rt.alloc(), b"write 1 0 a", 1)?;
-    refuses(&rt, rt.alloc(), b"write 1 0 A0", 1)?;
-    refuses(&rt, rt.alloc(), b"write 1 0 0g", 1)?;
-    refuses(&rt, rt.alloc(), b"write 1 0 abc", 1)?;
-    refuses(&rt, rt.alloc(), b"write 1 0 --", 1)?;
-    refuses(&rt, rt.alloc(), b"write 1 0 ab-", 1)?;
-    refuses(&rt, rt.alloc(), b"write 1 0 ab cd", 1)
-}
-
-#[test]
-fn greatest_numbers_and_empty_lines(rt: HostRuntime) -> Result<(), Fail> {
-    let Ended { status, text } = run(
-        rt.alloc(),
-        b"\nread 4294967295\n\nalloc 4294967295 18446744073709551615 18446744073709551615 255\nwrite 0 18446744073709551615 -\n\n",
-    )?;
-    assert!(rt; matches!(status, Status::Done));
-    assert_eq!(rt;
-        text.as_slice(),
-        b"no such name\nbad layout\nno such name\n".as_slice()
-    );
     Ok(())
 }

@@ -1,4 +1,5 @@
 // The program whole, by its words.
+use super::same;
 use crate::budget::program_chunks;
 use crate::program::run_program;
 use crate::streams::{MemoryInput, MemoryOutput};
@@ -53,28 +54,70 @@ fn args(alloc: Global, words: &[&str]) -> Result<Args, Fail> {
     Ok(args.into_iter())
 }
 
-const USAGE: &str = "usage: arena_run calls\n";
+const USAGE: &str = "usage: arena_run calls | gen START COUNT\n";
 
-// The words, the input, the exit status, and what is written to the output and to messages.
-const ROWS: &[(&[&str], &str, u8, &str, &str)] = &[
-    (&["arena_run", "calls"], "used\n", 0, "number 0\n", ""),
-    (&["", "calls"], "", 0, "", ""),
+// The words, the input, the write that fails, of the output and of messages, of which each takes 7 bytes, the exit status,
+// and what is written to the output and to messages.
+type Row = (
+    &'static [&'static str],
+    &'static str,
+    &'static [u64],
+    u8,
+    &'static str,
+    &'static str,
+);
+
+const ROWS: [Row; 18] = [
+    (&["arena_run", "calls"], "used\n", &[], 0, "number 0\n", ""),
+    (&["", "calls"], "", &[], 0, "", ""),
     (
         &["arena_run", "--version"],
         "used\n",
+        &[],
         0,
         "arena_run 0.1.0\n",
         "",
     ),
-    (&[], "used\n", 1, "", USAGE),
-    (&["calls"], "used\n", 1, "", USAGE),
-    (&["arena_run", ""], "used\n", 1, "", USAGE),
-    (&["arena_run", "calls", "calls"], "used\n", 1, "", USAGE),
-    (&["arena_run", "calls", "--help"], "used\n", 1, "", USAGE),
-    (&["arena_run", "--help", "calls"], "used\n", 1, "", USAGE),
+    (
+        &["arena_run", "gen", "0", "1"],
+        "used\n",
+        &[],
+        0,
+        "calls 1\nplaced 0\nfailed 0\nother 1\nbytes 0\nsum 0\nused 0\nallocated 0\n",
+        "",
+    ),
+    (&["arena_run", "gen", "1"], "used\n", &[], 1, "", USAGE),
+    (&[], "used\n", &[], 1, "", USAGE),
+    (&["calls"], "used\n", &[], 1, "", USAGE),
+    (&["arena_run", ""], "used\n", &[], 1, "", USAGE),
+    (
+        &["arena_run", "calls", "calls"],
+        "used\n",
+        &[],
+        1,
+        "",
+        USAGE,
+    ),
+    (
+        &["arena_run", "calls", "--help"],
+        "used\n",
+        &[],
+        1,
+        "",
+        USAGE,
+    ),
+    (
+        &["arena_run", "--help", "calls"],
+        "used\n",
+        &[],
+        1,
+        "",
+        USAGE,
+    ),
     (
         &["arena_run", "calls"],
         "used\n\nread\nread\n",
+        &[],
         2,
         "",
         "line 3 is not understood\n",
@@ -82,21 +125,27 @@ const ROWS: &[(&[&str], &str, u8, &str, &str)] = &[
     (
         &["arena_run", "calls"],
         "free 1\n",
+        &[],
         2,
         "",
         "line 1 is not understood\n",
     ),
+    (&["arena_run", "calls"], "used\n", &[1], 5, "", ""),
+    (&["arena_run", "--version"], "used\n", &[1], 5, "", ""),
+    (&["arena_run", "call"], "used\n", &[1], 1, "", ""),
+    (&["arena_run", "call"], "used\n", &[2], 1, "", "usage: "),
+    (&["arena_run", "call"], "used\n", &[7], 1, "", USAGE),
 ];
 
 #[test]
 fn programs_by_their_words(rt: HostRuntime) -> Result<(), Fail> {
     let alloc = rt.alloc();
-    for (words, input, status, text, messages) in ROWS {
+    for (words, input, fail, status, text, messages) in ROWS {
         let args = args(alloc, words)?;
-        let ended = run_words(alloc, Ok(args), input, &[])?;
-        assert!(rt; ended.status == ExitCode::from(*status));
-        assert_eq!(rt; ended.text.as_slice(), text.as_bytes());
-        assert_eq!(rt; ended.messages.as_slice(), messages.as_bytes());
+        let ended = run_words(alloc, Ok(args), input, fail)?;
+        assert!(rt; ended.status == ExitCode::from(status));
+        same(&rt, ended.text.as_slice(), text.as_bytes());
+        same(&rt, ended.messages.as_slice(), messages.as_bytes());
     }
     Ok(())
 }
@@ -109,28 +158,8 @@ fn words_that_are_not_told(rt: HostRuntime) -> Result<(), Fail> {
     ] {
         let ended = run_words(rt.alloc(), Err(io::Error::from(kind)), "used\n", &[])?;
         assert!(rt; ended.status == ExitCode::from(status));
-        assert_eq!(rt; ended.text.len(), 0);
-        assert_eq!(rt; ended.messages.as_slice(), messages.as_bytes());
-    }
-    Ok(())
-}
-
-// The listed write fails, of the output and of messages, of which each takes 7 bytes.
-#[test]
-fn messages_that_are_not_written(rt: HostRuntime) -> Result<(), Fail> {
-    let alloc = rt.alloc();
-    for (words, fail, status, messages) in [
-        (["arena_run", "calls"], 1, 5, ""),
-        (["arena_run", "--version"], 1, 5, ""),
-        (["arena_run", "call"], 1, 1, ""),
-        (["arena_run", "call"], 2, 1, "usage: "),
-        (["arena_run", "call"], 5, 1, USAGE),
-    ] {
-        let args = args(alloc, words.as_slice())?;
-        let ended = run_words(alloc, Ok(args), "used\n", &[fail])?;
-        assert!(rt; ended.status == ExitCode::from(status));
-        assert_eq!(rt; ended.text.len(), 0);
-        assert_eq!(rt; ended.messages.as_slice(), messages.as_bytes());
+        same(&rt, ended.text.len(), 0);
+        same(&rt, ended.messages.as_slice(), messages.as_bytes());
     }
     Ok(())
 }

@@ -8,7 +8,7 @@ ghost use Rattle.arena_chunks.specs.Source.{View};
 ghost use Rattle.arena_chunks.specs.Asking.{AsksWithin, IsRefusedBySource, IsFull};
 ghost use Rattle.arena_chunks.specs.Answers.{Answer};
 ghost use Rattle.arena_chunks.specs.Answers.Answer.{Refused};
-ghost use Rattle.arena_chunks.specs.BlockCalls.{PlacesBlock, ResizesBlock, GrowsBlock, GivesBack};
+ghost use Rattle.arena_chunks.specs.BlockCalls.{PlacesBlock, ResizesBlock, GrowsBlock, ShrinksBlock, GivesBack};
 ghost use Rattle.arena_chunks.specs.declared.block.Block.{Block};
 
 /// A call on a block that needs at most so many bytes in use, the block's with its padding, asks for chunks of at most
@@ -37,6 +37,10 @@ pub fn starved()
         → align ≤ 16 → IsTrue (is_power block.align) → block.align ≤ 16 → size ≤ 2 ^ 60
         → old.memory.state.is_growing ≡ true → GrowsBlock old new block size align (Refused k)
         → top_of old.memory.state.chunks ≤ 2 ^ 63 + 2 ^ 62 → IsRefusedBySource old new }
+    ensures shrunk { (old new : View) (block : Block) (size align k : ℕ) → IsTrue (is_layout size align)
+        → align ≤ 16 → size ≤ 2 ^ 60
+        → old.memory.state.is_growing ≡ true → ShrinksBlock old new block size align (Refused k)
+        → top_of old.memory.state.chunks ≤ 2 ^ 63 + 2 ^ 62 → IsRefusedBySource old new }
 {}
 
 /// Where an arena that doesn't grow has no place for a block, it has fewer bytes than are in use and the block takes with its
@@ -46,7 +50,10 @@ pub fn full()
         → old.memory.state.is_growing ≡ false → PlacesBlock old new size align (Refused k)
         → IsFull (used_bytes old.memory.state + size + (unit_of old.memory.state align - 1)) old }
     ensures grown { (old new : View) (block : Block) (size align k : ℕ) → IsTrue (is_layout size align)
-        → align ≤ 16 → IsTrue (is_power block.align) → block.align ≤ 16 → size ≤ 2 ^ 60
+        → IsTrue (is_power block.align) → block.align ≤ 16
         → old.memory.state.is_growing ≡ false → GrowsBlock old new block size align (Refused k)
+        → IsFull (used_bytes old.memory.state + size + (unit_of old.memory.state align - 1)) old }
+    ensures shrunk { (old new : View) (block : Block) (size align k : ℕ) → IsTrue (is_layout size align)
+        → old.memory.state.is_growing ≡ false → ShrinksBlock old new block size align (Refused k)
         → IsFull (used_bytes old.memory.state + size + (unit_of old.memory.state align - 1)) old }
 {}

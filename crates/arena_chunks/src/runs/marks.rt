@@ -1,8 +1,8 @@
 // The marks that calls set by name.
-ghost use Rattle.std.specs.Prelude.{◌≡◌, ℕ, ◌<◌, ◌≤◌, ◌++◌, ◌∷◌, [], List, length, false, true, IsTrue, OnOk, OnErr};
+ghost use Rattle.std.specs.Prelude.{◌≡◌, ℕ, ◌-◌, ◌<◌, ◌++◌, ◌∷◌, [], List, length, take, get_or, if◌then◌else◌, false, true, IsTrue, OnOk, OnErr};
 ghost use Rattle.std.specs.Option.{is_some};
 ghost use Rattle.placement.specs.Machine.{mark_named};
-ghost use Rattle.arena_chunks.specs.Marks.{Noted, named, marks_from, noted_of, Forgets, KeepsLeft};
+ghost use Rattle.arena_chunks.specs.Marks.{Noted, named, marks_from, stands, LetsGo, Forgets};
 
 use crate::arena::{Arena, Checkpoint};
 use crate::runs::names::Names;
@@ -11,16 +11,16 @@ use std::alloc::Global;
 use std::collections::HashSet;
 use std::marker::Model;
 
-/// A mark: its name, the arena's checkpoint, and how many names the log had.
+/// A mark: its name, and the arena's checkpoint.
 #[derive(Clone, Copy, Drop)]
 pub(crate) struct Mark {
     pub(crate) name: u32,
     pub(crate) checkpoint: Checkpoint,
-    pub(crate) noted: usize,
 }
 
-/// The marks of a run, and a log of the names for which a block was placed while there were marks. Of a mark the names
-/// that it may end stand in the log from where it was set, so that to go back looks at these alone.
+/// The marks of a run, and a log of the names for which a block was placed while there were marks. A new block lies at the
+/// cursor, so whatever mark is gone back to, the names that end stand last in the log. Each entry is taken out once: going
+/// back looks at those that it takes out and at one more.
 #[derive(Drop)]
 pub(crate) struct Marks {
     // Oldest first.
@@ -62,18 +62,12 @@ impl Marks {
     pub(crate) fn set(&mut self, name: u32, checkpoint: Checkpoint) -> Result<(), OutOfMemory>
         requires { is_some (mark_named (named self.old.marks) name) ≡ false }
         ensures { OnOk result (self.new ≡ record {
-          marks = record { name = name; checkpoint = checkpoint; noted = length self.old.log } ∷ self.old.marks;
+          marks = record { name = name; checkpoint = checkpoint } ∷ self.old.marks;
           log = self.old.log;
         }) }
     {
-        let noted = self.log.len();
         let older = self.list.len();
-        let Ok(()) = self.list.push(Mark {
-            name,
-            checkpoint,
-            noted,
-        })
-        else {
+        let Ok(()) = self.list.push(Mark { name, checkpoint }) else {
             return Err(OutOfMemory);
         };
         let Ok(_) = self.known.insert(name) else {
@@ -98,6 +92,17 @@ impl Marks {
         }
     }
 
+    // Takes the newest note back, of a block that stayed where it was.
+    pub(crate) fn settle(&mut self, stayed: bool)
+        ensures marks { self.new.marks ≡ self.old.marks }
+        ensures log { 0 < length self.old.marks
+            → self.new.log ≡ (if stayed then take (length self.old.log - 1) self.old.log else self.old.log) }
+    {
+        if stayed {
+            self.log.pop();
+        }
+    }
+
     // Ends the marks that are newer than the name's, and answers it.
     pub(crate) fn back_to(&mut self, name: u32) -> Mark
         requires { IsTrue (is_some (mark_named (named self.old.marks) name)) }
@@ -114,17 +119,12 @@ impl Marks {
         self.list[count - 1]
     }
 
-    // Lets go the names noted since the newest mark whose blocks the arena doesn't hold any more. Those that it holds are
-    // from now on noted before that mark, which can't end them.
+    // Lets the names go that going back ended.
     pub(crate) fn forget<const M: usize>(&mut self, arena: &Arena<M>, names: &mut Names)
-        requires some { 0 < length self.old.marks }
-        requires within { noted_of self.old.marks ≤ length self.old.log }
         ensures { Forgets arena.now.state names.old names.new self.old self.new }
     {
-        let newest = self.list.len() - 1;
-        let mark = self.list[newest];
-        let noted = keep_held(arena, names, &mut self.log, mark.noted);
-        self.list[newest] = Mark { noted, ..mark };
+        let count = let_go(arena, names, &self.log);
+        self.log.truncate(count);
     }
 
     // Ends all marks. The tables are let go with them, since to clear them would take as long as they once were large.
@@ -135,28 +135,20 @@ impl Marks {
     }
 }
 
-// Of the names in the log from an index on, keeps those whose blocks the arena holds, and lets the others go. Answers
-// how many names the log has then.
-fn keep_held<const M: usize>(
-    arena: &Arena<M>,
-    names: &mut Names,
-    log: &mut Vec<u32>,
-    from: usize,
-) -> usize
-    requires { from ≤ length log.old.items }
-    ensures keeps { KeepsLeft arena.now.state names.old names.new from log.old.items log.new.items }
-    ensures len { result ≡ length log.new.items }
+// From the log's last name on, lets go those whose blocks aren't left, down to one whose block is and has some bytes. Answers
+// how many names stand up to that one.
+fn let_go<const M: usize>(arena: &Arena<M>, names: &mut Names, log: &Vec<u32>) -> usize
+    ensures lets { LetsGo arena.now.state names.old names.new result log.now.items }
+    ensures over { 0 < result → IsTrue (stands arena.now.state names.new (get_or log.now.items (result - 1) 0)) }
 {
-    let mut kept = from;
-    for at in from..log.len() {
-        let name = log[at];
-        if names.is_held(arena, name) {
-            log[kept] = name;
-            kept += 1;
-        } else {
-            names.remove(name);
+    let mut count = log.len();
+    while count > 0 {
+        let name = log[count - 1];
+        let stays = names.keep(arena, name);
+        if stays {
+            return count;
         }
+        count -= 1;
     }
-    log.truncate(kept);
-    kept
+    0
 }

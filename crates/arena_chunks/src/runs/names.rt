@@ -1,9 +1,10 @@
 // The blocks that calls hold by name.
-ghost use Rattle.std.specs.Prelude.{◌≡◌, OnOk, OnErr, IfOk, IsSome, IsOk};
+ghost use Rattle.std.specs.Prelude.{◌≡◌, false, OnOk, OnErr, IfOk, IsSome, IsOk, IsTrue};
 ghost use Rattle.std.specs.Ordering.{nat_cmp};
 ghost use Rattle.std.specs.FinMap as map;
 ghost use Rattle.placement.specs.Machine.{is_left};
 ghost use Rattle.arena_chunks.specs.Runs.{held_blocks};
+ghost use Rattle.arena_chunks.specs.Marks.{stands};
 
 use crate::arena::Arena;
 use crate::block::Block;
@@ -58,14 +59,20 @@ impl Names {
         Ok(())
     }
 
-    // Whether a name holds a block that is in use, or empty.
-    pub(crate) fn is_held<const M: usize>(&self, arena: &Arena<M>, name: u32) -> bool
-        ensures { result ≡ is_left arena.now.state self.now name }
+    // Lets a name go whose block isn't in use. Answers whether it is, and has some bytes.
+    pub(crate) fn keep<const M: usize>(&mut self, arena: &Arena<M>, name: u32) -> bool
+        ensures answer { result ≡ stands arena.now.state self.old name }
+        ensures left { IsTrue (is_left arena.now.state self.old name) → self.new ≡ self.old }
+        ensures ended { is_left arena.now.state self.old name ≡ false → self.new ≡ map.remove self.old name }
     {
-        match self.get(name) {
-            Some(place) => arena.is_held_place(arena.block_at(place)),
-            None => false,
+        let Some(place) = self.get(name) else {
+            return false;
+        };
+        if !arena.is_held_place(arena.block_at(place)) {
+            self.remove(name);
+            return false;
         }
+        place.size > 0
     }
 
     // Lets a name go, and answers the place that it had.

@@ -1,19 +1,15 @@
 // What takes the replies of a run.
 ghost use Rattle.std.specs.Prelude.{◌≡◌, ℕ, ◌+◌, ◌-◌, ◌<◌, ◌≤◌, List, [], ◌∷◌, ◌++◌, false, OnOk, OnErr, vec_len, vec_capacity};
 ghost use Rattle.placement.specs.declared.calls.Reply.{Reply};
-ghost use Rattle.arena_chunks.specs.Replies.{has_bytes};
+ghost use Rattle.arena_chunks.specs.Replies.{has_bytes, StillTaken, TakesMore};
 
 use placement::{Bytes, OutOfMemory, Reply};
 use std::alloc::Global;
 
 /// What takes replies, one after another.
 pub trait Replies {
-    // What it shows is a list, to which each reply adds its part.
-    ghost Part: { Type 0 };
-
-    ghost shown: { Self → List Part };
-
-    ghost part: { Reply → List Part };
+    // What it is to the replies that it has taken, in their order.
+    ghost has_taken: { Self → List Reply → Type 0 };
 
     // How many replies there is room for, of those that hold no bytes.
     ghost room: { Self → ℕ };
@@ -21,21 +17,21 @@ pub trait Replies {
     /// Makes room for `count` replies that hold no bytes.
     fn reserve(&mut self, count: usize) -> Result<(), OutOfMemory>
         ensures room { OnOk result (count ≤ room self.new) }
-        ensures same { shown self.new ≡ shown self.old };
+        ensures same { StillTaken has_taken self.old self.new };
 
     /// Takes a reply that holds no bytes, for which there is room.
     fn take(&mut self, reply: Reply)
         requires fixed { has_bytes reply ≡ false }
         requires room { 0 < room self.old }
-        ensures shown { shown self.new ≡ shown self.old ++ part reply }
+        ensures taken { TakesMore has_taken self.old self.new (reply ∷ []) }
         ensures room { room self.old ≤ room self.new + 1 };
 
     /// Takes the reply that holds these bytes, and leaves room for `left` more that hold none.
     fn take_bytes(&mut self, bytes: &[u8], left: usize) -> Result<(), OutOfMemory>
         requires { left < room self.old }
-        ensures shown { OnOk result (shown self.new ≡ shown self.old ++ part (Reply.Bytes bytes.now)) }
+        ensures taken { OnOk result (TakesMore has_taken self.old self.new (Reply.Bytes bytes.now ∷ [])) }
         ensures room { OnOk result (left ≤ room self.new) }
-        ensures same { OnErr result (shown self.new ≡ shown self.old) };
+        ensures same { OnErr result (StillTaken has_taken self.old self.new) };
 }
 
 // Replies in a list.
@@ -59,11 +55,7 @@ fn push_within(replies: &mut Vec<Reply>, reply: Reply)
 }
 
 impl Replies for Listed {
-    ghost Part = { Reply };
-
-    ghost shown = { λ a. a.replies.items };
-
-    ghost part = { λ reply. reply ∷ [] };
+    ghost has_taken = { λ a list. a.replies.items ≡ list };
 
     ghost room = { λ a. vec_capacity a.replies - vec_len a.replies };
 

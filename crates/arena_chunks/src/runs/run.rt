@@ -1,7 +1,7 @@
 // A run of calls.
-ghost use Rattle.std.specs.Prelude.{◌≡◌, List, ◌++◌, IfOk, IfErr};
-ghost use Rattle.std.specs.List.{flat_map};
+ghost use Rattle.std.specs.Prelude.{List, IfOk, IfErr};
 ghost use Rattle.placement.specs.declared.calls.Reply.{Reply};
+ghost use Rattle.arena_chunks.specs.Replies.{TakesMore};
 ghost use Rattle.arena_chunks.specs.Source.{view};
 ghost use Rattle.arena_chunks.specs.Runs.{Runs, Stops, StopsWith};
 
@@ -11,7 +11,7 @@ use crate::chunks::ChunkSource;
 use crate::runs::marks::Marks;
 use crate::runs::names::Names;
 use crate::runs::replies::{Listed, Replies};
-use crate::runs::serve::serve_into;
+use crate::runs::serve::{Run, serve_into};
 use placement::{Call, Reply};
 use std::alloc::Global;
 
@@ -47,28 +47,29 @@ pub fn run_calls_into<const M: usize, C: ChunkSource, R: Replies>(
     ensures ok { IfOk result (λ held. (list : List Reply)
         × Runs (view arena.old (C.source chunks.old)) (view arena.new (C.source chunks.new))
         calls.now list held.items
-        × (R.shown replies.new ≡ R.shown replies.old ++ flat_map R.part list)) }
+        × TakesMore R.has_taken replies.old replies.new list) }
     ensures err { IfErr result (StopsWith
         (view arena.old (C.source chunks.old)) (view arena.new (C.source chunks.new)) calls.now
-        (λ list. R.shown replies.new ≡ R.shown replies.old ++ flat_map R.part list)) }
+        (TakesMore R.has_taken replies.old replies.new)) }
 {
     // A run begins with a valid state, which the contract of this call tells.
-    let _valid = arena.cursor();
-    let mut names = Names::new(alloc);
-    let mut marks = Marks::new(alloc);
+    let _ = arena.cursor();
+    let mut run = Run {
+        alloc,
+        names: Names::new(alloc),
+        marks: Marks::new(alloc),
+    };
     // All room for the replies is made first, so that no call is run whose reply has no place.
     let Ok(()) = replies.reserve(calls.len()) else {
         return Err(Stopped::OutOfMemory { done: 0 });
     };
     for (done, call) in calls.iter().enumerate() {
         let left = calls.len() - done - 1;
-        let Ok(()) = serve_into(
-            alloc, arena, chunks, &mut names, &mut marks, call, left, replies,
-        ) else {
+        let Ok(()) = serve_into(arena, chunks, &mut run, call, left, replies) else {
             return Err(Stopped::OutOfMemory { done: done as u64 });
         };
     }
-    match names.blocks(alloc, arena.generation()) {
+    match run.names.blocks(alloc, arena.generation()) {
         Ok(held) => Ok(held),
         Err(_) => Err(Stopped::OutOfMemory {
             done: calls.len() as u64,

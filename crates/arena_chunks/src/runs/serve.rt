@@ -1,15 +1,18 @@
 // One call after another.
-ghost use Rattle.std.specs.Prelude.{◌≡◌, ℕ, ◌<◌, ◌≤◌, ◌++◌, false, IfOk, OnOk, OnErr, IsSome};
+ghost use Rattle.std.specs.Prelude.{◌≡◌, ℕ, ◌<◌, ◌≤◌, [], ◌∷◌, false, IfOk, OnOk, OnErr, IsSome, IsTrue};
 ghost use Rattle.std.specs.FinMap as map;
 ghost use Rattle.placement.specs.declared.calls.Call.{Call};
 ghost use Rattle.placement.specs.declared.calls.Reply.{Reply};
-ghost use Rattle.arena_chunks.specs.Replies.{has_bytes};
+ghost use Rattle.arena_chunks.specs.Replies.{has_bytes, StillTaken, TakesMore};
 ghost use Rattle.arena_chunks.specs.Source.{Source, view};
-ghost use Rattle.arena_chunks.specs.Marks.{Noted, named, Tracks, Notes};
-ghost use Rattle.arena_chunks.specs.Serving.{Serves, ServesRun, Wants, Holds};
+ghost use Rattle.arena_chunks.specs.Marks.{Noted, named, Tracks};
+ghost use Rattle.arena_chunks.specs.Memory.{is_readable};
+ghost use Rattle.arena_chunks.specs.Answers.{OnCounted};
+ghost use Rattle.arena_chunks.specs.Runs.{block_at};
+ghost use Rattle.arena_chunks.specs.Serving.{Serves, ServesNoting, ServesRun, Wants, Holds, resizing, is_wrong, ResizesFilling};
 
 use crate::arena::Arena;
-use crate::block::ArenaErr;
+use crate::block::{ArenaErr, Block};
 use crate::chunks::ChunkSource;
 use crate::runs::marks::Marks;
 use crate::runs::names::Names;
@@ -17,6 +20,14 @@ use crate::runs::replies::Replies;
 use arena_place::Layout;
 use placement::{Call, OutOfMemory, Place, Reply};
 use std::alloc::Global;
+
+// What a run has beside its arena: the blocks by name, and the marks.
+#[derive(Drop)]
+pub(crate) struct Run {
+    pub(crate) alloc: Global,
+    pub(crate) names: Names,
+    pub(crate) marks: Marks,
+}
 
 // The size and the alignment wanted for the block of a name.
 #[derive(Clone, Copy)]
@@ -37,119 +48,117 @@ impl Wanted {
             align: self.align,
         }
     }
+
+    // Whether the size is on the wrong side of the block's, which grows where there is a byte to fill it with.
+    fn is_wrong(self, had: u64, fill: Option<u8>) -> bool
+        ensures { result ≡ is_wrong fill had self.size }
+    {
+        match fill {
+            Some(_) => self.size < had,
+            None => self.size > had,
+        }
+    }
 }
 
 fn serve_alloc<const M: usize, C: ChunkSource>(
     arena: &mut Arena<M>,
     chunks: &mut C,
-    names: &mut Names,
-    marks: &mut Marks,
+    run: &mut Run,
     wanted: Wanted,
     fill: u8,
 ) -> Result<Reply, OutOfMemory>
-    requires { Holds arena.old.state names.old }
-    ensures serves { IfOk result (λ reply. Serves (Call.Alloc wanted.name wanted.size wanted.align fill) reply
-        (view arena.old (C.source chunks.old)) (view arena.new (C.source chunks.new)) names.old names.new) }
-    ensures notes { IfOk result (λ reply. Notes names.old names.new marks.old marks.new) }
+    requires { Holds arena.old.state run.old.names }
+    ensures serves { IfOk result (λ reply. ServesNoting (Call.Alloc wanted.name wanted.size wanted.align fill) reply
+        (view arena.old (C.source chunks.old)) (view arena.new (C.source chunks.new))
+        run.old.names run.new.names run.old.marks run.new.marks) }
     ensures fixed { IfOk result (λ reply. has_bytes reply ≡ false) }
     ensures wants { OnErr result (Wants (Call.Alloc wanted.name wanted.size wanted.align fill)
-        (view arena.old (C.source chunks.old)) (view arena.new (C.source chunks.new)) names.old (named marks.old.marks)) }
+        (view arena.old (C.source chunks.old)) (view arena.new (C.source chunks.new)) run.old.names (named run.old.marks.marks)) }
 {
     let name = wanted.name;
-    if names.get(name).is_some() {
+    if run.names.get(name).is_some() {
         return Ok(Reply::NameTaken);
     }
     let Some(layout) = Layout::new(wanted.size, wanted.align) else {
         return Ok(Reply::BadLayout);
     };
     // The name's entry is made first, since memory may be wanting for it.
-    names.insert(name, wanted.at(0))?;
-    marks.note(name)?;
+    run.names.insert(name, wanted.at(0))?;
+    run.marks.note(name)?;
     match arena.alloc_counted(chunks, layout) {
         Ok((block, refused)) => {
             let addr = block.addr;
-            names.replace(name, wanted.at(addr));
+            run.names.replace(name, wanted.at(addr));
             arena.fill(block, 0, fill);
             Ok(Reply::Placed { addr, refused })
         }
         Err(ArenaErr::AllocErr { refused }) => {
-            names.remove(name);
+            run.names.remove(name);
+            run.marks.settle(true);
             Ok(Reply::AllocErr { refused })
         }
         Err(ArenaErr::OutOfMemory) => Err(OutOfMemory),
     }
 }
 
-fn serve_grow<const M: usize, C: ChunkSource>(
+// Gives the block at a place another size: a greater one, where a byte is given that fills what is new, or a smaller one.
+fn resize<const M: usize, C: ChunkSource>(
     arena: &mut Arena<M>,
     chunks: &mut C,
-    names: &mut Names,
-    marks: &mut Marks,
-    wanted: Wanted,
-    fill: u8,
-) -> Result<Reply, OutOfMemory>
-    requires { Holds arena.old.state names.old }
-    ensures serves { IfOk result (λ reply. Serves (Call.Grow wanted.name wanted.size wanted.align fill) reply
-        (view arena.old (C.source chunks.old)) (view arena.new (C.source chunks.new)) names.old names.new) }
-    ensures notes { IfOk result (λ reply. Notes names.old names.new marks.old marks.new) }
-    ensures fixed { IfOk result (λ reply. has_bytes reply ≡ false) }
-    ensures wants { OnErr result (Wants (Call.Grow wanted.name wanted.size wanted.align fill)
-        (view arena.old (C.source chunks.old)) (view arena.new (C.source chunks.new)) names.old (named marks.old.marks)) }
+    place: Place,
+    layout: Layout,
+    fill: Option<u8>,
+) -> Result<(Block, u32), ArenaErr>
+    requires readable { IsTrue (is_readable arena.old.state (block_at arena.old.state.generation place)) }
+    requires side { is_wrong fill place.size layout.size ≡ false }
+    ensures { OnCounted result (ResizesFilling fill (view arena.old (C.source chunks.old)) (view arena.new (C.source chunks.new))
+        place layout.size layout.align) }
 {
-    let Some(place) = names.get(wanted.name) else {
-        return Ok(Reply::NoSuchName);
+    let block = arena.block_at(place);
+    let Some(fill) = fill else {
+        return arena.shrink_counted(chunks, block, layout);
     };
-    let Some(layout) = Layout::new(wanted.size, wanted.align) else {
-        return Ok(Reply::BadLayout);
-    };
-    if wanted.size < place.size {
-        return Ok(Reply::OutOfRange);
-    }
-    marks.note(wanted.name)?;
-    match arena.grow_counted(chunks, arena.block_at(place), layout) {
-        Ok((block, refused)) => {
-            let addr = block.addr;
-            names.replace(wanted.name, wanted.at(addr));
-            arena.fill(block, place.size, fill);
-            Ok(Reply::Placed { addr, refused })
-        }
-        Err(ArenaErr::AllocErr { refused }) => Ok(Reply::AllocErr { refused }),
-        Err(ArenaErr::OutOfMemory) => Err(OutOfMemory),
-    }
+    let (grown, refused) = arena.grow_counted(chunks, block, layout)?;
+    arena.fill(grown, place.size, fill);
+    Ok((grown, refused))
 }
 
-fn serve_shrink<const M: usize, C: ChunkSource>(
+fn serve_resize<const M: usize, C: ChunkSource>(
     arena: &mut Arena<M>,
     chunks: &mut C,
-    names: &mut Names,
-    marks: &mut Marks,
+    run: &mut Run,
     wanted: Wanted,
+    fill: Option<u8>,
 ) -> Result<Reply, OutOfMemory>
-    requires { Holds arena.old.state names.old }
-    ensures serves { IfOk result (λ reply. Serves (Call.Shrink wanted.name wanted.size wanted.align) reply
-        (view arena.old (C.source chunks.old)) (view arena.new (C.source chunks.new)) names.old names.new) }
-    ensures notes { IfOk result (λ reply. Notes names.old names.new marks.old marks.new) }
+    requires { Holds arena.old.state run.old.names }
+    ensures serves { IfOk result (λ reply. ServesNoting (resizing fill wanted.name wanted.size wanted.align) reply
+        (view arena.old (C.source chunks.old)) (view arena.new (C.source chunks.new))
+        run.old.names run.new.names run.old.marks run.new.marks) }
     ensures fixed { IfOk result (λ reply. has_bytes reply ≡ false) }
-    ensures wants { OnErr result (Wants (Call.Shrink wanted.name wanted.size wanted.align)
-        (view arena.old (C.source chunks.old)) (view arena.new (C.source chunks.new)) names.old (named marks.old.marks)) }
+    ensures wants { OnErr result (Wants (resizing fill wanted.name wanted.size wanted.align)
+        (view arena.old (C.source chunks.old)) (view arena.new (C.source chunks.new)) run.old.names (named run.old.marks.marks)) }
 {
-    let Some(place) = names.get(wanted.name) else {
+    let Some(place) = run.names.get(wanted.name) else {
         return Ok(Reply::NoSuchName);
     };
     let Some(layout) = Layout::new(wanted.size, wanted.align) else {
         return Ok(Reply::BadLayout);
     };
-    if wanted.size > place.size {
+    if wanted.is_wrong(place.size, fill) {
         return Ok(Reply::OutOfRange);
     }
-    marks.note(wanted.name)?;
-    match arena.shrink_counted(chunks, arena.block_at(place), layout) {
+    run.marks.note(wanted.name)?;
+    match resize(arena, chunks, place, layout, fill) {
         Ok((block, refused)) => {
             let addr = block.addr;
-            names.replace(wanted.name, wanted.at(addr));
+            run.names.replace(wanted.name, wanted.at(addr));
+            run.marks.settle(fill.is_none() && addr == place.addr);
             Ok(Reply::Placed { addr, refused })
         }
-        Err(ArenaErr::AllocErr { refused }) => Ok(Reply::AllocErr { refused }),
+        Err(ArenaErr::AllocErr { refused }) => {
+            run.marks.settle(true);
+            Ok(Reply::AllocErr { refused })
+        }
         Err(ArenaErr::OutOfMemory) => Err(OutOfMemory),
     }
 }
@@ -203,10 +212,10 @@ fn serve_read<const M: usize, R: Replies>(
     requires room { left < R.room replies.old }
     ensures serves { (source : Source) → OnOk result ((reply : Reply)
         × Serves (Call.Read name) reply (view arena.now source) (view arena.now source) names.now names.now
-        × (R.shown replies.new ≡ R.shown replies.old ++ R.part reply)) }
+        × TakesMore R.has_taken replies.old replies.new (reply ∷ [])) }
     ensures room { OnOk result (left ≤ R.room replies.new) }
     ensures wants { OnErr result (IsSome (map.get names.now name)) }
-    ensures same { OnErr result (R.shown replies.new ≡ R.shown replies.old) }
+    ensures same { OnErr result (StillTaken R.has_taken replies.old replies.new) }
 {
     let Some(place) = names.get(name) else {
         replies.take(Reply::NoSuchName);
@@ -218,127 +227,98 @@ fn serve_read<const M: usize, R: Replies>(
 // Sets a mark of the present state.
 fn serve_mark<const M: usize>(
     arena: &Arena<M>,
-    names: &Names,
-    marks: &mut Marks,
+    run: &mut Run,
     name: u32,
 ) -> Result<Reply, OutOfMemory>
-    requires holds { Holds arena.now.state names.now }
-    requires tracks { Tracks arena.now.state names.now marks.old }
+    requires holds { Holds arena.now.state run.old.names }
+    requires tracks { Tracks arena.now.state run.old.names run.old.marks }
     ensures serves { (source : Source) → IfOk result (λ reply. ServesRun (Call.Mark name) reply
-        (view arena.now source) (view arena.now source) names.now names.now marks.old marks.new) }
+        (view arena.now source) (view arena.now source) run.old.names run.new.names run.old.marks run.new.marks) }
     ensures fixed { IfOk result (λ reply. has_bytes reply ≡ false) }
     ensures wants { (source : Source) → OnErr result (Wants (Call.Mark name)
-        (view arena.now source) (view arena.now source) names.now (named marks.old.marks)) }
+        (view arena.now source) (view arena.now source) run.old.names (named run.old.marks.marks)) }
 {
-    if marks.has(name) {
+    if run.marks.has(name) {
         return Ok(Reply::NameTaken);
     }
-    marks.set(name, arena.checkpoint())?;
+    run.marks.set(name, arena.checkpoint())?;
     Ok(Reply::Done)
 }
 
 // Goes back to a mark, and lets go the names whose blocks were placed since.
-fn serve_back<const M: usize>(
-    arena: &mut Arena<M>,
-    names: &mut Names,
-    marks: &mut Marks,
-    name: u32,
-) -> Reply
-    requires holds { Holds arena.old.state names.old }
-    requires tracks { Tracks arena.old.state names.old marks.old }
+fn serve_back<const M: usize>(arena: &mut Arena<M>, run: &mut Run, name: u32) -> Reply
+    requires holds { Holds arena.old.state run.old.names }
+    requires tracks { Tracks arena.old.state run.old.names run.old.marks }
     ensures serves { (source : Source) → ServesRun (Call.Back name) result
-        (view arena.old source) (view arena.new source) names.old names.new marks.old marks.new }
+        (view arena.old source) (view arena.new source) run.old.names run.new.names run.old.marks run.new.marks }
     ensures fixed { has_bytes result ≡ false }
 {
-    if !marks.has(name) {
+    if !run.marks.has(name) {
         return Reply::NoSuchName;
     }
-    let mark = marks.back_to(name);
+    let mark = run.marks.back_to(name);
     arena.rewind(mark.checkpoint);
-    marks.forget(arena, names);
+    run.marks.forget(arena, &mut run.names);
     Reply::Done
 }
 
-fn serve_reset<const M: usize>(
-    alloc: Global,
-    arena: &mut Arena<M>,
-    names: &mut Names,
-    marks: &mut Marks,
-) -> Reply
+fn serve_reset<const M: usize>(arena: &mut Arena<M>, run: &mut Run) -> Reply
     ensures serves { (source : Source) → ServesRun Call.Reset result (view arena.old source)
-        (view arena.new source) names.old names.new marks.old marks.new }
+        (view arena.new source) run.old.names run.new.names run.old.marks run.new.marks }
     ensures fixed { has_bytes result ≡ false }
 {
     arena.reset();
-    names.clear(alloc);
-    marks.clear(alloc);
+    run.names.clear(run.alloc);
+    run.marks.clear(run.alloc);
     Reply::Done
 }
 
 // Serves a call, and gives its reply to what takes the replies.
 pub(crate) fn serve_into<const M: usize, C: ChunkSource, R: Replies>(
-    alloc: Global,
     arena: &mut Arena<M>,
     chunks: &mut C,
-    names: &mut Names,
-    marks: &mut Marks,
+    run: &mut Run,
     call: &Call,
     left: usize,
     replies: &mut R,
 ) -> Result<(), OutOfMemory>
-    requires holds { Holds arena.old.state names.old }
-    requires tracks { Tracks arena.old.state names.old marks.old }
+    requires holds { Holds arena.old.state run.old.names }
+    requires tracks { Tracks arena.old.state run.old.names run.old.marks }
     requires room { left < R.room replies.old }
     ensures serves { OnOk result ((reply : Reply)
         × ServesRun call.now reply
-        (view arena.old (C.source chunks.old)) (view arena.new (C.source chunks.new)) names.old names.new
-        marks.old marks.new
-        × (R.shown replies.new ≡ R.shown replies.old ++ R.part reply)) }
+        (view arena.old (C.source chunks.old)) (view arena.new (C.source chunks.new)) run.old.names run.new.names
+        run.old.marks run.new.marks
+        × TakesMore R.has_taken replies.old replies.new (reply ∷ [])) }
     ensures room { OnOk result (left ≤ R.room replies.new) }
     ensures wants { OnErr result (Wants call.now
-        (view arena.old (C.source chunks.old)) (view arena.new (C.source chunks.new)) names.old (named marks.old.marks)) }
-    ensures same { OnErr result (R.shown replies.new ≡ R.shown replies.old) }
+        (view arena.old (C.source chunks.old)) (view arena.new (C.source chunks.new)) run.old.names (named run.old.marks.marks)) }
+    ensures same { OnErr result (StillTaken R.has_taken replies.old replies.new) }
 {
-    let reply = match *call {
-        Call::Alloc {
+    let reply = match call {
+        &Call::Alloc {
             name,
             size,
             align,
             fill,
-        } => serve_alloc(
-            arena,
-            chunks,
-            names,
-            marks,
-            Wanted { name, size, align },
-            fill,
-        )?,
-        Call::Grow {
+        } => serve_alloc(arena, chunks, run, Wanted { name, size, align }, fill)?,
+        &Call::Grow {
             name,
             size,
             align,
             fill,
-        } => serve_grow(
-            arena,
-            chunks,
-            names,
-            marks,
-            Wanted { name, size, align },
-            fill,
-        )?,
-        Call::Shrink { name, size, align } => {
-            serve_shrink(arena, chunks, names, marks, Wanted { name, size, align })?
+        } => serve_resize(arena, chunks, run, Wanted { name, size, align }, Some(fill))?,
+        &Call::Shrink { name, size, align } => {
+            serve_resize(arena, chunks, run, Wanted { name, size, align }, None)?
         }
-        Call::Dealloc { name } => serve_dealloc(arena, names, name),
-        Call::Write {
-            name,
-            at,
-            ref bytes,
-        } => serve_write(arena, names, name, at, bytes.as_slice()),
-        Call::Read { name } => return serve_read(arena, names, name, left, replies),
-        Call::Mark { name } => serve_mark(arena, names, marks, name)?,
-        Call::Back { name } => serve_back(arena, names, marks, name),
-        Call::Reset => serve_reset(alloc, arena, names, marks),
+        &Call::Dealloc { name } => serve_dealloc(arena, &mut run.names, name),
+        Call::Write { name, at, bytes } => {
+            serve_write(arena, &run.names, *name, *at, bytes.as_slice())
+        }
+        &Call::Read { name } => return serve_read(arena, &run.names, name, left, replies),
+        &Call::Mark { name } => serve_mark(arena, run, name)?,
+        &Call::Back { name } => serve_back(arena, run, name),
+        Call::Reset => serve_reset(arena, run),
         Call::Used => Reply::Number(arena.used_bytes()),
         Call::Allocated => Reply::Number(arena.allocated_bytes()),
     };

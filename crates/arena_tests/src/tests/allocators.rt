@@ -1,5 +1,5 @@
 // Allocators: arenas with their sources.
-use super::{ample, has, layout, reads, refusing};
+use super::{ample, has, layout, reads, refusing, same};
 use arena_chunks::{Allocator, ArenaErr};
 use std::test::Fail;
 
@@ -27,7 +27,7 @@ fn allocators_of_a_capacity(rt: HostRuntime) -> Result<(), Fail> {
     for (capacity, refused) in [(10, 1), (1 << 63, 0)] {
         match Allocator::with_capacity(rt.alloc(), chunks, capacity) {
             Err((e, back)) => {
-                assert_eq!(rt; e, ArenaErr::AllocErr { refused });
+                same(&rt, e, ArenaErr::AllocErr { refused });
                 chunks = back;
             }
             Ok(_) => return Err(Fail::from("an allocator")),
@@ -36,9 +36,9 @@ fn allocators_of_a_capacity(rt: HostRuntime) -> Result<(), Fail> {
     let Ok(a) = Allocator::with_capacity(rt.alloc(), chunks, 10) else {
         return Err(Fail::from("an allocator"));
     };
-    assert_eq!(rt; (a.capacity(), a.data_end()), (64, 4160));
+    same(&rt, (a.capacity(), a.data_end()), (64, 4160));
     let (_, chunks) = a.into_parts();
     let told = [(64, 16), (64, 16)];
-    assert_eq!(rt; chunks.requests(), Some(told.as_slice()));
+    same(&rt, chunks.requests(), Some(told.as_slice()));
     Ok(())
 }

@@ -1,7 +1,7 @@
 // How arenas begin.
-use super::refusing;
 use super::stage::Stage;
 use super::steps::Step;
+use super::{refusing, same_at};
 use arena_chunks::{Arena, ArenaErr, ChunkSource, MemoryChunks};
 use std::alloc::Global;
 use std::process::Abort;
@@ -19,16 +19,12 @@ fn answers<C: ChunkSource>(rt: &impl Abort, alloc: Global, chunks: &mut C, rows:
                 } else {
                     size.checked_add(4096)
                 };
-                assert_eq!(rt; Some(arena.data_end()), end, "{capacity}");
+                same_at(rt, capacity, Some(arena.data_end()), end);
                 let counts = (arena.allocated_bytes(), arena.chunk_capacity());
-                assert_eq!(rt; counts, (size, size), "{capacity}");
+                same_at(rt, capacity, counts, (size, size));
                 assert!(rt; arena.is_growing() && arena.used_bytes() == 0);
             }
-            (Err(e), Err(refused)) => assert_eq!(rt;
-                e,
-                ArenaErr::AllocErr { refused },
-                "{capacity}"
-            ),
+            (Err(e), Err(refused)) => same_at(rt, capacity, e, ArenaErr::AllocErr { refused }),
             _ => panic!(rt; "an answer for {capacity}"),
         }
     }

@@ -1,6 +1,6 @@
 // Where blocks are placed, how an arena comes to its chunks, what it does where it is refused, and what a reset keeps.
-use super::layout;
 use super::steps::{Case, Step};
+use super::{layout, same};
 use arena_chunks::{Arena, ArenaErr, MemoryChunks};
 
 pub(super) const PLACES: &[Case] = &[
@@ -321,7 +321,7 @@ fn a_budget_bounds_the_growth_and_is_not_refilled_by_a_reset(rt: HostRuntime) {
         (32704, Err(ArenaErr::AllocErr { refused: 2 })),
     ] {
         let placed = arena.alloc_layout(&mut chunks, layout(&rt, size, 1));
-        assert_eq!(rt; placed.map(|block| block.addr), wanted);
+        same(&rt, placed.map(|block| block.addr), wanted);
     }
     arena.reset();
     for (size, wanted) in [
@@ -329,6 +329,6 @@ fn a_budget_bounds_the_growth_and_is_not_refilled_by_a_reset(rt: HostRuntime) {
         (1, Err(ArenaErr::AllocErr { refused: 3 })),
     ] {
         let placed = arena.alloc_layout(&mut chunks, layout(&rt, size, 1));
-        assert_eq!(rt; placed.map(|block| block.addr), wanted);
+        same(&rt, placed.map(|block| block.addr), wanted);
     }
 }

@@ -1,5 +1,5 @@
 // The example's callers over an arena in memory, and the bytes that calls take.
-use super::{ample, layout};
+use super::{ample, layout, same};
 use arena_chunks::Bytes;
 use example_layer::{Buffer, give_back, place_two, reverse_block};
 use std::test::Fail;
@@ -10,10 +10,10 @@ fn blocks_hold_their_bytes(rt: HostRuntime) -> Result<(), Fail> {
     let three = layout(&rt, 3, 1);
     let (one, other) = place_two(&mut a, three, &[1, 2, 3], &[4, 5, 6])?;
     reverse_block(&mut a, other);
-    assert_eq!(rt; a.read(one), [1, 2, 3].as_slice());
-    assert_eq!(rt; a.read(other), [6, 5, 4].as_slice());
+    same(&rt, a.read(one), [1, 2, 3].as_slice());
+    same(&rt, a.read(other), [6, 5, 4].as_slice());
     give_back(&mut a, other);
-    assert_eq!(rt; a.used_bytes(), 3);
+    same(&rt, a.used_bytes(), 3);
     Ok(())
 }
 
@@ -23,12 +23,16 @@ fn buffers_and_bytes_grow(rt: HostRuntime) -> Result<(), Fail> {
     let mut buffer = Buffer::with_capacity(&mut a, 1)?;
     buffer.push(&mut a, 7)?;
     buffer.push(&mut a, 8)?;
-    assert_eq!(rt; buffer.bytes(&a), [7, 8].as_slice());
-    assert_eq!(rt; buffer.block.size, 8);
+    same(&rt, buffer.bytes(&a), [7, 8].as_slice());
+    same(&rt, buffer.block.size, 8);
     let mut bytes = Bytes::of(rt.alloc(), &[1, 2])?;
     bytes.push(3)?;
-    assert_eq!(rt; bytes.as_slice(), [1, 2, 3].as_slice());
+    same(&rt, bytes.as_slice(), [1, 2, 3].as_slice());
     let again = Bytes::from_vec(bytes.into_vec());
-    assert_eq!(rt; (again.as_slice(), again.len()), ([1, 2, 3].as_slice(), 3));
+    same(
+        &rt,
+        (again.as_slice(), again.len()),
+        ([1, 2, 3].as_slice(), 3),
+    );
     Ok(())
 }

@@ -1,8 +1,8 @@
 // Marks, to which an arena goes back, and the search for the chunk that has an address.
 ghost use Rattle.arena_bases.specs.Bases.{IsBlankOf};
 
-use super::layout;
 use super::steps::{Case, Step};
+use super::{layout, same, same_at};
 use arena_bases::Steps;
 use arena_chunks::{Arena, Checkpoint, MemoryChunks};
 use std::alloc::Global;
@@ -247,17 +247,17 @@ const SEARCHES: &[(u64, Option<u64>)] = &[
 fn chunks_that_are_found(rt: HostRuntime) {
     let mut arena = Arena::new(rt.alloc());
     let mut chunks = MemoryChunks::new(rt.alloc(), 1 << 20);
-    assert_eq!(rt; number(&arena, 16), None);
+    same(&rt, number(&arena, 16), None);
     for (size, addr) in [(64, 20352), (64, 20288), (16320, 36848), (32640, 86048)] {
         let block = arena.alloc_layout(&mut chunks, layout(&rt, size, 1));
-        assert_eq!(rt; block.map(|b| b.addr), Ok(addr));
+        same(&rt, block.map(|b| b.addr), Ok(addr));
     }
     for &(addr, wanted) in SEARCHES {
-        assert_eq!(rt; number(&arena, addr), wanted, "{addr}");
+        same_at(&rt, addr, number(&arena, addr), wanted);
     }
     arena.reset();
-    assert_eq!(rt; number(&arena, 20352), None);
-    assert_eq!(rt; number(&arena, 53216), Some(0));
+    same(&rt, number(&arena, 20352), None);
+    same(&rt, number(&arena, 53216), Some(0));
 }
 
 // How many marks are set, and how many bytes each block after one has.
@@ -289,7 +289,7 @@ fn nested(rt: HostRuntime) {
         let mark = marks.pop().expect(&rt, "a mark");
         assert!(rt; arena.accepts(mark));
         arena.rewind(mark);
-        assert_eq!(rt; arena.used_bytes(), SIZE * (DEEP - k));
+        same(&rt, arena.used_bytes(), SIZE * (DEEP - k));
     }
     let mut arena = Arena::new(rt.alloc());
     for mark in &marked(&rt, rt.alloc(), &mut arena) {
@@ -297,7 +297,7 @@ fn nested(rt: HostRuntime) {
             assert!(rt; arena.accepts(*mark));
             arena.rewind(*mark);
         }
-        assert_eq!(rt; arena.used_bytes(), SIZE);
+        same(&rt, arena.used_bytes(), SIZE);
         assert!(rt; mark.chunks == 1 || !arena.accepts(*mark));
     }
 }

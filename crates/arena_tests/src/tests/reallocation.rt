@@ -1,6 +1,6 @@
 // Blocks that get another size at their alignment.
 use super::steps::{Case, Step};
-use super::{ample, held, layout};
+use super::{ample, held, layout, same};
 use arena_chunks::bumpalo_alloc::Alloc;
 use std::test::Fail;
 
@@ -98,14 +98,14 @@ fn bytes_through_three_chunks(rt: HostRuntime) -> Result<(), Fail> {
         byte = if byte < 250 { byte + 1 } else { 0 };
     }
     block = held(&rt, &a, block);
-    assert_eq!(rt; block.addr, 8416);
+    same(&rt, block.addr, 8416);
     assert!(rt; block.size == bytes.len() as u64, "as many bytes");
     a.write(block, 0, bytes.as_slice());
     Alloc::alloc(&mut a, layout(&rt, 1000, 4)).expect(&rt, "a block");
     for (size, addr) in [(24000, 29168), (48000, 70688)] {
         block = held(&rt, &a, block);
         block = a.realloc(block, size).expect(&rt, "a block");
-        assert_eq!(rt; (block.addr, block.size), (addr, size));
+        same(&rt, (block.addr, block.size), (addr, size));
         block = held(&rt, &a, block);
         assert!(rt; a.read(block).starts_with(bytes.as_slice()));
     }

@@ -1,5 +1,6 @@
 // Runs of calls with the replies that the rules give, and the blocks that are held afterwards.
 use super::runs::{Row, Run, Says, all_reply, calls};
+use super::same;
 use arena_chunks::{Arena, Block, MemoryChunks, Ran, run_calls};
 use std::test::Fail;
 
@@ -353,7 +354,7 @@ fn held_blocks(rt: HostRuntime) -> Result<(), Fail> {
     let Ok(Ran { held, .. }) = run_calls(alloc, &mut arena, &mut chunks, calls.as_slice()) else {
         return Err(Fail::from("memory is ample"));
     };
-    assert_eq!(rt; held.len(), HELD.len());
+    same(&rt, held.len(), HELD.len());
     for (held, wanted) in held.iter().zip(HELD) {
         let (name, block) = *held;
         let Block {
@@ -362,7 +363,7 @@ fn held_blocks(rt: HostRuntime) -> Result<(), Fail> {
             size,
             align,
         } = block;
-        assert_eq!(rt; (name, generation, addr, size, align), *wanted);
+        same(&rt, (name, generation, addr, size, align), *wanted);
     }
     Ok(())
 }

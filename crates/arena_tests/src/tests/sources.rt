@@ -1,7 +1,7 @@
 // A source that writes `request` alone, as one that hands out vectors does.
 ghost use Rattle.std.specs.Prelude.{◌≡◌, IfOk, replicate};
 
-use super::{has, layout, placed, reads};
+use super::{has, layout, placed, reads, same};
 use arena_chunks::{Allocator, ArenaErr, ChunkSource, MemoryChunks};
 use std::alloc::{AllocError, Global};
 use std::test::Fail;
@@ -57,10 +57,10 @@ fn a_source_of_vectors(rt: HostRuntime) {
     let second = placed(&rt, "the second", &a, second, 53165);
     reads(&rt, "zeros", &a, second, &[0; 3]);
     let third = a.alloc_layout(layout(&rt, 32704, 1));
-    assert_eq!(rt; third, Err(ArenaErr::AllocErr { refused: 2 }));
+    same(&rt, third, Err(ArenaErr::AllocErr { refused: 2 }));
     has(&rt, "afterwards", &a, 16323, (2, 0));
     let (arena, chunks) = a.into_parts();
-    assert_eq!(rt; (arena.allocated_bytes(), chunks.refused), (49024, 2));
+    same(&rt, (arena.allocated_bytes(), chunks.refused), (49024, 2));
 }
 
 // Chunks of a gibibyte, of which little is used. To touch all bytes of one takes half a second, so that these would take longer

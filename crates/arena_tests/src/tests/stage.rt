@@ -3,8 +3,8 @@ ghost use Rattle.std.specs.Prelude.{◌+◌, ◌≤◌, IsTrue};
 ghost use Rattle.placement.specs.State.{start_of};
 ghost use Rattle.arena_chunks.specs.Memory.{is_readable};
 
-use super::layout;
 use super::steps::{Answer, Step};
+use super::{layout, same_at};
 use arena_chunks::{Arena, ArenaErr, Block, Checkpoint, RefusingChunks};
 use std::alloc::Global;
 use std::process::Abort;
@@ -81,13 +81,13 @@ impl<const M: usize> Stage<M> {
     // The steps that change nothing.
     fn shows(&mut self, rt: &impl Abort, at: At, step: Step) {
         match step {
-            Step::Read(n, wanted) => assert_eq!(rt; self.bytes(rt, at, n), wanted, "{at:?}"),
+            Step::Read(n, wanted) => same_at(rt, at, self.bytes(rt, at, n), wanted),
             Step::Begins(n, wanted) => {
-                assert!(rt; self.bytes(rt, at, n).starts_with(wanted), "{at:?}")
+                same_at(rt, at, self.bytes(rt, at, n).starts_with(wanted), true)
             }
             Step::Held(n, wanted) => {
                 let block = self.block(rt, at, n);
-                assert_eq!(rt; self.arena.is_held_place(block), wanted, "{at:?}");
+                same_at(rt, at, self.arena.is_held_place(block), wanted);
             }
             Step::HeldAt(generation, addr, size, wanted) => {
                 let block = Block {
@@ -96,11 +96,11 @@ impl<const M: usize> Stage<M> {
                     size,
                     align: 1,
                 };
-                assert_eq!(rt; self.arena.is_held_place(block), wanted, "{at:?}");
+                same_at(rt, at, self.arena.is_held_place(block), wanted);
             }
             Step::Accepts(k, wanted) => {
                 let mark = self.mark(rt, at, k);
-                assert_eq!(rt; self.arena.accepts(mark), wanted, "{at:?}");
+                same_at(rt, at, self.arena.accepts(mark), wanted);
             }
             Step::AcceptsAt(generation, chunks, addr, wanted) => {
                 let mark = Checkpoint {
@@ -108,11 +108,9 @@ impl<const M: usize> Stage<M> {
                     chunks,
                     addr,
                 };
-                assert_eq!(rt; self.arena.accepts(mark), wanted, "{at:?}");
+                same_at(rt, at, self.arena.accepts(mark), wanted);
             }
-            Step::Requests(wanted) => {
-                assert_eq!(rt; self.chunks.requests(), Some(wanted), "{at:?}")
-            }
+            Step::Requests(wanted) => { same_at(rt, at, self.chunks.requests(), Some(wanted)) }
             _ => self.tells(rt, at, step),
         }
     }
@@ -120,18 +118,16 @@ impl<const M: usize> Stage<M> {
     // The steps that ask the arena for numbers.
     fn tells(&mut self, rt: &impl Abort, at: At, step: Step) {
         match step {
-            Step::Used(wanted) => assert_eq!(rt; self.arena.used_bytes(), wanted, "{at:?}"),
-            Step::Allocated(wanted) => {
-                assert_eq!(rt; self.arena.allocated_bytes(), wanted, "{at:?}")
-            }
-            Step::Capacity(wanted) => assert_eq!(rt; self.arena.chunk_capacity(), wanted, "{at:?}"),
+            Step::Used(wanted) => same_at(rt, at, self.arena.used_bytes(), wanted),
+            Step::Allocated(wanted) => { same_at(rt, at, self.arena.allocated_bytes(), wanted) }
+            Step::Capacity(wanted) => same_at(rt, at, self.arena.chunk_capacity(), wanted),
             Step::Ends(data_end, end) => {
                 let ends = (self.arena.data_end(), self.arena.end());
-                assert_eq!(rt; ends, (data_end, end), "{at:?}");
+                same_at(rt, at, ends, (data_end, end));
             }
             Step::Statistics(placed, resized) => {
                 let counted = self.arena.get_allocation_stats();
-                assert_eq!(rt; counted, (placed, resized), "{at:?}");
+                same_at(rt, at, counted, (placed, resized));
             }
             Step::Walk(chunks) => self.walks(rt, at, chunks),
             _ => panic!(rt; "{at:?}: a step"),
@@ -176,14 +172,14 @@ impl<const M: usize> Stage<M> {
     ) {
         let answer = match answered {
             Ok(block) => {
-                assert_eq!(rt; (block.size, block.align), layout, "{at:?}");
+                same_at(rt, at, (block.size, block.align), layout);
                 self.blocks.push(block).expect(rt, "memory");
                 Ok(block.addr)
             }
             Err(ArenaErr::AllocErr { refused }) => Err(refused),
             Err(ArenaErr::OutOfMemory) => panic!(rt; "{at:?}: out of memory"),
         };
-        assert_eq!(rt; answer, wanted, "{at:?}");
+        same_at(rt, at, answer, wanted);
     }
 
     fn alloc(&mut self, rt: &impl Abort, at: At, size: u64, align: u64, wanted: Answer) {
@@ -287,22 +283,15 @@ impl<const M: usize> Stage<M> {
     fn walks(&mut self, rt: &impl Abort, at: At, chunks: &[(u64, usize, Option<u8>)]) {
         let mut ranges = self.arena.iter_allocated_chunks_raw();
         for &(addr, size, _) in chunks {
-            assert_eq!(rt; ranges.next(), Some((addr, size as u64)), "{at:?}");
+            same_at(rt, at, ranges.next(), Some((addr, size as u64)));
         }
-        assert!(rt;
-            ranges.next().is_none() && ranges.next().is_none(),
-            "{at:?}"
-        );
+        same_at(rt, at, (ranges.next(), ranges.next()), (None, None));
         let mut parts = self.arena.iter_allocated_chunks();
         for &(_, size, first) in chunks {
             let part = parts.next().expect(rt, "a chunk");
-            assert_eq!(rt;
-                (part.len(), part.first().copied()),
-                (size, first),
-                "{at:?}"
-            );
+            same_at(rt, at, (part.len(), part.first().copied()), (size, first));
         }
-        assert!(rt; parts.next().is_none() && parts.next().is_none(), "{at:?}");
+        same_at(rt, at, (parts.next(), parts.next()), (None, None));
     }
 }
 

@@ -1,5 +1,5 @@
 // Texts in an arena.
-use super::{ample, has, held, layout};
+use super::{ample, has, held, layout, same};
 use arena_chunks::{Allocator, ArenaErr, Block, ChunkSource, MemoryChunks, Str};
 use std::convert::AsStr;
 use std::process::Abort;
@@ -24,12 +24,12 @@ fn a_text_lies_below_the_cursor(rt: HostRuntime) {
     let mut a = ample(rt.alloc());
     for (text, addr) in [("hello", 20411), ("", 20411), ("é", 20409)] {
         let placed = a.alloc_str(text);
-        assert_eq!(rt; address_of(&rt, &a, placed, text), addr);
+        same(&rt, address_of(&rt, &a, placed, text), addr);
     }
     let block = a.alloc_layout(layout(&rt, 2, 1)).expect(&rt, "a block");
     a.write(block, 0, &[0xc3, 0x28]);
     let block = held(&rt, &a, block);
-    assert_eq!(rt; Str { block }.get(&a), None);
+    same(&rt, Str { block }.get(&a), None);
     has(&rt, "afterwards", &a, 9, (4, 0));
 }
 
@@ -53,8 +53,8 @@ fn texts_that_are_joined(rt: HostRuntime) -> Result<(), Fail> {
     let empty = a
         .alloc_concat_strs_array(["", "", ""])
         .expect(&rt, "a text");
-    assert_eq!(rt; empty.block, Block::empty(1));
-    assert_eq!(rt; a.capacity(), 0);
+    same(&rt, empty.block, Block::empty(1));
+    same(&rt, a.capacity(), 0);
     joins(&rt, &mut a, ["hello"], "hello", 20411);
     joins(&rt, &mut a, ["hello", "world!"], "helloworld!", 20400);
     joins(&rt, &mut a, ["", "hello", ""], "hello", 20395);

@@ -1,5 +1,5 @@
 // The traits of blocks, each over a new allocator.
-use super::{ample, has, held, layout, placed, reads};
+use super::{ample, has, held, layout, placed, reads, same};
 use arena_chunks::bumpalo_alloc::{Alloc as BumpaloAlloc, CannotReallocInPlace, Excess};
 use arena_chunks::{Alloc, ArenaErr, BlockAlloc};
 
@@ -37,16 +37,17 @@ fn the_trait_of_allocators_of_blocks(rt: HostRuntime) {
 fn the_trait_of_the_fork(rt: HostRuntime) {
     let mut a = ample(rt.alloc());
     let Excess(block, size) = a.alloc_excess(layout(&rt, 10, 1)).expect(&rt, "a block");
-    assert_eq!(rt; size, 10);
+    same(&rt, size, 10);
     a.write(block, 0, &[7; 10]);
-    assert_eq!(rt; a.grow_in_place(block, 11), Err(CannotReallocInPlace));
-    assert_eq!(rt;
+    same(&rt, a.grow_in_place(block, 11), Err(CannotReallocInPlace));
+    same(
+        &rt,
         CannotReallocInPlace.description(),
-        "cannot reallocate allocator's memory in place"
+        "cannot reallocate allocator's memory in place",
     );
     let block = placed(&rt, "alloc_excess", &a, Ok(block), 20406);
     let Excess(block, size) = a.realloc_excess(block, 11).expect(&rt, "a block");
-    assert_eq!(rt; size, 11);
+    same(&rt, size, 11);
     let block = placed(&rt, "realloc_excess", &a, Ok(block), 20405);
     BumpaloAlloc::dealloc(&mut a, block);
     has(&rt, "dealloc", &a, 0, (1, 1));
@@ -69,22 +70,22 @@ const NO_ARRAYS: &[(u64, u64, u64)] = &[
 fn elements_and_arrays(rt: HostRuntime) {
     let byte = layout(&rt, 1, 1);
     let mut a = ample(rt.alloc());
-    assert_eq!(rt; a.alloc_one(layout(&rt, 0, 1)), Err(REFUSED));
+    same(&rt, a.alloc_one(layout(&rt, 0, 1)), Err(REFUSED));
     for &(size, align, n) in NO_ARRAYS {
         let array = a.alloc_array(layout(&rt, size, align), n);
-        assert_eq!(rt; array, Err(REFUSED));
+        same(&rt, array, Err(REFUSED));
     }
-    assert_eq!(rt; a.capacity(), 0);
+    same(&rt, a.capacity(), 0);
     let one = a.alloc_one(byte);
     let one = placed(&rt, "alloc_one", &a, one, 20415);
     let ten = a.alloc_array(byte, 10);
     let ten = placed(&rt, "alloc_array", &a, ten, 20405);
     assert!(rt; ten.size == 10 && ten.align == 1);
-    assert_eq!(rt; a.realloc_array(ten, byte, 10, 0), Err(REFUSED));
+    same(&rt, a.realloc_array(ten, byte, 10, 0), Err(REFUSED));
     let ten = held(&rt, &a, ten);
     let eleven = a.realloc_array(ten, byte, 10, 11);
     let eleven = placed(&rt, "realloc_array", &a, eleven, 20404);
-    assert_eq!(rt; a.dealloc_array(eleven, byte, 11), Ok(()));
+    same(&rt, a.dealloc_array(eleven, byte, 11), Ok(()));
     let one = held(&rt, &a, one);
     a.dealloc_one(one);
     has(&rt, "afterwards", &a, 0, (2, 1));

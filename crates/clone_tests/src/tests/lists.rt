@@ -1,10 +1,11 @@
-// Lists of ids, lists with room, sets and slices.
+// Lists of ids, lists and texts with room, sets and slices.
 use super::ample;
 use super::checked::{at, copy, copy_within};
 use arena_bits::BitSet;
 use arena_clone::CloneInSemanticIds::{With, Without};
 use arena_clone::{CloneIn, SemanticId};
 use arena_items::BoxSlice;
+use arena_text::StringBuilder;
 use arena_vec::Vec;
 use std::rt::HostRuntime;
 
@@ -45,6 +46,26 @@ fn a_list_with_room(rt: HostRuntime) {
     let none: Vec<u32> = Vec::with_capacity_in(8, &mut from).expect(&rt, "a list");
     let empty = none.clone_in(&from, &mut to).expect(&rt, "a copy");
     assert!(rt; empty.capacity() == 0 && to.used_bytes() == 8);
+}
+
+#[test]
+fn a_text_with_room(rt: HostRuntime) {
+    let alloc = rt.alloc();
+    let mut from = ample(alloc);
+    let mut to = ample(alloc);
+    let mut text = StringBuilder::with_capacity_in(8, &mut from).expect(&rt, "a text");
+    text.push_str(&mut from, "abc").expect(&rt, "room");
+    let copied = text.clone_in(&from, &mut to).expect(&rt, "a copy");
+    let within = text.clone_within(With, &mut from).expect(&rt, "a copy");
+    assert!(rt; text.is_held(&from));
+    text.set_byte(&mut from, 0, b'x');
+    assert!(rt; within.is_held(&from) && text.eq_str(&from, "xbc"));
+    assert!(rt; copied.eq_str(&to, "abc") && within.eq_str(&from, "abc"));
+    assert!(rt; copied.capacity() == 3 && within.capacity() == 3 && text.capacity() == 8);
+    assert_eq!(rt; to.used_bytes(), 3);
+    let none = StringBuilder::with_capacity_in(8, &mut from).expect(&rt, "a text");
+    let empty = none.clone_in(&from, &mut to).expect(&rt, "a copy");
+    assert!(rt; empty.capacity() == 0 && to.used_bytes() == 3);
 }
 
 #[test]

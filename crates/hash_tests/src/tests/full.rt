@@ -1,5 +1,6 @@
 // Arenas that are full, or get no chunk, when a map has to grow.
 use super::kept::{Fx, Kept};
+use super::{same, same_at};
 use arena_chunks::{Allocator, ChunkSource, MemoryChunks, RefusingChunks};
 use arena_hash::FxHasher;
 use arena_items::AllocError;
@@ -19,12 +20,12 @@ fn fixed(rt: &impl Abort, alloc: Global, bytes: usize) -> Allocator<MemoryChunks
 
 // The map has just the keys below n, each with itself as its value.
 fn has_below<C: ChunkSource>(rt: &impl Abort, map: &Fx<u32, u32, C>, n: u32) {
-    assert_eq!(rt; map.len(), n);
+    same(rt, map.len(), n);
     for key in 0..n {
-        assert_eq!(rt; map.get(key), Some(key));
+        same(rt, map.get(key), Some(key));
     }
-    assert_eq!(rt; map.get(n), None);
-    assert_eq!(rt; map.iter().count() as u64, n as u64);
+    same(rt, map.get(n), None);
+    same(rt, map.iter().count() as u64, n as u64);
 }
 
 // Puts keys from 0 on until one is refused, and answers it with the cause.
@@ -42,12 +43,12 @@ const FULL: AllocError = AllocError::AllocErr { refused: 0 };
 // Where there is no room a key that is there gets another value, and one that goes makes room for another.
 fn changes_in_place(rt: &impl Abort, map: &mut Fx<u32, u32, MemoryChunks>, pairs: u32) {
     for key in 0..pairs {
-        assert_eq!(rt; map.insert(key, 7), Ok(Some(key)));
-        assert_eq!(rt; map.remove(key), Some(7));
-        assert_eq!(rt; map.insert(u32::MAX, 8), Ok(None));
-        assert_eq!(rt; map.insert(u32::MAX - 1, 9), Err(FULL));
-        assert_eq!(rt; map.remove(u32::MAX), Some(8));
-        assert_eq!(rt; map.insert(key, key), Ok(None));
+        same(rt, map.insert(key, 7), Ok(Some(key)));
+        same(rt, map.remove(key), Some(7));
+        same(rt, map.insert(u32::MAX, 8), Ok(None));
+        same(rt, map.insert(u32::MAX - 1, 9), Err(FULL));
+        same(rt, map.remove(u32::MAX), Some(8));
+        same(rt, map.insert(key, key), Ok(None));
     }
 }
 
@@ -66,18 +67,18 @@ const GROWTHS: [(usize, u32); 6] = [
 fn full_at_each_growth(rt: HostRuntime) {
     for (bytes, pairs) in GROWTHS {
         let mut map = Kept::new(fixed(&rt, rt.alloc(), bytes));
-        assert_eq!(rt; refused_at(&mut map, 100), (pairs, Some(FULL)), "{bytes}");
+        same_at(&rt, bytes, refused_at(&mut map, 100), (pairs, Some(FULL)));
         has_below(&rt, &map, pairs);
         let used = map.used_bytes();
         changes_in_place(&rt, &mut map, pairs);
         has_below(&rt, &map, pairs);
-        assert_eq!(rt; map.used_bytes(), used, "{bytes}");
+        same_at(&rt, bytes, map.used_bytes(), used);
         // Where a pair is refused, no further one was taken.
         let mut fresh: Fx<u32, u32, MemoryChunks> = Kept::new(fixed(&rt, rt.alloc(), bytes));
         let mut keys = (0..100u32).zip(0..100u32);
-        assert_eq!(rt; fresh.collect(&mut keys), Err(FULL), "{bytes}");
+        same_at(&rt, bytes, fresh.collect(&mut keys), Err(FULL));
         let next = pairs.wrapping_add(1);
-        assert_eq!(rt; keys.next(), Some((next, next)), "{bytes}");
+        same_at(&rt, bytes, keys.next(), Some((next, next)));
     }
 }
 
@@ -98,23 +99,25 @@ const CAPACITIES: [(u64, Option<AllocError>, u64, u32); 8] = [
 fn capacities(rt: HostRuntime) {
     for (capacity, failed, bytes, pairs) in CAPACITIES {
         let mut map = Kept::new(fixed(&rt, rt.alloc(), 288));
-        assert_eq!(rt;
+        same_at(
+            &rt,
+            capacity,
             map.with_capacity(capacity, None).err(),
             failed,
-            "{capacity}"
         );
-        assert_eq!(rt; map.used_bytes(), bytes, "{capacity}");
-        assert_eq!(rt; refused_at(&mut map, pairs), (pairs, None), "{capacity}");
-        assert_eq!(rt; map.used_bytes(), bytes, "{capacity}");
+        same_at(&rt, capacity, map.used_bytes(), bytes);
+        same_at(&rt, capacity, refused_at(&mut map, pairs), (pairs, None));
+        same_at(&rt, capacity, map.used_bytes(), bytes);
         has_below(&rt, &map, pairs);
         let mut other: Fx<u32, u32, MemoryChunks> = Kept::new(fixed(&rt, rt.alloc(), 288));
         let hasher = Some(FxHasher::default());
-        assert_eq!(rt;
+        same_at(
+            &rt,
+            capacity,
             other.with_capacity(capacity, hasher).err(),
             failed,
-            "{capacity}"
         );
-        assert_eq!(rt; other.used_bytes(), bytes, "{capacity}");
+        same_at(&rt, capacity, other.used_bytes(), bytes);
     }
 }
 

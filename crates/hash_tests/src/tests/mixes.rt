@@ -2,7 +2,7 @@
 ghost use Rattle.std.specs.Prelude.{◌+◌, ◌*◌, ◌%◌, ◌^◌, slice_index};
 
 use super::kept::Kept;
-use super::{Zero, ample};
+use super::{Zero, ample, same};
 use arena_chunks::MemoryChunks;
 use arena_hash::{FxHasher, KeyHasher};
 use std::alloc::Global;
@@ -48,13 +48,13 @@ type Plain = BTreeMap<u64, u32>;
 
 // Both have the same pairs.
 fn compare<S: KeyHasher + Copy>(rt: &impl Abort, map: &mut Map<S>, plain: &Plain) {
-    assert_eq!(rt; map.len() as usize, plain.len());
+    same(rt, map.len() as usize, plain.len());
     assert!(rt; map.counts() == (plain.len(), plain.len()));
     for (key, value) in map.iter() {
-        assert_eq!(rt; plain.get(&key).copied(), Some(value));
+        same(rt, plain.get(&key).copied(), Some(value));
     }
     for (key, value) in plain.iter() {
-        assert_eq!(rt; map.get(*key), Some(*value));
+        same(rt, map.get(*key), Some(*value));
     }
     let pairs = plain.iter().map(|(key, value)| (*key, *value));
     assert!(rt; map.is_map_of(pairs) == Ok(true));
@@ -74,12 +74,12 @@ fn mix<S: KeyHasher + Copy>(
         let key = random.draw(keys) << 24 | random.draw(2);
         let value = (random.draw(1 << 31) % 1000) as u32;
         let had = plain.get(&key).copied();
-        assert_eq!(rt; map.get(key), had);
+        same(rt, map.get(key), had);
         if random.draw(64) < 37 {
-            assert_eq!(rt; map.insert(key, value), Ok(had));
+            same(rt, map.insert(key, value), Ok(had));
             plain.insert(key, value)?;
         } else {
-            assert_eq!(rt; map.remove(key), had);
+            same(rt, map.remove(key), had);
             plain.remove(&key);
         }
         if round % 100 == 0 {

@@ -2,7 +2,7 @@
 ghost use Rattle.std.specs.Prelude.{◌≡◌};
 
 use super::kept::Kept;
-use super::{Zero, ample};
+use super::{Zero, ample, same_at};
 use arena_chunks::ChunkSource;
 use arena_hash::{ArenaKey, FxHasher, KeyHasher};
 use arena_items::Item;
@@ -38,7 +38,7 @@ fn runs<K: ArenaKey, V: Item + PartialEq, S: KeyHasher + Copy, C: ChunkSource>(
             }
         };
         assert!(rt; answer == Ok(*wanted), "row {n}");
-        assert_eq!(rt; map.len(), *len, "row {n}");
+        same_at(rt, n, map.len(), *len);
     }
 }
 

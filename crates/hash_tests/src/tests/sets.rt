@@ -2,7 +2,7 @@
 ghost use Rattle.arena_hash.specs.Sets.{set_kind};
 ghost use Rattle.hash_tests.specs.Held.{IsKept};
 
-use super::{Zero, ample};
+use super::{Zero, ample, same_at};
 use arena_chunks::{Allocator, MemoryChunks};
 use arena_hash::{ArenaKey, FxHasher, HashMap, HashSet, KeyHasher};
 use arena_items::{Grown, Item};
@@ -105,8 +105,8 @@ fn runs<S: KeyHasher + Copy>(rt: &impl Abort, set: &mut Kept<S>) {
             "row {n}"
         );
         assert!(rt; set.has_len(*len), "row {n}");
-        assert_eq!(rt; set.is_set_of(items), Ok(true), "row {n}");
-        assert_eq!(rt; set.is_set_of(&[4, 260]), Ok(n == 3), "row {n}");
+        same_at(rt, n, set.is_set_of(items), Ok(true));
+        same_at(rt, n, set.is_set_of(&[4, 260]), Ok(n == 3));
     }
 }
 

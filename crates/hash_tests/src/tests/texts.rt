@@ -2,7 +2,7 @@
 ghost use Rattle.arena_hash.specs.Contents.{kind};
 ghost use Rattle.hash_tests.specs.Held.{IsKept};
 
-use super::{Zero, ample};
+use super::{Zero, ample, same};
 use arena_chunks::{Allocator, ChunkSource, MemoryChunks, Str};
 use arena_hash::{ArenaKey, FxHasher, HashMap, KeyHasher};
 use arena_items::{Grown, Item};
@@ -78,13 +78,13 @@ impl<S: KeyHasher + Copy> Texts<S> {
 fn two_blocks_of_one_text(rt: HostRuntime) {
     let mut map: Texts<FxHasher> = Texts::new(rt.alloc());
     let (first, was) = map.insert(&rt, "x", 1);
-    assert_eq!(rt; was, Ok(None));
+    same(&rt, was, Ok(None));
     let (second, was) = map.insert(&rt, "x", 2);
-    assert_eq!(rt; was, Ok(Some(1)));
+    same(&rt, was, Ok(Some(1)));
     assert!(rt; first != second && map.has_just(&[first], 2));
-    assert_eq!(rt; map.get(&rt, "x"), Some(2));
-    assert_eq!(rt; map.get(&rt, "y"), None);
-    assert_eq!(rt; map.remove(&rt, "x"), Some(2));
+    same(&rt, map.get(&rt, "x"), Some(2));
+    same(&rt, map.get(&rt, "y"), None);
+    same(&rt, map.remove(&rt, "x"), Some(2));
 }
 
 // Texts of no byte, of one word and less, and of more than one.

@@ -1,7 +1,7 @@
 // Calls on bit sets, and their texts and numbers then: worked examples, sets that are joined, full arenas.
 ghost use Rattle.arena_bits.specs.Sets.{AreOneOrApart};
 
-use super::{ample, small};
+use super::{ample, same, small};
 use arena_bits::BitSet;
 use arena_chunks::{Allocator, ChunkSource, MemoryChunks};
 use arena_items::AllocError;
@@ -70,10 +70,10 @@ fn shows<C: ChunkSource>(
 ) {
     assert!(rt; set.is_held(a));
     let plain = set.display(alloc, a).expect(rt, "memory");
-    assert_eq!(rt; plain.as_slice(), text.as_bytes());
+    same(rt, plain.as_slice(), text.as_bytes());
     let whole = set.debug(alloc, a).expect(rt, "memory");
     let expected = format!(in alloc; "BitSet(\"{text}\")").expect(rt, "memory");
-    assert_eq!(rt; whole.as_slice(), expected.as_bytes());
+    same(rt, whole.as_slice(), expected.as_bytes());
 }
 
 // A walk gives these numbers, with its hints on the way, and a clone of it stays behind.
@@ -86,21 +86,23 @@ fn walks<C: ChunkSource>(rt: &impl Abort, a: &Allocator<C>, set: &BitSet, number
     let mut behind = 0;
     for number in numbers {
         assert!(rt; behind <= *number && *number < set.capacity);
-        assert_eq!(rt;
+        same(
+            rt,
             ones.size_hint(),
-            (0, Some((set.capacity - behind) as usize))
+            (0, Some((set.capacity - behind) as usize)),
         );
-        assert_eq!(rt; ones.next(), Some(*number));
+        same(rt, ones.next(), Some(*number));
         behind = *number + 1;
     }
     assert!(rt; behind <= set.capacity);
-    assert_eq!(rt;
+    same(
+        rt,
         ones.size_hint(),
-        (0, Some((set.capacity - behind) as usize))
+        (0, Some((set.capacity - behind) as usize)),
     );
     for _ in 0..2 {
-        assert_eq!(rt; ones.next(), None);
-        assert_eq!(rt; ones.size_hint(), (0, Some(0)));
+        same(rt, ones.next(), None);
+        same(rt, ones.size_hint(), (0, Some(0)));
     }
     assert!(rt; clone.count() == numbers.len());
 }
@@ -313,12 +315,12 @@ fn sets_of_some_capacities(rt: HostRuntime) {
     for (capacity, words, bits, below) in CAPACITIES {
         let mut a = ample(rt.alloc());
         let mut set = BitSet::new_in(capacity, &mut a).expect(&rt, "a set");
-        assert_eq!(rt; (set.capacity(), set.words.len()), (capacity, words));
+        assert!(rt; set.capacity() == capacity && set.words.len() == words);
         tells(&rt, &a, &set, &[], &[]);
         put(&rt, &mut a, &mut set, bits);
         walks(&rt, &a, &set, below);
         tells(&rt, &a, &set, bits, below);
-        assert_eq!(rt; a.used_bytes(), words * 8);
+        same(&rt, a.used_bytes(), words * 8);
         // No handle of another block or number of words is held.
         let more = BitSet {
             capacity: capacity + 64,
@@ -326,7 +328,7 @@ fn sets_of_some_capacities(rt: HostRuntime) {
         };
         assert!(rt; !more.is_held(&a));
         a.reset();
-        assert_eq!(rt; set.is_held(&a), words == 0);
+        same(&rt, set.is_held(&a), words == 0);
     }
 }
 
@@ -334,11 +336,12 @@ fn sets_of_some_capacities(rt: HostRuntime) {
 fn refused<C: ChunkSource>(rt: &impl Abort, a: &mut Allocator<C>, capacity: u64, requests: u32) {
     let used = (a.used_bytes(), a.capacity());
     let made = BitSet::new_in(capacity, a);
-    assert_eq!(rt;
+    same(
+        rt,
         made.err(),
-        Some(AllocError::AllocErr { refused: requests })
+        Some(AllocError::AllocErr { refused: requests }),
     );
-    assert_eq!(rt; (a.used_bytes(), a.capacity()), used);
+    same(rt, (a.used_bytes(), a.capacity()), used);
 }
 
 #[test]
@@ -348,7 +351,7 @@ fn sets_refused(rt: HostRuntime) {
     put(&rt, &mut a, &mut set, &[64]);
     let mut other = BitSet::new_in(100, &mut a).expect(&rt, "a set");
     put(&rt, &mut a, &mut other, &[1, 99]);
-    assert_eq!(rt; (a.used_bytes(), a.capacity()), (32, 32));
+    same(&rt, (a.used_bytes(), a.capacity()), (32, 32));
     for capacity in [1, u64::MAX] {
         refused(&rt, &mut a, capacity, 0);
     }
@@ -357,7 +360,7 @@ fn sets_refused(rt: HostRuntime) {
     walks(&rt, &a, &other, &[1, 99]);
     let none = BitSet::new_in(0, &mut a).expect(&rt, "a set of no words");
     assert!(rt; none.is_empty(&a));
-    assert_eq!(rt; a.used_bytes(), 32);
+    same(&rt, a.used_bytes(), 32);
     let mut a = Allocator::new(rt.alloc(), MemoryChunks::new(rt.alloc(), 20_000));
     for capacity in [1 << 20, u64::MAX] {
         refused(&rt, &mut a, capacity, 1);

@@ -1,7 +1,7 @@
 // Calls on texts, and the bytes and the capacity then: worked examples, characters at every place, refusals.
-use super::{ample, small};
+use super::{ample, same, small};
 use arena_chunks::{Allocator, ChunkSource, MemoryChunks};
-use arena_items::{AllocError, Grown, InArena};
+use arena_items::{AllocError, Grown};
 use arena_text::StringBuilder;
 use std::alloc::Global;
 use std::process::Abort;
@@ -71,9 +71,9 @@ fn has<C: ChunkSource>(
     cap: u64,
 ) {
     assert!(rt; text.is_held(a));
-    assert_eq!(rt; text.as_bytes(a), bytes);
-    assert_eq!(rt; (text.len(), text.capacity()), (bytes.len() as u64, cap));
-    assert_eq!(rt; text.is_empty(), bytes.is_empty());
+    same(rt, text.as_bytes(a), bytes);
+    same(rt, (text.len(), text.capacity()), (bytes.len() as u64, cap));
+    same(rt, text.is_empty(), bytes.is_empty());
 }
 
 // Makes a text.
@@ -273,12 +273,16 @@ fn not_made(rt: HostRuntime) {
         Make::Texts("1234", "5678"),
     ] {
         let made = text_of(&mut a, how);
-        assert_eq!(rt; made.err(), Some(NO_PLACE));
+        same(&rt, made.err(), Some(NO_PLACE));
         has(&rt, &a, text, b"123456789", 9);
     }
     let last = text_of(&mut a, Make::Texts("123", "4567")).expect(&rt, "room");
     has(&rt, &a, last, b"1234567", 7);
-    assert_eq!(rt; (a.used_bytes(), a.get_allocation_stats()), (16, (2, 0)));
+    same(
+        &rt,
+        (a.used_bytes(), a.get_allocation_stats()),
+        (16, (2, 0)),
+    );
 }
 
 // Two-, three- and four-byte characters, the ends of their ranges, and those of one byte.
@@ -312,13 +316,13 @@ fn between(rt: &impl Abort, alloc: Global, c: char, utf8: &[u8], before: usize) 
     assert!(rt; text.is_held(&a));
     let bytes = text.as_bytes(&a);
     assert!(rt; utf8.len() <= 4);
-    assert_eq!(rt; bytes.len(), 9 + utf8.len());
+    assert!(rt; bytes.len() == 9 + utf8.len());
     assert!(rt; bytes[..before].iter().all(|b| *b == b'<'));
-    assert_eq!(rt; &bytes[before..before + utf8.len()], utf8);
+    same(rt, &bytes[before..before + utf8.len()], utf8);
     assert!(rt; bytes[before + utf8.len()..].iter().all(|b| *b == b'>'));
     let read = text.into_str().get(&a).expect(rt, "text");
-    assert_eq!(rt; read.chars().nth(before), Some(c));
-    assert_eq!(rt; read.chars().count(), 10);
+    same(rt, read.chars().nth(before), Some(c));
+    same(rt, read.chars().count(), 10);
 }
 
 #[test]
@@ -350,17 +354,21 @@ fn read(rt: HostRuntime) {
         let mut second = text_of(&mut a, Make::Room(20)).expect(&rt, "room");
         take(&rt, &mut a, &mut second, Step::Text(other)).expect(&rt, "room");
         assert!(rt; first.is_held(&a) && second.is_held(&a));
-        assert_eq!(rt;
+        same(
+            &rt,
             (first.eq(&a, &second), first.eq_str(&a, other)),
-            (equal, equal)
+            (equal, equal),
         );
     }
     let mut text = text_of(&mut a, Make::Text("héllo")).expect(&rt, "room");
     assert!(rt; text.is_held(&a) && str::from_utf8(text.as_bytes(&a)).is_ok());
-    assert_eq!(rt; text.as_str(&a), "héllo");
+    same(&rt, text.as_str(&a), "héllo");
     let whole = text.into_str();
-    assert_eq!(rt; (whole.block.addr, whole.block.size), (text.block.addr, 6));
-    assert_eq!(rt; text.own_block(), text.block);
+    same(
+        &rt,
+        (whole.block.addr, whole.block.size),
+        (text.block.addr, 6),
+    );
     assert!(rt; text.len() == 6);
     text.set_byte(&mut a, 5, b'\'');
     has(&rt, &a, text, "héll'".as_bytes(), 6);
@@ -371,7 +379,7 @@ fn read(rt: HostRuntime) {
         StringBuilder { cap: 5, ..text },
         StringBuilder::new_in(),
     ] {
-        assert_eq!(rt; other.is_held(&a), other.cap == 0);
+        same(&rt, other.is_held(&a), other.cap == 0);
     }
     a.reset();
     assert!(rt; !text.is_held(&a));

@@ -1,13 +1,43 @@
 // How vectors compare, their hashes and their texts, and what errors say.
-use super::ample;
-use super::vectors::vec_of;
+use super::vectors::{known, vec_of};
+use super::{ample, same};
+use arena_chunks::{Allocator, ChunkSource};
 use arena_items::Item;
-use arena_vec::AllocError;
+use arena_vec::{AllocError, Vec};
 use std::alloc::Global;
 use std::cmp::Ordering;
 use std::fmt::Debug;
 use std::hash::{DefaultHasher, Hash, Hasher};
 use std::process::Abort;
+
+// How two vectors compare.
+fn ordered<C: ChunkSource>(
+    rt: &impl Abort,
+    a: &Allocator<C>,
+    one: Vec<u8>,
+    other: Vec<u8>,
+) -> Ordering {
+    known(rt, a, one);
+    known(rt, a, other);
+    let order = one.cmp(a, &other);
+    same(rt, one.partial_cmp(a, &other), Some(order));
+    order
+}
+
+// Whether two vectors are equal, the second of which is this list.
+fn equal<C: ChunkSource>(
+    rt: &impl Abort,
+    a: &Allocator<C>,
+    one: Vec<u8>,
+    other: Vec<u8>,
+    list: &[u8],
+) -> bool {
+    known(rt, a, one);
+    known(rt, a, other);
+    let is_equal = one.eq(a, &other);
+    same(rt, one.eq_slice(a, list), is_equal);
+    is_equal
+}
 
 // How the values before an index compare with those from there on. All calls say the same.
 fn compared(rt: &impl Abort, alloc: Global, values: &[u8], at: u32) -> Ordering {
@@ -15,10 +45,9 @@ fn compared(rt: &impl Abort, alloc: Global, values: &[u8], at: u32) -> Ordering 
     let mut vec = vec_of(rt, &mut a, values);
     assert!(rt; at <= vec.len() && at as usize <= values.len());
     let tail = vec.split_off(&mut a, at).expect(rt, "room");
-    let order = vec.cmp(&a, &tail);
-    assert_eq!(rt; vec.partial_cmp(&a, &tail), Some(order));
-    assert_eq!(rt; vec.eq(&a, &tail), order.is_eq());
-    assert_eq!(rt; vec.eq_slice(&a, &values[at as usize..]), order.is_eq());
+    let order = ordered(rt, &a, vec, tail);
+    let is_equal = equal(rt, &a, vec, tail, &values[at as usize..]);
+    same(rt, is_equal, order.is_eq());
     order
 }
 
@@ -35,19 +64,23 @@ const ORDERS: [(&[u8], u32, Ordering); 9] = [
 ];
 
 // The hash is that of the slice.
+fn hashed(rt: &impl Abort, alloc: Global, list: &[u32]) {
+    let mut a = ample(alloc);
+    let vec = vec_of(rt, &mut a, list);
+    let (mut one, mut other) = (DefaultHasher::new(), DefaultHasher::new());
+    vec.hash(&a, &mut one);
+    list.hash(&mut other);
+    assert!(rt; one.finish() == other.finish());
+}
+
 #[test]
 fn orders_and_hashes(rt: HostRuntime) {
     for (values, at, order) in ORDERS {
-        assert_eq!(rt; compared(&rt, rt.alloc(), values, at), order);
+        same(&rt, compared(&rt, rt.alloc(), values, at), order);
     }
     let rows: [&[u32]; 3] = [&[1, 2], &[2, 1], &[]];
     for list in rows {
-        let mut a = ample(rt.alloc());
-        let vec = vec_of(&rt, &mut a, list);
-        let (mut one, mut other) = (DefaultHasher::new(), DefaultHasher::new());
-        vec.hash(&a, &mut one);
-        list.hash(&mut other);
-        assert_eq!(rt; one.finish(), other.finish());
+        hashed(&rt, rt.alloc(), list);
     }
 }
 
@@ -57,7 +90,7 @@ fn says<T: Item + Debug>(rt: &impl Abort, alloc: Global, list: &[T], wanted: &st
     let mut a = ample(alloc);
     let vec = vec_of(rt, &mut a, list);
     let text = vec.debug(alloc, &a).expect(rt, "memory");
-    assert_eq!(rt; text.as_str(), wanted);
+    assert!(rt; text.as_str() == wanted);
 }
 
 const ERRORS: [(AllocError, &str); 3] = [

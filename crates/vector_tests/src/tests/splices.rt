@@ -1,11 +1,15 @@
 // Ranges of vectors in whose place other values come.
-use super::ample;
 use super::numbers::Hints;
 use super::vector_refusals::{NONE_REFUSED, fixed};
 use super::vectors::{holds, known, vec_of};
+use super::{ample, same, same_at};
 use arena_chunks::{Allocator, MemoryChunks};
 use arena_vec::{Grown, Vec};
+use std::alloc::Global;
 use std::process::Abort;
+
+// The values at the ends of a range, and the answer.
+type Told = ((Option<u32>, Option<u32>), Grown<()>);
 
 // Takes a value from each end of a range, and puts the numbers from 7 on in its place. It tells the two, and
 // the answer.
@@ -15,7 +19,7 @@ fn splice(
     vec: &mut Vec<u32>,
     range: (u32, u32),
     hints: Hints,
-) -> ((Option<u32>, Option<u32>), Grown<()>) {
+) -> Told {
     known(rt, a, *vec);
     let (start, end) = range;
     assert!(rt; start <= end && end <= vec.len());
@@ -111,33 +115,42 @@ const OF_RANGES: [((u32, u32), Hints, (Option<u32>, Option<u32>), &[u32], u32); 
     ((4, 4), Hints::Exactly(0), (None, None), FOUR, 4),
 ];
 
-#[test]
-fn of_ranges(rt: HostRuntime) {
-    for (n, row) in IN_THE_MIDST.iter().enumerate() {
-        let (hints, list, cap, used) = *row;
-        let mut a = ample(rt.alloc());
-        let mut vec = vec_of(&rt, &mut a, FOUR);
-        let (ends, answer) = splice(&rt, &mut a, &mut vec, (1, 3), hints);
-        assert_eq!(rt; (ends, answer), ((Some(2), Some(3)), Ok(())), "row {n}");
-        assert!(rt; holds(&rt, &a, vec, list), "row {n}");
-        assert_eq!(rt; (vec.capacity(), a.used_bytes()), (cap, used), "row {n}");
-    }
-    for (n, row) in OF_RANGES.iter().enumerate() {
-        let (range, hints, wanted, list, cap) = *row;
-        let mut a = ample(rt.alloc());
-        let mut vec = vec_of(&rt, &mut a, FOUR);
-        let (ends, answer) = splice(&rt, &mut a, &mut vec, range, hints);
-        assert_eq!(rt; (ends, answer), (wanted, Ok(())), "row {n}");
-        assert!(rt; holds(&rt, &a, vec, list), "row {n}");
-        assert_eq!(rt; vec.capacity(), cap, "row {n}");
-    }
-    let mut a = ample(rt.alloc());
-    let mut vec = vec_of(&rt, &mut a, &[(), (), ()]);
+// Splices a vector of four values, which is this list then. It tells what was told, the capacity, and how many bytes are used.
+fn spliced(
+    rt: &impl Abort,
+    arena: Allocator<MemoryChunks>,
+    range: (u32, u32),
+    hints: Hints,
+    list: &[u32],
+) -> (Told, u32, u64) {
+    let mut a = arena;
+    let mut vec = vec_of(rt, &mut a, FOUR);
+    let told = splice(rt, &mut a, &mut vec, range, hints);
+    same_at(rt, list, holds(rt, &a, vec, list), true);
+    (told, vec.capacity(), a.used_bytes())
+}
+
+fn units(rt: &impl Abort, alloc: Global) {
+    let mut a = ample(alloc);
+    let mut vec = vec_of(rt, &mut a, &[(), (), ()]);
     assert!(rt; vec.len() == 3);
     let mut gone = vec.splice(&mut a, 0, 1, [(), (), ()].into_iter());
-    assert_eq!(rt; (gone.next(), gone.next()), (Some(()), None));
+    same(rt, (gone.next(), gone.next()), (Some(()), None));
     assert!(rt; gone.finish().is_ok());
-    assert_eq!(rt; vec.len(), 5);
+    same(rt, vec.len(), 5);
+}
+
+#[test]
+fn of_ranges(rt: HostRuntime) {
+    for (hints, list, cap, used) in IN_THE_MIDST {
+        let found = spliced(&rt, ample(rt.alloc()), (1, 3), hints, list);
+        same(&rt, found, (((Some(2), Some(3)), Ok(())), cap, used));
+    }
+    for (range, hints, ends, list, cap) in OF_RANGES {
+        let (told, room, _) = spliced(&rt, ample(rt.alloc()), range, hints, list);
+        same(&rt, (told, room), ((ends, Ok(())), cap));
+    }
+    units(&rt, rt.alloc());
 }
 
 // How many bytes there are, the range, what is told, the list then, and how many bytes are used.
@@ -159,13 +172,9 @@ const REFUSED: [(usize, (u32, u32), Hints, &[u32], u64); 7] = [
 
 #[test]
 fn refused(rt: HostRuntime) {
-    for (n, row) in REFUSED.iter().enumerate() {
-        let (bytes, range, hints, list, used) = *row;
-        let mut a = fixed(&rt, rt.alloc(), bytes);
-        let mut vec = vec_of(&rt, &mut a, FOUR);
-        let (_, answer) = splice(&rt, &mut a, &mut vec, range, hints);
-        assert_eq!(rt; answer, NONE_REFUSED, "row {n}");
-        assert!(rt; holds(&rt, &a, vec, list), "row {n}");
-        assert_eq!(rt; a.used_bytes(), used, "row {n}");
+    for (bytes, range, hints, list, used) in REFUSED {
+        let a = fixed(&rt, rt.alloc(), bytes);
+        let ((_, answer), _, taken) = spliced(&rt, a, range, hints, list);
+        same(&rt, (answer, taken), (NONE_REFUSED, used));
     }
 }

@@ -2,6 +2,7 @@
 ghost use Rattle.std.specs.Prelude.{◌≡◌};
 ghost use Rattle.arena_chunks.specs.Frame.{AreBlocksApart};
 
+use super::same_at;
 use super::vectors::{Answer, Call, done, failed, holds, known, make};
 use arena_chunks::{Allocator, Block, ChunkSource};
 use arena_vec::Vec;
@@ -75,15 +76,13 @@ pub(super) fn both<C: ChunkSource>(
     for (n, row) in rows.iter().enumerate() {
         let (call, wanted, (one, room), (other, more)) = row;
         let answer = step(rt, a, &mut first, &mut second, call);
-        assert!(rt; answer == *wanted, "row {n}");
-        assert!(rt;
+        same_at(rt, n, answer == *wanted, true);
+        same_at(
+            rt,
+            n,
             holds(rt, a, first, one) && holds(rt, a, second, other),
-            "row {n}"
+            true,
         );
-        assert_eq!(rt;
-            (first.capacity(), second.capacity()),
-            (*room, *more),
-            "row {n}"
-        );
+        same_at(rt, n, (first.capacity(), second.capacity()), (*room, *more));
     }
 }

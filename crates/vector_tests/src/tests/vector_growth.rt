@@ -1,10 +1,11 @@
 // Where the block of a vector is placed as it grows, and what it has used then.
 use super::two_vectors::{self, Pair, both};
 use super::vectors::{Answer, Call, holds, known, make, vec_of};
-use super::{ample, has};
-use arena_chunks::{Allocator, ChunkSource, RefusingChunks};
+use super::{ample, has, same, same_at};
+use arena_chunks::{Allocator, ChunkSource, MemoryChunks, RefusingChunks};
 use arena_items::{ArenaItems, Item};
 use arena_vec::Vec;
+use std::alloc::Global;
 use std::process::Abort;
 use std::test::Fail;
 
@@ -24,7 +25,7 @@ fn moves<T: Item, C: ChunkSource>(
         known(rt, a, *vec);
         let (what, call, addr, used, counts) = row;
         assert!(rt; matches!(make(rt, a, vec, call), Answer::Done), "{what}");
-        assert_eq!(rt; vec.as_ptr().addr, *addr, "{what}");
+        same_at(rt, what, vec.as_ptr().addr, *addr);
         has(rt, what, a, *used, *counts);
     }
 }
@@ -55,10 +56,10 @@ const BEHIND_A_BLOCK: [Row<'static, u32>; 10] = [
 fn at_the_cursor_and_behind_a_block(rt: HostRuntime) {
     let mut a = ample(rt.alloc());
     let mut vec = <Vec<u32>>::new_in();
-    assert_eq!(rt; (vec.as_ptr().addr, vec.as_mut_ptr().size), (4, 0));
+    same(&rt, (vec.as_ptr().addr, vec.as_mut_ptr().size), (4, 0));
     moves(&rt, &mut a, &mut vec, &AT_THE_CURSOR);
     let one = a.alloc(7u8).expect(&rt, "a box");
-    assert_eq!(rt; one.block.addr, 20399);
+    same(&rt, one.block.addr, 20399);
     moves(&rt, &mut a, &mut vec, &BEHIND_A_BLOCK);
     assert!(rt; holds(&rt, &a, vec, &[6]));
 }
@@ -74,20 +75,24 @@ const AT_ONCE: [(&str, Call<'static, u32>, u64); 7] = [
     ("exactly", Call::ReserveExact(1), 20400),
 ];
 
+// A call on three values, and where their block lies then.
+fn moved(rt: &impl Abort, a: &mut Allocator<MemoryChunks>, row: Row<'_, u32>, is_behind: bool) {
+    let mut vec = vec_of(rt, a, &[1, 2, 3]);
+    if is_behind {
+        a.alloc(7u8).expect(rt, "a box");
+    }
+    moves(rt, a, &mut vec, &[row]);
+}
+
 // Behind a block of one byte it is placed anew, 16 bytes further down.
 #[test]
 fn many_values_at_once(rt: HostRuntime) {
     for (what, call, addr) in AT_ONCE {
-        let mut a = ample(rt.alloc());
-        let mut vec = vec_of(&rt, &mut a, &[1, 2, 3]);
         let row = (what, call, addr, 20416u64.wrapping_sub(addr), (1, 1));
-        moves(&rt, &mut a, &mut vec, &[row]);
-        let mut a = ample(rt.alloc());
-        let mut vec = vec_of(&rt, &mut a, &[1, 2, 3]);
-        a.alloc(7u8).expect(&rt, "a box");
+        moved(&rt, &mut ample(rt.alloc()), row, false);
         let used = 20432u64.wrapping_sub(addr);
         let row = (what, call, addr.wrapping_sub(16), used, (2, 1));
-        moves(&rt, &mut a, &mut vec, &[row]);
+        moved(&rt, &mut ample(rt.alloc()), row, true);
     }
 }
 
@@ -115,26 +120,34 @@ const BETWEEN_CHUNKS: [two_vectors::Row<'static>; 4] = [
     (Pair::AppendBack, Answer::Done, (&[], 3), (&[9, 1, 2, 3], 4)),
 ];
 
-#[test]
-fn past_the_end_of_a_chunk(rt: HostRuntime) {
-    let mut a = ample(rt.alloc());
+fn bytes(rt: &impl Abort, alloc: Global) {
+    let mut a = ample(alloc);
     let mut vec = <Vec<u8>>::new_in();
-    moves(&rt, &mut a, &mut vec, &PAST_THE_END);
-    known(&rt, &a, vec);
+    moves(rt, &mut a, &mut vec, &PAST_THE_END);
+    known(rt, &a, vec);
     assert!(rt; vec.len() == 16322);
     let ends = (vec.get(&a, 0), vec.get(&a, 1), vec.pop(&a), vec.pop(&a));
-    assert_eq!(rt; ends, (6, 7, Some(8), Some(7)));
-    assert_eq!(rt; (vec.len(), vec.capacity()), (16320, 32640));
+    same(rt, ends, (6, 7, Some(8), Some(7)));
+    same(rt, (vec.len(), vec.capacity()), (16320, 32640));
+}
+
+#[test]
+fn past_the_end_of_a_chunk(rt: HostRuntime) {
+    bytes(&rt, rt.alloc());
     // Less than all of the chunk, and twice as much is more.
     let mut a = ample(rt.alloc());
     let mut vec = <Vec<u32>>::new_in();
     moves(&rt, &mut a, &mut vec, &MOST_OF_A_CHUNK);
-    assert_eq!(rt; vec.capacity(), 8000);
+    same(&rt, vec.capacity(), 8000);
+}
+
+#[test]
+fn between_chunks(rt: HostRuntime) {
     let mut a = ample(rt.alloc());
     let old = vec_of(&rt, &mut a, &[1, 2, 3]);
     a.alloc_slice_fill_copy(16320, 0u8).expect(&rt, "a slice");
     both(&rt, &mut a, old, &BETWEEN_CHUNKS);
-    assert_eq!(rt; (old.as_ptr().addr, a.used_bytes()), (20404, 16348));
+    same(&rt, (old.as_ptr().addr, a.used_bytes()), (20404, 16348));
 }
 
 // A refused request leaves the vector as it was, and can be made again.
@@ -152,15 +165,16 @@ fn refused_requests(rt: HostRuntime) -> Result<(), Fail> {
     for (n, row) in rows.iter().enumerate() {
         let (call, answer, len, counts) = row;
         known(&rt, &a, vec);
-        assert!(rt; make(&rt, &mut a, &mut vec, call) == *answer, "row {n}");
-        assert_eq!(rt;
+        same_at(&rt, n, make(&rt, &mut a, &mut vec, call) == *answer, true);
+        same_at(
+            &rt,
+            n,
             (vec.len(), a.get_allocation_stats()),
             (*len, *counts),
-            "row {n}"
         );
     }
     let (_, chunks) = a.into_parts();
     let wanted: &[(u64, u64)] = &[(16320, 16), (16320, 16), (32704, 16), (32704, 16)];
-    assert_eq!(rt; chunks.requests(), Some(wanted));
+    same(&rt, chunks.requests(), Some(wanted));
     Ok(())
 }

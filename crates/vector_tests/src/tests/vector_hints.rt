@@ -1,8 +1,10 @@
 // Vectors that take an iterator's items: which room is made is told by its hints.
-use super::ample;
 use super::numbers::Hints;
 use super::vectors::{holds, vec_of};
+use super::{ample, same_at};
 use arena_vec::Vec;
+use std::alloc::Global;
+use std::process::Abort;
 
 // More than an iterator gives, and too many to make room for.
 const MANY: usize = 1 << 30;
@@ -23,7 +25,9 @@ const NEW_VECTORS: [(Hints, &[u32], u32); 10] = [
 ];
 
 // The list, for how many more it has room, what is told, the list then, and its capacity.
-const BEHIND_A_LIST: [(&[u32], u64, Hints, &[u32], u32); 12] = [
+type Row = (&'static [u32], u64, Hints, &'static [u32], u32);
+
+const BEHIND_A_LIST: [Row; 12] = [
     // A full vector makes room for all that are told to follow, or for twice as many.
     (&[9], 0, Hints::Exactly(4), &[9, 1, 2, 3, 4], 5),
     (&[9, 9, 9], 0, Hints::Exactly(1), &[9, 9, 9, 1], 6),
@@ -43,30 +47,33 @@ const BEHIND_A_LIST: [(&[u32], u64, Hints, &[u32], u32); 12] = [
     (&[9], 0, Hints::AtLeast(MANY, 2), &[9, 1, 2], 4),
 ];
 
+fn of_items(rt: &impl Abort, alloc: Global, hints: Hints, list: &[u32], cap: u32) {
+    let mut a = ample(alloc);
+    let mut taken = 0;
+    let vec = Vec::from_iter_in(hints.counting(&mut taken), &mut a).expect(rt, "room");
+    same_at(rt, list, holds(rt, &a, vec, list), true);
+    same_at(rt, list, (vec.capacity(), taken), (cap, list.len() as u64));
+}
+
+fn with_items(rt: &impl Abort, alloc: Global, row: Row) {
+    let (list, room, hints, wanted, cap) = row;
+    let mut a = ample(alloc);
+    let mut vec = vec_of(rt, &mut a, list);
+    vec.reserve_exact(&mut a, room).expect(rt, "room");
+    let mut taken = 0;
+    vec.extend(&mut a, hints.counting(&mut taken))
+        .expect(rt, "room");
+    same_at(rt, wanted, holds(rt, &a, vec, wanted), true);
+    let items = wanted.len().saturating_sub(list.len()) as u64;
+    same_at(rt, wanted, (vec.capacity(), taken), (cap, items));
+}
+
 #[test]
 fn as_told(rt: HostRuntime) {
-    for (n, row) in NEW_VECTORS.iter().enumerate() {
-        let (hints, list, cap) = *row;
-        let mut a = ample(rt.alloc());
-        let mut taken = 0;
-        let vec = Vec::from_iter_in(hints.counting(&mut taken), &mut a).expect(&rt, "room");
-        assert!(rt; holds(&rt, &a, vec, list), "row {n}");
-        assert_eq!(rt;
-            (vec.capacity(), taken),
-            (cap, list.len() as u64),
-            "row {n}"
-        );
+    for (hints, list, cap) in NEW_VECTORS {
+        of_items(&rt, rt.alloc(), hints, list, cap);
     }
-    for (n, row) in BEHIND_A_LIST.iter().enumerate() {
-        let (list, room, hints, wanted, cap) = *row;
-        let mut a = ample(rt.alloc());
-        let mut vec = vec_of(&rt, &mut a, list);
-        vec.reserve_exact(&mut a, room).expect(&rt, "room");
-        let mut taken = 0;
-        vec.extend(&mut a, hints.counting(&mut taken))
-            .expect(&rt, "room");
-        assert!(rt; holds(&rt, &a, vec, wanted), "row {n}");
-        let items = wanted.len().saturating_sub(list.len()) as u64;
-        assert_eq!(rt; (vec.capacity(), taken), (cap, items), "row {n}");
+    for row in BEHIND_A_LIST {
+        with_items(&rt, rt.alloc(), row);
     }
 }

@@ -1,11 +1,13 @@
 // How vectors are made, taken apart and put together.
-use super::ample;
 use super::numbers::Hints;
 use super::two_vectors::{Pair, Row, both};
 use super::vector_refusals::fixed;
 use super::vectors::{Answer, Call, holds};
+use super::{ample, same, same_at};
 use arena_chunks::{Allocator, MemoryChunks};
 use arena_vec::{AllocError, Grown, Vec};
+use std::alloc::Global;
+use std::process::Abort;
 
 // How a vector is made.
 #[derive(Clone, Copy)]
@@ -79,26 +81,31 @@ const REFUSED: [(New, AllocError, u64, u64); 10] = [
     (New::Room(u64::MAX), AllocError::CapacityOverflow, 0, 0),
 ];
 
+fn is_made(rt: &impl Abort, alloc: Global, new: New, list: &[u32], room: (u32, u64)) {
+    let mut a = ample(alloc);
+    let vec = make(&mut a, new, &mut 0).expect(rt, "room");
+    same_at(rt, list, holds(rt, &a, vec, list), true);
+    same_at(rt, list, vec.is_empty(), list.is_empty());
+    same_at(rt, list, (vec.capacity(), a.used_bytes()), room);
+    same_at(rt, list, vec.as_ptr().size, room.1);
+}
+
+// So many items were taken, and so many bytes are used.
+fn is_refused(rt: &impl Abort, alloc: Global, new: New, why: AllocError, left: (u64, u64)) {
+    let mut a = fixed(rt, alloc, 16);
+    let mut taken = 0;
+    let made = make(&mut a, new, &mut taken);
+    assert!(rt; matches!(made, Err(e) if e == why));
+    same(rt, (taken, a.used_bytes()), left);
+}
+
 #[test]
 fn new_vectors(rt: HostRuntime) {
-    for (n, row) in NEW_VECTORS.iter().enumerate() {
-        let (new, list, cap, used) = *row;
-        let mut a = ample(rt.alloc());
-        let vec = make(&mut a, new, &mut 0).expect(&rt, "room");
-        assert!(rt;
-            holds(&rt, &a, vec, list) && vec.is_empty() == list.is_empty(),
-            "row {n}"
-        );
-        assert_eq!(rt; (vec.capacity(), a.used_bytes()), (cap, used), "row {n}");
-        assert_eq!(rt; vec.as_ptr().size, used, "row {n}");
+    for (new, list, cap, used) in NEW_VECTORS {
+        is_made(&rt, rt.alloc(), new, list, (cap, used));
     }
-    for (n, row) in REFUSED.iter().enumerate() {
-        let (new, wanted, items, used) = *row;
-        let mut a = fixed(&rt, rt.alloc(), 16);
-        let mut taken = 0;
-        let made = make(&mut a, new, &mut taken);
-        assert!(rt; matches!(made, Err(e) if e == wanted), "row {n}");
-        assert_eq!(rt; (taken, a.used_bytes()), (items, used), "row {n}");
+    for (new, why, items, used) in REFUSED {
+        is_refused(&rt, rt.alloc(), new, why, (items, used));
     }
 }
 

@@ -1,6 +1,6 @@
 // Vectors as slices and as blocks.
 use super::vectors::{holds, vec_of};
-use super::{ample, held};
+use super::{ample, held, same};
 use arena_chunks::Block;
 use arena_vec::{RawVec, Vec};
 
@@ -12,20 +12,21 @@ fn as_slices(rt: HostRuntime) {
     vec.truncate(2);
     let slice = vec.into_boxed_slice();
     assert!(rt; slice.len() == 2);
-    assert_eq!(rt; (slice.get(&a, 0), slice.get(&a, 1)), ('x', 'y'));
-    assert_eq!(rt;
+    same(&rt, (slice.get(&a, 0), slice.get(&a, 1)), ('x', 'y'));
+    same(
+        &rt,
         (slice.block.addr, slice.block.size),
-        (vec.as_ptr().addr, 8)
+        (vec.as_ptr().addr, 8),
     );
     let slice = vec.into_arena_slice();
     assert!(rt; slice.len() == 2);
-    assert_eq!(rt; slice.get(&a, 1), 'y');
+    same(&rt, slice.get(&a, 1), 'y');
     let slice = vec.into_arena_slice_mut();
     assert!(rt; slice.len() == 2);
     slice.set(&mut a, 0, 'é');
     assert!(rt; holds(&rt, &a, vec, &['é', 'y']) && a.used_bytes() == 16);
     let none = <Vec<u16>>::new_in().into_boxed_slice();
-    assert_eq!(rt; (none.len(), none.block), (0, Block::empty(2)));
+    same(&rt, (none.len(), none.block), (0, Block::empty(2)));
 }
 
 #[test]
@@ -40,7 +41,13 @@ fn of_raw_parts(rt: HostRuntime) {
     let front = <Vec<u16>>::from_raw_parts_in(block, 2, 3);
     assert!(rt; holds(&rt, &a, front, &[4, 5]) && front.capacity() == 3);
     let units = <Vec<()>>::from_raw_parts_in(Block::empty(1), 2, 5);
-    assert_eq!(rt; (units.len(), units.capacity()), (2, u32::MAX));
+    assert!(rt; units.len() == 2 && units.capacity() == u32::MAX);
+}
+
+// Bytes that were written count once the length says so.
+#[test]
+fn of_written_bytes(rt: HostRuntime) {
+    let mut a = ample(rt.alloc());
     let mut raw = <RawVec<u8>>::with_capacity_in(4, &mut a).expect(&rt, "room");
     let block = held(&rt, &a, raw.ptr());
     assert!(rt; block.size == 4);

@@ -1,8 +1,8 @@
 // A fixed arena that is full before a call on a vector is through.
-use super::has;
 use super::numbers::Hints;
 use super::two_vectors::{self, Pair, both};
 use super::vectors::{Answer, Call, Row, holds, runs, vec_of};
+use super::{has, same_at};
 use arena_chunks::{Allocator, MemoryChunks};
 use arena_vec::{AllocError, Grown, Vec};
 use std::alloc::Global;
@@ -72,15 +72,23 @@ const TWO_LISTS: [two_vectors::Row<'static>; 6] = [
 ];
 
 #[test]
-fn calls_in_full_arenas(rt: HostRuntime) {
+fn calls_in_a_full_arena(rt: HostRuntime) {
     let mut a = fixed(&rt, rt.alloc(), 16);
     let mut vec = vec_of(&rt, &mut a, &[1u32, 2]);
     runs(&rt, &mut a, &mut vec, &ON_A_LIST);
-    assert_eq!(rt; vec.as_ptr().addr, 4096);
+    assert!(rt; vec.as_ptr().addr == 4096);
     has(&rt, "a full arena", &a, 16, (1, 1));
+}
+
+#[test]
+fn calls_where_there_are_no_bytes(rt: HostRuntime) {
     let mut a = fixed(&rt, rt.alloc(), 0);
     let mut vec = Vec::new_in();
     runs(&rt, &mut a, &mut vec, &NO_BYTES);
+}
+
+#[test]
+fn calls_on_two_lists(rt: HostRuntime) {
     let mut a = fixed(&rt, rt.alloc(), 16);
     let vec = vec_of(&rt, &mut a, &[1, 2, 3]);
     both(&rt, &mut a, vec, &TWO_LISTS);
@@ -104,12 +112,13 @@ fn items_behind_a_list(rt: HostRuntime) {
         let mut vec = vec_of(&rt, &mut a, list);
         let mut taken = 0;
         let answer = vec.extend(&mut a, hints.counting(&mut taken));
-        assert_eq!(rt; (answer, taken), (NONE_REFUSED, wanted), "row {n}");
-        assert!(rt; holds(&rt, &a, vec, then), "row {n}");
-        assert_eq!(rt;
+        same_at(&rt, n, (answer, taken), (NONE_REFUSED, wanted));
+        same_at(&rt, n, holds(&rt, &a, vec, then), true);
+        same_at(
+            &rt,
+            n,
             (a.used_bytes(), vec.capacity() as u64 * 4),
             (used, used),
-            "row {n}"
         );
     }
 }

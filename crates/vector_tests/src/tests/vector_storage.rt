@@ -1,6 +1,6 @@
 // The storage of a vector by its own calls.
 use super::vectors::known;
-use super::{ample, has};
+use super::{ample, has, same, same_at};
 use arena_chunks::{Allocator, Block, ChunkSource};
 use arena_vec::{AllocError, Grown, RawVec, Vec};
 use std::alloc::Global;
@@ -56,9 +56,9 @@ fn runs(rt: &impl Abort, alloc: Global, rows: &[(Room, u32)]) {
     let mut raw = RawVec::new_in();
     for (n, row) in rows.iter().enumerate() {
         let (room, cap) = *row;
-        assert!(rt; make(rt, &mut a, &mut raw, room).is_ok(), "row {n}");
-        assert_eq!(rt; (raw.len_u32(), raw.capacity_u32()), (0, cap), "row {n}");
-        assert_eq!(rt; raw.ptr().size, cap as u64 * 4, "row {n}");
+        same_at(rt, n, make(rt, &mut a, &mut raw, room).is_ok(), true);
+        same_at(rt, n, (raw.len_u32(), raw.capacity_u32()), (0, cap));
+        same_at(rt, n, raw.ptr().size, cap as u64 * 4);
     }
 }
 
@@ -117,23 +117,32 @@ fn numbers_and_block(rt: HostRuntime) {
     let mut a = ample(rt.alloc());
     let mut raw = <RawVec<u16>>::with_capacity_in(3, &mut a).expect(&rt, "room");
     let block = raw.ptr();
-    assert_eq!(rt; (block.addr, block.size, block.align), (20410, 6, 2));
+    same(&rt, (block.addr, block.size, block.align), (20410, 6, 2));
     raw.increase_len(2);
-    assert_eq!(rt; (raw.len_u32(), raw.len_usize()), (2, 2));
+    same(&rt, (raw.len_u32(), raw.len_usize()), (2, 2));
     raw.decrease_len(1);
-    assert_eq!(rt; (raw.len_u32(), raw.capacity_usize()), (1, 3));
+    same(&rt, (raw.len_u32(), raw.capacity_usize()), (1, 3));
     // The handle keeps its numbers.
     raw.dealloc_buffer(&mut a);
-    assert_eq!(rt;
+    same(
+        &rt,
         (raw.len_u32(), raw.capacity_u32(), raw.ptr()),
-        (1, 3, block)
+        (1, 3, block),
     );
     has(&rt, "given back", &a, 0, (1, 0));
     let parts = <RawVec<u16>>::from_raw_parts_in(Block::empty(2), 0, 0);
-    assert_eq!(rt; (parts.ptr(), parts.capacity_u32()), (Block::empty(2), 0));
-    // Units take no bytes.
+    same(
+        &rt,
+        (parts.ptr(), parts.capacity_u32()),
+        (Block::empty(2), 0),
+    );
+}
+
+// Units take no bytes.
+#[test]
+fn storage_of_units(rt: HostRuntime) {
     let parts = <RawVec<()>>::from_raw_parts_in(Block::empty(1), 4, 5);
-    assert_eq!(rt; (parts.len_u32(), parts.capacity_u32()), (4, u32::MAX));
+    same(&rt, (parts.len_u32(), parts.capacity_u32()), (4, u32::MAX));
     let mut a = ample(rt.alloc());
     let mut units = <RawVec<()>>::new_in();
     units.shrink_to_fit(&mut a, 5);
@@ -142,5 +151,5 @@ fn numbers_and_block(rt: HostRuntime) {
     assert!(rt; matches!(refused, Err(AllocError::CapacityOverflow)));
     let refused = units.grow_one(&mut a);
     assert!(rt; matches!(refused, Err(AllocError::CapacityOverflow)));
-    assert_eq!(rt; (units.capacity_u32(), a.used_bytes()), (u32::MAX, 0));
+    same(&rt, (units.capacity_u32(), a.used_bytes()), (u32::MAX, 0));
 }

@@ -1,6 +1,6 @@
 // Vectors of values of each kind.
-use super::ample;
 use super::vectors::{Answer, Call, Row, from, known, vec_of};
+use super::{ample, same};
 use arena_chunks::Block;
 use arena_items::Item;
 use arena_vec::{AllocError, Vec};
@@ -84,20 +84,28 @@ fn written<T: Item>(rt: &impl Abort, alloc: Global, list: &[T], bytes: &[u8]) {
     assert!(rt; T::SIZE <= 48);
     let mut a = ample(alloc);
     let vec = vec_of(rt, &mut a, list);
-    assert_eq!(rt; vec.as_slice(&a), bytes);
-    assert_eq!(rt; a.used_bytes(), bytes.len() as u64);
+    same(rt, vec.as_slice(&a), bytes);
+    same(rt, a.used_bytes(), bytes.len() as u64);
 }
 
 #[test]
-fn of_each_kind(rt: HostRuntime) {
+fn of_plain_kinds(rt: HostRuntime) {
     from(&rt, rt.alloc(), &[1], &WORDS);
     from(&rt, rt.alloc(), &[u128::MAX], &DOUBLE_WORDS);
     from(&rt, rt.alloc(), &[-1], &SIGNED);
     from(&rt, rt.alloc(), &[true], &FLAGS);
+    from(&rt, rt.alloc(), &[], &UNITS);
+}
+
+#[test]
+fn of_made_kinds(rt: HostRuntime) {
     from(&rt, rt.alloc(), &[(1, 2)], &PAIRS);
     from(&rt, rt.alloc(), &[Some(5)], &OPTIONS);
     from(&rt, rt.alloc(), &[(None, true)], &PAIRS_OF_OPTIONS);
-    from(&rt, rt.alloc(), &[], &UNITS);
+}
+
+#[test]
+fn of_handles(rt: HostRuntime) {
     let (one, other) = (Block::empty(8), Block::empty(1));
     let handles = [
         (
@@ -165,8 +173,8 @@ fn as_many_units_as_there_are(rt: HostRuntime) {
     let overflows = Err(AllocError::CapacityOverflow);
     for wanted in [Ok(ALL - 1), overflows, overflows] {
         known(&rt, &a, vec);
-        assert_eq!(rt; vec.push_mut(&mut a, ()), wanted);
-        assert_eq!(rt; (vec.len(), a.used_bytes()), (ALL, 0));
+        same(&rt, vec.push_mut(&mut a, ()), wanted);
+        same(&rt, (vec.len(), a.used_bytes()), (ALL, 0));
     }
     let refused = <Vec<()>>::with_capacity_in(1 << 32, &mut a);
     assert!(rt; matches!(refused, Err(AllocError::CapacityOverflow)));

@@ -1,6 +1,6 @@
 // Walks over vectors, ranges on their way out, and values that a test picks.
-use super::ample;
 use super::vectors::{holds, vec_of};
+use super::{ample, same, same_at};
 use arena_items::Item;
 use arena_vec::Vec;
 use std::alloc::Global;
@@ -20,13 +20,13 @@ fn walks<T: Item + PartialEq>(
     let mut a = ample(alloc);
     let vec = vec_of(rt, &mut a, list);
     let mut walk = vec.into_iter(&a);
-    assert_eq!(rt; walk.len(), list.len());
+    same(rt, walk.len(), list.len());
     let first = walk.next();
     let last = walk.next_back();
     assert!(rt; (first, last) == ends);
-    assert_eq!(rt; walk.as_slice(), left);
+    same(rt, walk.as_slice(), left);
     let n = list.len().saturating_sub(2);
-    assert_eq!(rt; walk.size_hint(), (n, Some(n)));
+    same(rt, walk.size_hint(), (n, Some(n)));
 }
 
 #[test]
@@ -59,13 +59,13 @@ fn cut(
     let (start, end) = range;
     assert!(rt; start <= end && end <= vec.len());
     let mut gone = vec.drain(&mut a, start, end);
-    assert_eq!(rt; gone.len(), (end - start) as usize);
+    same(rt, gone.len(), (end - start) as usize);
     let first = gone.next();
     let last = gone.next_back();
-    assert_eq!(rt; (first, last), ends);
+    same(rt, (first, last), ends);
     gone.finish();
     assert!(rt; holds(rt, &a, vec, list));
-    assert_eq!(rt; (vec.capacity(), a.used_bytes()), (5, 20));
+    same(rt, (vec.capacity(), a.used_bytes()), (5, 20));
 }
 
 const RANGES: [((u32, u32), (Option<u32>, Option<u32>), &[u32]); 8] = [
@@ -79,23 +79,27 @@ const RANGES: [((u32, u32), (Option<u32>, Option<u32>), &[u32]); 8] = [
     ((5, 5), (None, None), FIVE),
 ];
 
+// However much of a range was taken, it goes as a whole; and if it isn't finished, nothing goes.
+fn in_part(rt: &impl Abort, alloc: Global) {
+    let mut a = ample(alloc);
+    let mut vec = Vec::from_iter_in([1u32, 2, 3, 4, 5].into_iter(), &mut a).expect(rt, "room");
+    assert!(rt; vec.len() == 5);
+    let mut gone = vec.drain(&mut a, 1, 3);
+    same(rt, gone.next(), Some(2));
+    gone.finish();
+    assert!(rt; vec.len() == 3 && holds(rt, &a, vec, &[1, 4, 5]));
+    let mut gone = vec.drain(&mut a, 0, 2);
+    same(rt, gone.next(), Some(1));
+    let _ = gone;
+    assert!(rt; holds(rt, &a, vec, &[1, 4, 5]));
+}
+
 #[test]
 fn ranges(rt: HostRuntime) {
     for (range, ends, list) in RANGES {
         cut(&rt, rt.alloc(), range, ends, list);
     }
-    // However much of a range was taken, it goes as a whole; and if it isn't finished, nothing goes.
-    let mut a = ample(rt.alloc());
-    let mut vec = Vec::from_iter_in([1u32, 2, 3, 4, 5].into_iter(), &mut a).expect(&rt, "room");
-    assert!(rt; vec.len() == 5);
-    let mut gone = vec.drain(&mut a, 1, 3);
-    assert_eq!(rt; gone.next(), Some(2));
-    gone.finish();
-    assert!(rt; vec.len() == 3 && holds(&rt, &a, vec, &[1, 4, 5]));
-    let mut gone = vec.drain(&mut a, 0, 2);
-    assert_eq!(rt; gone.next(), Some(1));
-    let _ = gone;
-    assert!(rt; holds(&rt, &a, vec, &[1, 4, 5]));
+    in_part(&rt, rt.alloc());
 }
 
 // A test of values. The last one changes what it sees.
@@ -123,7 +127,9 @@ fn meets(x: &mut u32, test: Test) -> bool {
 }
 
 // The test, the first two of 1 to 5 that go, how many are untested then, and those that stay.
-const THAT_GO: [(Test, (Option<u32>, Option<u32>), usize, &[u32]); 6] = [
+type Gone = (Test, (Option<u32>, Option<u32>), usize, &'static [u32]);
+
+const THAT_GO: [Gone; 6] = [
     (Test::Even, (Some(2), Some(4)), 1, &[1, 3, 5]),
     (Test::All, (Some(1), Some(2)), 3, &[]),
     (Test::None, (None, None), 0, FIVE),
@@ -131,6 +137,25 @@ const THAT_GO: [(Test, (Option<u32>, Option<u32>), usize, &[u32]); 6] = [
     (Test::UpTo(4), (Some(1), Some(2)), 3, &[5]),
     (Test::ThenMoreThan(12), (Some(13), Some(14)), 1, &[11, 12]),
 ];
+
+fn go(rt: &impl Abort, alloc: Global, row: Gone) {
+    let (test, wanted, untested, list) = row;
+    let mut a = ample(alloc);
+    let mut vec = vec_of(rt, &mut a, FIVE);
+    let mut gone = vec.drain_filter(&mut a, move |x| meets(x, test));
+    same(rt, gone.size_hint(), (0, Some(5)));
+    let first = gone.next();
+    let second = gone.next();
+    same(rt, (first, second), wanted);
+    same(rt, gone.size_hint(), (0, Some(untested)));
+    gone.finish();
+    same_at(
+        rt,
+        list,
+        holds(rt, &a, vec, list) && vec.capacity() == 5,
+        true,
+    );
+}
 
 // One more digit of what was seen.
 fn noted(seen: u64, digit: u32) -> u64 {
@@ -146,40 +171,39 @@ const THAT_STAY: [(Test, &[u32], &[u32]); 5] = [
     (Test::ThenMoreThan(12), &[3, 4, 5], &[13, 14, 15]),
 ];
 
+fn stay(rt: &impl Abort, alloc: Global, test: Test, list: &[u32]) {
+    let mut a = ample(alloc);
+    let mut seen = 0;
+    let mut vec = vec_of(rt, &mut a, FIVE);
+    vec.retain(&mut a, |x| {
+        seen = noted(seen, *x);
+        let mut copy = *x;
+        meets(&mut copy, test)
+    });
+    same_at(rt, list, holds(rt, &a, vec, list), true);
+    same(rt, (vec.capacity(), seen), (5, 12345));
+}
+
+fn stay_changed(rt: &impl Abort, alloc: Global, test: Test, list: &[u32]) {
+    let mut a = ample(alloc);
+    let mut seen = 0;
+    let mut vec = vec_of(rt, &mut a, FIVE);
+    vec.retain_mut(&mut a, |x| {
+        seen = noted(seen, *x);
+        meets(x, test)
+    });
+    same_at(rt, list, holds(rt, &a, vec, list), true);
+    same(rt, (vec.capacity(), seen), (5, 12345));
+}
+
 #[test]
 fn values_that_go_and_stay(rt: HostRuntime) {
-    for (n, row) in THAT_GO.iter().enumerate() {
-        let (test, wanted, untested, list) = *row;
-        let mut a = ample(rt.alloc());
-        let mut vec = vec_of(&rt, &mut a, FIVE);
-        let mut gone = vec.drain_filter(&mut a, move |x| meets(x, test));
-        assert_eq!(rt; gone.size_hint(), (0, Some(5)), "row {n}");
-        let first = gone.next();
-        let second = gone.next();
-        assert_eq!(rt; (first, second), wanted, "row {n}");
-        assert_eq!(rt; gone.size_hint(), (0, Some(untested)), "row {n}");
-        gone.finish();
-        assert!(rt; holds(&rt, &a, vec, list) && vec.capacity() == 5, "row {n}");
+    for row in THAT_GO {
+        go(&rt, rt.alloc(), row);
     }
-    for (n, row) in THAT_STAY.iter().enumerate() {
-        let (test, list, changed) = *row;
-        let mut a = ample(rt.alloc());
-        let mut seen = 0;
-        let mut vec = vec_of(&rt, &mut a, FIVE);
-        vec.retain(&mut a, |x| {
-            seen = noted(seen, *x);
-            let mut copy = *x;
-            meets(&mut copy, test)
-        });
-        assert!(rt; holds(&rt, &a, vec, list), "row {n}");
-        assert_eq!(rt; (vec.capacity(), seen), (5, 12345), "row {n}");
-        let mut vec = vec_of(&rt, &mut a, FIVE);
-        vec.retain_mut(&mut a, |x| {
-            seen = noted(seen, *x);
-            meets(x, test)
-        });
-        assert!(rt; holds(&rt, &a, vec, changed), "row {n}");
-        assert_eq!(rt; (vec.capacity(), seen), (5, 1_234_512_345), "row {n}");
+    for (test, list, changed) in THAT_STAY {
+        stay(&rt, rt.alloc(), test, list);
+        stay_changed(&rt, rt.alloc(), test, changed);
     }
 }
 
@@ -199,35 +223,47 @@ const ALIKE: [(&[u32], &[u32], &[u32], &[u32]); 6] = [
     (&[], &[], &[], &[]),
 ];
 
+// Each value but the first is tested once, against the last one kept.
+fn pairs(list: &[u32]) -> u64 {
+    list.len().saturating_sub(1) as u64
+}
+
+fn by_tens(rt: &impl Abort, alloc: Global, list: &[u32], left: &[u32]) {
+    let mut a = ample(alloc);
+    let mut asked = 0u64;
+    let mut vec = vec_of(rt, &mut a, list);
+    vec.dedup_by_key(&mut a, |x| {
+        asked = asked.wrapping_add(1);
+        *x / 10
+    });
+    same_at(rt, list, holds(rt, &a, vec, left), true);
+    same(rt, asked, pairs(list).wrapping_mul(2));
+}
+
+fn by_sums(rt: &impl Abort, alloc: Global, list: &[u32], left: &[u32]) {
+    let mut a = ample(alloc);
+    let mut tested = 0u64;
+    let mut vec = vec_of(rt, &mut a, list);
+    vec.dedup_by(&mut a, |x, last| {
+        tested = tested.wrapping_add(1);
+        let goes = *x < *last;
+        if goes {
+            *last = last.wrapping_add(*x);
+        }
+        goes
+    });
+    same_at(rt, list, holds(rt, &a, vec, left), true);
+    same(rt, tested, pairs(list));
+}
+
 #[test]
 fn alike(rt: HostRuntime) {
-    for (n, row) in ALIKE.iter().enumerate() {
-        let (list, equal, tens, sums) = *row;
-        // Each value but the first is tested once, against the last one kept.
-        let pairs = list.len().saturating_sub(1);
+    for (list, equal, tens, sums) in ALIKE {
         let mut a = ample(rt.alloc());
         let mut vec = vec_of(&rt, &mut a, list);
         vec.dedup(&mut a);
-        assert!(rt; holds(&rt, &a, vec, equal), "row {n}");
-        let mut asked = 0u32;
-        let mut vec = vec_of(&rt, &mut a, list);
-        vec.dedup_by_key(&mut a, |x| {
-            asked = asked.wrapping_add(1);
-            *x / 10
-        });
-        assert!(rt; holds(&rt, &a, vec, tens), "row {n}");
-        assert_eq!(rt; asked as usize, pairs.wrapping_mul(2), "row {n}");
-        let mut tested = 0u32;
-        let mut vec = vec_of(&rt, &mut a, list);
-        vec.dedup_by(&mut a, |x, last| {
-            tested = tested.wrapping_add(1);
-            let goes = *x < *last;
-            if goes {
-                *last = last.wrapping_add(*x);
-            }
-            goes
-        });
-        assert!(rt; holds(&rt, &a, vec, sums), "row {n}");
-        assert_eq!(rt; tested as usize, pairs, "row {n}");
+        same_at(&rt, list, holds(&rt, &a, vec, equal), true);
+        by_tens(&rt, rt.alloc(), list, tens);
+        by_sums(&rt, rt.alloc(), list, sums);
     }
 }

@@ -2,7 +2,7 @@
 ghost use Rattle.std.specs.Prelude.{◌^◌, ◌≤◌, IfOk};
 ghost use Rattle.arena_vec.specs.Vecs.{IsVecIn};
 
-use super::ample;
+use super::{ample, same_at};
 use arena_chunks::{Allocator, ChunkSource};
 use arena_items::Item;
 use arena_vec::{AllocError, Grown, Vec};
@@ -190,9 +190,9 @@ pub(super) fn runs<T: Item + PartialEq, C: ChunkSource>(
     for (n, row) in rows.iter().enumerate() {
         let (call, wanted, list, cap) = row;
         let answer = make(rt, a, vec, call);
-        assert!(rt; answer == *wanted, "row {n}");
-        assert!(rt; is_list(a, *vec, list), "row {n}");
-        assert_eq!(rt; vec.capacity(), *cap, "row {n}");
+        same_at(rt, n, answer == *wanted, true);
+        same_at(rt, n, is_list(a, *vec, list), true);
+        same_at(rt, n, vec.capacity(), *cap);
     }
 }
 

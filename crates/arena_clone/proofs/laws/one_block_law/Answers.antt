@@ -8,8 +8,10 @@ use Rattle.arena_clone.proofs.laws.one_block_law.Goals as goal
 
 pub returns-clause-vector : goal.returns-clause-vector
 returns-clause-vector g c = λ none m v.
-    ap (λ asks. vector_ask g.T.Item.SIZE g.T.Item.ALIGN v.raw.len ∷ asks) (none_in_all (g.T.CloneIn.kind.asks m) (none m) (vec_list g.T.Item m v))
+    ap (λ asks. vector_ask g.T.Item.SIZE g.T.Item.ALIGN v.raw.len ∷ asks)
+    (none_in_all (g.T.CloneIn.kind.asks m) (none m) (vec_list g.T.Item m v))
 
 pub returns-clause-slice : goal.returns-clause-slice
 returns-clause-slice g c = λ none m s.
-    ap (λ asks. Room (s.length * g.T.Item.SIZE) g.T.Item.ALIGN ∷ asks) (none_in_all (g.T.CloneIn.kind.asks m) (none m) (slice_list g.T.Item m s))
+    ap (λ asks. Room (s.length * g.T.Item.SIZE) g.T.Item.ALIGN ∷ asks)
+    (none_in_all (g.T.CloneIn.kind.asks m) (none m) (slice_list g.T.Item m s))

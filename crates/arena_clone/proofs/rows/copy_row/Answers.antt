@@ -1,20 +1,50 @@
-use Rattle.std.proofs.Common.{◌*◌, ◌≤◌, ◌∙◌, sym, ap, length, length-take-le, arith}
-use Rattle.arena_chunks.specs.Memory.{image}
-use Rattle.arena_chunks.proofs.Layers.{length-bytes}
+use Rattle.std.proofs.Common.{arith, ◌∙◌, sym}
+use Rattle.std.proofs.lemmas.Result.{err_from_is_err_and}
+use Rattle.arena_items.specs.Values.{elements, bytes_of}
+use Rattle.arena_items.proofs.Layers.{length-elements}
 use Rattle.arena_clone.proofs.FlatLemmas.{row_written, front_written}
+use Rattle.arena_clone.proofs.OriginLemmas.{row_value_held, row_more, row_refused}
+use Rattle.arena_clone.proofs.RowLemmas.{first_none, first_all}
 use Rattle.arena_clone.proofs.rows.copy_row.Goals as goal
 
-pub slice_bounds-write-end : goal.slice_bounds-write-end
-slice_bounds-write-end g c =
-    let long = ap length c.read.ensures ∙ length-bytes (image c.args.from.now.memory) c.args.row.source.addr c.args.row.source.size in
-    let room : c.args.row.count * c.SIZE.result ≤ c.args.row.source.size = rw c.SIZE.ensures c.requires.source_room in
-    sym (length-take-le (c.args.row.count * c.SIZE.result) c.read.result.now (omega arith))
+pub loop-i-init : goal.loop-i-init
+loop-i-init g c = first_none g.T.Item g.met.T.CloneIn.lawful
+    (elements g.T.Item.SIZE g.T.Item.decoded c.args.row.count
+    (bytes_of (g.O.Origin.there c.args.from.now c.args.to.now.memory) c.args.row.source)) c.requires.target
+
+pub returns-then-is_flat : goal.returns-then-is_flat
+returns-then-is_flat g c =
+    let m = g.O.Origin.there c.args.from.now c.args.to.now.memory in
+    let writes = rw c.SIZE.ensures at c.copy_front.ensures.writes in
+    let flat = g.met.T.CloneIn.lawful.flat c.args.ids (sym c.is_flat.ensures ∙ c.if-is_flat.true) in
+    row_written g.T.CloneIn.kind c.args.ids flat m c.args.to.now c.copy_front.new.to c.args.row.target 0 _ _ _ tt writes
+    c.copy_front.ensures.source c.requires.target
+    (front_written g.T.Item.decoded m c.args.to.now.memory c.copy_front.new.to.memory c.args.row.source c.args.row.target
+    g.T.Item.SIZE c.args.row.count c.requires.source_room c.requires.target_room writes)
+
+pub copy_of-requires-clause-held : goal.copy_of-requires-clause-held
+copy_of-requires-clause-held g c =
+    row_value_held (g.met.O.Origin.is_origin c.args.from.now) g.T.Item g.met.T.CloneIn.lawful c.args.row.source c.args.row.count c.loop-i.i
+    c.loop-i.invariant c.requires.source c.requires.values c.requires.beside
+    (rw c.arena.ensures at (c.item_at-value.ensures c.args.row.count (omega arith)))
+
+pub returns-in_err-copy : goal.returns-in_err-copy
+returns-in_err-copy g c =
+    let p = err_from_is_err_and c.from_residual.result c.from_residual.ensures.1 in
+    rw (p.1, p.2) (row_refused (g.met.O.Origin.is_origin c.args.from.now) g.T.Item g.met.T.CloneIn.lawful c.args.row.source
+    c.args.row.count c.loop-i.i c.loop-i.invariant c.requires.source c.requires.values c.requires.beside
+    (rw c.arena.ensures at (c.item_at-value.ensures c.args.row.count (omega arith))) c.in_err-copy.ensures)
+
+pub loop-i-preserved : goal.loop-i-preserved
+loop-i-preserved g c =
+    let put = c.put_item.ensures in
+    row_more (g.met.O.Origin.is_origin c.args.from.now) g.T.Item g.met.T.CloneIn.lawful c.args.row.source c.args.row.count c.loop-i.i
+    c.loop-i.invariant c.requires.source c.requires.values c.requires.beside
+    (rw c.arena.ensures at (c.item_at-value.ensures c.args.row.count (omega arith))) c.in_ok-copy.ensures put.writes put.source put.push
 
 pub returns : goal.returns
 returns g c =
-    let writes = rw (c.SIZE.ensures, c.read.ensures) at c.write.ensures.writes in
-    let flat = g.met.T.CloneIn.lawful.flat c.args.ids (sym c.is_flat.ensures ∙ c.if-not-is_flat.false) in
-    row_written g.T.CloneIn.kind c.args.ids flat c.args.from.now.memory c.args.to.now c.write.new.self
-    c.args.row.target 0 _ _ _ tt writes c.write.ensures.source c.requires.target
-    (front_written g.T.Item.decoded c.args.from.now.memory c.args.to.now.memory c.write.new.self.memory c.args.row.source c.args.row.target
-    g.T.Item.SIZE c.args.row.count c.requires.source_room c.requires.target_room writes)
+    let m = g.O.Origin.there c.args.from.now c.args.to.now.memory in
+    let xs = elements g.T.Item.SIZE g.T.Item.decoded c.args.row.count (bytes_of m c.args.row.source) in
+    let long = length-elements g.T.Item.SIZE g.T.Item.decoded c.args.row.count (bytes_of m c.args.row.source) in
+    first_all g.T.Item g.met.T.CloneIn.lawful xs c.loop-i.i c.args.row.count (omega arith) (omega (arith, long)) c.loop-i.invariant

@@ -10,7 +10,8 @@ place_copy-requires-clause-fits g c =
     let place = c.requires.held.0.handle.place in
     let align = table_is_align g.K.Item.SIZE g.V.Item.SIZE g.K.Item.ALIGN g.V.Item.ALIGN g.met.K.Item.layout g.met.V.Item.layout in
     rw place.of_align
-    (readable_layout c.args.from.now.memory.state c.args.map.now.table.block _ c.min_align.ensures.valid align place.readable)
+    (readable_layout c.arena.result.now.memory.state c.args.map.now.table.block _ c.min_align.ensures.valid align
+    (rw c.arena.ensures place.readable))
 
 pub returns-in_err-block : goal.returns-in_err-block
 returns-in_err-block g c =
@@ -19,7 +20,8 @@ returns-in_err-block g c =
     rw (p.1, p.2) (λ ids flat other.
     table_copy_refused (kind g.K.Item g.K.ArenaKey.key g.V.Item g.S.KeyHasher.hash_of) g.K.CloneIn.kind g.V.CloneIn.kind
     g.met.K.CloneKey.keeps ids (g.met.K.CloneIn.lawful.flat ids flat) (g.met.V.CloneIn.lawful.flat ids other)
-    c.args.from.now.memory c.args.to.now c.place_copy.new.to c.args.map.now c.requires.full c.requires.held.0 _
+    (g.O.Origin.there c.args.from.now c.args.to.now.memory) c.args.to.now c.place_copy.new.to c.args.map.now c.requires.full
+    c.requires.held.0 _
     (rw (place.of_size, place.of_align) at c.in_err-block.ensures.placed))
 
 pub returns : goal.returns
@@ -27,6 +29,7 @@ returns g c ids flat other =
     let place = c.requires.held.0.handle.place in
     table_copied (kind g.K.Item g.K.ArenaKey.key g.V.Item g.S.KeyHasher.hash_of) g.K.CloneIn.kind g.V.CloneIn.kind
     g.met.K.CloneKey.keeps ids (g.met.K.CloneIn.lawful.flat ids flat) (g.met.V.CloneIn.lawful.flat ids other)
-    c.args.from.now.memory c.args.to.now c.place_copy.new.to c.args.map.now c.requires.full c.requires.held.0
+    (g.O.Origin.there c.args.from.now c.args.to.now.memory) c.args.to.now c.place_copy.new.to c.args.map.now c.requires.full
+    c.requires.held.0
     c.in_ok-block.block (rw (place.of_size, place.of_align) at c.in_ok-block.ensures.placed)
     (sym c.in_ok-block.ensures.bytes)

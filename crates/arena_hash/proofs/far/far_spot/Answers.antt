@@ -13,7 +13,8 @@ slots-init g c =
     let n : ℕ = c.args.table.slots in
     let some : 0 < c.args.table.slots = omega (arith, c.requires.free) in
     let hash = pair_hash k m c.args.hasher.now in
-    between-start (λ p. home_of n (hash p)) n (λ p. mod-lt (hash p) some) (home_of n c.args.hash) (slots_in g.K.Item g.V.Item m c.args.table)
+    between-start (λ p. home_of n (hash p)) n (λ p. mod-lt (hash p) some) (home_of n c.args.hash)
+    (slots_in g.K.Item g.V.Item m c.args.table)
     c.requires.passed
 
 pub slots-preserved-then-is_behind : goal.slots-preserved-then-is_behind
@@ -28,8 +29,10 @@ slots-preserved-then-is_behind g c =
     let under : probe < c.slots.high = omega (arith, c.min.ensures, c.slots-test.true) in
     let place = far-slot n c.args.hash probe c.ring-at.result some shape.ring.0 (omega (arith, shape.ring.2))
     (omega (arith, under, c.slots.invariant.most)) c.ring-at.ensures in
-    between-behind (λ p. home_of n (hash p)) n (λ p. mod-lt (hash p) some) (home_of n c.args.hash) (slots_in g.K.Item g.V.Item m c.args.table)
-    c.slots.low c.slots.high probe c.ring-at.result c.slots.invariant (omega arith) under place (c.is_behind.ensures.behind c.if-is_behind.true)
+    between-behind (λ p. home_of n (hash p)) n (λ p. mod-lt (hash p) some) (home_of n c.args.hash)
+    (slots_in g.K.Item g.V.Item m c.args.table)
+    c.slots.low c.slots.high probe c.ring-at.result c.slots.invariant (omega arith) under place
+    (c.is_behind.ensures.behind c.if-is_behind.true)
 
 pub slots-preserved : goal.slots-preserved
 slots-preserved g c =
@@ -43,8 +46,10 @@ slots-preserved g c =
     let under : probe < c.slots.high = omega (arith, c.min.ensures, c.slots-test.true) in
     let place = far-slot n c.args.hash probe c.ring-at.result some shape.ring.0 (omega (arith, shape.ring.2))
     (omega (arith, under, c.slots.invariant.most)) c.ring-at.ensures in
-    between-nearer (λ p. home_of n (hash p)) n (λ p. mod-lt (hash p) some) (home_of n c.args.hash) (slots_in g.K.Item g.V.Item m c.args.table)
-    c.slots.low c.slots.high probe c.ring-at.result c.slots.invariant (omega arith) under place (c.is_behind.ensures.nearer c.if-is_behind.false)
+    between-nearer (λ p. home_of n (hash p)) n (λ p. mod-lt (hash p) some) (home_of n c.args.hash)
+    (slots_in g.K.Item g.V.Item m c.args.table)
+    c.slots.low c.slots.high probe c.ring-at.result c.slots.invariant (omega arith) under place
+    (c.is_behind.ensures.nearer c.if-is_behind.false)
 
 pub returns : goal.returns
 returns g c =

@@ -33,8 +33,8 @@ loop-i-init c = let all : length c.args.content.now / 8 - 0 ≡ length c.args.co
 
 pub loop-i-preserved : goal.loop-i-preserved
 loop-i-preserved c =
-    folded-step c.loop-i.hash _ c.loop-i.i c.args.content.now ((c.word_of-word.result + factor) % 2 ^ 64) _ c.loop-i-test.true
-    (ap (λ w. (w + factor) % 2 ^ 64) c.word_of-word.ensures)
+    folded-step c.loop-i.hash _ c.loop-i.i c.args.content.now ((c.decode-word.result + factor) % 2 ^ 64) _ c.loop-i-test.true
+    (ap (λ w. (w + factor) % 2 ^ 64) c.decode-word.ensures.value)
     c.mixed-hash-in-loop-i.ensures
     ∙ c.loop-i.invariant
 

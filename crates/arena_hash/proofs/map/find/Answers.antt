@@ -87,7 +87,8 @@ slots-preserved g c =
           c.ring-at-in-slots.result c.farther-mark.result high c.ring-at-in-slots.ensures
           (c.farther-mark.ensures c.args.hash c.slots.counter s.seeking.mark_is);
       passed = λ h table same.
-          seeking-other g.K.Item g.V.Item n (bytes_of m c.args.table.block) c.args.hash s.some s.shape c.slots.counter c.slots.at c.slots.mark
+          seeking-other g.K.Item g.V.Item n (bytes_of m c.args.table.block) c.args.hash s.some s.shape c.slots.counter c.slots.at
+          c.slots.mark
           (omega arith) s.seeking
           high (λ p. h (content_in g.K.ArenaKey.key m p.0)) table (λ p. content_in g.K.ArenaKey.key m p.0) c.args.wanted.now
           (λ x e. ap h e ∙ same)
@@ -106,7 +107,8 @@ returns g c = λ h table same.
     let s = c.slots.invariant in
     absurd (omega (
       arith,
-      seeking-less g.K.Item g.V.Item c.args.table.slots (bytes_of m c.args.table.block) c.args.hash s.some s.shape c.slots.counter c.slots.at
+      seeking-less g.K.Item g.V.Item c.args.table.slots (bytes_of m c.args.table.block) c.args.hash s.some s.shape c.slots.counter
+          c.slots.at
           c.slots.mark
           s.seeking (λ p. h (content_in g.K.ArenaKey.key m p.0)) table c.requires.free,
     ))

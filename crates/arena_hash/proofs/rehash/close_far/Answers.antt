@@ -40,7 +40,8 @@ pub bounds-read-from : goal.bounds-read-from
 bounds-read-from g c =
     let shape = handle-shape g.K.Item g.V.Item c.slots.a.memory c.args.table c.requires.keys_small c.requires.values_small
     c.slots.invariant.held.handle c.slots.invariant.some in
-    let within : c.ring-from.result < c.args.table.slots = subst (λ w. w < c.args.table.slots) (sym c.ring-from.ensures) (mod-lt _ c.slots.invariant.some) in
+    let within : c.ring-from.result < c.args.table.slots =
+    subst (λ w. w < c.args.table.slots) (sym c.ring-from.ensures) (mod-lt _ c.slots.invariant.some) in
     rw c.read.ensures (omega (arith, shape.long, within))
 
 pub returns-then-mark-lt-AWAY-clause-held : goal.returns-then-mark-lt-AWAY-clause-held
@@ -67,7 +68,8 @@ pub write_with-requires-in-slots-clause-suits : goal.write_with-requires-in-slot
 write_with-requires-in-slots-clause-suits g c =
     let m = c.slots.a.memory in (
       given-whole m c.args.table.block (IsShape g.K.Item g.V.Item c.args.table.slots)
-          (handle-shape g.K.Item g.V.Item m c.args.table c.requires.keys_small c.requires.values_small c.slots.invariant.held.handle c.slots.invariant.some),
+          (handle-shape g.K.Item g.V.Item m c.args.table c.requires.keys_small c.requires.values_small c.slots.invariant.held.handle
+          c.slots.invariant.some),
       subst (λ w. w < c.args.table.slots) (sym c.ring-from.ensures) (mod-lt _ c.slots.invariant.some),
       c.slots.invariant.within,
     )
@@ -77,7 +79,8 @@ slots-preserved g c =
     let k = kind g.K.Item g.K.ArenaKey.key g.V.Item g.S.KeyHasher.hash_of in
     let at = c.slots.invariant in
     let m = c.slots.a.memory in
-    let within : c.ring-from.result < c.args.table.slots = subst (λ w. w < c.args.table.slots) (sym c.ring-from.ensures) (mod-lt _ c.slots.invariant.some) in
+    let within : c.ring-from.result < c.args.table.slots =
+    subst (λ w. w < c.args.table.slots) (sym c.ring-from.ensures) (mod-lt _ c.slots.invariant.some) in
     let shape = handle-shape g.K.Item g.V.Item m c.args.table c.requires.keys_small c.requires.values_small at.held.handle at.some in
     let high : 32 ≤ slice_index (bytes_of m c.args.table.block) c.ring-from.result = rw c.read.ensures at c.if-mark-lt-AWAY.false in
     let x = slot-taken g.K.Item g.V.Item c.args.table.slots (bytes_of m c.args.table.block) shape c.ring-from.result within

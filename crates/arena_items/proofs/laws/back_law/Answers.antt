@@ -4,7 +4,7 @@ use Rattle.arena_items.proofs.laws.back_law.Goals as goal
 
 pub returns-clause-readable : goal.returns-clause-readable
 returns-clause-readable g c = λ old new v back held readable.
-    let kind = g.met.V.InArena in
+    let kind = g.V.InArena in
     let agree = back_agree old new (g.V.InArena.footprint old v) back readable in
     let same = kind.same_footprint old new v agree in
     record {
@@ -17,5 +17,5 @@ returns-clause-readable g c = λ old new v back held readable.
 pub returns-clause-marked : goal.returns-clause-marked
 returns-clause-marked g c = λ start old new v back stays held at.
     let blocks = g.V.InArena.footprint old v in
-    let readable = back_readable start old new back stays blocks at (g.met.V.InArena.readable old v held) in
+    let readable = back_readable start old new back stays blocks at (g.V.InArena.readable old v held) in
     returns-clause-readable g c old new v back held readable

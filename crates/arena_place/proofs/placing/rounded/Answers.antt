@@ -8,7 +8,8 @@ returns-then-wanted-lt-TYPICAL_PAGE_SIZE c =
     let power = c.next_power_of_two.ensures in
     record {
       value = sym (rounded_small c.args.wanted c.if-wanted-lt-TYPICAL_PAGE_SIZE.true
-          ∙ ap (λ (p : ℕ). Some (p - 64)) (sym (next_power (c.args.wanted + 64) c.next_power_of_two.result (omega arith) (power.power, power.lower_bound, power.upper_bound))));
+          ∙ ap (λ (p : ℕ). Some (p - 64)) (sym (next_power (c.args.wanted + 64) c.next_power_of_two.result (omega arith)
+          (power.power, power.lower_bound, power.upper_bound))));
       small = omega arith;
     }
 

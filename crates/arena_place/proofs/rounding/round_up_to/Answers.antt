@@ -8,4 +8,8 @@ overflow_sub-divisor c = power_positive c.args.divisor c.requires
 
 pub returns-in-Some : goal.returns-in-Some
 unfolding up down
-returns-in-Some c = (omega (arith, c.in-Some.ensures), c.round_down_to.ensures ∙ ap (λ (n : ℕ). n / c.args.divisor * c.args.divisor) c.in-Some.ensures.1)
+returns-in-Some c = (
+  omega (arith, c.in-Some.ensures),
+  c.round_down_to.ensures
+      ∙ ap (λ (n : ℕ). n / c.args.divisor * c.args.divisor) c.in-Some.ensures.1,
+)

@@ -2,4 +2,10 @@ use Rattle.arena_pool.proofs.PoolLemmas.{answers_stored, answers_empty, answers_
 use Rattle.arena_pool.proofs.laws.answers.Goals as goal
 
 pub returns : goal.returns
-returns c = record { stored = answers_stored; empty = answers_empty; limit = answers_limit; goes = answers_at_once; waits = answers_waiting }
+returns c = record {
+  stored = answers_stored;
+  empty = answers_empty;
+  limit = answers_limit;
+  goes = answers_at_once;
+  waits = answers_waiting;
+}

@@ -82,7 +82,8 @@ module _ (Z : Al) where
     abbrev held : Clauses 𝓤 ended
     held = F.clauses Z.row Z.g Z.d Z.drops 𝓛 at_mem run
 
-    module _ (C : Calls 𝓤 H) (Λ : Loops 𝓤 H) (fm : FmC 𝓤 H 𝓛.laws C) (callee : Triple 𝓤 (C (takes_key Z)) (Takes Z 𝓛 at_mem run)) (z : (walk_of 𝓛 ended stayed held).Ghost) where
+    module _ (C : Calls 𝓤 H) (Λ : Loops 𝓤 H) (fm : FmC 𝓤 H 𝓛.laws C) (callee : Triple 𝓤 (C (takes_key Z)) (Takes Z 𝓛 at_mem run))
+        (z : (walk_of 𝓛 ended stayed held).Ghost) where
       abbrev Post : Val → SProp 𝓤
       Post = (walk_of 𝓛 ended stayed held).post z
 
@@ -92,7 +93,8 @@ module _ (Z : Al) where
           let args' = z.0.3 in let vss = z.0.4 in let a = args'.0.now in let rb = args'.0.ref_ptr.0 in let ro = args'.0.ref_ptr.1 in
           let len = args'.1.0 in
           let Asked = len < 2 ^ 63 in
-          qed 𝓛 (((‵ (flft κ q) ⊛ ‵ (flft κ₁ q₁) ⊛ ‵ ftrue) ⊛ ‵ (owns (types_at ended.signature.params z.0.0) args' vss)) ∷ (raw (fact 𝓤 (κ₁ ⊑ Z.row.lives)) ⊛ raw (fact 𝓤 Asked)) ∷ []) ∵
+          qed 𝓛 (((‵ (flft κ q) ⊛ ‵ (flft κ₁ q₁) ⊛ ‵ ftrue) ⊛ ‵ (owns (types_at ended.signature.params z.0.0) args' vss))
+          ∷ (raw (fact 𝓤 (κ₁ ⊑ Z.row.lives)) ⊛ raw (fact 𝓤 Asked)) ∷ []) ∵
           move ! (1 ∷ []) $ split ! $ heard ! (κ₁ ⊑ Z.row.lives) (λ within. heard ! Asked (λ asked. split ! $ split ! $
           move ! (2 ∷ []) $ fsplit3 ! $ fsplit ! $ feq_l ! (λ is₀.
           move ! (1 ∷ []) $ fsplit ! $ feq_l ! (λ is₁. flt_l ! (λ fits. keep ! (0 ∷ 2 ∷ 3 ∷ []) $
@@ -102,17 +104,24 @@ module _ (Z : Al) where
           alloc_all ! (λ l. pass_all ! refl ((tt, tt), ((tt, record { fits = fits }), tt)) $
           let En : Env 𝓤 H = env function.locals l in
           let both : Body = head (after 1 function.body) in
-          let Then : After 𝓤 H = any_q (after_seq 𝓤 H (Wp 𝓤 H C Λ En (after 2 function.body) (at_return 𝓤 H En Post)) (at_return 𝓤 H En Post)) in
+          let Then : After 𝓤 H = any_q (after_seq 𝓤 H (Wp 𝓤 H C Λ En (after 2 function.body) (at_return 𝓤 H En Post))
+          (at_return 𝓤 H En Post)) in
           let y : (Takes Z 𝓛 at_mem run).Ghost = at_takes Z 𝓛 at_mem run κ q (rb, ro) a len 1 (block_of len) in
           let wide : capped (size (block_of len)) ≡ len = ap capped (mul-one len) ∙ capped_is len (omega arith) in
-          use2 𝓛 (raw ((Takes Z 𝓛 at_mem run).pre y)) (Takes-goes Z 𝓛 at_mem run κ q (rb, ro) a (Incl-trans z.0.2.0 within) len 1 (block_of len) wide refl (omega arith) (lit< tt)) $
-          calls_at ! fm (Takes Z 𝓛 at_mem run) callee y (and_then ! (get ! refl) (and_then ! (get ! refl) (and_then ! (lit ! tt) (no_more !)))) (λ v.
-          use1 𝓛 (later (raw (Answered Z 𝓛 at_mem run a (block_of len) v) ⊛ ‵ (flft κ q))) (Takes-gives Z 𝓛 at_mem run κ q (rb, ro) a len 1 (block_of len) v) $ await ! tt $ split ! $
+          use2 𝓛 (raw ((Takes Z 𝓛 at_mem run).pre y))
+          (Takes-goes Z 𝓛 at_mem run κ q (rb, ro) a (Incl-trans z.0.2.0 within) len 1 (block_of len) wide refl (omega arith) (lit< tt))
+          $
+          calls_at ! fm (Takes Z 𝓛 at_mem run) callee y
+          (and_then ! (get ! refl) (and_then ! (get ! refl) (and_then ! (lit ! tt) (no_more !)))) (λ v.
+          use1 𝓛 (later (raw (Answered Z 𝓛 at_mem run a (block_of len) v) ⊛ ‵ (flft κ q)))
+          (Takes-gives Z 𝓛 at_mem run κ q (rb, ro) a len 1 (block_of len) v) $ await ! tt $ split ! $
           answers Z ! at_mem run a (block_of len) v
           (λ b o e.
-          let p : Ptr = block_ptr b o in let base : Bs.Denot = record { ptr = p } in let store : St.Denot = record { at = p; room = len; ready = [] } in
+          let p : Ptr = block_ptr b o in let base : Bs.Denot = record { ptr = p } in
+          let store : St.Denot = record { at = p; room = len; ready = [] } in
           let deed : (Dd P Z.g).Denot = record { by = record {}; at = p; len = len; alloc = a } in
-          let made : Val = three (word p) none mark in let typed : Good (layout Three) made = (tt, ((tt, tt), (tt, ((tt, tt), tt)))) in let ok = first_Good (layout Three) made typed in
+          let made : Val = three (word p) none mark in let typed : Good (layout Three) made = (tt, ((tt, tt), (tt, ((tt, tt), tt)))) in
+          let ok = first_Good (layout Three) made typed in
           lands_as ! e refl (Answer-typed true b o) $ first ! $ switches_on ! (get_tag ! (vrt ! refl (fld ! refl (stop !))) (whole !)) $
           exec ! C Λ En (arm_body 0 both) Then $
           sets ! (of_opd ! (get_in ! (vrt ! refl (fld ! refl (stop !))) (in_variant ! 0 0 refl refl (whole !)))) refl (tt, tt) $
@@ -124,16 +133,19 @@ module _ (Z : Al) where
           nothing ! $ fjoin ! $ flt_i ! (len + 0) (2 ^ 63) (omega arith) $ fjoin ! $ store_made ! store $ move ! (1 ∷ []) $
           deed_made ! P Z.g deed $ word_made ! p $ move ! (0 ∷ 2 ∷ 1 ∷ []) $
           three_made ! Bs St (Dd P Z.g) base store deed (word p) none mark $
-          use1 𝓛 (‵ (Out.own_val (Ok (base, store, deed)) (live 0 (vcons made vnil) ∷ []))) (ok_of 𝓛 Three AE.the_row (base, store, deed) made) $
+          use1 𝓛 (‵ (Out.own_val (Ok (base, store, deed)) (live 0 (vcons made vnil) ∷ [])))
+          (ok_of 𝓛 Three AE.the_row (base, store, deed) made) $
           returns ! (look_at ! 0 refl) $ free_all ! refl $ keep ! (0 ∷ 1 ∷ 2 ∷ []) $
-          suffices ! _ (ends_at 𝓛 ended stayed held z (live 0 (vcons made vnil)) (Ok (base, store, deed)) (tt, (tt, tt)) (tt, (tt, tt))) $ says ! (refl, refl, refl, refl, refl, refl) $
+          suffices ! _ (ends_at 𝓛 ended stayed held z (live 0 (vcons made vnil)) (Ok (base, store, deed)) (tt, (tt, tt)) (tt, (tt, tt))) $
+          says ! (refl, refl, refl, refl, refl, refl) $
           move ! (1 ∷ 2 ∷ []) $ join ! $ frame ! $ nothing ! $ nothing ! $ fjoin ! $ nothing ! $ fjoin ! $ done !)
           (λ e.
           let Refusal : RattleType = Struct (Declared.shape AE.the_type) in let refused : Val = live 1 (vcons none vnil) in
           lands_as ! e refl (Answer-typed false 0 0) $ first ! $
           switches_on ! (get_tag ! (vrt ! refl (fld ! refl (stop !))) (whole !)) $ exec ! C Λ En (arm_body 1 both) Then $
           sets ! (of_opd ! (get_in ! (vrt ! refl (fld ! refl (stop !))) (in_variant ! 1 0 refl refl (whole !)))) refl (tt, tt) $
-          sets_last ! (agg ! (and_then ! (lit ! tt) (and_then ! (get ! refl) (no_more !)))) refl (tt, (record { fits = lit< tt }, (tt, tt))) $
+          sets_last ! (agg ! (and_then ! (lit ! tt) (and_then ! (get ! refl) (no_more !)))) refl
+          (tt, (record { fits = lit< tt }, (tt, tt))) $
           exec ! C Λ En (after 2 function.body) (at_ret En Post) $
           sets ! (of_opd ! (get ! refl)) refl (tt, (record { fits = lit< tt }, (tt, tt))) $
           owned ! Refusal (Is Refusal) (Struct-Makes 𝓛 (Declared.shape AE.the_type) tt) tt (none ∷ []) (tt, (refl, tt)) $
@@ -142,10 +154,13 @@ module _ (Z : Al) where
           suffices ! _ (ends_at 𝓛 ended stayed held z refused (Err (record {})) (tt, (tt, tt)) (tt, (tt, tt))) $ says ! tt $
           move ! (1 ∷ 2 ∷ []) $ join ! $ frame ! $ nothing ! $ nothing ! $ fjoin ! $ nothing ! $ fjoin ! $ done !))))))))
 
-    meets : (𝓣 : Tables 𝓤 H) → Triple 𝓤 (𝓣.C (takes_key Z)) (Takes Z 𝓛 at_mem run) → Meets 𝓛 ended.signature (WpFn 𝓤 H 𝓣.C 𝓣.Λ function) (closing 𝓛 ended held)
+    meets : (𝓣 : Tables 𝓤 H) → Triple 𝓤 (𝓣.C (takes_key Z)) (Takes Z 𝓛 at_mem run)
+        → Meets 𝓛 ended.signature (WpFn 𝓤 H 𝓣.C 𝓣.Λ function) (closing 𝓛 ended held)
     meets 𝓣 callee =
-        walk_Meets 𝓛 ended stayed
-        (Goes-dropped 𝓛 2 (RefOf (0 ∷ []) tt (plain (λ _. P)) (λ _. tt)) yes (λ κs x f. refl), (Goes-dropped 𝓛 2 (plain (λ _. usize)) yes (λ κs x f. refl), tt))
+        walk_Meets 𝓛 ended stayed (
+          Goes-dropped 𝓛 2 (RefOf (0 ∷ []) tt (plain (λ _. P)) (λ _. tt)) yes (λ κs x f. refl),
+          (Goes-dropped 𝓛 2 (plain (λ _. usize)) yes (λ κs x f. refl), tt),
+        )
         held (WpFn 𝓤 H 𝓣.C 𝓣.Λ function) (WpFn-mono 𝓤 H 𝓛.laws 𝓣 function) (walks 𝓣.C 𝓣.Λ (fm_of 𝓤 H 𝓛.laws 𝓣) callee)
 
 pub allocate_spec : {M : Type 1} → stated.statement M

@@ -83,24 +83,38 @@ module _ (Z : Al) where
           let κ = z.0.0.0 in let q = z.0.1.0 in let args' = z.0.3 in let vss = z.0.4 in let v = args'.0.value in
           let Asked = (0 < v.cap) × (v.len ≡ v.cap) in
           let Blk : Ptr → Fml = λ p. owns_if (has_block v.cap) (block_with_items (Z.g.dealloc_token v.alloc) u8 p v.len v.cap v.items) in
-          qed 𝓛 (((‵ (flft κ q) ⊛ ‵ ftrue) ⊛ ‵ (owns (types_at ended.signature.params z.0.0) args' vss)) ∷ (raw (fact 𝓤 (κ ⊑ Z.row.lives)) ⊛ raw (fact 𝓤 Asked)) ∷ []) ∵
+          qed 𝓛 (((‵ (flft κ q) ⊛ ‵ ftrue) ⊛ ‵ (owns (types_at ended.signature.params z.0.0) args' vss))
+          ∷ (raw (fact 𝓤 (κ ⊑ Z.row.lives)) ⊛ raw (fact 𝓤 Asked)) ∷ []) ∵
           move ! (1 ∷ []) $ split ! $ heard ! (κ ⊑ Z.row.lives) (λ within. heard ! Asked (λ asked. split ! $ split ! $ move ! (2 ∷ []) $
           fsplit ! $ fpick ! (λ ks. fsplit ! $ feq_l ! (λ ev. fsplit ! $
-          fsplit ! $ fpick ! (λ us. fsplit ! $ feq_l ! (λ all. fsplit ! $ feq_l ! (λ e₀. fsplit ! $ fsplit ! $ feq_l ! (λ e₁. flt_l ! (λ fn. fsplit ! $ fsplit ! $ feq_l ! (λ e₂. flt_l ! (λ fc.
+          fsplit ! $ fpick ! (λ us. fsplit ! $ feq_l !
+          (λ all. fsplit ! $ feq_l ! (λ e₀. fsplit ! $ fsplit ! $ feq_l !
+          (λ e₁. flt_l ! (λ fn. fsplit ! $ fsplit ! $ feq_l ! (λ e₂. flt_l ! (λ fc.
           fsplit ! $ handle_tells Z ! v.alloc us.1.1.1.0 (λ hv e₃ fa. move ! (2 ∷ []) $ fsplit ! $ flt_l ! (λ fit.
           in_a_block ! v.ptr (λ p. in_block p (Blk p)) (id⊢ 𝓤 (never 𝓤)) (λ b o e.
-          rewrite ! 0 (λ y. ‵ (owns_if y (block_with_items (Z.g.dealloc_token v.alloc) u8 (block_ptr b o) v.len v.cap v.items))) (is_live v.cap asked.0) refl $
-          fsplit ! $ use1 𝓛 (‵ (fsep (feq ℕ (length v.items) v.len) (bytes full_share v.items b o))) (bytes_apart 𝓛 full_share v.len v.items b o) $
+          rewrite ! 0 (λ y. ‵ (owns_if y (block_with_items (Z.g.dealloc_token v.alloc) u8 (block_ptr b o) v.len v.cap v.items)))
+          (is_live v.cap asked.0) refl $
+          fsplit ! $ use1 𝓛 (‵ (fsep (feq ℕ (length v.items) v.len) (bytes full_share v.items b o)))
+          (bytes_apart 𝓛 full_share v.len v.items b o) $
           fsplit ! $ feq_l ! (λ long. move ! (1 ∷ []) $ fsplit ! $ keep ! (1 ∷ 2 ∷ 7 ∷ 8 ∷ []) $
-          let here : Ptr = block_ptr b o in let words : Ptr → Val = λ p. vstruct (vcons (ptr_val p) (vcons (vint w64 v.len) (vcons (vint w64 v.cap) (vcons hv vnil)))) in
+          let here : Ptr = block_ptr b o in let words : Ptr
+          → Val = λ p. vstruct (vcons (ptr_val p) (vcons (vint w64 v.len) (vcons (vint w64 v.cap) (vcons hv vnil)))) in
           let taken : Val = vstruct (vcons (words here) vnil) in
-          let words_are : ks.0 ≡ words here ∷ [] = all ∙ ((λ i. vstruct (of_list (e₀ i ++ (e₁ i ++ (e₂ i ++ (e₃ i ++ []))))) ∷ []) ∙ ap (λ (p : Ptr). words p ∷ []) e) in
+          let words_are : ks.0 ≡ words here ∷ [] = all
+          ∙ ((λ i. vstruct (of_list (e₀ i ++ (e₁ i ++ (e₂ i ++ (e₃ i ++ []))))) ∷ []) ∙ ap (λ (p : Ptr). words p ∷ []) e) in
           let store : St.Denot = record { at = here; room = 0; ready = v.items } in
           let deed : (Dd P Z.g).Denot = record { by = record {}; at = here; len = v.cap; alloc = v.alloc } in
           let made : Val = two none mark in
-          regoal ! (λ (ws : List Val). prop (WpFn 𝓤 H C Λ function (ws ++ []) Post)) (ev ∙ (λ i. vstruct (of_list (words_are i ++ [])) ∷ [])) refl $
+          regoal ! (λ (ws : List Val). prop (WpFn 𝓤 H C Λ function (ws ++ []) Post))
+          (ev ∙ (λ i. vstruct (of_list (words_are i ++ [])) ∷ [])) refl $
           enter ! C Λ function (taken ∷ []) Post $
-          alloc_all ! (λ l. pass_all ! refl ((and_tt (has_ty (layout Vr) (words here)) (and_tt (has_ty (α Z) hv) fa.0), ((tt, (record { fits = fn }, (record { fits = fc }, (fa.1, tt)))), tt)), tt) $
+          alloc_all ! (λ l. pass_all ! refl (
+            (
+              and_tt (has_ty (layout Vr) (words here)) (and_tt (has_ty (α Z) hv) fa.0),
+              ((tt, (record { fits = fn }, (record { fits = fc }, (fa.1, tt)))), tt),
+            ),
+            tt,
+          ) $
           sets ! (agg ! (no_more !)) refl (tt, tt) $ sets ! (agg ! (no_more !)) refl (tt, tt) $
           sets ! (agg ! (and_then ! (get ! refl) (no_more !))) refl (tt, (tt, tt)) $
           sets ! (agg ! (and_then ! (get ! refl) (and_then ! (get ! refl) (no_more !)))) refl (tt, (tt, ((tt, tt), tt))) $
@@ -110,7 +124,8 @@ module _ (Z : Al) where
           use0 𝓛 (‵ (froom (block_of 0) b o)) (𝓛.laws.room_nil byte b o) $ move ! (1 ∷ 0 ∷ []) $ fjoin ! $
           flt_i ! (0 + length v.items) (2 ^ 63) (omega (arith, small, long, asked.1)) $ fjoin ! $ store_made ! store $
           two_made ! St (Dd P Z.g) store deed none mark $
-          suffices ! _ (ends_at 𝓛 ended stayed held z made (store, deed) (((tt, (tt, (tt, (tt, tt)))), tt), tt) (tt, tt)) $ says ! (sym e, refl, refl, sym e, refl, refl) $
+          suffices ! _ (ends_at 𝓛 ended stayed held z made (store, deed) (((tt, (tt, (tt, (tt, tt)))), tt), tt) (tt, tt)) $ says !
+          (sym e, refl, refl, sym e, refl, refl) $
           move ! (1 ∷ 2 ∷ []) $ join ! $ frame ! $ nothing ! $ nothing ! $ fjoin ! $ done !))))))))))))))))
 
     meets : (𝓣 : Tables 𝓤 H) → Meets 𝓛 ended.signature (WpFn 𝓤 H 𝓣.C 𝓣.Λ function) (closing 𝓛 ended held)

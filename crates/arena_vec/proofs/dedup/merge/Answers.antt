@@ -46,7 +46,13 @@ loop-k-preserved g c =
       | else-not-f w ↦
           let merges = rw w.if-not-f.false at told in
           rw (w.a-is, w.last-is, w.before-is) (record {
-            callable = walk_goes g.T.Item c.loop-k.a c.args.block c.args.len c.loop-k.k inv.callable (omega arith) got _ (true, _, _, merges, refl);
+            callable = walk_goes g.T.Item c.loop-k.a c.args.block c.args.len c.loop-k.k inv.callable (omega arith) got _ (
+              true,
+              _,
+              _,
+              merges,
+              refl,
+            );
             order = omega (arith, inv.order);
             walk = walk_drops inv.walk (omega arith) got (merged _ merges);
           })

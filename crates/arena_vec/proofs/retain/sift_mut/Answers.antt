@@ -10,7 +10,8 @@ pub loop-k-init : goal.loop-k-init
 loop-k-init g c = record { callable = c.requires.callable; sifting = sift_starts _ (λ zs left. left) }
 
 pub f-picked-requires : goal.f-picked-requires
-f-picked-requires g c = turn_now (rest_at _ c.loop-k.k _ (c.value_in-item.ensures c.args.len (omega arith))) c.loop-k.invariant.callable _ refl
+f-picked-requires g c = turn_now (rest_at _ c.loop-k.k _ (c.value_in-item.ensures c.args.len (omega arith))) c.loop-k.invariant.callable
+    _ refl
 
 pub loop-k-preserved : goal.loop-k-preserved
 loop-k-preserved g c =

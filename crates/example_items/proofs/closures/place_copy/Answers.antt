@@ -10,5 +10,6 @@ returns g c =
       placed = is.placed;
       held = is.held;
       length = is.length;
-      list = fills_list _ _ c.args.src.now (λ i x t bound step. (search (rules, of_calls, slice_get_read), search (rules, of_calls))) _ is.list.0 is.list.1 (length-elements _ _ _ _ ∙ is.length);
+      list = fills_list _ _ c.args.src.now (λ i x t bound step. (search (rules, of_calls, slice_get_read), search (rules, of_calls)))
+          _ is.list.0 is.list.1 (length-elements _ _ _ _ ∙ is.length);
     }

@@ -12,4 +12,5 @@ pub returns-clause-apart : goal.returns-clause-apart
 returns-clause-apart g c =
     let beside = c.placed.ensures.apart _ _ _ _ c.in_ok-block.block c.args.blocks.now.items c.in_ok-block.ensures c.requires.readable in
     let all = c.apart.ensures.all c.in_ok-block.block c.args.blocks.now.items beside in
-    rw (c.in-Ok.ensures.items, c.reserve.ensures.items) (c.apart.ensures.pairwise c.args.blocks.now.items (c.in_ok-block.block ∷ []) c.requires.apart (tt, tt) all)
+    rw (c.in-Ok.ensures.items, c.reserve.ensures.items)
+    (c.apart.ensures.pairwise c.args.blocks.now.items (c.in_ok-block.block ∷ []) c.requires.apart (tt, tt) all)

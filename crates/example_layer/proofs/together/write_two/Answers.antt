@@ -22,5 +22,7 @@ pub returns-clause-others : goal.returns-clause-others
 returns-clause-others g c =
     let frame = c.frames.ensures.both _ _ _ (c.args.one ∷ []) (c.args.other ∷ []) (c.args.one ∷ []) (c.args.other ∷ [])
     c.write.ensures.writes.frame c.write-2.ensures.writes.frame in
-    c.frames.ensures.keeps_all _ _ (c.args.one ∷ c.args.other ∷ []) (c.args.one ∷ c.args.other ∷ []) c.args.others.now frame c.requires.others
-    ((c.all_apart.ensures.from_both c.args.others.now (c.args.one ∷ []) (c.args.other ∷ [])).1 (c.requires.beside_one, c.requires.beside_other))
+    c.frames.ensures.keeps_all _ _ (c.args.one ∷ c.args.other ∷ [])
+    (c.args.one ∷ c.args.other ∷ []) c.args.others.now frame c.requires.others
+    ((c.all_apart.ensures.from_both c.args.others.now (c.args.one ∷ []) (c.args.other ∷ [])).1
+    (c.requires.beside_one, c.requires.beside_other))

@@ -5,4 +5,5 @@ use Rattle.plain_machine.proofs.marks.keep_first.Goals as goal
 pub loop-chunks-preserved : goal.loop-chunks-preserved
 loop-chunks-preserved c =
     let items = c.loop-chunks.chunks.items in
-    rw c.remove.ensures.items (one_chunk_less c.args.n items (omega (arith, c.loop-chunks-test.true, c.len.ensures, c.loop-chunks.chunks.ok.0)) ∙ c.loop-chunks.invariant)
+    rw c.remove.ensures.items (one_chunk_less c.args.n items
+    (omega (arith, c.loop-chunks-test.true, c.len.ensures, c.loop-chunks.chunks.ok.0)) ∙ c.loop-chunks.invariant)

@@ -7,10 +7,12 @@ use Rattle.plain_machine.proofs.search.entries.Goals.{in-Some+else-is_err, in_de
 pub loop-tried-preserved : goal.loop-tried-preserved
 loop-tried-preserved c = elim c.match-possible.branch [
   | in-Some+else-is_err w ↦
-      let next = entries_next c.args.base c.args.layout.size c.args.layout.align c.loop-tried.tried c.args.least w.in-Some.entry (omega arith) c.requires c.loop-tried-test.true (sym w.in-Some.ensures) in
+      let next = entries_next c.args.base c.args.layout.size c.args.layout.align c.loop-tried.tried c.args.least w.in-Some.entry
+      (omega arith) c.requires c.loop-tried-test.true (sym w.in-Some.ensures) in
       grind (arith, common_steps, next)
   | in_default w ↦
-      let pass = entries_pass c.args.base c.args.layout.size c.args.layout.align c.loop-tried.tried c.args.least (omega arith) c.requires c.loop-tried-test.true (sym w.in_default.ensures) in
+      let pass = entries_pass c.args.base c.args.layout.size c.args.layout.align c.loop-tried.tried c.args.least
+      (omega arith) c.requires c.loop-tried-test.true (sym w.in_default.ensures) in
       rw w.all-is (rw pass at c.loop-tried.invariant)
 ]
 

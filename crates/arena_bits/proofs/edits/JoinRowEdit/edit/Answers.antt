@@ -3,5 +3,6 @@ use Rattle.arena_bits.proofs.JoinLemmas.{joins_more}
 use Rattle.arena_bits.proofs.edits.JoinRowEdit.edit.Goals as goal
 
 pub words-preserved : goal.words-preserved
-words-preserved c =
-    joins_more c.args.place.now c.words.place c.args.self.now.row c.edit.new.place c.words.i (omega arith) c.words.invariant c.edit.ensures
+words-preserved g c =
+    joins_more g.row.N c.args.place.now c.words.place c.args.self.now.row c.edit.new.place c.words.i (omega arith) c.words.invariant
+    c.edit.ensures

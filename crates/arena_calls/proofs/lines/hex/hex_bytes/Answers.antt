@@ -6,4 +6,5 @@ use Rattle.arena_calls.proofs.lines.hex.hex_bytes.Goals as goal
 pub returns : goal.returns
 returns c =
     let e = c.in_ok-items.ensures in
-    rw c.from_vec.ensures (hex_some c.args.bytes.now c.in_ok-items.items.items c.in_ok-items.rest.now c.in_default.ensures e.there e.fit e.all (λ none. grind (arith, nat_tests)))
+    rw c.from_vec.ensures (hex_some c.args.bytes.now c.in_ok-items.items.items c.in_ok-items.rest.now c.in_default.ensures e.there e.fit
+    e.all (λ none. grind (arith, nat_tests)))

@@ -10,5 +10,6 @@ pairs-smaller c = less_left c.pairs.rest.now _ c.in-Some.more.now c.in-Some.ensu
 
 pub pairs-preserved : goal.pairs-preserved
 pairs-preserved c =
-    let more = read_more c.args.bytes.now c.pairs.items.items c.pairs.rest.now c.in-Some.byte c.in-Some.more.now c.pairs.invariant c.in-Some.ensures in
+    let more = read_more c.args.bytes.now c.pairs.items.items c.pairs.rest.now c.in-Some.byte c.in-Some.more.now c.pairs.invariant
+    c.in-Some.ensures in
     subst (λ items. HasRead c.args.bytes.now items c.in-Some.more.now) (sym c.in_ok-push.ensures.items) more

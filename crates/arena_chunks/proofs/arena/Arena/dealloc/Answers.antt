@@ -10,7 +10,8 @@ use Rattle.arena_chunks.proofs.arena.Arena.dealloc.Goals as goal
 
 pub overflow_add-block : goal.overflow_add-block
 overflow_add-block g c =
-    let last = is_last g.row.MIN_ALIGN c.self.inside c.args.self.now c.args.block c.self.invariant c.self.view_is c.requires c.if-block-self.true in
+    let last = is_last g.row.MIN_ALIGN c.self.inside c.args.self.now c.args.block c.self.invariant c.self.view_is c.requires
+    c.if-block-self.true in
     omega (arith, last.fits)
 
 pub round_up_to_unchecked-self-inside-requires-clause-power : goal.round_up_to_unchecked-self-inside-requires-clause-power
@@ -18,27 +19,43 @@ round_up_to_unchecked-self-inside-requires-clause-power g c = min_align_power g.
 
 pub round_up_to_unchecked-self-inside-requires-clause-fits : goal.round_up_to_unchecked-self-inside-requires-clause-fits
 round_up_to_unchecked-self-inside-requires-clause-fits g c =
-    (is_last g.row.MIN_ALIGN c.self.inside c.args.self.now c.args.block c.self.invariant c.self.view_is c.requires c.if-block-self.true).fits
+    (is_last g.row.MIN_ALIGN c.self.inside c.args.self.now c.args.block c.self.invariant c.self.view_is c.requires
+    c.if-block-self.true).fits
 
 last : (g : Over) (c : goal.After-self-1 g) → IsLast g.row.MIN_ALIGN c.args.self.now c.args.block
-last g c = is_last g.row.MIN_ALIGN c.self.inside c.args.self.now c.args.block c.self.invariant c.self.view_is c.requires c.if-block-self.true
+last g c = is_last g.row.MIN_ALIGN c.self.inside c.args.self.now c.args.block c.self.invariant c.self.view_is c.requires
+    c.if-block-self.true
 
-back : (g : Over) (c : goal.After-self-1 g) → IsReturn c.args.self.now.state c.args.block.addr c.args.block.size c.round_up_to_unchecked-self-inside.result
-back g c = last_returned g.row.MIN_ALIGN c.args.self.now c.args.block c.round_up_to_unchecked-self-inside.result (last g c) c.round_up_to_unchecked-self-inside.ensures
+back : (g : Over) (c : goal.After-self-1 g)
+    → IsReturn c.args.self.now.state c.args.block.addr c.args.block.size c.round_up_to_unchecked-self-inside.result
+back g c = last_returned g.row.MIN_ALIGN c.args.self.now c.args.block c.round_up_to_unchecked-self-inside.result
+    (last g c) c.round_up_to_unchecked-self-inside.ensures
 
 pub invariant_of-self : goal.invariant_of-self
 invariant_of-self g c =
-    cursor_moved g.row.MIN_ALIGN c.self.inside c.args.self.now c.round_up_to_unchecked-self-inside.result c.self.inside.newest.bytes.low c.self.inside.generation c.self.inside.allocations c.self.inside.reallocations c.self.invariant c.self.view_is
+    cursor_moved g.row.MIN_ALIGN c.self.inside c.args.self.now c.round_up_to_unchecked-self-inside.result c.self.inside.newest.bytes.low
+    c.self.inside.generation c.self.inside.allocations c.self.inside.reallocations c.self.invariant c.self.view_is
     (record { low = (back g c).low; high = (back g c).high; valid = (back g c).valid }) c.self.invariant.valid.generation
-    (omega (arith, c.self.invariant.ready, c.if-block-self.true, c.round_up_to_unchecked-self-inside.ensures, up_ge (c.args.block.addr + c.args.block.size) g.row.MIN_ALIGN (min_align_positive g.row.MIN_ALIGN c.self.invariant.valid.min_align)))
+    (omega (
+      arith,
+      c.self.invariant.ready,
+      c.if-block-self.true,
+      c.round_up_to_unchecked-self-inside.ensures,
+      up_ge (c.args.block.addr + c.args.block.size) g.row.MIN_ALIGN
+          (min_align_positive g.row.MIN_ALIGN c.self.invariant.valid.min_align),
+    ))
 
 pub returns-then-block-self : goal.returns-then-block-self
 returns-then-block-self g c =
-    let view = cursor_view g.row.MIN_ALIGN c.self.inside c.args.self.now c.round_up_to_unchecked-self-inside.result c.self.inside.newest.bytes.low c.self.view_is in
-    gives_back c.args.self.now _ c.args.block (last g c).valid c.requires (view ∙ ap (λ (s : State). record c.args.self.now { state = s }) (sym (back g c).step))
+    let view = cursor_view g.row.MIN_ALIGN c.self.inside c.args.self.now c.round_up_to_unchecked-self-inside.result
+    c.self.inside.newest.bytes.low c.self.view_is in
+    gives_back c.args.self.now _ c.args.block (last g c).valid c.requires
+    (view ∙ ap (λ (s : State). record c.args.self.now { state = s }) (sym (back g c).step))
 
 pub returns-else-block-self : goal.returns-else-block-self
 returns-else-block-self g c =
     let memory = c.args.self.now in
-    let same = sym (dealloc_elsewhere memory.state c.args.block.addr c.args.block.size (λ at. c.if-block-self.false (at ∙ sym (cursor_stored g.row.MIN_ALIGN c.self.inside memory c.self.invariant c.self.view_is)))) in
-    gives_back memory memory c.args.block (subst (λ (w : Memory). IsValid w.state) c.self.view_is c.self.invariant.valid) c.requires (ap (λ (s : State). record memory { state = s }) same)
+    let same = sym (dealloc_elsewhere memory.state c.args.block.addr c.args.block.size
+    (λ at. c.if-block-self.false (at ∙ sym (cursor_stored g.row.MIN_ALIGN c.self.inside memory c.self.invariant c.self.view_is)))) in
+    gives_back memory memory c.args.block (subst (λ (w : Memory). IsValid w.state) c.self.view_is c.self.invariant.valid) c.requires
+    (ap (λ (s : State). record memory { state = s }) same)

@@ -7,4 +7,5 @@ use Rattle.arena_chunks.proofs.arena.Arena.fill.Goals as goal
 pub returns : goal.returns
 returns g c =
     rw (length-bytes (image c.args.self.now) (c.args.block.addr + c.args.at) (c.args.block.size - c.args.at)) at
-    (edits_by c.args.self.now c.edit.new.self c.args.block c.args.at _ (λ (before : List ℕ). replicate (length before) c.args.value) c.edit.ensures)
+    (edits_by c.args.self.now c.edit.new.self c.args.block c.args.at _ (λ (before : List ℕ). replicate (length before) c.args.value)
+    c.edit.ensures)

@@ -13,4 +13,5 @@ edit-requires g c =
 pub returns : goal.returns
 returns g c =
     writes_moved c.args.self.now c.edit.new.self c.args.block c.args.from c.args.to c.args.size c.requires.source c.requires.target
-    (edits_by c.args.self.now c.edit.new.self c.args.block 0 c.args.block.size (λ (before : List ℕ). splice before c.args.to (take c.args.size (drop c.args.from before))) c.edit.ensures)
+    (edits_by c.args.self.now c.edit.new.self c.args.block 0 c.args.block.size
+    (λ (before : List ℕ). splice before c.args.to (take c.args.size (drop c.args.from before))) c.edit.ensures)

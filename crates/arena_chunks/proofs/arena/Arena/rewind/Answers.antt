@@ -1,5 +1,4 @@
 use Rattle.std.proofs.Common.{subst, sym, ap, ◌∙◌}
-use Rattle.arena_chunks.specs.Memory.{Memory}
 use Rattle.arena_chunks.specs.Checkpoints.{GoesBack, with_raised}
 use Rattle.arena_chunks.proofs.RewindLemmas.{accepted, goes_back}
 use Rattle.arena_chunks.proofs.arena.Arena.rewind.Goals as goal
@@ -7,4 +6,5 @@ use Rattle.arena_chunks.proofs.arena.Arena.rewind.Goals as goal
 pub returns-clause-back : goal.returns-clause-back
 returns-clause-back g c =
     subst (GoesBack c.args.self.now) (sym (c.raise.ensures.memory ∙ ap (with_raised c.args.c.addr) c.keep_first.ensures.memory))
-    (goes_back c.args.self.now c.args.c c.keep_first.ensures.entry (accepted c.args.c c.args.self.now.state c.requires) c.keep_first.ensures.paired)
+    (goes_back c.args.self.now c.args.c c.keep_first.ensures.entry
+    (accepted c.args.c c.args.self.now.state c.requires) c.keep_first.ensures.paired)

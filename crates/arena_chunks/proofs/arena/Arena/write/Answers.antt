@@ -5,7 +5,13 @@ use Rattle.arena_chunks.proofs.BlockCallLemmas.{edits_to}
 use Rattle.arena_chunks.proofs.arena.Arena.write.Goals as goal
 
 pub edit-requires : goal.edit-requires
-edit-requires g c = (omega arith, (c.requires.readable, (c.requires.range, length-bytes (image c.args.self.now) (c.args.block.addr + c.args.at) (length c.args.bytes.now))))
+edit-requires g c = (
+  omega arith,
+  (
+    c.requires.readable,
+    (c.requires.range, length-bytes (image c.args.self.now) (c.args.block.addr + c.args.at) (length c.args.bytes.now)),
+  ),
+)
 
 pub returns : goal.returns
 returns g c = edits_to c.args.self.now c.edit.new.self c.args.block c.args.at _ c.args.bytes.now c.edit.ensures

@@ -13,6 +13,8 @@ returns c =
       cursor = refl;
       low = refl;
       sized = part_length chunk c.args.from c.args.size c.requires.source;
-      bytes = rw (from, to) at (moved_in_last chunk.bytes.items c.part_mut-place.result.now c.shift.new.bytes (chunk.cursor - chunk.base) (c.args.from - chunk.cursor) (c.args.to - chunk.cursor) c.args.size
-          (rw c.len.ensures.value at c.part_mut-place.ensures.value) c.shift.ensures (omega (arith, from, c.requires.source)) (omega (arith, to, c.requires.target)));
+      bytes = rw (from, to) at (moved_in_last chunk.bytes.items c.part_mut-place.result.now c.shift.new.bytes (chunk.cursor - chunk.base)
+          (c.args.from - chunk.cursor) (c.args.to - chunk.cursor) c.args.size
+          (rw c.len.ensures.value at c.part_mut-place.ensures.value) c.shift.ensures (omega (arith, from, c.requires.source))
+          (omega (arith, to, c.requires.target)));
     }

@@ -5,34 +5,42 @@ use Rattle.placement.specs.Requests.{placed_anew}
 use Rattle.placement.specs.declared.calls.Call.TheVariants.{Alloc}
 use Rattle.placement.specs.declared.calls.Reply.TheVariants.{AllocErr}
 use Rattle.arena_chunks.proofs.AnswerLemmas.{on_err}
-use Rattle.arena_chunks.proofs.HeldLemmas.{get-inserted, get-insert_other, insert_again, remove_inserted}
-use Rattle.arena_chunks.proofs.LogLemmas.{notes_none, notes_one}
+use Rattle.arena_chunks.proofs.HeldLemmas.{get-inserted, insert_again, remove_inserted}
+use Rattle.arena_chunks.proofs.LogLemmas.{notes_still, notes_placed, notes_refused}
 use Rattle.arena_chunks.proofs.ServingLemmas.{none_of, asks_still, serves_still, serves_alloc}
 use Rattle.arena_chunks.proofs.runs.serve.serve_alloc.Goals as goal
 
 pub returns-then-is_some-clause-serves : goal.returns-then-is_some-clause-serves
 unfolding step placed_anew
 returns-then-is_some-clause-serves g c =
-    let taken = c.if-is_some.ensures ∙ ap is_some c.get.ensures in
-    serves_still _ _ _ _ _ _ c.requires (λ marks bytes held. rw (← taken) refl) (asks_still _ _ _ _ _ refl (λ marks bytes. rw (← taken) refl) (λ marks bytes. refl))
+    let taken = c.if-is_some.ensures ∙ ap is_some c.get.ensures in (
+      serves_still _ _ _ _ _ _ c.requires (λ marks bytes held. rw (← taken) refl)
+          (asks_still _ _ _ _ _ refl (λ marks bytes. rw (← taken) refl) (λ marks bytes. refl)),
+      notes_still _ _ _ _ (λ q p at. at),
+    )
 
 pub returns-in_default-clause-serves : goal.returns-in_default-clause-serves
 unfolding step placed_anew
 returns-in_default-clause-serves g c =
     let free = c.if-is_some.ensures ∙ ap is_some c.get.ensures in
-    let bad = c.in_default.ensures.valid in
-    serves_still _ _ _ _ _ _ c.requires (λ marks bytes held. rw (← free, ← bad) refl) (asks_still _ _ _ _ _ refl (λ marks bytes. rw (← free, ← bad) refl) (λ marks bytes. refl))
+    let bad = c.in_default.ensures.valid in (
+      serves_still _ _ _ _ _ _ c.requires (λ marks bytes held. rw (← free, ← bad) refl)
+          (asks_still _ _ _ _ _ refl (λ marks bytes. rw (← free, ← bad) refl) (λ marks bytes. refl)),
+      notes_still _ _ _ _ (λ q p at. at),
+    )
 
 pub replace-requires : goal.replace-requires
-replace-requires g c = rw (c.in_ok-insert.ensures.ok, get-inserted c.args.names.now c.args.wanted.name _) refl
+replace-requires g c = rw (c.in_ok-insert.ensures.ok, get-inserted c.args.run.now.names c.args.wanted.name _) refl
 
 pub returns-in-Ok-clause-serves : goal.returns-in-Ok-clause-serves
 returns-in-Ok-clause-serves g c =
     let free = none_of _ (c.if-is_some.ensures ∙ ap is_some c.get.ensures) in
     let value = c.in-Some.ensures.value in
+    let served = serves_alloc c.args.arena.now c.alloc_counted.new.self c.fill.new.self c.args.run.now.names c.args.wanted.name
+    c.args.wanted.size c.args.wanted.align c.args.fill
+    c.in-Ok.refused c.in-Ok.block _ _ c.requires free c.in-Some.ensures.valid (rw (value.0, value.1) at c.in-Ok.ensures) c.fill.ensures in
     rw (c.replace.ensures, c.in_ok-insert.ensures.ok, insert_again, c.at-in-Ok.ensures)
-    (serves_alloc c.args.arena.now c.alloc_counted.new.self c.fill.new.self c.args.names.now c.args.wanted.name c.args.wanted.size c.args.wanted.align c.args.fill
-    c.in-Ok.refused c.in-Ok.block _ _ c.requires free c.in-Some.ensures.valid (rw (value.0, value.1) at c.in-Ok.ensures) c.fill.ensures)
+    (served.0, notes_placed _ _ _ _ _ c.args.wanted.name c.note.ensures.marks c.in_ok-note.ensures.log served.1)
 
 pub returns-in-Err-AllocErr-clause-serves : goal.returns-in-Err-AllocErr-clause-serves
 unfolding step placed_anew
@@ -41,9 +49,19 @@ returns-in-Err-AllocErr-clause-serves g c =
     let good = c.in-Some.ensures.valid in
     let value = c.in-Some.ensures.value in
     let failed = (rw (value.0, value.1) at (rw c.in-Err-AllocErr.field-0-is at c.in-Err-AllocErr.ensures)).outcome.1 in
-    rw (c.remove.ensures.rest, c.in_ok-insert.ensures.ok, remove_inserted c.args.names.now c.args.wanted.name _ free, failed.memory, c.in-Err-AllocErr.field-0-is)
-    (serves_still (Alloc c.args.wanted.name c.args.wanted.size c.args.wanted.align c.args.fill) (AllocErr c.in-Err-AllocErr.refused) c.args.arena.now c.args.names.now _ _ c.requires
-    (λ marks bytes held. rw (free, ← good, failed.step) refl) (record { asked = λ marks bytes. rw (free, ← good) failed.asked; statistics = λ marks bytes. refl }))
+    rw (
+      c.remove.ensures.rest,
+      c.in_ok-insert.ensures.ok,
+      remove_inserted c.args.run.now.names c.args.wanted.name _ free,
+      failed.memory,
+      c.in-Err-AllocErr.field-0-is,
+    ) (
+      serves_still (Alloc c.args.wanted.name c.args.wanted.size c.args.wanted.align c.args.fill)
+          (AllocErr c.in-Err-AllocErr.refused) c.args.arena.now c.args.run.now.names _ _ c.requires
+          (λ marks bytes held. rw (free, ← good, failed.step) refl)
+          (record { asked = λ marks bytes. rw (free, ← good) failed.asked; statistics = λ marks bytes. refl }),
+      notes_refused _ _ _ _ _ c.args.wanted.name c.note.ensures.marks c.in_ok-note.ensures.log c.settle.ensures.marks c.settle.ensures.log,
+    )
 
 -- ---- Where memory is wanting
 
@@ -57,29 +75,13 @@ pub returns-in-Err-OutOfMemory-clause-wants : goal.returns-in-Err-OutOfMemory-cl
 unfolding placed_anew
 returns-in-Err-OutOfMemory-clause-wants g c =
     let free = none_of _ (c.if-is_some.ensures ∙ ap is_some c.get.ensures) in
-    record { takes = λ bytes. rw (free, ← c.in-Some.ensures.valid) refl; same = (rw c.in-Err-OutOfMemory.field-0-is at c.in-Err-OutOfMemory.ensures).outcome.same }
+    record {
+      takes = λ bytes. rw (free, ← c.in-Some.ensures.valid) refl;
+      same = (rw c.in-Err-OutOfMemory.field-0-is at c.in-Err-OutOfMemory.ensures).outcome.same;
+    }
 
 pub returns-in_err-note-clause-wants : goal.returns-in_err-note-clause-wants
 unfolding placed_anew
 returns-in_err-note-clause-wants g c =
     let free = none_of _ (c.if-is_some.ensures ∙ ap is_some c.get.ensures) in
     on_err c.from_residual-in_err-note.result (record { takes = λ bytes. rw (free, ← c.in-Some.ensures.valid) refl; same = refl })
-
--- ---- The log
-
-pub returns-then-is_some-clause-notes : goal.returns-then-is_some-clause-notes
-returns-then-is_some-clause-notes g c = notes_none _ _ _ (λ q p at. at)
-
-pub returns-in_default-clause-notes : goal.returns-in_default-clause-notes
-returns-in_default-clause-notes g c = notes_none _ _ _ (λ q p at. at)
-
-pub returns-in-Ok-clause-notes : goal.returns-in-Ok-clause-notes
-returns-in-Ok-clause-notes g c =
-    rw (c.replace.ensures, c.in_ok-insert.ensures.ok, insert_again)
-    (notes_one _ _ _ _ c.args.wanted.name c.note.ensures.marks c.in_ok-note.ensures.log (λ q other. get-insert_other c.args.names.now c.args.wanted.name q _ other))
-
-pub returns-in-Err-AllocErr-clause-notes : goal.returns-in-Err-AllocErr-clause-notes
-returns-in-Err-AllocErr-clause-notes g c =
-    let free = none_of _ (c.if-is_some.ensures ∙ ap is_some c.get.ensures) in
-    rw (c.remove.ensures.rest, c.in_ok-insert.ensures.ok, remove_inserted c.args.names.now c.args.wanted.name _ free)
-    (notes_one _ _ _ _ c.args.wanted.name c.note.ensures.marks c.in_ok-note.ensures.log (λ q other. refl))

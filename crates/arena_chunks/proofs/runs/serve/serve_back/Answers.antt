@@ -5,29 +5,30 @@ use Rattle.placement.specs.declared.calls.Call.TheVariants.{Back}
 use Rattle.placement.specs.declared.calls.Reply.TheVariants.{NoSuchName}
 use Rattle.arena_chunks.specs.Marks.{named}
 use Rattle.arena_chunks.proofs.ServingLemmas.{none_of, asks_still}
-use Rattle.arena_chunks.proofs.MarkingLemmas.{marks_still, serves_back, back_accepted, back_within}
+use Rattle.arena_chunks.proofs.MarkingLemmas.{marks_still}
+use Rattle.arena_chunks.proofs.GoingBackLemmas.{serves_back, back_accepted}
 use Rattle.arena_chunks.proofs.runs.serve.serve_back.Goals as goal
 
 pub returns-then-not-has-clause-serves : goal.returns-then-not-has-clause-serves
 unfolding step placed_anew
 returns-then-not-has-clause-serves g c = λ source.
-    marks_still (Back c.args.name) NoSuchName _ _ _ source c.requires.holds c.requires.tracks refl (λ bytes. rw (none_of (mark_named (named c.args.marks.now.marks) c.args.name) (sym c.if-not-has.true ∙ c.has.ensures)) refl)
+    marks_still (Back c.args.name) NoSuchName _ _ _ source c.requires.holds c.requires.tracks refl
+    (λ bytes. rw (none_of (mark_named (named c.args.run.now.marks.marks) c.args.name) (sym c.if-not-has.true ∙ c.has.ensures)) refl)
     (asks_still _ _ _ _ _ refl (λ marks bytes. refl) (λ marks bytes. refl))
 
 pub back_to-mark-requires : goal.back_to-mark-requires
 back_to-mark-requires g c = sym c.has.ensures ∙ c.if-not-has.false
 
 pub rewind-requires : goal.rewind-requires
-rewind-requires g c = (omega arith, back_accepted _ _ _ c.args.name _ _ c.requires.tracks (sym c.back_to-mark.ensures.marks ∙ c.back_to-mark.ensures.newest.1))
-
-pub forget-requires : goal.forget-requires
-forget-requires g c =
-    rw (c.back_to-mark.ensures.newest.1, c.back_to-mark.ensures.log)
-    (omega arith, (omega arith, back_within _ _ _ c.args.name _ _ c.requires.tracks (sym c.back_to-mark.ensures.marks ∙ c.back_to-mark.ensures.newest.1)))
+rewind-requires g c = (
+  omega arith,
+  back_accepted _ _ _ c.args.name _ _ c.requires.tracks
+      (sym c.back_to-mark.ensures.marks ∙ c.back_to-mark.ensures.newest.1),
+)
 
 pub returns-clause-serves : goal.returns-clause-serves
 returns-clause-serves g c = λ source.
     let from = sym c.back_to-mark.ensures.marks ∙ c.back_to-mark.ensures.newest.1 in
     let forgets = rw (c.back_to-mark.ensures.newest.1, c.back_to-mark.ensures.log) at c.forget.ensures in
     serves_back _ _ _ _ _ _ c.args.name c.back_to-mark.result c.back_to-mark.ensures.newest.0 source c.requires.holds c.requires.tracks from
-    c.rewind.ensures.back c.rewind.ensures.memory forgets.marks forgets.keeps
+    c.rewind.ensures.back c.rewind.ensures.memory forgets.marks forgets.from forgets.log forgets.lets forgets.over

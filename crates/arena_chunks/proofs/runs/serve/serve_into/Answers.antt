@@ -9,7 +9,7 @@ use Rattle.arena_chunks.specs.Replies.{has_bytes}
 use Rattle.arena_chunks.specs.Serving.{ServesRun}
 use Rattle.arena_chunks.proofs.AnswerLemmas.{on_err_less, on_ok_less}
 use Rattle.arena_chunks.proofs.HeldLemmas.{less_removed}
-use Rattle.arena_chunks.proofs.LogLemmas.{notes_none}
+use Rattle.arena_chunks.proofs.LogLemmas.{notes_still}
 use Rattle.arena_chunks.proofs.MarkingLemmas.{run_served}
 use Rattle.arena_chunks.proofs.ServingLemmas.{asks_still, serves_still}
 use Rattle.arena_chunks.proofs.runs.serve.serve_into.Goals as goal
@@ -17,12 +17,17 @@ use Rattle.arena_chunks.proofs.runs.serve.serve_into.Goals.{in-Alloc+in_ok-reply
 
 pub returns-in-Read-clause-serves : goal.returns-in-Read-clause-serves
 returns-in-Read-clause-serves g c = rw c.in-Read.is
-    (on_ok_less c.serve_read.result (λ served. (served.0, run_served _ _ _ _ _ _ _ _ c.requires.tracks served.1 (notes_none _ _ _ (λ q p at. at)), served.2)) (c.serve_read.ensures.serves _))
+    (on_ok_less c.serve_read.result (λ served.
+    (served.0, run_served _ _ _ _ _ _ _ _ c.requires.tracks served.1 (notes_still _ _ _ _ (λ q p at. at)), served.2))
+    (c.serve_read.ensures.serves _))
 
 pub returns-in-Read-clause-wants : goal.returns-in-Read-clause-wants
 unfolding placed_anew
 returns-in-Read-clause-wants g c = on_err_less c.serve_read.result
-    (λ held. record { takes = λ bytes. rw c.in-Read.is (or_left (is_some (map.get c.args.names.now c.in-Read.name)) _ held); same = refl }) c.serve_read.ensures.wants
+    (λ held. record {
+      takes = λ bytes. rw c.in-Read.is (or_left (is_some (map.get c.args.run.now.names c.in-Read.name)) _ held);
+      same = refl;
+    }) c.serve_read.ensures.wants
 
 pub take-requires : goal.take-requires
 take-requires g c = record { fixed = fixed; room = omega (arith, c.requires.room) }
@@ -43,31 +48,35 @@ take-requires g c = record { fixed = fixed; room = omega (arith, c.requires.room
 
 pub returns-clause-serves : goal.returns-clause-serves
 unfolding step placed_anew
-returns-clause-serves g c = (c.match-call.reply, served, c.take.ensures.shown)
+returns-clause-serves g c = (c.match-call.reply, served, c.take.ensures.taken)
   where
     served : ServesRun c.args.call.now c.match-call.reply (view c.args.arena.now (g.C.ChunkSource.source c.args.chunks.now))
-        (view c.match-call.arena (g.C.ChunkSource.source c.match-call.chunks)) c.args.names.now c.match-call.names c.args.marks.now c.match-call.marks
+        (view c.match-call.arena (g.C.ChunkSource.source c.match-call.chunks)) c.args.run.now.names c.match-call.run.names
+        c.args.run.now.marks c.match-call.run.marks
     served = elim c.match-call.branch [
-      | in-Alloc+in_ok-reply-in-Alloc w ↦ rw (w.in-Alloc.is, w.arena-is, w.chunks-is, w.names-is, w.marks-is, w.reply-is)
-          (run_served _ _ _ _ _ _ _ _ c.requires.tracks w.in_ok-reply-in-Alloc.ensures.serves w.in_ok-reply-in-Alloc.ensures.notes)
-      | in-Grow+in_ok-reply-in-Grow w ↦ rw (w.in-Grow.is, w.arena-is, w.chunks-is, w.names-is, w.marks-is, w.reply-is)
-          (run_served _ _ _ _ _ _ _ _ c.requires.tracks w.in_ok-reply-in-Grow.ensures.serves w.in_ok-reply-in-Grow.ensures.notes)
-      | in-Shrink+in_ok-reply-in-Shrink w ↦ rw (w.in-Shrink.is, w.arena-is, w.chunks-is, w.names-is, w.marks-is, w.reply-is)
-          (run_served _ _ _ _ _ _ _ _ c.requires.tracks w.in_ok-reply-in-Shrink.ensures.serves w.in_ok-reply-in-Shrink.ensures.notes)
-      | in-Dealloc w ↦ rw (w.in-Dealloc.is, w.arena-is, w.chunks-is, w.names-is, w.marks-is, w.reply-is)
+      | in-Alloc+in_ok-reply-in-Alloc w ↦ rw (w.in-Alloc.is, w.arena-is, w.chunks-is, w.run-is, w.reply-is)
+          (run_served _ _ _ _ _ _ _ _ c.requires.tracks w.in_ok-reply-in-Alloc.ensures.serves.0 w.in_ok-reply-in-Alloc.ensures.serves.1)
+      | in-Grow+in_ok-reply-in-Grow w ↦ rw (w.in-Grow.is, w.arena-is, w.chunks-is, w.run-is, w.reply-is)
+          (run_served _ _ _ _ _ _ _ _ c.requires.tracks w.in_ok-reply-in-Grow.ensures.serves.0 w.in_ok-reply-in-Grow.ensures.serves.1)
+      | in-Shrink+in_ok-reply-in-Shrink w ↦ rw (w.in-Shrink.is, w.arena-is, w.chunks-is, w.run-is, w.reply-is)
+          (run_served _ _ _ _ _ _ _ _ c.requires.tracks w.in_ok-reply-in-Shrink.ensures.serves.0 w.in_ok-reply-in-Shrink.ensures.serves.1)
+      | in-Dealloc w ↦ rw (w.in-Dealloc.is, w.arena-is, w.chunks-is, w.run-is, w.reply-is)
           (run_served _ _ _ _ _ _ _ _ c.requires.tracks (w.serve_dealloc-reply.ensures.serves _)
-          (notes_none _ _ _ (rw w.serve_dealloc-reply.ensures.names (less_removed c.args.names.now w.in-Dealloc.name))))
-      | in-Write w ↦ rw (w.in-Write.is, ← w.as_slice.ensures, w.arena-is, w.chunks-is, w.names-is, w.marks-is, w.reply-is)
-          (run_served _ _ _ _ _ _ _ _ c.requires.tracks (w.serve_write-reply.ensures.serves _) (notes_none _ _ _ (λ q p at. at)))
-      | in-Mark+in_ok-reply-in-Mark w ↦ rw (w.in-Mark.is, w.arena-is, w.chunks-is, w.names-is, w.marks-is, w.reply-is) (w.in_ok-reply-in-Mark.ensures.serves _)
-      | in-Back w ↦ rw (w.in-Back.is, w.arena-is, w.chunks-is, w.names-is, w.marks-is, w.reply-is) (w.serve_back-reply.ensures.serves _)
-      | in-Reset w ↦ rw (w.in-Reset.is, w.arena-is, w.chunks-is, w.names-is, w.marks-is, w.reply-is) (w.serve_reset-reply.ensures.serves _)
-      | in-Used w ↦ rw (w.in-Used.is, w.arena-is, w.chunks-is, w.names-is, w.marks-is, w.reply-is, w.used_bytes.ensures.value)
+          (notes_still _ _ _ _ (rw w.serve_dealloc-reply.ensures.names (less_removed c.args.run.now.names w.in-Dealloc.name))))
+      | in-Write w ↦ rw (w.in-Write.is, ← w.as_slice.ensures, w.arena-is, w.chunks-is, w.run-is, w.reply-is)
+          (run_served _ _ _ _ _ _ _ _ c.requires.tracks (w.serve_write-reply.ensures.serves _) (notes_still _ _ _ _ (λ q p at. at)))
+      | in-Mark+in_ok-reply-in-Mark w ↦ rw (w.in-Mark.is, w.arena-is, w.chunks-is, w.run-is, w.reply-is)
+          (w.in_ok-reply-in-Mark.ensures.serves _)
+      | in-Back w ↦ rw (w.in-Back.is, w.arena-is, w.chunks-is, w.run-is, w.reply-is) (w.serve_back-reply.ensures.serves _)
+      | in-Reset w ↦ rw (w.in-Reset.is, w.arena-is, w.chunks-is, w.run-is, w.reply-is) (w.serve_reset-reply.ensures.serves _)
+      | in-Used w ↦ rw (w.in-Used.is, w.arena-is, w.chunks-is, w.run-is, w.reply-is, w.used_bytes.ensures.value)
           (run_served _ _ _ _ _ _ _ _ c.requires.tracks
-          (serves_still _ _ _ _ _ _ c.requires.holds (λ marks bytes held. refl) (asks_still _ _ _ _ _ refl (λ marks bytes. refl) (λ marks bytes. refl)))
-          (notes_none _ _ _ (λ q p at. at)))
-      | in-Allocated w ↦ rw (w.in-Allocated.is, w.arena-is, w.chunks-is, w.names-is, w.marks-is, w.reply-is, w.allocated_bytes.ensures.value)
+          (serves_still _ _ _ _ _ _ c.requires.holds (λ marks bytes held. refl)
+          (asks_still _ _ _ _ _ refl (λ marks bytes. refl) (λ marks bytes. refl)))
+          (notes_still _ _ _ _ (λ q p at. at)))
+      | in-Allocated w ↦ rw (w.in-Allocated.is, w.arena-is, w.chunks-is, w.run-is, w.reply-is, w.allocated_bytes.ensures.value)
           (run_served _ _ _ _ _ _ _ _ c.requires.tracks
-          (serves_still _ _ _ _ _ _ c.requires.holds (λ marks bytes held. refl) (asks_still _ _ _ _ _ refl (λ marks bytes. refl) (λ marks bytes. refl)))
-          (notes_none _ _ _ (λ q p at. at)))
+          (serves_still _ _ _ _ _ _ c.requires.holds (λ marks bytes held. refl)
+          (asks_still _ _ _ _ _ refl (λ marks bytes. refl) (λ marks bytes. refl)))
+          (notes_still _ _ _ _ (λ q p at. at)))
     ]

@@ -19,7 +19,8 @@ set-requires g c = sym c.if-has.ensures
 
 pub returns-clause-serves : goal.returns-clause-serves
 returns-clause-serves g c = λ source.
-    serves_mark _ _ _ _ c.args.name source c.requires.holds c.requires.tracks (sym c.if-has.ensures) (rw c.checkpoint.ensures at c.in_ok-set.ensures)
+    serves_mark _ _ _ _ c.args.name source c.requires.holds c.requires.tracks (sym c.if-has.ensures)
+    (rw c.checkpoint.ensures at c.in_ok-set.ensures)
 
 pub returns-in_err-set-clause-wants : goal.returns-in_err-set-clause-wants
 unfolding placed_anew

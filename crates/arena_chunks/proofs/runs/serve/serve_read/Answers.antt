@@ -13,19 +13,25 @@ pub returns-in_default-clause-serves : goal.returns-in_default-clause-serves
 unfolding step placed_anew
 returns-in_default-clause-serves g c = λ source. (
   NoSuchName,
-  serves_still _ _ _ _ _ _ c.requires.holds (λ marks bytes held. absent_at c.args.arena.now c.args.names.now marks bytes c.args.name _ (sym c.get.ensures ∙ c.in_default.is))
+  serves_still _ _ _ _ _ _ c.requires.holds
+      (λ marks bytes held. absent_at c.args.arena.now c.args.names.now marks bytes c.args.name _ (sym c.get.ensures ∙ c.in_default.is))
       (asks_still _ _ _ _ _ refl (λ marks bytes. refl) (λ marks bytes. refl)),
-  c.take.ensures.shown,
+  c.take.ensures.taken,
 )
 
 pub read-requires : goal.read-requires
-read-requires g c = (omega arith, rw c.block_at.ensures (readable_at _ _ c.args.name c.in-Some.place c.requires.holds (sym c.get.ensures ∙ c.in-Some.is)))
+read-requires g c = (
+  omega arith,
+  rw c.block_at.ensures
+      (readable_at _ _ c.args.name c.in-Some.place c.requires.holds (sym c.get.ensures ∙ c.in-Some.is)),
+)
 
 pub returns-clause-serves : goal.returns-clause-serves
 unfolding step placed_anew
 returns-clause-serves g c = λ source.
-    let serves : Serves (Read c.args.name) (Bytes c.read.result.now) (view c.args.arena.now source) (view c.args.arena.now source) c.args.names.now c.args.names.now =
+    let serves : Serves (Read c.args.name) (Bytes c.read.result.now) (view c.args.arena.now source)
+    (view c.args.arena.now source) c.args.names.now c.args.names.now =
     serves_still _ _ _ _ _ _ c.requires.holds (λ marks bytes held.
     found_at c.args.arena.now c.args.names.now marks bytes c.args.name 0 c.in-Some.place _ held (sym c.get.ensures ∙ c.in-Some.is)
     ∙ rw (c.read.ensures, c.block_at.ensures) refl) (asks_still _ _ _ _ _ refl (λ marks bytes. refl) (λ marks bytes. refl)) in
-    on_ok_less c.take_bytes.result (λ shown. (Bytes c.read.result.now, serves, shown)) c.take_bytes.ensures.shown
+    on_ok_less c.take_bytes.result (λ taken. (Bytes c.read.result.now, serves, taken)) c.take_bytes.ensures.taken

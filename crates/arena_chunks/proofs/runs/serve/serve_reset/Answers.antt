@@ -5,5 +5,6 @@ use Rattle.arena_chunks.proofs.runs.serve.serve_reset.Goals as goal
 
 pub returns-clause-serves : goal.returns-clause-serves
 returns-clause-serves g c = λ source.
-    rw (c.clear.ensures, c.clear-2.ensures) (serves_reset_run c.args.arena.now c.reset.new.self c.args.names.now c.args.marks.now source
+    rw (c.clear.ensures, c.clear-2.ensures) (serves_reset_run c.args.arena.now c.reset.new.self c.args.run.now.names c.args.run.now.marks
+    source
     (ap (λ (w : Memory). w.state) c.reset.ensures.memory) (ap (λ (w : Memory). w.statistics) c.reset.ensures.memory) c.reset.ensures.valid)

@@ -8,7 +8,8 @@ use Rattle.arena_chunks.proofs.runs.serve.serve_write.Goals.{then-len-place-via-
 pub returns-in_default-clause-serves : goal.returns-in_default-clause-serves
 unfolding step placed_anew
 returns-in_default-clause-serves g c = λ source.
-    serves_still _ _ _ _ _ _ c.requires (λ marks bytes held. absent_at c.args.arena.now c.args.names.now marks bytes c.args.name _ (sym c.get.ensures ∙ c.in_default.is))
+    serves_still _ _ _ _ _ _ c.requires (λ marks bytes held.
+    absent_at c.args.arena.now c.args.names.now marks bytes c.args.name _ (sym c.get.ensures ∙ c.in_default.is))
     (asks_still _ _ _ _ _ refl (λ marks bytes. refl) (λ marks bytes. refl))
 
 pub returns-then-len-place-clause-serves : goal.returns-then-len-place-clause-serves
@@ -23,9 +24,17 @@ returns-then-len-place-clause-serves g c = λ source.
     ∙ rw (lt-ltb _ _ past) refl) (asks_still _ _ _ _ _ refl (λ marks bytes. refl) (λ marks bytes. refl))
 
 pub write-requires : goal.write-requires
-write-requires g c = (omega arith, (rw c.block_at.ensures (readable_at _ _ c.args.name c.in-Some.place c.requires (sym c.get.ensures ∙ c.in-Some.is)), rw c.block_at.ensures (omega arith)))
+write-requires g c = (
+  omega arith,
+  (
+    rw c.block_at.ensures
+        (readable_at _ _ c.args.name c.in-Some.place c.requires (sym c.get.ensures ∙ c.in-Some.is)),
+    rw c.block_at.ensures (omega arith),
+  ),
+)
 
 pub returns-clause-serves : goal.returns-clause-serves
 returns-clause-serves g c = λ source.
-    serves_write c.args.arena.now c.write.new.self c.args.names.now c.args.name c.args.at c.args.bytes.now c.in-Some.place source c.requires (sym c.get.ensures ∙ c.in-Some.is)
+    serves_write c.args.arena.now c.write.new.self c.args.names.now c.args.name c.args.at c.args.bytes.now c.in-Some.place source c.requires
+    (sym c.get.ensures ∙ c.in-Some.is)
     (omega arith) (rw c.block_at.ensures at c.write.ensures)

@@ -12,7 +12,8 @@ swap-requires g c = (search rules, search rules, firsts _ _ _ _ c.self.invariant
 pub swap-requires-2 : goal.swap-requires-2
 swap-requires-2 g c =
     let me = c.self.inside.seat.me.0 in
-    let is : c.swap.new.seat.me.0 ≡ with_lists (with_taken 0 me.lists) me = ⊎_elim (λ h. absurd (c.if-swap-eq0.false h.0)) (λ h. h.1) c.swap.ensures.2.1 in (
+    let is : c.swap.new.seat.me.0 ≡ with_lists (with_taken 0 me.lists) me =
+    ⊎_elim (λ h. absurd (c.if-swap-eq0.false h.0)) (λ h. h.1) c.swap.ensures.2.1 in (
       search rules,
       search rules,
       seconds _ _ _ _

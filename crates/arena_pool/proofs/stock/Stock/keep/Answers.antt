@@ -10,7 +10,8 @@ invariant_of-self g c =
     let push = c.push_reserved.ensures in
     let lent = ap (λ (p : Pool). p.lent) c.self.view_is in
     let same = sym (ap (λ (p : Pool). p.kind) c.self.view_is) in
-    let pooled = subst (λ (k : PoolKind). IsPooled k (g.P.Packing.unpacked c.args.arena, c.args.id)) same (record { unused = c.requires.unused; id = c.requires.id }) in (
+    let pooled = subst (λ (k : PoolKind). IsPooled k (g.P.Packing.unpacked c.args.arena, c.args.id)) same
+    (record { unused = c.requires.unused; id = c.requires.id }) in (
       omega (arith, lent, c.requires.lent, was.0, push.len),
       omega (arith, lent, c.requires.lent, was.1, push.len, push.capacity),
       rw push.items (All-push (IsPooled c.self.inside.kind) _ _ was.2 pooled),

@@ -7,5 +7,6 @@ loop-i-preserved g c =
     let e = c.in_ok-arena.ensures in record {
       length = omega arith;
       room = omega arith;
-      first = rw (c.push_reserved.ensures.items, c.first_id.ensures) (one_more c.args.kind c.loop-i.i _ _ c.loop-i.invariant.first e.new e.unused);
+      first = rw (c.push_reserved.ensures.items, c.first_id.ensures)
+          (one_more c.args.kind c.loop-i.i _ _ c.loop-i.invariant.first e.new e.unused);
     }

@@ -8,4 +8,5 @@ returns-then-from-self c =
     let r = c.self.inside in let from = c.args.from in
     rw (← c.self.view_is)
     (let low : from ≡ min r.low from = omega (arith, c.if-from-self.true) in
-    λ i. bytes (take r.len ((ap (λ l. replicate from 0 ++ l) c.clear.ensures.ready ∙ cleared r.low from r.store.ready (omega (arith, c.if-from-self.true))) i)) (low i))
+    λ i. bytes (take r.len ((ap (λ l. replicate from 0 ++ l) c.clear.ensures.ready
+    ∙ cleared r.low from r.store.ready (omega (arith, c.if-from-self.true))) i)) (low i))

@@ -9,7 +9,8 @@ returns c =
     let r = c.self.inside in let laid = c.self.invariant in let from = c.args.from in let xs = r.store.ready in
     let room = laid.room in let size = laid.size in let len = laid.len in
     let ready : r.low ≤ from = omega (arith, c.requires.ready, ap (λ b. b.low) c.self.view_is) in
-    let range : from + c.args.size ≤ r.len = omega (arith, c.requires.range, ap (λ b. length b.items) c.self.view_is, length-take r.len (block_bytes r)) in
+    let range : from + c.args.size ≤ r.len =
+    omega (arith, c.requires.range, ap (λ b. length b.items) c.self.view_is, length-take r.len (block_bytes r)) in
     rw (← c.self.view_is) (
       (
         refl,
@@ -18,6 +19,7 @@ returns c =
       ),
       record {
         writes_back = tt;
-        value = c.slice_mut.ensures.value ∙ ap (λ k. take c.args.size (lib.ListN.drop (from - k) xs)) room ∙ part_shown r.low r.len from c.args.size xs ready range;
+        value = c.slice_mut.ensures.value ∙ ap (λ k. take c.args.size (lib.ListN.drop (from - k) xs)) room
+            ∙ part_shown r.low r.len from c.args.size xs ready range;
       },
     )

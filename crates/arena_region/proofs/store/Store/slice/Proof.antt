@@ -46,7 +46,10 @@ abbrev ended : Ended
 ended = F.ended
 
 abbrev stayed : Stays ended.signature.params ended.kept
-stayed = (stay_dropped (RefOf (0 ∷ []) tt (plain (λ _. St)) (λ _. tt)) yes, (stay_dropped (plain (λ _. Bs)) yes, (stay_dropped (plain (λ _. usize)) yes, (stay_dropped (plain (λ _. usize)) yes, tt))))
+stayed = (
+  stay_dropped (RefOf (0 ∷ []) tt (plain (λ _. St)) (λ _. tt)) yes,
+  (stay_dropped (plain (λ _. Bs)) yes, (stay_dropped (plain (λ _. usize)) yes, (stay_dropped (plain (λ _. usize)) yes, tt))),
+)
 
 module _ {M : Type 1} {𝓤 : Ura M} (𝓛 : Logic 𝓤) (at_mem : Memory → SProp 𝓤) (run : Routine → Fun 𝓤) where
   open 𝓛 use {H}
@@ -71,31 +74,43 @@ module _ {M : Type 1} {𝓤 : Ura M} (𝓛 : Logic 𝓤) (at_mem : Memory → SP
         fsplit ! $ fsplit ! $ feq_l ! (λ is₀. move ! (1 ∷ []) $ fsplit ! $ word_had ! base.ptr vss.1.0 (λ is₁.
         fsplit ! $ fsplit ! $ feq_l ! (λ is₂. flt_l ! (λ far. fsplit ! $ fsplit ! $ feq_l ! (λ is₃. flt_l ! (λ fits. keep ! (1 ∷ 2 ∷ []) $
         passed ! (λ us. prop (WpFn 𝓤 H C Λ function us Post)) (vss.0 ∷ vss.1.0 ∷ vss.1.1.0 ∷ vss.1.1.1.0 ∷ [])
-        ((vptr rb ro ∷ []) ∷ (word base.ptr ∷ []) ∷ (vint w64 from ∷ []) ∷ (vint w64 size ∷ []) ∷ []) (λ i. is₀ i ∷ is₁ i ∷ is₂ i ∷ is₃ i ∷ []) $
+        ((vptr rb ro ∷ []) ∷ (word base.ptr ∷ []) ∷ (vint w64 from ∷ []) ∷ (vint w64 size ∷ []) ∷ [])
+        (λ i. is₀ i ∷ is₁ i ∷ is₂ i ∷ is₃ i ∷ []) $
         enter ! C Λ function (vptr rb ro ∷ word base.ptr ∷ vint w64 from ∷ vint w64 size ∷ []) Post $
-        alloc_all ! (λ l. pass_all ! refl ((tt, tt), (word-good base.ptr, ((tt, record { fits = far }), ((tt, record { fits = fits }), tt)))) $
+        alloc_all ! (λ l. pass_all ! refl (
+          (tt, tt),
+          (word-good base.ptr, ((tt, record { fits = far }), ((tt, record { fits = fits }), tt))),
+        ) $
         unhide ! $ fsplit ! $ drop ! $ in_a_block ! d.at (λ p. store_lends p d.room d.ready κ) (id⊢ 𝓤 (never 𝓤)) (λ b o e. fsplit ! $
         flt_l ! (λ fit.
         take_at ! 2 $ rewrite ! 0 (λ (p : Ptr). ‵ (fat full_share (layout Bs) (l 2) 0 (word p))) (asked.0 ∙ e) refl $ give_at ! 2 $
         first ! $ blocks ! $
         sets ! (bin ! (get_in ! (fld ! refl (stop !)) (sub ! 0 refl (whole !))) (get ! refl) tt) refl (tt, tt) $
-        use1 𝓛 (‵ (elements_shared u8 (drop_l (from - d.room) d.ready) b (from + o) κ)) (seen_from 𝓛 b κ (from - d.room) d.ready (o + d.room) (from + o) (omega arith)) $
+        use1 𝓛 (‵ (elements_shared u8 (drop_l (from - d.room) d.ready) b (from + o) κ))
+        (seen_from 𝓛 b κ (from - d.room) d.ready (o + d.room) (from + o) (omega arith)) $
         use1 𝓛 (‵ (elements_shared u8 ys b (from + o) κ)) (seen_first 𝓛 b κ size (drop_l (from - d.room) d.ready) (from + o)) $ hide ! $
         sets_last ! (agg ! (and_then ! (get ! refl) (and_then ! (get ! refl) (no_more !)))) refl (tt, (tt, (record { fits = fits }, tt))) $
         exec ! C Λ (env function.locals l) (tail function.body) (at_ret (env function.locals l) Post) $
         sets ! (of_opd ! (get ! refl)) refl (tt, (tt, (record { fits = fits }, tt))) $
         flt_i ! (length ys * 1) (2 ^ 63) (omega arith) $ flt_i ! (length ys) (2 ^ 64) (omega arith) $ fjoin ! $
-        feq_i ! (List Val) (slice_val (b, from + o) size ∷ []) (slice_val (b, from + o) (length ys) ∷ []) (ap (λ k. slice_val (b, from + o) k ∷ []) (sym long)) $ fjoin ! $ fjoin ! $
+        feq_i ! (List Val) (slice_val (b, from + o) size ∷ []) (slice_val (b, from + o) (length ys) ∷ [])
+        (ap (λ k. slice_val (b, from + o) k ∷ []) (sym long)) $ fjoin ! $ fjoin ! $
         returns ! (look_at ! 0 refl) $ free_all ! refl $ keep ! (1 ∷ 0 ∷ []) $
-        suffices ! _ (ends_at 𝓛 ended stayed held z (slice_val (b, from + o) size) (record { ref_ptr = (b, from + o); now = ys }) (tt, (tt, (tt, (tt, tt)))) (tt, (tt, (tt, (tt, tt))))) $
+        suffices ! _ (ends_at 𝓛 ended stayed held z (slice_val (b, from + o) size) (record { ref_ptr = (b, from + o); now = ys })
+        (tt, (tt, (tt, (tt, tt)))) (tt, (tt, (tt, (tt, tt))))) $
         says ! refl $
         nothing ! $ move ! (1 ∷ 0 ∷ []) $ join ! $ frame ! $ nothing ! $ nothing ! $ fjoin ! $ nothing ! $ fjoin ! $ nothing ! $
         fjoin ! $ nothing ! $ fjoin ! $ done !))))))))))
 
   meets : (𝓣 : Tables 𝓤 H) → Meets 𝓛 ended.signature (WpFn 𝓤 H 𝓣.C 𝓣.Λ function) (closing 𝓛 ended held)
   meets 𝓣 =
-      walk_Meets 𝓛 ended stayed
-      (Goes-dropped 𝓛 1 (RefOf (0 ∷ []) tt (plain (λ _. St)) (λ _. tt)) yes (λ κs x f. refl), (Goes-dropped 𝓛 1 (plain (λ _. Bs)) yes (λ κs x f. refl), (Goes-dropped 𝓛 1 (plain (λ _. usize)) yes (λ κs x f. refl), (Goes-dropped 𝓛 1 (plain (λ _. usize)) yes (λ κs x f. refl), tt))))
+      walk_Meets 𝓛 ended stayed (
+        Goes-dropped 𝓛 1 (RefOf (0 ∷ []) tt (plain (λ _. St)) (λ _. tt)) yes (λ κs x f. refl),
+        (
+          Goes-dropped 𝓛 1 (plain (λ _. Bs)) yes (λ κs x f. refl),
+          (Goes-dropped 𝓛 1 (plain (λ _. usize)) yes (λ κs x f. refl), (Goes-dropped 𝓛 1 (plain (λ _. usize)) yes (λ κs x f. refl), tt)),
+        ),
+      )
       held (WpFn 𝓤 H 𝓣.C 𝓣.Λ function) (WpFn-mono 𝓤 H 𝓛.laws 𝓣 function) (walks 𝓣.C 𝓣.Λ)
 
 pub slice_spec : {M : Type 1} → stated.statement M

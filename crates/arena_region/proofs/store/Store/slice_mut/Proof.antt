@@ -55,7 +55,10 @@ abbrev ended : Ended
 ended = F.ended
 
 abbrev stayed : Stays ended.signature.params ended.kept
-stayed = (stay_dropped (mut_ref_to (0 ∷ []) tt (plain (λ _. St))) no, (stay_dropped (plain (λ _. Bs)) yes, (stay_dropped (plain (λ _. usize)) yes, (stay_dropped (plain (λ _. usize)) yes, tt))))
+stayed = (
+  stay_dropped (mut_ref_to (0 ∷ []) tt (plain (λ _. St))) no,
+  (stay_dropped (plain (λ _. Bs)) yes, (stay_dropped (plain (λ _. usize)) yes, (stay_dropped (plain (λ _. usize)) yes, tt))),
+)
 
 module _ {M : Type 1} {𝓤 : Ura M} (𝓛 : Logic 𝓤) (at_mem : Memory → SProp 𝓤) (run : Routine → Fun 𝓤) where
   open 𝓛 use {H}
@@ -66,10 +69,13 @@ module _ {M : Type 1} {𝓤 : Ura M} (𝓛 : Logic 𝓤) (at_mem : Memory → SP
   -- all but the part
   abbrev Rest : St.Denot → ℕ → ℕ → ℕ → ℕ → List Val → ℕ → ℕ → ℕ → Fml
   Rest d rb ro b o vs i k n =
-      fsep (Around 𝓛 b (o + d.room) d.ready i k n) (fsep (froom (block_of d.room) b o) (fsep (Nothing.own_val tt vs) (cell_at full_share St.mir vs rb ro)))
+      fsep (Around 𝓛 b (o + d.room) d.ready i k n)
+      (fsep (froom (block_of d.room) b o) (fsep (Nothing.own_val tt vs) (cell_at full_share St.mir vs rb ro)))
 
-  back : (d : St.Denot) (rb ro b o : ℕ) (vs : List Val) (i k n : ℕ) → d.at ≡ block_ptr b o → k ≡ o + d.room + i → i + n ≤ length d.ready → d.room + length d.ready < 2 ^ 63
-      → (ws : List ℕ) → length ws ≡ n → ent 𝓤 (sep 𝓤 (sem 𝓛 (cells (mem u8) ws b k)) (sem 𝓛 (Rest d rb ro b o vs i k n))) (sem 𝓛 ((mem St).own_at (with_ready d i ws) rb ro))
+  back : (d : St.Denot) (rb ro b o : ℕ) (vs : List Val) (i k n : ℕ) → d.at ≡ block_ptr b o → k ≡ o + d.room + i → i + n ≤ length d.ready
+      → d.room + length d.ready < 2 ^ 63
+      → (ws : List ℕ) → length ws ≡ n → ent 𝓤 (sep 𝓤 (sem 𝓛 (cells (mem u8) ws b k)) (sem 𝓛 (Rest d rb ro b o vs i k n)))
+      (sem 𝓛 ((mem St).own_at (with_ready d i ws) rb ro))
   unfolding part_of
   back d rb ro b o vs i k n e here le fit ws long =
       let new : St.Denot = with_ready d i ws in let row = bytes full_share in let around = Around 𝓛 b (o + d.room) d.ready i k in
@@ -101,28 +107,35 @@ module _ {M : Type 1} {𝓤 : Ura M} (𝓛 : Logic 𝓤) (at_mem : Memory → SP
         fsplit ! $ fsplit ! $ feq_l ! (λ is₂. flt_l ! (λ far. fsplit ! $ fsplit ! $
         feq_l ! (λ is₃. flt_l ! (λ fits. keep ! (1 ∷ 2 ∷ 3 ∷ []) $
         passed ! (λ us. prop (WpFn 𝓤 H C Λ function us Post)) (vss.0 ∷ vss.1.0 ∷ vss.1.1.0 ∷ vss.1.1.1.0 ∷ [])
-        ((vptr rb ro ∷ []) ∷ (word base.ptr ∷ []) ∷ (vint w64 from ∷ []) ∷ (vint w64 size ∷ []) ∷ []) (λ i. is₀ i ∷ is₁ i ∷ is₂ i ∷ is₃ i ∷ []) $
+        ((vptr rb ro ∷ []) ∷ (word base.ptr ∷ []) ∷ (vint w64 from ∷ []) ∷ (vint w64 size ∷ []) ∷ [])
+        (λ i. is₀ i ∷ is₁ i ∷ is₂ i ∷ is₃ i ∷ []) $
         enter ! C Λ function (vptr rb ro ∷ word base.ptr ∷ vint w64 from ∷ vint w64 size ∷ []) Post $
-        alloc_all ! (λ l. pass_all ! refl ((tt, tt), (word-good base.ptr, ((tt, record { fits = far }), ((tt, record { fits = fits }), tt)))) $
+        alloc_all ! (λ l. pass_all ! refl (
+          (tt, tt),
+          (word-good base.ptr, ((tt, record { fits = far }), ((tt, record { fits = fits }), tt))),
+        ) $
         opens ! tt St {h = d} rb ro (λ vs. move ! (1 ∷ []) $ fsplit ! $ move ! (1 ∷ []) $
         in_a_block ! d.at (λ p. store_owns p d.room d.ready) (id⊢ 𝓤 (never 𝓤)) (λ b o e. fsplit3 ! $ flt_l ! (λ fit.
         let k = from + o in let row = bytes full_share in let here : k ≡ o + d.room + i = omega arith in
         take_at ! 2 $ rewrite ! 0 (λ (p : Ptr). ‵ (fat full_share (layout Bs) (l 2) 0 (word p))) (asked.0 ∙ e) refl $ give_at ! 2 $
         first ! $ blocks ! $
         sets ! (bin ! (get_in ! (fld ! refl (stop !)) (sub ! 0 refl (whole !))) (get ! refl) tt) refl (tt, tt) $
-        use1 𝓛 (‵ (row ys b k) ⊛ ‵ (Around 𝓛 b (o + d.room) d.ready i k size)) (part_out 𝓛 b (o + d.room) d.ready i k here size (omega arith)) $ split ! $
+        use1 𝓛 (‵ (row ys b k) ⊛ ‵ (Around 𝓛 b (o + d.room) d.ready i k size))
+        (part_out 𝓛 b (o + d.room) d.ready i k here size (omega arith)) $ split ! $
         use1 𝓛 (‵ (cells (mem u8) ys b k)) (whole_in 𝓛 u8 ys b k) $
         sets_last ! (agg ! (and_then ! (get ! refl) (and_then ! (get ! refl) (no_more !)))) refl (tt, (tt, (record { fits = fits }, tt))) $
         exec ! C Λ (env function.locals l) (tail function.body) (at_ret (env function.locals l) Post) $
         sets ! (of_opd ! (get ! refl)) refl (tt, (tt, (record { fits = fits }, tt))) $
         move ! (3 ∷ 4 ∷ []) $ fjoin ! $ move ! (3 ∷ 0 ∷ []) $ fjoin ! $ move ! (2 ∷ 0 ∷ []) $ fjoin ! $
         move ! (2 ∷ 3 ∷ 4 ∷ 1 ∷ 0 ∷ []) $ group ! 5 $
-        let F : List ℕ → St.Denot = with_ready d i in let rest = Rest d rb ro b o vs i k size in let roomy : length ys < 2 ^ 64 = omega arith in let fitting : length ys * 1 < 2 ^ 63 = omega arith in
+        let F : List ℕ → St.Denot = with_ready d i in let rest = Rest d rb ro b o vs i k size in
+        let roomy : length ys < 2 ^ 64 = omega arith in let fitting : length ys * 1 < 2 ^ 63 = omega arith in
         let way = λ (ws : List ℕ) (same : length ws ≡ length ys). back d rb ro b o vs i k size e here (omega arith) fit ws (same ∙ long) in
         use1 𝓛 (later (some (λ (δ : GName). raw (Elements 𝓛 St u8 F (named 0) κ q rb ro b k γ ys (roomy, fitting) (sem 𝓛 rest) way δ))))
         (lends_Elements 𝓛 St u8 F (named 0) κ q rb ro b k γ ys (roomy, fitting) (sem 𝓛 rest) way code' code') $ await ! tt $ pick ! (λ δ.
         returns ! (look_at ! 0 refl) $ free_all ! refl $ keep ! (0 ∷ []) $
-        let r : MutBor (List ℕ) = record { ref_ptr = (b, k); ghost_name = δ; now = ys } in let lent = λ (m : ℕ). (MutSlice (named 0) κ u8).own_val r (slice_val (b, k) m ∷ []) in
+        let r : MutBor (List ℕ) = record { ref_ptr = (b, k); ghost_name = δ; now = ys } in
+        let lent = λ (m : ℕ). (MutSlice (named 0) κ u8).own_val r (slice_val (b, k) m ∷ []) in
         use1 𝓛 (‵ (lent (length ys)) ⊛ ‵ (flft κ q) ⊛ ‵ (follows St (Array u8 0) γ δ F)) (id⊢ 𝓤 _) $ split3 ! $
         rewrite ! 0 (λ (m : ℕ). ‵ (lent m)) {x = size} long refl $
         suffices ! _ (ends_at 𝓛 ended stayed held z (slice_val (b, k) size) r (tt, (tt, (tt, (tt, tt)))) (tt, (tt, (tt, (tt, tt))))) $
@@ -131,8 +144,13 @@ module _ {M : Type 1} {𝓤 : Ura M} (𝓛 : Logic 𝓤) (at_mem : Memory → SP
 
   meets : (𝓣 : Tables 𝓤 H) → Meets 𝓛 ended.signature (WpFn 𝓤 H 𝓣.C 𝓣.Λ function) (closing 𝓛 ended held)
   meets 𝓣 =
-      walk_Meets 𝓛 ended stayed
-      (Goes-spent_ref 𝓛 1 (0 ∷ []) tt (plain (λ _. St)), (Goes-dropped 𝓛 1 (plain (λ _. Bs)) yes (λ κs x f. refl), (Goes-dropped 𝓛 1 (plain (λ _. usize)) yes (λ κs x f. refl), (Goes-dropped 𝓛 1 (plain (λ _. usize)) yes (λ κs x f. refl), tt))))
+      walk_Meets 𝓛 ended stayed (
+        Goes-spent_ref 𝓛 1 (0 ∷ []) tt (plain (λ _. St)),
+        (
+          Goes-dropped 𝓛 1 (plain (λ _. Bs)) yes (λ κs x f. refl),
+          (Goes-dropped 𝓛 1 (plain (λ _. usize)) yes (λ κs x f. refl), (Goes-dropped 𝓛 1 (plain (λ _. usize)) yes (λ κs x f. refl), tt)),
+        ),
+      )
       held (WpFn 𝓤 H 𝓣.C 𝓣.Λ function) (WpFn-mono 𝓤 H 𝓛.laws 𝓣 function) (walks 𝓣.C 𝓣.Λ)
 
 pub slice_mut_spec : {M : Type 1} → stated.statement M

@@ -5,7 +5,8 @@ use Rattle.example_layer.proofs.buffer.Buffer.push.Goals as goal
 
 pub returns-clause-frame : goal.returns-clause-frame
 returns-clause-frame g c =
-    frame_then _ _ _ (c.args.self.now.block ∷ []) (c.in_ok-block.block ∷ []) (c.in_ok-block.block ∷ []) c.in_ok-block.ensures.ok.frame c.write.ensures.writes.frame
+    frame_then _ _ _ (c.args.self.now.block ∷ []) (c.in_ok-block.block ∷ [])
+    (c.in_ok-block.block ∷ []) c.in_ok-block.ensures.ok.frame c.write.ensures.writes.frame
 
 pub returns-clause-grown : goal.returns-clause-grown
 returns-clause-grown g c full layout =

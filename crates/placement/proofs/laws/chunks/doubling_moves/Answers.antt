@@ -3,7 +3,8 @@ use Rattle.placement.proofs.laws.chunks.doubling_moves.Goals as goal
 
 pub returns : goal.returns
 returns c = record {
-  by_resize = λ z way state p size align k outcome small double step made. resize_doubling z way state p size align k outcome small double made step;
+  by_resize = λ z way state p size align k outcome small double step made.
+      resize_doubling z way state p size align k outcome small double made step;
   by_grow = λ z state block size align k outcome small double step made.
       grow_doubling z state block.addr block.size block.align size align k outcome small double made step;
   by_shrink = λ z state block size align k outcome small double step made.

@@ -7,11 +7,13 @@ use Rattle.placement.proofs.laws.used.used_by_alloc.Goals as goal
 
 pub returns : goal.returns
 returns c = record {
-  takes = λ state new size align k p valid layout step. (alloc_taken state new size align k p valid (layout_power size align layout) step).used;
+  takes = λ state new size align k p valid layout step.
+      (alloc_taken state new size align k p valid (layout_power size align layout) step).used;
   least = λ state new size align k p valid layout. alloc_least state new size align k p valid (layout_power size align layout);
   most = λ state new size align k p valid layout. alloc_most state new size align k p valid (layout_power size align layout);
   exact = λ state new size align k p spot valid layout. alloc_exact state new size align k p spot valid (layout_power size align layout);
-  exact_in_new = λ state new size align k p valid layout. alloc_exact_in_new state new size align k p valid (layout_power size align layout);
+  exact_in_new = λ state new size align k p valid layout.
+      alloc_exact_in_new state new size align k p valid (layout_power size align layout);
   failed = λ state new size align k valid layout step.
       ap (λ (s : State). used_bytes s) (alloc_failed state size align k new valid (layout_power size align layout) step);
 }

@@ -10,7 +10,8 @@ returns-then-calls-refused c = sym (run_uneven c.args.self.now c.args.calls.now 
 pub returns-in_default : goal.returns-in_default
 returns-in_default c =
     let none = sym c.in_ok-reply.ensures.step ∙ ap (gives c.step.new.self) c.in_default.is in
-    sym (c.loop-i.invariant.left ∙ run_none _ _ _ _ c.loop-i.i c.index-calls-i.result c.loop-i-test.true c.loop-i.invariant.even c.index-calls-i.is none)
+    sym (c.loop-i.invariant.left ∙ run_none _ _ _ _ c.loop-i.i c.index-calls-i.result c.loop-i-test.true c.loop-i.invariant.even
+    c.index-calls-i.is none)
 
 pub loop-i-preserved : goal.loop-i-preserved
 loop-i-preserved c =
@@ -18,7 +19,9 @@ loop-i-preserved c =
     let items : c.push.new.self.items ≡ c.loop-i.replies.items ++ c.in-Some.reply ∷ [] = grind (arith, common_steps) in
     record {
       even = c.loop-i.invariant.even;
-      left = rw items (c.loop-i.invariant.left ∙ run_more _ _ _ _ _ c.loop-i.i c.index-calls-i.result c.in-Some.reply c.loop-i-test.true c.loop-i.invariant.even c.index-calls-i.is one);
+      left = rw items (c.loop-i.invariant.left
+          ∙ run_more _ _ _ _ _ c.loop-i.i c.index-calls-i.result c.in-Some.reply c.loop-i-test.true c.loop-i.invariant.even
+          c.index-calls-i.is one);
     }
 
 pub returns : goal.returns

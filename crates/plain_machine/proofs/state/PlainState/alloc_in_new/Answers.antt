@@ -7,8 +7,10 @@ use Rattle.placement.proofs.AllocLemmas.{entry_of, valid_grown, alloc_refused}
 use Rattle.plain_machine.proofs.state.PlainState.alloc_in_new.Goals as goal
 
 -- the entry of a list that equals what was asked
-entry : (all items now : List (ℕ × ℕ)) (k : ℕ) (r o : Option (ℕ × ℕ)) → items ≡ all → now ≡ items → r ≡ slice_get now k → r ≡ o → slice_get all k ≡ o
-entry all items now k r o asked same read is = cc (ap (λ (l : List (ℕ × ℕ)). slice_get l k) same, ap (λ (l : List (ℕ × ℕ)). slice_get l k) asked)
+entry : (all items now : List (ℕ × ℕ)) (k : ℕ) (r o : Option (ℕ × ℕ)) → items ≡ all → now ≡ items → r ≡ slice_get now k → r ≡ o
+    → slice_get all k ≡ o
+entry all items now k r o asked same read is =
+    cc (ap (λ (l : List (ℕ × ℕ)). slice_get l k) same, ap (λ (l : List (ℕ × ℕ)). slice_get l k) asked)
 
 pub alloc_in_chunk-requires : goal.alloc_in_chunk-requires
 alloc_in_chunk-requires c =
@@ -27,12 +29,14 @@ returns-in-Some-clause-step c =
 pub returns-then-len-refused-clause-step : goal.returns-then-len-refused-clause-step
 returns-then-len-refused-clause-step c =
     let whole = ap length c.in_ok-asked.ensures.value in
-    sym (alloc_refused c.args.self.now c.args.layout.size c.args.layout.align c.args.refused c.requires (omega (arith, whole, c.in_ok-asked.asked.ok)))
+    sym (alloc_refused c.args.self.now c.args.layout.size c.args.layout.align c.args.refused c.requires
+    (omega (arith, whole, c.in_ok-asked.asked.ok)))
 
 pub returns-clause-step : goal.returns-clause-step
 unfolding alloc
 returns-clause-step c =
     let at = entry _ _ _ c.args.refused _ _ c.in_ok-asked.ensures.value c.deref.ensures.value c.entry_at.ensures c.in_default.is in
     let whole = ap length c.in_ok-asked.ensures.value in
-    let other : c.args.refused ≢ length (asked c.args.self.now c.args.layout.size c.args.layout.align) = omega (arith, whole, c.in_ok-asked.asked.ok) in
+    let other : c.args.refused ≢ length (asked c.args.self.now c.args.layout.size c.args.layout.align) =
+    omega (arith, whole, c.in_ok-asked.asked.ok) in
     rw (c.requires, at, ne_eqb _ _ other) refl

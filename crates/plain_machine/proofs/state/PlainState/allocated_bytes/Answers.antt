@@ -5,5 +5,6 @@ use Rattle.plain_machine.proofs.state.PlainState.allocated_bytes.Goals as goal
 
 pub sum_of_sizes-requires : goal.sum_of_sizes-requires
 sum_of_sizes-requires c =
-    let below = sum_below c.self.inside.min_align (λ (chunk : Chunk). chunk.size) c.self.inside.chunks.items (λ chunk is. omega arith) c.self.invariant.chunks in
+    let below = sum_below c.self.inside.min_align (λ (chunk : Chunk). chunk.size) c.self.inside.chunks.items
+    (λ chunk is. omega arith) c.self.invariant.chunks in
     rw c.deref.ensures.value (omega (arith, below, c.self.invariant.top))

@@ -14,7 +14,11 @@ unfolding asked
 returns-in-Some-clause-value c =
     let align : max c.max.result 16 ≡ max c.args.layout.align 16 = omega arith in
     let base = c.in-Some.ensures.1 ∙ ap (up _) align in
-    rw (c.end.ensures.growing, asked_above_is _ _ c.args.layout.size c.args.layout.align _ _ _ (rw c.end.ensures.floor at base) c.max-least.ensures (c.max-first.ensures ∙ ap (λ n. max c.max-least.result (2 * n)) c.newest_size.ensures.value)) c.entries.ensures
+    rw (
+      c.end.ensures.growing,
+      asked_above_is _ _ c.args.layout.size c.args.layout.align _ _ _ (rw c.end.ensures.floor at base)
+          c.max-least.ensures (c.max-first.ensures ∙ ap (λ n. max c.max-least.result (2 * n)) c.newest_size.ensures.value),
+    ) c.entries.ensures
 
 pub returns-in-None-clause-value : goal.returns-in-None-clause-value
 unfolding asked

@@ -25,4 +25,5 @@ returns-then-addr-cursor c =
     rw (c.set_cursor.ensures.state, end, dealloc_at c.args.self.now c.args.addr c.args.size at) refl
 
 pub returns-else-addr-cursor : goal.returns-else-addr-cursor
-returns-else-addr-cursor c = sym (dealloc_elsewhere c.args.self.now c.args.addr c.args.size (λ same. c.if-addr-cursor.false (same ∙ sym c.cursor.ensures)))
+returns-else-addr-cursor c = sym (dealloc_elsewhere c.args.self.now c.args.addr c.args.size
+    (λ same. c.if-addr-cursor.false (same ∙ sym c.cursor.ensures)))

@@ -6,4 +6,13 @@ pub returns-in-Some-place-clause-within : goal.returns-in-Some-place-clause-with
 returns-in-Some-place-clause-within c =
     let top = block_top c.args.self.now c.args.block.addr c.args.block.size c.place.ensures.valid c.requires.at c.requires.end in
     ends_within _ _ _ _ c.place_at.ensures.some
-    (λ some. omega (arith, c.padded-padded.ensures.large, c.requires.at, top, c.requires.size, c.in-Some.ensures.value, c.in-Some-place.ensures.within, c.place_at.ensures.top))
+    (λ some. omega (
+      arith,
+      c.padded-padded.ensures.large,
+      c.requires.at,
+      top,
+      c.requires.size,
+      c.in-Some.ensures.value,
+      c.in-Some-place.ensures.within,
+      c.place_at.ensures.top,
+    ))

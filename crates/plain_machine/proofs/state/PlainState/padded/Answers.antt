@@ -6,4 +6,8 @@ pub round_up_to_unchecked-requires-clause-fits : goal.round_up_to_unchecked-requ
 round_up_to_unchecked-requires-clause-fits c = omega (arith, layout_small _ _ c.args.layout.valid, c.min_align.ensures.small)
 
 pub returns-clause-large : goal.returns-clause-large
-returns-clause-large c = omega (arith, c.round_up_to_unchecked.ensures, up_ge c.args.layout.size c.min_align.result c.min_align.ensures.positive)
+returns-clause-large c = omega (
+  arith,
+  c.round_up_to_unchecked.ensures,
+  up_ge c.args.layout.size c.min_align.result c.min_align.ensures.positive,
+)

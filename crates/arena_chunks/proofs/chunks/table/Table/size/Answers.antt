@@ -9,7 +9,8 @@ use Rattle.arena_chunks.proofs.chunks.table.Table.size.Goals as goal
 pub overflow_add-size : goal.overflow_add-size
 overflow_add-size c =
     let all = sum_sizes c.self.inside.bases.items c.self.inside.kept.items c.self.invariant.pairs in
-    let more = sum_by_more_le (λ (k : Kept). length k.bytes.items) c.deref-kept-items.result.now c.loop-kept.kept-index c.kept-item.result c.loop-kept-test.true in
+    let more = sum_by_more_le (λ (k : Kept). length k.bytes.items) c.deref-kept-items.result.now c.loop-kept.kept-index c.kept-item.result
+    c.loop-kept-test.true in
     omega (
       arith,
       all,
@@ -26,4 +27,10 @@ pub returns : goal.returns
 returns c =
     let all = sum_sizes c.self.inside.bases.items c.self.inside.kept.items c.self.invariant.pairs in
     let whole = take_all c.loop-kept.kept-index c.deref-kept-items.result.now c.loop-kept-test.false ∙ c.deref-kept-items.ensures.value in
-    omega (arith, all, c.loop-kept.invariant, ap (λ (t : Chunks). sum_by (λ (x : StoredChunk). length x.bytes.items) t.items) c.self.view_is, ap (sum_by (λ (k : Kept). length k.bytes.items)) whole)
+    omega (
+      arith,
+      all,
+      c.loop-kept.invariant,
+      ap (λ (t : Chunks). sum_by (λ (x : StoredChunk). length x.bytes.items) t.items) c.self.view_is,
+      ap (sum_by (λ (k : Kept). length k.bytes.items)) whole,
+    )

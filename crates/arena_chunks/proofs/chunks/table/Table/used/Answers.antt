@@ -10,7 +10,8 @@ use Rattle.arena_chunks.proofs.chunks.table.Table.used.Goals as goal
 pub overflow_add-used : goal.overflow_add-used
 overflow_add-used c =
     let all = sum_used c.self.inside.bases.items c.self.inside.kept.items c.self.invariant in
-    let more = sum_by_more_le (λ (k : Kept). k.used) c.deref-kept-items.result.now c.loop-kept.kept-index c.kept-item.result c.loop-kept-test.true in
+    let more = sum_by_more_le (λ (k : Kept). k.used) c.deref-kept-items.result.now c.loop-kept.kept-index c.kept-item.result
+    c.loop-kept-test.true in
     omega (
       arith,
       all,
@@ -26,4 +27,10 @@ pub returns : goal.returns
 returns c =
     let all = sum_used c.self.inside.bases.items c.self.inside.kept.items c.self.invariant in
     let whole = take_all c.loop-kept.kept-index c.deref-kept-items.result.now c.loop-kept-test.false ∙ c.deref-kept-items.ensures.value in
-    omega (arith, all, c.loop-kept.invariant, ap (λ (t : Chunks). sum_by (λ c. used_length (stored_chunk c)) t.items) c.self.view_is, ap (sum_by (λ (k : Kept). k.used)) whole)
+    omega (
+      arith,
+      all,
+      c.loop-kept.invariant,
+      ap (λ (t : Chunks). sum_by (λ c. used_length (stored_chunk c)) t.items) c.self.view_is,
+      ap (sum_by (λ (k : Kept). k.used)) whole,
+    )

@@ -14,20 +14,31 @@ loop-count-init c =
     record {
       list = refl;
       log = refl;
-      ending = rw all (ending_first _ _ _ c.self.invariant (subst (λ (n : Noted). IsTrue (is_some (mark_named (named n.marks) c.args.name))) (sym c.self.view_is) c.requires));
+      ending = rw all (ending_first _ _ _ c.self.invariant
+          (subst (λ (n : Noted). IsTrue (is_some (mark_named (named n.marks) c.args.name))) (sym c.self.view_is) c.requires));
     }
 
 pub overflow_sub-count : goal.overflow_sub-count
 overflow_sub-count c = omega (arith, c.loop-count.invariant.ending.some)
 
 pub index-requires : goal.index-requires
-index-requires c = omega (arith, c.loop-count.invariant.ending.some, c.loop-count.invariant.ending.within, c.loop-count.self-inside.list.ok.0)
+index-requires c = omega (
+  arith,
+  c.loop-count.invariant.ending.some,
+  c.loop-count.invariant.ending.within,
+  c.loop-count.self-inside.list.ok.0,
+)
 
 pub overflow_sub-count-in-loop-count : goal.overflow_sub-count-in-loop-count
 overflow_sub-count-in-loop-count c = omega (arith, c.loop-count.invariant.ending.some)
 
 pub index-requires-in-loop-count : goal.index-requires-in-loop-count
-index-requires-in-loop-count c = omega (arith, c.loop-count.invariant.ending.some, c.loop-count.invariant.ending.within, c.loop-count.self-inside.list.ok.0)
+index-requires-in-loop-count c = omega (
+  arith,
+  c.loop-count.invariant.ending.some,
+  c.loop-count.invariant.ending.within,
+  c.loop-count.self-inside.list.ok.0,
+)
 
 pub loop-count-smaller : goal.loop-count-smaller
 loop-count-smaller c = omega (arith, c.loop-count.invariant.ending.some)
@@ -37,9 +48,11 @@ loop-count-preserved c =
     let ending = c.loop-count.invariant.ending in
     let m : Mark = c.index-in-loop-count.result.now in
     let same : m ≡ c.index.result.now =
-    get_or_read c.loop-count.self-inside.list.items (c.loop-count.count - 1) m (omega (arith, ending.some, ending.within)) c.index-in-loop-count.ensures c.index.result.now
+    get_or_read c.loop-count.self-inside.list.items (c.loop-count.count - 1) m
+    (omega (arith, ending.some, ending.within)) c.index-in-loop-count.ensures c.index.result.now
     ∙ sym c.index.ensures in
-    let other : (m.name == c.args.name) ≡ false = ne_eqb m.name c.args.name (λ own. c.loop-count-test.true (ap (λ (x : Mark). x.name) (sym same) ∙ own)) in
+    let other : (m.name == c.args.name) ≡ false =
+    ne_eqb m.name c.args.name (λ own. c.loop-count-test.true (ap (λ (x : Mark). x.name) (sym same) ∙ own)) in
     record {
       list = c.loop-count.invariant.list;
       log = c.loop-count.invariant.log;
@@ -51,7 +64,13 @@ overflow_sub-count-2 c = omega (arith, c.loop-count.invariant.ending.some)
 
 pub index-requires-2 : goal.index-requires-2
 index-requires-2 c =
-    omega (arith, c.loop-count.invariant.ending.some, c.loop-count.invariant.ending.within, c.truncate.ensures.len, c.loop-count.self-inside.list.ok.0)
+    omega (
+      arith,
+      c.loop-count.invariant.ending.some,
+      c.loop-count.invariant.ending.within,
+      c.truncate.ensures.len,
+      c.loop-count.self-inside.list.ok.0,
+    )
 
 pub invariant_of-self : goal.invariant_of-self
 invariant_of-self c = rw c.truncate.ensures.items c.loop-count.invariant.ending.knows
@@ -60,16 +79,21 @@ pub returns-clause-marks : goal.returns-clause-marks
 returns-clause-marks c =
     ap reverse c.truncate.ensures.items
     ∙ ending_over _ _ _ _ c.index.result.now c.index.ensures (eq-eqb _ _ c.loop-count-test.false) c.loop-count.invariant.ending
-    ∙ ap (λ (items : List Mark). marks_from c.args.name (reverse items)) c.loop-count.invariant.list ∙ ap (λ (n : Noted). marks_from c.args.name n.marks) c.self.view_is
+    ∙ ap (λ (items : List Mark). marks_from c.args.name (reverse items)) c.loop-count.invariant.list
+    ∙ ap (λ (n : Noted). marks_from c.args.name n.marks) c.self.view_is
 
 pub returns-clause-newest : goal.returns-clause-newest
 returns-clause-newest c =
     let ending = c.loop-count.invariant.ending in
     let items : List Mark = c.loop-count.self-inside.list.items in
     let m : Mark = c.index-2.result.now in
-    let is : m ≡ get_or items (c.loop-count.count - 1) m = c.index-2.ensures ∙ ap (λ (xs : List Mark). get_or xs (c.loop-count.count - 1) m) c.truncate.ensures.items
-    ∙ get_or-take c.loop-count.count items (c.loop-count.count - 1) m (omega (arith, ending.some)) in
-    (reverse (take (c.loop-count.count - 1) items), ap reverse c.truncate.ensures.items ∙ newest_first items c.loop-count.count m ending.some ending.within is)
+    let is : m ≡ get_or items (c.loop-count.count - 1) m = c.index-2.ensures
+    ∙ ap (λ (xs : List Mark). get_or xs (c.loop-count.count - 1) m) c.truncate.ensures.items
+    ∙ get_or-take c.loop-count.count items (c.loop-count.count - 1) m (omega (arith, ending.some)) in (
+      reverse (take (c.loop-count.count - 1) items),
+      ap reverse c.truncate.ensures.items
+          ∙ newest_first items c.loop-count.count m ending.some ending.within is,
+    )
 
 pub returns-clause-log : goal.returns-clause-log
 returns-clause-log c = c.loop-count.invariant.log ∙ ap (λ (n : Noted). n.log) c.self.view_is

@@ -5,8 +5,10 @@ use Rattle.arena_chunks.proofs.runs.names.Names.insert.Goals as goal
 
 pub returns-in_default-clause-held : goal.returns-in_default-clause-held
 returns-in_default-clause-held c = λ held.
-    let none : map.get c.args.self.now c.args.name ≡ None = rw (← c.self.view_is) (table_get c.self.inside.places c.args.name ∙ c.in_default.ensures.absent) in
+    let none : map.get c.args.self.now c.args.name ≡ None =
+    rw (← c.self.view_is) (table_get c.self.inside.places c.args.name ∙ c.in_default.ensures.absent) in
     rw none at held
 
 pub returns-clause-ok : goal.returns-clause-ok
-returns-clause-ok c = rw (← c.self.view_is) (table_insert c.self.inside.places c.insert.new.self c.args.name c.args.place c.in-Ok.ensures.updates)
+returns-clause-ok c = rw (← c.self.view_is)
+    (table_insert c.self.inside.places c.insert.new.self c.args.name c.args.place c.in-Ok.ensures.updates)

@@ -1,0 +1,9 @@
+// A run of calls from one number.
+mod calls;
+mod run;
+mod summary;
+mod tally;
+
+#[cfg(test)]
+pub use calls::generated;
+pub use run::run_generated;

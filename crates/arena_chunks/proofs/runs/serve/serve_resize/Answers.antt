@@ -1,0 +1,107 @@
+use Rattle.std.proofs.Common.{◌≡◌, inl, inr, arith, sym, ◌∙◌, refl}
+use Rattle.std.specs.Prelude.{◌==◌, ◌&&◌}
+use Rattle.std.specs.Option.{is_none}
+use Rattle.placement.specs.declared.calls.Reply.TheVariants.{NoSuchName, BadLayout, OutOfRange}
+use Rattle.arena_chunks.proofs.AnswerLemmas.{on_err}
+use Rattle.arena_chunks.proofs.LogLemmas.{notes_settled, notes_refused}
+use Rattle.arena_chunks.proofs.ServingLemmas.{readable_at, absent_at, found_at}
+use Rattle.arena_chunks.proofs.ResizingLemmas.{resizing_still, resizing_wants, resizing_takes, serves_resized, serves_unresized}
+use Rattle.arena_chunks.proofs.runs.serve.serve_resize.Goals as goal
+use Rattle.arena_chunks.proofs.runs.serve.serve_resize.Goals.{then-is_none, else-is_none}
+
+pub returns-in_default-clause-serves : goal.returns-in_default-clause-serves
+returns-in_default-clause-serves g c =
+    let none = sym c.get.ensures ∙ c.in_default.is in
+    resizing_still c.args.fill NoSuchName c.args.arena.now c.args.run.now.names _ c.args.wanted.name c.args.wanted.size c.args.wanted.align
+    _ c.requires refl refl
+    (λ marks bytes held. absent_at c.args.arena.now c.args.run.now.names marks bytes c.args.wanted.name _ none) (rw none refl)
+
+pub returns-in_default-new-clause-serves : goal.returns-in_default-new-clause-serves
+returns-in_default-new-clause-serves g c =
+    let found = sym c.get.ensures ∙ c.in-Some.is in
+    let bad = c.in_default-new.ensures.valid in
+    resizing_still c.args.fill BadLayout c.args.arena.now c.args.run.now.names _ c.args.wanted.name c.args.wanted.size c.args.wanted.align
+    _ c.requires refl refl
+    (λ marks bytes held. found_at c.args.arena.now c.args.run.now.names marks bytes c.args.wanted.name 0 c.in-Some.place _ held found
+    ∙ rw (← bad) refl) (rw (found, ← bad) refl)
+
+pub returns-then-is_wrong-clause-serves : goal.returns-then-is_wrong-clause-serves
+returns-then-is_wrong-clause-serves g c =
+    let found = sym c.get.ensures ∙ c.in-Some.is in
+    let good = c.in-Some-new.ensures.valid in
+    let wrong = sym c.is_wrong.ensures ∙ c.if-is_wrong.true in
+    resizing_still c.args.fill OutOfRange c.args.arena.now c.args.run.now.names _ c.args.wanted.name c.args.wanted.size c.args.wanted.align
+    _ c.requires refl refl
+    (λ marks bytes held. found_at c.args.arena.now c.args.run.now.names marks bytes c.args.wanted.name 0 c.in-Some.place _ held found
+    ∙ rw (← good, wrong) refl) (rw (found, ← good, wrong) refl)
+
+pub resize-requires : goal.resize-requires
+resize-requires g c =
+    let right = sym c.is_wrong.ensures ∙ c.if-is_wrong.false in (
+      omega arith,
+      (
+        readable_at _ _ c.args.wanted.name c.in-Some.place c.requires (sym c.get.ensures ∙ c.in-Some.is),
+        rw c.in-Some-new.ensures.value.0 right,
+      ),
+    )
+
+pub returns-after-is_none-clause-serves : goal.returns-after-is_none-clause-serves
+returns-after-is_none-clause-serves g c =
+    let found = sym c.get.ensures ∙ c.in-Some.is in
+    let value = c.in-Some-new.ensures.value in
+    let right = sym c.is_wrong.ensures ∙ c.if-is_wrong.false in
+    let stays : c.if-is_none.settle ≡ (is_none c.args.fill && (c.in-Ok.block.addr == c.in-Some.place.addr)) = elim c.if-is_none.branch [
+      | then-is_none w ↦ rw (w.settle-is, w.if-is_none.ensures) refl
+      | else-is_none w ↦ rw (w.settle-is, w.if-is_none.false, w.if-is_none.ensures) refl
+    ] in
+    let served = serves_resized c.args.fill c.args.arena.now c.resize.new.arena c.args.run.now.names c.args.wanted.name c.args.wanted.size
+    c.args.wanted.align
+    c.in-Ok.refused c.in-Some.place c.in-Ok.block _ _ c.requires found c.in-Some-new.ensures.valid right
+    (rw (value.0, value.1) at c.in-Ok.ensures) in
+    rw (c.replace.ensures, c.at.ensures) (
+      served.0,
+      notes_settled _ _ _ _ _ _ c.args.wanted.name (is_none c.args.fill && (c.in-Ok.block.addr == c.in-Some.place.addr))
+          c.note.ensures.marks c.in_ok-note.ensures.log
+          c.settle.ensures.marks (rw stays at c.settle.ensures.log) served.1 served.2,
+    )
+
+pub returns-in-Err-AllocErr-clause-serves : goal.returns-in-Err-AllocErr-clause-serves
+returns-in-Err-AllocErr-clause-serves g c =
+    let found = sym c.get.ensures ∙ c.in-Some.is in
+    let value = c.in-Some-new.ensures.value in
+    let right = sym c.is_wrong.ensures ∙ c.if-is_wrong.false in
+    let served = serves_unresized c.args.fill c.args.arena.now c.resize.new.arena c.args.run.now.names c.args.wanted.name c.args.wanted.size
+    c.args.wanted.align
+    _ c.in-Err-AllocErr.refused c.in-Some.place _ _ c.requires found c.in-Some-new.ensures.valid right
+    (rw (value.0, value.1) at (rw c.in-Err-AllocErr.field-0-is at c.in-Err-AllocErr.ensures)) in
+    rw c.in-Err-AllocErr.field-0-is (
+      served,
+      notes_refused _ _ _ _ _ c.args.wanted.name c.note.ensures.marks c.in_ok-note.ensures.log c.settle-in-Err-AllocErr.ensures.marks
+          c.settle-in-Err-AllocErr.ensures.log,
+    )
+
+-- ---- Where memory is wanting
+
+pub returns-in-Err-OutOfMemory-clause-wants : goal.returns-in-Err-OutOfMemory-clause-wants
+returns-in-Err-OutOfMemory-clause-wants g c =
+    let found = sym c.get.ensures ∙ c.in-Some.is in
+    let value = c.in-Some-new.ensures.value in
+    let right = sym c.is_wrong.ensures ∙ c.if-is_wrong.false in
+    let wants = resizing_wants c.args.fill _ _ c.in-Some.place c.args.wanted.size c.args.wanted.align
+    _ (rw (value.0, value.1) at (rw c.in-Err-OutOfMemory.field-0-is at c.in-Err-OutOfMemory.ensures)) in record {
+      takes = λ bytes. resizing_takes c.args.fill c.args.arena.now c.args.run.now.names _ bytes c.args.wanted.name c.args.wanted.size
+          c.args.wanted.align c.in-Some.place found
+          c.in-Some-new.ensures.valid right (inl wants.0);
+      same = wants.1;
+    }
+
+pub returns-in_err-note-clause-wants : goal.returns-in_err-note-clause-wants
+returns-in_err-note-clause-wants g c =
+    let found = sym c.get.ensures ∙ c.in-Some.is in
+    let right = sym c.is_wrong.ensures ∙ c.if-is_wrong.false in
+    on_err c.from_residual.result (record {
+      takes = λ bytes. resizing_takes c.args.fill c.args.arena.now c.args.run.now.names _ bytes c.args.wanted.name c.args.wanted.size
+          c.args.wanted.align c.in-Some.place found
+          c.in-Some-new.ensures.valid right (inr c.in_err-note.ensures.err);
+      same = refl;
+    })

@@ -1,0 +1,27 @@
+// Marks, and calls on blocks after them.
+ghost use Rattle.std.specs.Prelude.{ℕ, IsTrue, List};
+ghost use Rattle.placement.specs.State.{State, IsValid};
+ghost use Rattle.placement.specs.Moves.{Resizing};
+ghost use Rattle.arena_chunks.specs.Memory.{Memory};
+ghost use Rattle.arena_chunks.specs.Source.{View};
+ghost use Rattle.arena_chunks.specs.Answers.{Answer};
+ghost use Rattle.arena_chunks.specs.BlockCalls.{PlacesBlock, ResizesBlock, GivesBack, WritesBlock};
+ghost use Rattle.arena_chunks.specs.Checkpoints.{checkpoint_of, is_accepted, KeepsCheckpoint};
+ghost use Rattle.arena_chunks.specs.declared.block.Block.{Block};
+ghost use Rattle.arena_chunks.specs.declared.arena.rewind.Checkpoint.{Checkpoint};
+
+/// A valid arena accepts its own mark. No call on a block ends a mark: one that was accepted still is, and what the call leaves
+/// in use lies in its part, if it did before.
+pub fn marks()
+    ensures own { (state : State) → IsValid state → IsTrue (is_accepted (checkpoint_of state) state) }
+    ensures placed { (c : Checkpoint) (old new : View) (size align : ℕ) (answer : Answer)
+        → IsTrue (is_accepted c old.memory.state) → PlacesBlock old new size align answer
+        → KeepsCheckpoint c old.memory.state new.memory.state }
+    ensures resized { (c : Checkpoint) (way : Resizing) (old new : View) (block : Block) (size align : ℕ) (answer : Answer)
+        → IsTrue (is_accepted c old.memory.state) → ResizesBlock way old new block size align answer
+        → KeepsCheckpoint c old.memory.state new.memory.state }
+    ensures given_back { (c : Checkpoint) (old new : Memory) (b : Block) → IsTrue (is_accepted c old.state)
+        → GivesBack old new b → KeepsCheckpoint c old.state new.state }
+    ensures written { (c : Checkpoint) (old new : Memory) (b : Block) (at : ℕ) (list : List ℕ)
+        → IsTrue (is_accepted c old.state) → WritesBlock old new b at list → KeepsCheckpoint c old.state new.state }
+{}

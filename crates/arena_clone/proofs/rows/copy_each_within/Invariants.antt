@@ -1,8 +1,0 @@
-use Rattle.arena_items.specs.Values.{elements, bytes_of}
-use Rattle.arena_clone.proofs.RowLemmas.{CopiesFirst}
-use Rattle.arena_clone.proofs.rows.copy_each_within.Given as goal
-
-abbrev pub invariant-loop-i : goal.invariant-loop-i
-invariant-loop-i g l =
-    CopiesFirst g.T.Item g.T.CloneIn.kind l.ids l.initial.a.memory l.initial.a l.a l.row.target
-    (elements g.T.Item.SIZE g.T.Item.decoded l.row.count (bytes_of l.initial.a.memory l.row.source)) l.i

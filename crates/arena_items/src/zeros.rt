@@ -1,0 +1,19 @@
+// Bytes that are cleared in their place.
+ghost use Rattle.std.specs.Prelude.{◌≡◌, length, replicate};
+
+use arena_chunks::Edit;
+
+/// Clears all bytes of a place, of any number of them: each is 0 then.
+#[derive(Clone, Copy)]
+pub struct Zeros;
+
+impl Edit for Zeros {
+    ghost suits = { λ e old. Unit {0} };
+
+    ghost relates = { λ e old new. new ≡ replicate (length old) 0 };
+
+    #[inline]
+    fn edit(&self, place: &mut [u8]) {
+        place.fill(0);
+    }
+}

@@ -1,0 +1,115 @@
+-- Sets of numbers as bits.
+use Rattle.std.proofs.Common.{◌≡◌, ℕ, ◌<◌, ◌≤◌, min, refl, sym, ap, ◌∙◌, arith, Bool, true, false, not, ◌&&◌, ◌||◌, is_some, Option, Some, None, [], IsTrue, inl, inr}
+use Rattle.std.specs.Prelude.{◌==◌, nat_lt, if◌then◌else◌}
+use Rattle.std.proofs.lemmas.Bool.{cases_lt}
+use Rattle.std.proofs.lemmas.Bool.Decides.{nat_tests}
+use Rattle.placement.specs.Bits.{Set, nothing, with_bit, without_bit, joined, below}
+use Rattle.script_rules.specs.Objects.{Bits, get, has, bind, unbind, united, are_rising}
+use Rattle.script_rules.proofs.EntryLemmas.{rising_bind, rising_unbind, rising_united}
+use Rattle.script_rules.proofs.LookupLemmas.{get_bind, get_unbind, has_united}
+use Rattle.arena_script.specs.Things.{bits_below}
+use Rattle.arena_script.proofs.EntryFacts.{get_at, get_past, rising_from, entries_are}
+
+abbrev mark : Bool → Option (Unit {0})
+mark b = if b then Some tt else None
+
+some_mark : (b : Bool) → is_some (mark b) ≡ b
+some_mark true = refl
+some_mark false = refl
+
+-- there is just one value to stand at a bit
+marked : (o : Option (Unit {0})) → o ≡ mark (is_some o)
+marked None = refl
+marked (Some u) = refl
+
+module _ (end : ℕ) (set : Set) where
+  pub rising : IsTrue (are_rising (bits_below end set))
+  rising = rising_from (λ n. mark (set n)) end 0
+
+  get_bit : (q : ℕ) → q < end → get (bits_below end set) q ≡ mark (set q)
+  get_bit q low = get_at (λ n. mark (set n)) end 0 q (omega arith) (omega arith)
+
+  no_bit : (q : ℕ) → end ≤ q → get (bits_below end set) q ≡ None
+  no_bit q high = get_past (λ n. mark (set n)) end 0 q (omega arith)
+
+  -- which bits there are
+  pub has_below : (q : ℕ) → has (bits_below end set) q ≡ below end set q
+  has_below q = elim (cases_lt q end) [
+    | inl low ↦ (let t : nat_lt q end ≡ true = grind (arith, nat_tests) in
+        ap is_some (get_bit q low) ∙ some_mark (set q) ∙ sym (ap (λ b. b && set q) t))
+    | inr high ↦ (let t : nat_lt q end ≡ false = grind (arith, nat_tests) in ap is_some (no_bit q high) ∙ sym (ap (λ b. b && set q) t))
+  ]
+
+  with_mark : (s t : Bool) → (if t then Some tt else mark s) ≡ mark (s || t)
+  with_mark true true = refl
+  with_mark true false = refl
+  with_mark false true = refl
+  with_mark false false = refl
+
+  -- A bit more, in both.
+  pub bits_with : (bit : ℕ) → bit < end → bits_below end (with_bit set bit) ≡ bind (bits_below end set) bit tt
+  bits_with bit inside = entries_are (λ n. mark (with_bit set bit n)) end (bind (bits_below end set) bit tt)
+      (rising_bind (bits_below end set) bit tt rising)
+      (λ q low. get_bind (bits_below end set) bit tt q ∙ ap (λ o. if q == bit then Some tt else o) (get_bit q low) ∙ with_mark (set q)
+      (q == bit))
+      (λ q high. get_bind (bits_below end set) bit tt q
+      ∙ ap (λ b. if b then Some tt else get (bits_below end set) q) (let f : (q == bit) ≡ false = grind (arith, nat_tests) in f) ∙ no_bit
+      q high)
+
+  without_mark : (s t : Bool) → (if t then None else mark s) ≡ mark (s && not t)
+  without_mark true true = refl
+  without_mark true false = refl
+  without_mark false true = refl
+  without_mark false false = refl
+
+  -- A bit less, in both.
+  pub bits_without : (bit : ℕ) → bits_below end (without_bit set bit) ≡ unbind (bits_below end set) bit
+  bits_without bit = entries_are (λ n. mark (without_bit set bit n)) end (unbind (bits_below end set) bit)
+      (rising_unbind (bits_below end set) bit rising)
+      (λ q low. get_unbind (bits_below end set) bit q ∙ ap (λ o. if q == bit then None else o) (get_bit q low) ∙ without_mark (set q)
+      (q == bit))
+      (λ q high. get_unbind (bits_below end set) bit q ∙ either (q == bit) (get (bits_below end set) q) (no_bit q high))
+    where
+      either : (b : Bool) (o : Option (Unit {0})) → o ≡ None → (if b then None else o) ≡ None
+      either true o e = refl
+      either false o e = e
+
+-- Those of two sets, in both.
+module _ (end other_end : ℕ) (set other : Set) where
+  abbrev limit : ℕ
+  limit = min end other_end
+
+  abbrev all : Bits
+  all = united limit (bits_below end set) (bits_below other_end other)
+
+  abbrev both : Set
+  both = joined set (below limit other)
+
+  told : (q : ℕ) → has all q ≡ (below end set q || (nat_lt q limit && below other_end other q))
+  told q = has_united limit (bits_below end set) (bits_below other_end other) q
+      ∙ (λ i. has_below end set q i || (nat_lt q limit && has_below other_end other q i))
+
+  alike : (q : ℕ) → q < end → (below end set q || (nat_lt q limit && below other_end other q)) ≡ both q
+  alike q low =
+      let t : nat_lt q end ≡ true = grind (arith, nat_tests) in
+      elim (cases_lt q other_end) [
+        | inl under ↦ (let u : nat_lt q other_end ≡ true = grind (arith, nat_tests) in rw (t, u) refl)
+        | inr over ↦ (let u : nat_lt q limit ≡ false = grind (arith, nat_tests) in rw (t, u) refl)
+      ]
+
+  within : (q : ℕ) → q < end → get all q ≡ mark (both q)
+  within q low = marked (get all q) ∙ ap mark (told q ∙ alike q low)
+
+  past : (q : ℕ) → end ≤ q → get all q ≡ None
+  past q high =
+      let t : nat_lt q end ≡ false = grind (arith, nat_tests) in
+      let u : nat_lt q limit ≡ false = grind (arith, nat_tests) in
+      let none : has all q ≡ false = told q ∙ rw (t, u) refl in marked (get all q) ∙ ap mark none
+
+  pub bits_joined : bits_below end both ≡ all
+  bits_joined = entries_are (λ n. mark (both n)) end all
+      (rising_united limit (bits_below end set) (bits_below other_end other) (rising end set)) within past
+
+-- No bits.
+pub bits_none : (end : ℕ) → bits_below end nothing ≡ []
+bits_none end = entries_are (λ n. mark false) end [] refl (λ q low. refl) (λ q high. refl)

@@ -1,0 +1,175 @@
+-- How a run ends.
+use Rattle.std.proofs.Common.{◌≡◌, ℕ, ◌+◌, ◌*◌, ◌≤◌, ◌<◌, refl, sym, ap, ◌∙◌, subst, arith, inl, inr, Bool, true, false, Some, Ok, Err, get_or, add-one, List, [], ◌∷◌, ◌++◌, length, take, length-take, slice_get, IsTrue}
+use Rattle.std.specs.Prelude.{if◌then◌else◌, IsSomeAnd, ◌≢◌}
+use Rattle.std.proofs.Math.Seq.{take-length, take-suc}
+use Rattle.std.proofs.lemmas.Option.{slice_get-get_or}
+use Rattle.placement.proofs.AskingLemmas.{asks_more}
+use Rattle.arena_chunks.specs.Memory.{Memory}
+use Rattle.arena_chunks.specs.Source.{View}
+use Rattle.arena_hash.specs.Maps.{IsMapIn}
+use Rattle.arena_hash.specs.declared.map.HashMap.{HashMap}
+use Rattle.arena_hash.specs.declared.hasher.FxHasher.{FxHasher}
+use Rattle.arena_items.specs.declared.room.AllocError.{AllocError}
+use Rattle.arena_items.specs.declared.room.AllocError.TheVariants.{AllocErr}
+use Rattle.script_rules.specs.Objects.{need}
+use Rattle.script_rules.specs.Machine.{run, run_from, cost_of, cost_of_first}
+use Rattle.script_rules.specs.declared.commands.Command.{Command}
+use Rattle.script_rules.specs.declared.commands.Ended.{Ended}
+use Rattle.script_rules.specs.declared.commands.Ended.TheVariants.{Done, Full, Refused, OutOfMemory}
+use Rattle.script_rules.specs.declared.commands.ScriptReply.{ScriptReply}
+use Rattle.script_rules.specs.declared.outcome.Outcome.{Outcome}
+use Rattle.script_rules.proofs.RunLemmas.{first_cost, first_replies, reply_count, cost_rises}
+use Rattle.arena_script.specs.Kinds.{pairs}
+use Rattle.arena_script.specs.Things.{Things}
+use Rattle.arena_script.specs.Acts.{used}
+use Rattle.arena_script.specs.Serves.{IsAfter, KeepsKind, Stops}
+use Rattle.arena_script.specs.Wants.{takes_memory}
+use Rattle.arena_script.specs.Running.{IsRun, IsStoppedAt, cost_with_next}
+use Rattle.arena_script.proofs.RunningLemmas.{stopped_costs, stopped_kind}
+use Rattle.arena_script.proofs.NeedLemmas.{needed}
+
+-- what came, once the replies, the ending and the bytes are known
+abbrev pub came : List ScriptReply → Ended → ℕ → Outcome
+came replies ended bytes = record { replies = replies; ended = ended; used = bytes }
+
+-- the command at a place
+pub record IsAt (script : List Command) (i : ℕ) (c : Command) : Type 0 where
+  pub inside : i < length script
+  pub is : slice_get script i ≡ Some c
+  pub more : take (i + 1) script ≡ take i script ++ c ∷ []
+
+pub is_at : (script : List Command) (i : ℕ) (c : Command) → i < length script → c ≡ get_or script i c → IsAt script i c
+is_at script i c inside same = record {
+  inside = inside;
+  is = slice_get-get_or script i c inside ∙ ap Some (sym same);
+  more = rw add-one (take-suc script i c inside ∙ ap (λ x. take i script ++ x ∷ []) (sym same));
+}
+
+module _ (script : List Command) (start : View) (replies : List ScriptReply) (i : ℕ) (inside : i ≤ length script)
+    (are : replies ≡ (run (take i script)).replies) where
+  counted : length replies ≡ i
+  counted = ap length are ∙ reply_count [] (take i script) ∙ omega (arith, length-take i script)
+
+  first : replies ≡ take (length replies) (run script).replies
+  first = are ∙ first_replies i script ∙ ap (λ n. take n (run script).replies) (sym counted)
+
+  next_cost : (ended : Ended) (bytes : ℕ) → cost_with_next script (came replies ended bytes) ≡ cost_of (take (i + 1) script)
+  next_cost ended bytes = ap (λ n. cost_of_first (n + 1) script) counted ∙ sym (first_cost (i + 1) script)
+
+  -- ---- Every command was served.
+
+  module _ (maps : (m : Memory) (h : HashMap ℕ ℕ FxHasher) → IsMapIn pairs m h → (4 + 4) * h.len ≤ h.table.block.size)
+      (now : View) (things : Things) (unused : used start ≡ 0) (after : IsAfter script start now things i) (all : i ≡ length script)
+      (bytes : ℕ) (is : bytes ≡ used now) where
+    whole : take i script ≡ script
+    whole = ap (λ n. take n script) all ∙ take-length script
+
+    pub run_done : IsRun script start now (came replies Done bytes)
+    run_done = record {
+      replies = record { first = first; all = λ e. are ∙ ap (λ s. (run s).replies) whole };
+      holds = λ e. record { things = things; are = after.are; mean = after.objects ∙ ap (λ s. (run s).objects) whole };
+      used = is;
+      most = omega (
+        arith,
+        next_cost Done bytes,
+        after.costs.takes,
+        unused,
+        is,
+        cost_rises i (i + 1) script (omega arith),
+        first_cost i script,
+        first_cost (i + 1) script,
+      );
+      least = λ e. omega (
+        arith,
+        ap (λ s. need (run s).objects) whole,
+        ap need after.objects,
+        needed maps now.memory things after.are,
+        after.least,
+        is,
+      );
+      full = λ e. absurd (cc);
+      refused = λ e. absurd (cc);
+      stopped = λ other. absurd (other refl);
+      kind = after.kind;
+    }
+
+  -- ---- A command wasn't served.
+
+  module _ (now next : View) (things : Things) (c : Command) (at : IsAt script i c) (unused : used start ≡ 0)
+      (after : IsAfter script start now things i) (e : AllocError) (stops : Stops c now next things e) (bytes : ℕ)
+      (is : bytes ≡ used next) where
+    abbrev cost : ℕ
+    cost = cost_of (take (i + 1) script)
+
+    most_used : (ended : Ended) → bytes ≤ cost_with_next script (came replies ended bytes)
+    most_used ended =
+        omega (arith, next_cost ended bytes, is, unused, (stopped_costs script start now next things i c at.more after e stops).takes)
+
+    stopped_at : (ended : Ended) → IsStoppedAt script (came replies ended bytes)
+    stopped_at ended = subst (λ n. IsSomeAnd (slice_get script n) (λ c. IsTrue (takes_memory c))) (sym counted)
+        (subst (λ o. IsSomeAnd o (λ c. IsTrue (takes_memory c))) (sym at.is) stops.taken)
+
+    -- Memory was wanting.
+    pub run_wanting : IsRun script start next (came replies OutOfMemory bytes)
+    run_wanting = record {
+      replies = record { first = first; all = λ e. absurd (cc) };
+      holds = λ e. absurd (cc);
+      used = is;
+      most = most_used OutOfMemory;
+      least = λ e. absurd (cc);
+      full = λ e. absurd (cc);
+      refused = λ e. absurd (cc);
+      stopped = λ other. inr (stopped_at OutOfMemory);
+      kind = stopped_kind script start now next things i c at.more after e stops;
+    }
+
+    -- The arena refused a block.
+    pub run_refused : (k : ℕ) → e ≡ AllocErr k → (grows : Bool) → next.memory.state.is_growing ≡ grows
+        → IsRun script start next (came replies (if grows then Refused else Full) bytes)
+    run_refused k refused true grows =
+        let costs = stopped_costs script start now next things i c at.more after e stops in
+        let kind = stopped_kind script start now next things i c at.more after e stops in record {
+          replies = record { first = first; all = λ e. absurd (cc) };
+          holds = λ e. absurd (cc);
+          used = is;
+          most = most_used Refused;
+          least = λ e. absurd (cc);
+          full = λ e. absurd (cc);
+          refused = λ _. record {
+            asks = asks_more _ _ start.memory.state next.memory.state start.source next.source
+                (omega (arith, next_cost Refused bytes)) costs.asks;
+            starved = costs.starved (sym kind.is_growing ∙ grows) k (ap Err refused);
+          };
+          stopped = λ other. inr (stopped_at Refused);
+          kind = kind;
+        }
+    run_refused k refused false stays =
+        let costs = stopped_costs script start now next things i c at.more after e stops in
+        let kind = stopped_kind script start now next things i c at.more after e stops in
+        let short = costs.full (sym kind.is_growing ∙ stays) k (ap Err refused) in record {
+          replies = record { first = first; all = λ e. absurd (cc) };
+          holds = λ e. absurd (cc);
+          used = is;
+          most = most_used Full;
+          least = λ e. absurd (cc);
+          full = λ _. record { still = short.still; short = omega (arith, short.short, unused, next_cost Full bytes) };
+          refused = λ e. absurd (cc);
+          stopped = λ other. inr (stopped_at Full);
+          kind = kind;
+        }
+
+-- No command was served, since there was no memory for the replies.
+pub run_unbegun : (script : List Command) (start : View) → used start ≡ 0 → (bytes : ℕ) → bytes ≡ used start
+    → IsRun script start start (came [] OutOfMemory bytes)
+unfolding run_from
+run_unbegun script start unused bytes is = record {
+  replies = record { first = refl; all = λ e. absurd (cc) };
+  holds = λ e. absurd (cc);
+  used = is;
+  most = omega (arith, is, unused);
+  least = λ e. absurd (cc);
+  full = λ e. absurd (cc);
+  refused = λ e. absurd (cc);
+  stopped = λ other. inl (record { wanting = refl; none = refl; same = refl });
+  kind = record { is_growing = refl; allocated = λ stays. refl };
+}

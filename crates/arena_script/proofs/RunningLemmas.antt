@@ -1,0 +1,103 @@
+-- A script, command after command.
+use Rattle.std.proofs.Common.{◌≡◌, ℕ, ◌+◌, ◌^◌, ◌≤◌, refl, sym, ap, ◌∙◌, subst, arith, Ok, Err, List, [], ◌∷◌, ◌++◌, take}
+use Rattle.arena_chunks.specs.Source.{View}
+use Rattle.arena_items.specs.Costs.{Costs}
+use Rattle.arena_items.specs.declared.room.AllocError.{AllocError}
+use Rattle.arena_items.proofs.Layers.{costs_ok, costs_then}
+use Rattle.script_rules.specs.Machine.{step, run, run_from, sum, cost_of}
+use Rattle.script_rules.specs.declared.commands.Command.{Command}
+use Rattle.script_rules.specs.declared.commands.ScriptReply.{ScriptReply}
+use Rattle.script_rules.proofs.RunLemmas.{goes_on, no_objects}
+use Rattle.arena_script.specs.Things.{Things, objects_in}
+use Rattle.arena_script.specs.Acts.{used, far, CostsGiven}
+use Rattle.arena_script.specs.Serves.{Serves, Stops, IsAfter, KeepsKind, credits_of}
+use Rattle.arena_script.proofs.CostFacts.{still, nothing_given}
+
+-- ---- One more command
+
+sum_append : (xs ys : List ℕ) → sum (xs ++ ys) ≡ sum xs + sum ys
+sum_append [] ys = omega arith
+sum_append (x ∷ xs) ys = omega (arith, sum_append xs ys)
+
+-- what the plain machine does with one more command
+pub record GoesOn (script : List Command) (i : ℕ) (c : Command) : Type 0 where
+  pub objects : (run (take (i + 1) script)).objects ≡ (step c (run (take i script)).objects).objects
+  pub replies : (run (take (i + 1) script)).replies
+      ≡ (run (take i script)).replies ++ (step c (run (take i script)).objects).reply ∷ []
+  pub cost : cost_of (take (i + 1) script) ≡ cost_of (take i script) + (step c (run (take i script)).objects).cost
+
+one_more : (script : List Command) (i : ℕ) (c : Command) → take (i + 1) script ≡ take i script ++ c ∷ [] → GoesOn script i c
+unfolding run_from
+one_more script i c is =
+    let on = ap run is ∙ goes_on [] (take i script) (c ∷ []) in record {
+      objects = ap (λ r. r.objects) on;
+      replies = ap (λ r. r.replies) on;
+      cost = ap (λ r. sum r.costs) on ∙ sum_append (run (take i script)).costs ((step c (run (take i script)).objects).cost ∷ [])
+          ∙ ap (λ n. cost_of (take i script) + n) (omega arith);
+    }
+
+pub none_replied : [] ≡ (run []).replies
+unfolding run_from
+none_replied = refl
+
+-- Before the first command nothing is there.
+pub after_none : (script : List Command) (start : View) → used start ≡ 0 → IsAfter script start start [] 0
+unfolding run_from
+after_none script start unused = record {
+  are = record { rising = refl; held = λ n. tt; apart = λ n k other. tt; objects = no_objects };
+  objects = refl;
+  least = omega arith;
+  costs = nothing_given _ 0 0 start start (still start) (omega arith);
+  kind = record { is_growing = refl; allocated = λ stays. refl };
+}
+
+kind_then : (old mid new : View) → KeepsKind old.memory mid.memory → KeepsKind mid.memory new.memory → KeepsKind old.memory new.memory
+kind_then old mid new one two = record {
+  is_growing = two.is_growing ∙ one.is_growing;
+  allocated = λ stays. two.allocated (one.is_growing ∙ stays) ∙ one.allocated stays;
+}
+
+-- how far up the newest data end may lie for a run not to be starved of itself
+abbrev pub run_far : ℕ
+run_far = 2 ^ 62
+
+module _ (script : List Command) (start now next : View) (things : Things) (i : ℕ) (c : Command)
+    (at : take (i + 1) script ≡ take i script ++ c ∷ []) (after : IsAfter script start now things i) where
+  -- the plain machine's step from here
+  abbrev cost : ℕ
+  cost = (step c (objects_in now.memory things)).cost
+
+  more : GoesOn script i c
+  more = one_more script i c at
+
+  cost_more : cost_of (take i script) + cost ≡ cost_of (take (i + 1) script)
+  cost_more = ap (λ o. cost_of (take i script) + (step c o).cost) after.objects ∙ sym more.cost
+
+  -- After one more command that was served.
+  pub after_more : (later : Things) (reply : ScriptReply) → Serves c now next things later reply → IsAfter script start next later (i + 1)
+  after_more later reply serves = record {
+    are = serves.are;
+    objects = serves.objects ∙ ap (λ o. (step c o).objects) after.objects ∙ sym more.objects;
+    least = omega (arith, serves.least, after.least);
+    costs = subst (λ n. CostsGiven n 0 (credits_of later) start next) cost_more
+        (costs_then far (cost_of (take i script)) cost 0 (credits_of things) (credits_of later) start now next (Ok tt) (Ok tt)
+        after.kind.is_growing after.kind.allocated refl after.costs
+        (costs_ok far (far + 2 ^ 61) cost (credits_of things) (credits_of later) now next (Ok tt) refl serves.costs));
+    kind = kind_then start now next after.kind serves.kind;
+  }
+
+  pub reply_more : (later : Things) (reply : ScriptReply) (replies : List ScriptReply) → replies ≡ (run (take i script)).replies
+      → Serves c now next things later reply → replies ++ reply ∷ [] ≡ (run (take (i + 1) script)).replies
+  reply_more later reply replies are serves =
+      (λ p. are p ++ (serves.reply_is ∙ ap (λ o. (step c o).reply) after.objects) p ∷ []) ∙ sym more.replies
+
+  -- A command that wasn't served costs what it would have with those before it.
+  module _ (e : AllocError) (stops : Stops c now next things e) where
+    pub stopped_costs : Costs {X = Unit {0}} run_far (cost_of (take (i + 1) script)) 0 0 start next (Err e)
+    stopped_costs = subst (λ n. Costs {X = Unit {0}} run_far n 0 0 start next (Err e)) cost_more
+        (costs_then run_far (cost_of (take i script)) cost 0 (credits_of things) 0 start now next (Ok (tt {0})) (Err e)
+        after.kind.is_growing after.kind.allocated refl
+        (costs_ok far run_far (cost_of (take i script)) 0 (credits_of things) start now (Ok tt) refl after.costs) stops.costs)
+
+    pub stopped_kind : KeepsKind start.memory next.memory
+    stopped_kind = kind_then start now next after.kind stops.kind

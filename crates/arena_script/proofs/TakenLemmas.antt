@@ -1,0 +1,99 @@
+-- Copies that ask the arena for one block: what they cost.
+use Rattle.std.proofs.Common.{IsPermutation, ◌≡◌, ℕ, ◌+◌, ◌-◌, ◌^◌, ◌≤◌, refl, sym, ap, ◌∙◌, subst, arith, IsTrue, Some, None, List, [], ◌∷◌}
+use Rattle.std.proofs.lemmas.Option.{same_Some}
+use Rattle.std.proofs.lemmas.List.Elements.{recursion_from_All, All-from_recursion}
+use Rattle.std.proofs.lemmas.List.Sorted.{All-permutation}
+use Rattle.placement.specs.Rounding.{is_layout}
+use Rattle.placement.specs.State.{State}
+use Rattle.arena_chunks.specs.Source.{View}
+use Rattle.arena_chunks.specs.Answers.{Answer}
+use Rattle.arena_chunks.specs.Answers.Answer.{Placed, Wanting, Refused}
+use Rattle.arena_chunks.specs.BlockCalls.{PlacesBlock}
+use Rattle.arena_chunks.specs.declared.block.Block.{Block}
+use Rattle.arena_chunks.proofs.Layers.{placed_least}
+use Rattle.arena_items.specs.Room.{SamePlaces}
+use Rattle.arena_items.specs.declared.room.AllocError.{AllocError}
+use Rattle.arena_items.specs.declared.room.AllocError.TheVariants.{AllocErr, OutOfMemory}
+use Rattle.arena_clone.specs.Asks.{Takes, Follows, AsksFor}
+use Rattle.arena_script.specs.Acts.{used, far, CostsGiven}
+use Rattle.arena_script.proofs.CostFacts.{IsRefused, still, same_used, costs_from, block_given, block_refused}
+
+some_none : (e : AllocError) → Some e ≡ None → ⊥
+some_none e same = cc
+
+none_some : (e : AllocError) → None ≡ Some e → ⊥
+none_some e same = cc
+
+-- One block is one block, in whatever order.
+pub one_block : (b c : Block) → IsPermutation (b ∷ []) (c ∷ []) → c ≡ b
+one_block b c same = let P : Block → Type 0 = λ x. x ≡ b in
+    (recursion_from_All P (c ∷ []) (All-permutation P (b ∷ []) (c ∷ []) same (All-from_recursion P (b ∷ []) (refl, tt)))).0
+
+same_as : (a b : View) → b ≡ a → SamePlaces a b
+same_as a b same = subst (λ v. SamePlaces a v) (sym same) (still a)
+
+module _ (old new : View) (size align : ℕ) (blocks : List Block) (cost : ℕ) (one : old.memory.state.min_align ≡ 1)
+    (layout : IsTrue (is_layout size align)) (small : align ≤ 16) (bounded : size ≤ 2 ^ 60) where
+  least_align : (start : View) → SamePlaces old start → start.memory.state.min_align ≡ 1
+  least_align start written = ap (λ (s : State). s.min_align) written.state ∙ one
+
+  -- The block that was placed.
+  pub record IsTaken (after : ℕ) : Type 0 where
+    pub block : Block
+    pub is : blocks ≡ block ∷ []
+    pub of_size : block.size ≡ size
+    pub of_align : block.align ≡ align
+    pub least : used old + size ≤ used new
+    pub costs : CostsGiven cost 0 after old new
+
+  pub taken : (after : ℕ) → size + (align - 1) + after ≤ cost + 0
+      → Takes size align old new blocks None (λ between rest. AsksFor [] between new rest None) → IsTaken after
+  taken after paid takes = by takes.answer takes.places takes.then
+    where
+      by : (a : Answer) → PlacesBlock takes.start takes.between size align a
+          → Follows a takes.between new blocks None (λ rest. AsksFor [] takes.between new rest None) → IsTaken after
+      by (Placed b) places (rest, is, (last, empties, same)) = record {
+        block = b;
+        is = is ∙ ap (λ (bs : List Block). b ∷ bs) empties;
+        of_size = places.1.outcome.of_layout.of_size;
+        of_align = places.1.outcome.of_layout.of_align;
+        least = omega (
+          arith,
+          same_used old takes.start takes.written,
+          same_used takes.between new same,
+          placed_least takes.start takes.between size align b layout places,
+          places.1.outcome.of_layout.of_size,
+        );
+        costs = costs_from far cost 0 after old takes.start new _ takes.written
+            (block_given takes.start takes.between new size align cost 0 after (least_align takes.start takes.written) layout small
+            bounded same
+            b paid places);
+      }
+      by (Refused k) places (is, none, same) = absurd (none_some (AllocErr k) is)
+      by Wanting places (is, none, same) = absurd (none_some OutOfMemory is)
+
+  refused_from : (start : View) (e : AllocError) → SamePlaces old start → IsRefused cost 0 start new e → IsRefused cost 0 old new e
+  refused_from start e written refused = record {
+    fits = refused.fits;
+    costs = costs_from far cost 0 0 old start new _ written refused.costs;
+    same = refused.same ∙ written.state;
+  }
+
+  pub not_taken : (e : AllocError) → size + (align - 1) ≤ cost + 0
+      → Takes size align old new blocks (Some e) (λ between rest. AsksFor [] between new rest (Some e)) → IsRefused cost 0 old new e
+  not_taken e paid takes = by takes.answer takes.places takes.then
+    where
+      refused : (f : AllocError) → SamePlaces takes.between new → Some e ≡ Some f
+          → IsRefused cost 0 takes.start new f → IsRefused cost 0 old new e
+      refused f same is why = subst (λ x. IsRefused cost 0 old new x) (sym (same_Some e f is))
+          (refused_from takes.start f takes.written why)
+
+      by : (a : Answer) → PlacesBlock takes.start takes.between size align a
+          → Follows a takes.between new blocks (Some e) (λ rest. AsksFor [] takes.between new rest (Some e)) → IsRefused cost 0 old new e
+      by (Placed b) places (rest, is, (last, empties, same)) = absurd (some_none e last)
+      by (Refused k) places (is, none, same) = let kept = same_as takes.between new same in
+          refused (AllocErr k) kept is (block_refused takes.start takes.between new size align cost 0 0
+          (least_align takes.start takes.written) layout small bounded kept (λ (b : Block). b) (AllocErr k) paid places)
+      by Wanting places (is, none, same) = let kept = same_as takes.between new same in
+          refused OutOfMemory kept is (block_refused takes.start takes.between new size align cost 0 0
+          (least_align takes.start takes.written) layout small bounded kept (λ (b : Block). b) OutOfMemory paid places)

@@ -1,0 +1,94 @@
+-- What copies of texts do.
+use Rattle.std.proofs.Common.{IsPermutation, ◌≡◌, ℕ, ◌+◌, ◌-◌, ◌*◌, ◌^◌, ◌<◌, ◌≤◌, refl, sym, ap, ◌∙◌, subst, arith, IsTrue, Ok, Err, Some, None, Result, List, [], ◌∷◌, length, take}
+use Rattle.std.proofs.lemmas.List.{take_all}
+use Rattle.placement.specs.Rounding.{is_layout}
+use Rattle.arena_chunks.specs.Memory.{Memory}
+use Rattle.arena_chunks.specs.Source.{View}
+use Rattle.arena_chunks.specs.Frame.{Frame}
+use Rattle.arena_chunks.specs.declared.block.Block.{Block}
+use Rattle.arena_chunks.specs.declared.allocator.text.Str.{Str}
+use Rattle.arena_items.specs.Values.{text_bytes}
+use Rattle.arena_items.specs.declared.room.AllocError.{AllocError}
+use Rattle.arena_text.specs.Builders.{builder_bytes}
+use Rattle.arena_text.specs.declared.text.StringBuilder.{StringBuilder}
+use Rattle.arena_clone.specs.Copies.{Copies}
+use Rattle.arena_clone.specs.Kinds.{text}
+use Rattle.arena_clone.specs.declared.ids.CloneInSemanticIds.TheVariants.{With}
+use Rattle.script_rules.specs.Objects.{get, AText, IsObject, copy_cost}
+use Rattle.script_rules.specs.declared.commands.Command.TheVariants.{CopyTo}
+use Rattle.script_rules.specs.declared.commands.ScriptReply.TheVariants.{Done}
+use Rattle.arena_script.specs.Things.{Things, object_in, credit_of, IsWordsIn}
+use Rattle.arena_script.specs.Acts.{GivesThing, GivesNothing}
+use Rattle.arena_script.specs.declared.thing.Thing.TheVariants as thing
+use Rattle.arena_script.proofs.CopyActs.{IsCopied, copy_gives, copy_gives_nothing}
+use Rattle.arena_script.proofs.TakenLemmas.{IsTaken, taken, not_taken, one_block}
+use Rattle.arena_script.proofs.TextLemmas.{bytes_layout}
+
+pub text_few : (m : Memory) (t : StringBuilder) → IsObject (object_in m (thing.Text t)) → t.len ≡ length (builder_bytes m t) → t.len < 2 ^
+    32
+text_few m t is count = omega (arith, is.1, count)
+
+module _ (old new : View) (t : StringBuilder) (s : Str) (one : old.memory.state.min_align ≡ 1) (few : t.len < 2 ^ 32)
+    (count : t.len ≡ length (builder_bytes old.memory t)) (bytes_are : text_bytes old.memory s ≡ builder_bytes old.memory t)
+    (size : s.block.size ≡ t.len) where
+  abbrev Cloned : Result Str AllocError → Type 0
+  Cloned result = Copies text With old.memory old new s result
+
+  abbrev cost : ℕ
+  cost = 32 + 4 * t.len
+
+  layout : IsTrue (is_layout s.block.size 1)
+  layout = bytes_layout s.block.size (omega (arith, size))
+
+  -- a text of as many bytes
+  abbrev now : Str → StringBuilder
+  now copy = record { block = copy.block; len = t.len; cap = t.len }
+
+  module _ (copy : Str) (copies : Cloned (Ok copy)) where
+    abbrev after : ℕ
+    after = credit_of (thing.Text (now copy))
+
+    is_taken : IsTaken old new s.block.size 1 copies.blocks cost one layout (omega arith) (omega (arith, size)) after
+    is_taken = taken old new s.block.size 1 copies.blocks cost one layout (omega arith) (omega (arith, size)) after (omega (arith, size))
+        copies.placed.asked
+
+    own : copy.block ≡ is_taken.block
+    own = sym (one_block copy.block is_taken.block (subst (λ bs. IsPermutation (copy.block ∷ []) bs) is_taken.is copies.made.deep))
+
+    text_held : IsWordsIn new.memory (now copy)
+    text_held = record {
+      held = record {
+        place = record {
+          readable = copies.made.held;
+          of_size = ap (λ (b : Block). b.size) own ∙ is_taken.of_size ∙ size;
+          of_align = ap (λ (b : Block). b.align) own ∙ is_taken.of_align;
+        };
+        within = omega arith;
+      };
+      room = omega arith;
+    }
+
+    text_is : object_in new.memory (thing.Text (now copy)) ≡ object_in old.memory (thing.Text t)
+    text_is = ap (λ (bs : List ℕ). AText (take t.len bs)) (copies.made.means ∙ bytes_are)
+        ∙ ap AText (take_all t.len (builder_bytes old.memory t) (omega (arith, count)))
+
+    text_copied : IsCopied cost old new (thing.Text (now copy))
+    text_copied = record {
+      held = text_held;
+      least = omega (arith, is_taken.least, is_taken.of_size, ap (λ (b : Block). b.size) own);
+      costs = is_taken.costs;
+      frame = subst (λ bs. Frame old.memory new.memory [] bs) (is_taken.is ∙ ap (λ (b : Block). b ∷ []) (sym own)) copies.placed.frame;
+    }
+
+  module _ (things : Things) (name other : ℕ) (found : get things name ≡ Some (thing.Text t)) (none : get things other ≡ None) where
+    text_costs : copy_cost (object_in old.memory (thing.Text t)) ≡ cost
+    text_costs = ap (λ k. 32 + 4 * k) (sym count)
+
+    pub text_copy_gives : (copy : Str) → Cloned (Ok copy) → GivesThing (CopyTo name other) things old new other (thing.Text (now copy)) Done
+    text_copy_gives copy copies = copy_gives things old name other (thing.Text t) found none new cost text_costs (thing.Text (now copy))
+        (text_is copy copies) (text_copied copy copies)
+
+    pub text_copy_gives_nothing : (e : AllocError) → Cloned (Err e) → GivesNothing (CopyTo name other) things old new e
+    text_copy_gives_nothing e copies = copy_gives_nothing things old name other (thing.Text t) found none new cost text_costs e
+        (not_taken old new s.block.size 1 copies.blocks cost one layout (omega arith) (omega (arith, size)) e (omega (arith, size))
+        copies.placed.asked)

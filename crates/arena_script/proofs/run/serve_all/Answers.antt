@@ -1,0 +1,53 @@
+use Rattle.std.proofs.Common.{◌≡◌, ◌∙◌, ◌+◌, arith, refl, sym, subst, ap, [], ◌∷◌, ◌++◌, length, length-append}
+use Rattle.arena_script.specs.Running.{IsRun}
+use Rattle.arena_script.proofs.RunningLemmas.{after_none, after_more, reply_more, none_replied}
+use Rattle.arena_script.proofs.EndingLemmas.{came, is_at, run_done, run_wanting, run_refused}
+use Rattle.arena_script.proofs.run.serve_all.Goals as goal
+
+pub loop-command-init : goal.loop-command-init
+loop-command-init g c = record {
+  after = rw c.new-things.ensures (after_none c.args.commands.now c.args.a.now c.requires.unused);
+  replies = c.requires.replies ∙ none_replied;
+  count = ap length c.requires.replies;
+  room = c.requires.room;
+}
+
+pub returns-in-Err-AllocErr : goal.returns-in-Err-AllocErr
+returns-in-Err-AllocErr g c = λ bytes is.
+    let l = c.loop-command in
+    let script = c.args.commands.now in
+    let at = is_at script l.command-index c.command-item.result c.loop-command-test.true c.command-item.is in
+    subst (λ ended. IsRun script c.args.a.now c.serve.new.a (came l.replies.items ended bytes)) (sym c.refused.ensures)
+    (run_refused script c.args.a.now l.replies.items l.command-index (omega (arith, c.loop-command-test.true)) l.invariant.replies
+    l.a c.serve.new.a l.things c.command-item.result at c.requires.unused l.invariant.after c.in-Err-AllocErr.field-0
+    c.in-Err-AllocErr.ensures
+    bytes is c.in-Err-AllocErr.field-0-0 c.in-Err-AllocErr.field-0-is c.serve.new.a.memory.state.is_growing refl)
+
+pub returns-in-Err : goal.returns-in-Err
+returns-in-Err g c = λ bytes is.
+    let l = c.loop-command in
+    let script = c.args.commands.now in
+    let at = is_at script l.command-index c.command-item.result c.loop-command-test.true c.command-item.is in
+    run_wanting script c.args.a.now l.replies.items l.command-index (omega (arith, c.loop-command-test.true)) l.invariant.replies
+    l.a c.serve.new.a l.things c.command-item.result at c.requires.unused l.invariant.after c.in-Err.field-0 c.in-Err.ensures bytes is
+
+pub loop-command-preserved : goal.loop-command-preserved
+loop-command-preserved g c =
+    let l = c.loop-command in
+    let script = c.args.commands.now in
+    let at = is_at script l.command-index c.command-item.result c.loop-command-test.true c.command-item.is in
+    let pushed : c.push.new.self.items ≡ l.replies.items ++ c.in-Ok.reply ∷ [] = c.in-Ok-push.ensures.items in record {
+      after = after_more script c.args.a.now l.a c.serve.new.a l.things l.command-index c.command-item.result at.more l.invariant.after
+          c.serve.new.things c.in-Ok.reply c.in-Ok.ensures;
+      replies = pushed ∙ reply_more script c.args.a.now l.a c.serve.new.a l.things l.command-index c.command-item.result at.more
+          l.invariant.after c.serve.new.things c.in-Ok.reply l.replies.items l.invariant.replies c.in-Ok.ensures;
+      count = ap length pushed ∙ length-append l.replies.items (c.in-Ok.reply ∷ []) ∙ ap (λ n. n + 1) l.invariant.count;
+      room = omega (arith, l.invariant.room, c.push.ensures.capacity);
+    }
+
+pub returns : goal.returns
+returns g c = λ bytes is.
+    let l = c.loop-command in
+    run_done c.args.commands.now c.args.a.now l.replies.items l.command-index (omega (arith, l.auto.command-index-end)) l.invariant.replies
+    c.bytes_law.ensures.pairs l.a l.things c.requires.unused l.invariant.after
+    (omega (arith, l.auto.command-index-end, c.loop-command-test.false)) bytes is

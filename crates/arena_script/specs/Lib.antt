@@ -1,0 +1,7 @@
+pub mod Kinds
+pub mod Things
+pub mod ThingLaws
+pub mod Wants
+pub mod Acts
+pub mod Serves
+pub mod Running

@@ -1,0 +1,52 @@
+-- What running a script on an arena of which nothing is used promises.
+use Rattle.std.specs.Prelude.{◌≡◌, ◌≢◌, ℕ, ◌+◌, ◌≤◌, ◌⊎◌, List, [], length, take, slice_get, IsSomeAnd, IsTrue}
+use Rattle.arena_chunks.specs.Memory.{Memory}
+use Rattle.arena_chunks.specs.Source.{View}
+use Rattle.arena_chunks.specs.Asking.{IsFull}
+use Rattle.script_rules.specs.Objects.{Objects, need}
+use Rattle.script_rules.specs.Machine.{run, cost_of_first}
+use Rattle.script_rules.specs.Starved.{IsStarvedWithin}
+use Rattle.script_rules.specs.declared.commands.Command.{Command}
+use Rattle.script_rules.specs.declared.commands.Ended.TheVariants as ended
+use Rattle.script_rules.specs.declared.outcome.Outcome.{Outcome}
+use Rattle.arena_script.specs.Things.{Things, AreThings, objects_in}
+use Rattle.arena_script.specs.Acts.{used}
+use Rattle.arena_script.specs.Serves.{KeepsKind}
+use Rattle.arena_script.specs.Wants.{takes_memory}
+
+-- There are things in the arena, one for each name, that share no memory and mean these objects.
+pub record HoldsObjects (memory : Memory) (objects : Objects) : Type 0 where
+  pub things : Things
+  pub are : AreThings memory things
+  pub mean : objects_in memory things ≡ objects
+
+-- The replies are the first ones of the plain machine, and all where the script ended done.
+pub record Replies (script : List Command) (outcome : Outcome) : Type 0 where
+  pub first : outcome.replies ≡ take (length outcome.replies) (run script).replies
+  pub all : outcome.ended ≡ ended.Done → outcome.replies ≡ (run script).replies
+
+-- what the commands up to the one behind the last reply cost
+abbrev pub cost_with_next : List Command → Outcome → ℕ
+cost_with_next script outcome = cost_of_first (length outcome.replies + 1) script
+
+-- No command was served, since memory was wanting for the replies. Nothing was used.
+pub record IsUnbegun (old new : View) (outcome : Outcome) : Type 0 where
+  pub wanting : outcome.ended ≡ ended.OutOfMemory
+  pub none : outcome.replies ≡ []
+  pub same : new ≡ old
+
+-- The command behind the last reply takes memory: it is the one that couldn't be served.
+abbrev pub IsStoppedAt : List Command → Outcome → Type 0
+IsStoppedAt script outcome = IsSomeAnd (slice_get script (length outcome.replies)) (λ c. IsTrue (takes_memory c))
+
+pub record IsRun (script : List Command) (old new : View) (outcome : Outcome) : Type 0 where
+  pub replies : Replies script outcome
+  pub holds : outcome.ended ≡ ended.Done → HoldsObjects new.memory (run script).objects
+  pub used : outcome.used ≡ used new
+  pub most : outcome.used ≤ cost_with_next script outcome
+  pub least : outcome.ended ≡ ended.Done → need (run script).objects ≤ outcome.used
+  pub full : outcome.ended ≡ ended.Full → IsFull (cost_with_next script outcome) old
+  pub refused : outcome.ended ≡ ended.Refused
+      → IsStarvedWithin (cost_with_next script outcome) old.memory.state new.memory.state old.source new.source
+  pub stopped : outcome.ended ≢ ended.Done → IsUnbegun old new outcome ⊎ IsStoppedAt script outcome
+  pub kind : KeepsKind old.memory new.memory

@@ -1,0 +1,69 @@
+-- What serving commands leaves: things that stand for the plain machine's objects, and bytes within their cost.
+use Rattle.std.specs.Prelude.{◌≡◌, ◌≢◌, ℕ, ◌+◌, ◌≤◌, false, Result, Ok, Err, None, IsTrue, List, take}
+use Rattle.placement.specs.State.{allocated_bytes}
+use Rattle.arena_chunks.specs.Memory.{Memory}
+use Rattle.arena_chunks.specs.Source.{View}
+use Rattle.arena_items.specs.Costs.{Costs}
+use Rattle.arena_items.specs.declared.room.AllocError.{AllocError}
+use Rattle.arena_items.specs.declared.room.AllocError.TheVariants.{CapacityOverflow, OutOfMemory}
+use Rattle.script_rules.specs.Objects.{get, total, bind, unbind}
+use Rattle.script_rules.specs.Machine.{step, run, cost_of}
+use Rattle.script_rules.specs.declared.commands.Command.{Command}
+use Rattle.script_rules.specs.declared.commands.ScriptReply.{ScriptReply}
+use Rattle.script_rules.specs.declared.commands.ScriptReply.TheVariants.{Done}
+use Rattle.arena_script.specs.Things.{Things, AreThings, objects_in, size_of, credit_of}
+use Rattle.arena_script.specs.Acts.{used, CostsGiven, CostsRefused}
+use Rattle.arena_script.specs.Wants.{takes_memory}
+use Rattle.arena_script.specs.declared.act.Act.{Act}
+use Rattle.arena_script.specs.declared.act.Act.TheVariants.{Tells, Gives, LetsGo}
+use Rattle.arena_script.specs.declared.thing.Thing.{Thing}
+
+-- the bytes of all blocks, and all credits
+abbrev pub sizes_of : Things → ℕ
+sizes_of things = total (λ (e : ℕ × Thing). size_of e.1) things
+
+abbrev pub credits_of : Things → ℕ
+credits_of things = total (λ (e : ℕ × Thing). credit_of e.1) things
+
+-- An arena stays one that grows, or one that doesn't and has as many bytes.
+pub record KeepsKind (old new : Memory) : Type 0 where
+  pub is_growing : new.state.is_growing ≡ old.state.is_growing
+  pub allocated : old.state.is_growing ≡ false → allocated_bytes new.state ≡ allocated_bytes old.state
+
+-- A command was served as the plain machine does. The bytes that came into use are those of its block at least, and with all credits
+-- no more than there was and its cost.
+pub record Serves (command : Command) (old new : View) (things later : Things) (reply : ScriptReply) : Type 0 where
+  pub reply_is : reply ≡ (step command (objects_in old.memory things)).reply
+  pub objects : objects_in new.memory later ≡ (step command (objects_in old.memory things)).objects
+  pub are : AreThings new.memory later
+  pub least : used old + sizes_of later ≤ used new + sizes_of things
+  pub costs : CostsGiven (step command (objects_in old.memory things)).cost (credits_of things) (credits_of later) old new
+  pub kind : KeepsKind old.memory new.memory
+
+-- A command wasn't served: the arena refused a block that the credits and the cost would have paid, or memory was wanting, and it is
+-- one that takes some.
+pub record Stops (command : Command) (old new : View) (things : Things) (e : AllocError) : Type 0 where
+  pub fits : e ≢ CapacityOverflow
+  pub taken : IsTrue (takes_memory command)
+  pub costs : CostsRefused (step command (objects_in old.memory things)).cost (credits_of things) 0 old new e
+  pub kind : KeepsKind old.memory new.memory
+
+abbrev pub ServesOrStops : Command → View → View → Things → Things → Result ScriptReply AllocError → Type 0
+ServesOrStops command old new things later (Ok reply) = Serves command old new things later reply
+ServesOrStops command old new things later (Err e) = Stops command old new things e
+
+-- What was done is noted under names. Memory can be wanting for a name that holds nothing.
+abbrev pub Settles : Act → Things → Things → Result ScriptReply AllocError → Type 0
+Settles (Tells reply) old new result = (result ≡ Ok reply) × (new ≡ old)
+Settles (Gives name thing reply) old new (Ok told) = (told ≡ reply) × (new ≡ bind old name thing)
+Settles (Gives name thing reply) old new (Err e) = (e ≡ OutOfMemory) × (get old name ≡ None)
+Settles (LetsGo name) old new result = (result ≡ Ok Done) × (new ≡ unbind old name)
+
+-- After the first commands of a script things stand for the plain machine's objects. Their bytes are in use, and what is in use and the
+-- credits are at most what the commands cost.
+pub record IsAfter (script : List Command) (start now : View) (things : Things) (i : ℕ) : Type 0 where
+  pub are : AreThings now.memory things
+  pub objects : objects_in now.memory things ≡ (run (take i script)).objects
+  pub least : sizes_of things ≤ used now
+  pub costs : CostsGiven (cost_of (take i script)) 0 (credits_of things) start now
+  pub kind : KeepsKind start.memory now.memory

@@ -1,0 +1,25 @@
+//! The engine of scripts: the objects of a script live in an arena, one block each.
+//!
+//! `run_script` is what others call; `CALLING.md` says what it promises and how to use that. Each kind of object has a
+//! module of its own, and each command there says by one record what it does (`specs/Acts.antt`). What that leaves of all
+//! names, and what it sums up to, stands once (`serve.rt`, `run.rt`).
+#![tactic(auto)]
+
+mod act;
+mod bits;
+mod dispatch;
+mod in_order;
+mod job;
+mod kinds;
+mod lists;
+mod maps;
+mod run;
+mod serve;
+mod texts;
+mod thing;
+mod values;
+mod whole;
+
+pub use job::{Engine, Job};
+pub use run::run_script;
+pub use thing::Thing;

@@ -1,0 +1,243 @@
+// Commands on lists.
+#![tactic(auto, unfolding(script_rules::specs::Effects::effect))]
+
+ghost use Rattle.std.specs.Prelude.{◌≡◌, Ok, Some, None, IfOk, IfErr};
+ghost use Rattle.script_rules.specs.Objects.{get};
+ghost use Rattle.arena_vec.specs.Vecs.{IsVecIn, vec_list};
+ghost use Rattle.arena_script.specs.Kinds.{short};
+ghost use Rattle.arena_script.specs.Things.{AreThings};
+ghost use Rattle.arena_script.specs.Acts.{Acts};
+
+use crate::act::{Act, number_or_nothing};
+use crate::kinds::list_of;
+use crate::thing::Thing;
+use arena_chunks::{Allocator, ChunkSource};
+use arena_items::{AllocError, Grown};
+use arena_vec::Vec;
+use arena_vec::laws::{growth_costs, vector_costs};
+use script_rules::{Command, Names, Numbers, ScriptReply};
+use std::alloc::Global;
+
+/// The most items of a list.
+const MOST_ITEMS: u32 = 536_870_912;
+
+pub(crate) fn make_list<C: ChunkSource>(_a: &Allocator<C>, things: &Names<Thing>, name: u32) -> Act
+    ensures { Acts (Command.MakeList name) things.now _a.now _a.now (Ok result) }
+{
+    if things.get(name).is_some() {
+        return Act::Tells(ScriptReply::NameTaken);
+    }
+    Act::Gives {
+        name,
+        thing: Thing::List(Vec::new_in()),
+        reply: ScriptReply::Done,
+    }
+}
+
+pub(crate) fn push<C: ChunkSource>(
+    a: &mut Allocator<C>,
+    things: &Names<Thing>,
+    name: u32,
+    value: u32,
+) -> Grown<Act>
+    requires { AreThings a.old.memory things.now }
+    ensures { Acts (Command.Push name value) things.now a.old a.new result }
+{
+    growth_costs();
+    vector_costs::<u32, ()>();
+    // So the least alignment is known to be 1.
+    let _ = a.min_align();
+    let mut list = match list_of(things, name) {
+        Ok(list) => list,
+        Err(reply) => return Ok(Act::Tells(reply)),
+    };
+    if list.len() >= MOST_ITEMS {
+        return Ok(Act::Tells(ScriptReply::CapacityOverflow));
+    }
+    match list.push(a, value) {
+        Ok(()) => Ok(Act::Gives {
+            name,
+            thing: Thing::List(list),
+            reply: ScriptReply::Done,
+        }),
+        Err(e) => Err(e),
+    }
+}
+
+pub(crate) fn insert<C: ChunkSource>(
+    a: &mut Allocator<C>,
+    things: &Names<Thing>,
+    name: u32,
+    at: u32,
+    value: u32,
+) -> Grown<Act>
+    requires { AreThings a.old.memory things.now }
+    ensures { Acts (Command.Insert name at value) things.now a.old a.new result }
+{
+    growth_costs();
+    vector_costs::<u32, ()>();
+    let _ = a.min_align();
+    let mut list = match list_of(things, name) {
+        Ok(list) => list,
+        Err(reply) => return Ok(Act::Tells(reply)),
+    };
+    if at > list.len() {
+        return Ok(Act::Tells(ScriptReply::OutOfRange));
+    }
+    if list.len() >= MOST_ITEMS {
+        return Ok(Act::Tells(ScriptReply::CapacityOverflow));
+    }
+    match list.insert(a, at, value) {
+        Ok(()) => Ok(Act::Gives {
+            name,
+            thing: Thing::List(list),
+            reply: ScriptReply::Done,
+        }),
+        Err(e) => Err(e),
+    }
+}
+
+pub(crate) fn pop<C: ChunkSource>(a: &Allocator<C>, things: &Names<Thing>, name: u32) -> Act
+    requires { AreThings a.now.memory things.now }
+    ensures { Acts (Command.Pop name) things.now a.now a.now (Ok result) }
+{
+    let mut list = match list_of(things, name) {
+        Ok(list) => list,
+        Err(reply) => return Act::Tells(reply),
+    };
+    let last = list.pop(a);
+    Act::Gives {
+        name,
+        thing: Thing::List(list),
+        reply: number_or_nothing(last),
+    }
+}
+
+pub(crate) fn remove<C: ChunkSource>(
+    a: &mut Allocator<C>,
+    things: &Names<Thing>,
+    name: u32,
+    at: u32,
+) -> Act
+    requires { AreThings a.old.memory things.now }
+    ensures { Acts (Command.Remove name at) things.now a.old a.new (Ok result) }
+{
+    let mut list = match list_of(things, name) {
+        Ok(list) => list,
+        Err(reply) => return Act::Tells(reply),
+    };
+    if at >= list.len() {
+        return Act::Tells(ScriptReply::OutOfRange);
+    }
+    let number = list.remove(a, at);
+    Act::Gives {
+        name,
+        thing: Thing::List(list),
+        reply: ScriptReply::Number(number as u64),
+    }
+}
+
+pub(crate) fn at<C: ChunkSource>(a: &Allocator<C>, things: &Names<Thing>, name: u32, at: u32) -> Act
+    requires { AreThings a.now.memory things.now }
+    ensures { Acts (Command.At name at) things.now a.now a.now (Ok result) }
+{
+    let list = match list_of(things, name) {
+        Ok(list) => list,
+        Err(reply) => return Act::Tells(reply),
+    };
+    if at >= list.len() {
+        return Act::Tells(ScriptReply::OutOfRange);
+    }
+    Act::Tells(ScriptReply::Number(list.get(a, at) as u64))
+}
+
+pub(crate) fn put<C: ChunkSource>(
+    a: &mut Allocator<C>,
+    things: &Names<Thing>,
+    name: u32,
+    at: u32,
+    value: u32,
+) -> Act
+    requires { AreThings a.old.memory things.now }
+    ensures { Acts (Command.Put name at value) things.now a.old a.new (Ok result) }
+{
+    let mut list = match list_of(things, name) {
+        Ok(list) => list,
+        Err(reply) => return Act::Tells(reply),
+    };
+    if at >= list.len() {
+        return Act::Tells(ScriptReply::OutOfRange);
+    }
+    list.set(a, at, value);
+    Act::Gives {
+        name,
+        thing: Thing::List(list),
+        reply: ScriptReply::Done,
+    }
+}
+
+pub(crate) fn truncate<C: ChunkSource>(
+    _a: &Allocator<C>,
+    things: &Names<Thing>,
+    name: u32,
+    len: u32,
+) -> Act
+    requires { AreThings _a.now.memory things.now }
+    ensures { Acts (Command.Truncate name len) things.now _a.now _a.now (Ok result) }
+{
+    let mut list = match list_of(things, name) {
+        Ok(list) => list,
+        Err(reply) => return Act::Tells(reply),
+    };
+    list.truncate(len);
+    Act::Gives {
+        name,
+        thing: Thing::List(list),
+        reply: ScriptReply::Done,
+    }
+}
+
+// The numbers of a list.
+pub(crate) fn numbers_of<C: ChunkSource>(
+    alloc: Global,
+    a: &Allocator<C>,
+    list: Vec<u32>,
+) -> Grown<Numbers>
+    requires { IsVecIn short a.now.memory list }
+    ensures numbers { IfOk result (λ n. n ≡ vec_list short a.now.memory list) }
+    ensures wanting { IfErr result (λ e. e ≡ AllocError.OutOfMemory) }
+{
+    let mut numbers = std::vec::Vec::new(alloc);
+    for item in list.into_iter(a) {
+        if numbers.push(item as u64).is_err() {
+            return Err(AllocError::OutOfMemory);
+        }
+    }
+    Ok(Numbers::from_vec(numbers))
+}
+
+// Copies the list of a name to another that holds nothing. What a split at the start gives is a list of all its numbers, in a block of
+// its own, and the old block is as it was.
+pub(crate) fn copied<C: ChunkSource>(
+    a: &mut Allocator<C>,
+    things: &Names<Thing>,
+    name: u32,
+    other: u32,
+    list: Vec<u32>,
+) -> Grown<Act>
+    requires things { AreThings a.old.memory things.now }
+    requires found { get things.now name ≡ Some (Thing.List list) }
+    requires none { get things.now other ≡ None }
+    ensures { Acts (Command.CopyTo name other) things.now a.old a.new result }
+{
+    let _ = a.min_align();
+    let mut source = list;
+    match source.split_off(a, 0) {
+        Ok(copy) => Ok(Act::Gives {
+            name: other,
+            thing: Thing::List(copy),
+            reply: ScriptReply::Done,
+        }),
+        Err(e) => Err(e),
+    }
+}

@@ -1,0 +1,151 @@
+// Commands on maps.
+#![tactic(auto, unfolding(script_rules::specs::Effects::effect))]
+
+ghost use Rattle.std.specs.Prelude.{◌≡◌, [], ◌∷◌, IfOk, IfErr, ◌<◌, ◌≤◌, Ok, Some, None, false, IsTrue};
+ghost use Rattle.arena_hash.specs.Finite.{has};
+ghost use Rattle.arena_hash.specs.Maps.{map_in};
+ghost use Rattle.script_rules.specs.Objects.{get, most_pairs};
+ghost use Rattle.arena_script.specs.Kinds.{pairs};
+ghost use Rattle.std.specs.List.{flat_map};
+ghost use Rattle.arena_script.specs.Things.{AreThings, IsPairsIn, content, pairs_of};
+ghost use Rattle.arena_script.specs.Acts.{Acts};
+
+use crate::act::{Act, number_or_nothing};
+use crate::in_order::by_keys;
+use crate::kinds::map_of;
+use crate::thing::Thing;
+use arena_chunks::{Allocator, ChunkSource};
+use arena_clone::{CloneIn, CloneInSemanticIds};
+use arena_hash::{FxHasher, HashMap, bytes_law, lengths_law};
+use arena_items::{AllocError, Grown};
+use script_rules::{Command, Names, Numbers, ScriptReply};
+use std::alloc::Global;
+
+pub(crate) fn make_map<C: ChunkSource>(_a: &Allocator<C>, things: &Names<Thing>, name: u32) -> Act
+    ensures { Acts (Command.MakeMap name) things.now _a.now _a.now (Ok result) }
+{
+    if things.get(name).is_some() {
+        return Act::Tells(ScriptReply::NameTaken);
+    }
+    Act::Gives {
+        name,
+        thing: Thing::Map(HashMap::new_in()),
+        reply: ScriptReply::Done,
+    }
+}
+
+pub(crate) fn find<C: ChunkSource>(
+    a: &Allocator<C>,
+    things: &Names<Thing>,
+    name: u32,
+    key: u32,
+) -> Act
+    requires { AreThings a.now.memory things.now }
+    ensures { Acts (Command.Find name key) things.now a.now a.now (Ok result) }
+{
+    match map_of(things, name) {
+        Ok(map) => Act::Tells(number_or_nothing(map.get(a, key))),
+        Err(reply) => Act::Tells(reply),
+    }
+}
+
+pub(crate) fn unbind<C: ChunkSource>(
+    a: &mut Allocator<C>,
+    things: &Names<Thing>,
+    name: u32,
+    key: u32,
+) -> Act
+    requires { AreThings a.old.memory things.now }
+    ensures { Acts (Command.Unbind name key) things.now a.old a.new (Ok result) }
+{
+    let mut map = match map_of(things, name) {
+        Ok(map) => map,
+        Err(reply) => return Act::Tells(reply),
+    };
+    let old = map.remove(a, key);
+    Act::Gives {
+        name,
+        thing: Thing::Map(map),
+        reply: number_or_nothing(old),
+    }
+}
+
+// Whether a map has no room for a key.
+fn has_no_room<C: ChunkSource>(a: &Allocator<C>, map: HashMap<u32, u32>, key: u32) -> bool
+    requires { IsPairsIn a.now.memory map }
+    ensures full { IsTrue result → (has (map_in pairs a.now.memory map) (content key) ≡ false) × (most_pairs ≤ map.len) }
+    ensures room { result ≡ false → has (map_in pairs a.now.memory map) (content key) ≡ false → map.len < most_pairs }
+{
+    map.len() == u32::MAX && !map.contains_key(a, key)
+}
+
+pub(crate) fn bind<C: ChunkSource>(
+    a: &mut Allocator<C>,
+    things: &Names<Thing>,
+    name: u32,
+    key: u32,
+    value: u32,
+) -> Grown<Act>
+    requires { AreThings a.old.memory things.now }
+    ensures { Acts (Command.Bind name key value) things.now a.old a.new result }
+{
+    let _ = a.min_align();
+    let mut map = match map_of(things, name) {
+        Ok(map) => map,
+        Err(reply) => return Ok(Act::Tells(reply)),
+    };
+    if has_no_room(a, map, key) {
+        return Ok(Act::Tells(ScriptReply::CapacityOverflow));
+    }
+    let _len = map.len();
+    match map.insert(a, key, value) {
+        Ok(old) => Ok(Act::Gives {
+            name,
+            thing: Thing::Map(map),
+            reply: number_or_nothing(old),
+        }),
+        Err(e) => Err(e),
+    }
+}
+
+// Copies the map of a name to another that holds nothing. The copy has the table of a new map for its pairs.
+pub(crate) fn copied<C: ChunkSource>(
+    a: &mut Allocator<C>,
+    things: &Names<Thing>,
+    name: u32,
+    other: u32,
+    map: HashMap<u32, u32>,
+) -> Grown<Act>
+    requires things { AreThings a.old.memory things.now }
+    requires found { get things.now name ≡ Some (Thing.Map map) }
+    requires none { get things.now other ≡ None }
+    ensures { Acts (Command.CopyTo name other) things.now a.old a.new result }
+{
+    bytes_law::<u32, u32, FxHasher>();
+    lengths_law::<u32, u32, FxHasher>();
+    let _ = a.min_align();
+    match map.clone_within(CloneInSemanticIds::With, a) {
+        Ok(copy) => Ok(Act::Gives {
+            name: other,
+            thing: Thing::Map(copy),
+            reply: ScriptReply::Done,
+        }),
+        Err(e) => Err(e),
+    }
+}
+
+// Each key of a map with its value, by rising keys.
+pub(crate) fn numbers_of<C: ChunkSource>(
+    alloc: Global,
+    a: &Allocator<C>,
+    map: HashMap<u32, u32>,
+) -> Grown<Numbers>
+    requires { IsPairsIn a.now.memory map }
+    ensures numbers { IfOk result (λ all. all ≡ flat_map (λ e. e.0 ∷ e.1 ∷ []) (pairs_of (map_in pairs a.now.memory map))) }
+    ensures wanting { IfErr result (λ e. e ≡ AllocError.OutOfMemory) }
+{
+    match by_keys(alloc, a, map) {
+        Ok(pairs) => pairs.listed(alloc),
+        Err(e) => Err(e),
+    }
+}

@@ -1,0 +1,83 @@
+// Whole scripts.
+ghost use Rattle.std.specs.Prelude.{◌≡◌, ℕ, ◌≤◌, [], length, if◌then◌else◌};
+ghost use Rattle.std.specs.Vec.{vec_capacity};
+ghost use Rattle.arena_script.specs.Acts.{used};
+ghost use Rattle.arena_script.specs.Running.{IsRun};
+
+use crate::serve::serve;
+use crate::thing::Thing;
+use arena_chunks::{Allocator, ChunkSource};
+use arena_hash::{FxHasher, bytes_law};
+use arena_items::AllocError;
+use script_rules::{Command, Ended, Names, Outcome, Replies, Script, ScriptReply};
+use std::alloc::Global;
+
+// How a script ends for which the arena refused a block.
+fn refused<C: ChunkSource>(a: &Allocator<C>) -> Ended
+    ensures { result ≡ (if a.now.memory.state.is_growing then Ended.Refused else Ended.Full) }
+{
+    if a.is_growing() {
+        Ended::Refused
+    } else {
+        Ended::Full
+    }
+}
+
+// Serves commands one after another, until one can't be served. There is room for all replies.
+fn serve_all<C: ChunkSource>(
+    alloc: Global,
+    a: &mut Allocator<C>,
+    replies: &mut Vec<ScriptReply>,
+    commands: &[Command],
+) -> Ended
+    requires unused { used a.old ≡ 0 }
+    requires replies { replies.old.items ≡ [] }
+    requires room { length commands.now ≤ vec_capacity replies.old }
+    ensures { (bytes : ℕ) → bytes ≡ used a.new
+        → IsRun commands.now a.old a.new (record { replies = replies.new.items; ended = result; used = bytes }) }
+{
+    bytes_law::<u32, u32, FxHasher>();
+    let mut things = Names::new(alloc);
+    for command in commands {
+        match serve(alloc, a, &mut things, command) {
+            Ok(reply) => match replies.push(reply) {
+                Ok(()) => {}
+                Err(_) => unreachable!(),
+            },
+            Err(AllocError::AllocErr { .. }) => return refused(a),
+            Err(_) => return Ended::OutOfMemory,
+        }
+    }
+    Ended::Done
+}
+
+/// Runs a script on an arena of which nothing is used. Its objects live in the arena, each in a block of its own, and
+/// only their names and what is told lie beside it. The replies are those of the plain machine, as far as the script
+/// is served:
+///
+/// - `Done`: to the end. The arena uses at least what the last objects need, and at most what the script costs.
+/// - `Full`: the arena doesn't grow, and has fewer bytes than the commands up to the next one cost.
+/// - `Refused`: the arena grows, and was starved with that cost as its bound.
+/// - `OutOfMemory`: memory was wanting beside the arena's chunks. No command that takes none ends so; where there is none for
+///   the replies, no command is served.
+///
+/// In an arena that is reset another script can be run.
+pub fn run_script<C: ChunkSource>(alloc: Global, a: &mut Allocator<C>, script: &Script) -> Outcome
+    requires { used a.old ≡ 0 }
+    ensures { IsRun script.now a.old a.new result }
+{
+    let commands = script.as_slice();
+    let Ok(mut replies) = Vec::with_capacity(alloc, commands.len()) else {
+        return Outcome {
+            replies: Replies::new(alloc),
+            ended: Ended::OutOfMemory,
+            used: a.used_bytes(),
+        };
+    };
+    let ended = serve_all(alloc, a, &mut replies, commands);
+    Outcome {
+        replies: Replies::from_vec(replies),
+        ended,
+        used: a.used_bytes(),
+    }
+}

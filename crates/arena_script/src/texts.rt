@@ -1,0 +1,171 @@
+// Commands on texts.
+#![tactic(auto, unfolding(script_rules::specs::Effects::effect))]
+
+ghost use Rattle.std.specs.Prelude.{◌≡◌, Ok, Some, None, IfOk, IfErr};
+ghost use Rattle.script_rules.specs.Objects.{get};
+ghost use Rattle.arena_text.specs.Builders.{IsBuilderIn, builder_bytes};
+ghost use Rattle.std.specs.List.{list_any};
+ghost use Rattle.script_rules.specs.Effects as effects;
+ghost use Rattle.arena_script.specs.Things.{AreThings, IsWordsIn};
+ghost use Rattle.arena_script.specs.Acts.{Acts};
+
+use crate::act::Act;
+use crate::kinds::text_of;
+use crate::thing::Thing;
+use arena_chunks::{Allocator, Bytes, ChunkSource};
+use arena_clone::{CloneIn, CloneInSemanticIds};
+use arena_items::{AllocError, Grown};
+use arena_text::StringBuilder;
+use arena_text::laws::{growth_rule, length_rule};
+use script_rules::{Command, Names, ScriptReply};
+use std::alloc::Global;
+
+/// The most bytes of a text.
+const MOST_BYTES: u64 = 4_294_967_295;
+
+// Whether a byte is none of ASCII.
+fn has_other(bytes: &[u8]) -> bool
+    ensures { result ≡ list_any effects.not_ascii bytes.now }
+{
+    for byte in bytes {
+        if *byte > 127 {
+            return true;
+        }
+    }
+    false
+}
+
+pub(crate) fn make_text<C: ChunkSource>(_a: &Allocator<C>, things: &Names<Thing>, name: u32) -> Act
+    ensures { Acts (Command.MakeText name) things.now _a.now _a.now (Ok result) }
+{
+    if things.get(name).is_some() {
+        return Act::Tells(ScriptReply::NameTaken);
+    }
+    Act::Gives {
+        name,
+        thing: Thing::Text(StringBuilder::new_in()),
+        reply: ScriptReply::Done,
+    }
+}
+
+pub(crate) fn append<C: ChunkSource>(
+    a: &mut Allocator<C>,
+    things: &Names<Thing>,
+    name: u32,
+    bytes: &[u8],
+) -> Grown<Act>
+    requires { AreThings a.old.memory things.now }
+    ensures { Acts (Command.Append name bytes.now) things.now a.old a.new result }
+{
+    length_rule();
+    growth_rule();
+    let _ = a.min_align();
+    let mut text = match text_of(things, name) {
+        Ok(text) => text,
+        Err(reply) => return Ok(Act::Tells(reply)),
+    };
+    if has_other(bytes) {
+        return Ok(Act::Tells(ScriptReply::NotAscii));
+    }
+    if text.len().saturating_add(bytes.len() as u64) > MOST_BYTES {
+        return Ok(Act::Tells(ScriptReply::CapacityOverflow));
+    }
+    match text.push_bytes_unchecked(a, bytes) {
+        Ok(()) => Ok(Act::Gives {
+            name,
+            thing: Thing::Text(text),
+            reply: ScriptReply::Done,
+        }),
+        Err(e) => Err(e),
+    }
+}
+
+pub(crate) fn byte<C: ChunkSource>(
+    a: &mut Allocator<C>,
+    things: &Names<Thing>,
+    name: u32,
+    byte: u8,
+) -> Grown<Act>
+    requires { AreThings a.old.memory things.now }
+    ensures { Acts (Command.Byte name byte) things.now a.old a.new result }
+{
+    append(a, things, name, &[byte])
+}
+
+pub(crate) fn front<C: ChunkSource>(
+    a: &mut Allocator<C>,
+    things: &Names<Thing>,
+    name: u32,
+    byte: u8,
+) -> Grown<Act>
+    requires { AreThings a.old.memory things.now }
+    ensures { Acts (Command.Front name byte) things.now a.old a.new result }
+{
+    length_rule();
+    growth_rule();
+    let _ = a.min_align();
+    let mut text = match text_of(things, name) {
+        Ok(text) => text,
+        Err(reply) => return Ok(Act::Tells(reply)),
+    };
+    if has_other(&[byte]) {
+        return Ok(Act::Tells(ScriptReply::NotAscii));
+    }
+    if text.len() >= MOST_BYTES {
+        return Ok(Act::Tells(ScriptReply::CapacityOverflow));
+    }
+    match text.push_byte_start_unchecked(a, byte) {
+        Ok(()) => Ok(Act::Gives {
+            name,
+            thing: Thing::Text(text),
+            reply: ScriptReply::Done,
+        }),
+        Err(e) => Err(e),
+    }
+}
+
+// The bytes of a text.
+pub(crate) fn bytes_of<C: ChunkSource>(
+    alloc: Global,
+    a: &Allocator<C>,
+    text: StringBuilder,
+) -> Grown<Bytes>
+    requires { IsBuilderIn a.now.memory text }
+    ensures bytes { IfOk result (λ bytes. bytes ≡ builder_bytes a.now.memory text) }
+    ensures wanting { IfErr result (λ e. e ≡ AllocError.OutOfMemory) }
+{
+    match Bytes::of(alloc, text.as_bytes(a)) {
+        Ok(bytes) => Ok(bytes),
+        Err(_) => Err(AllocError::OutOfMemory),
+    }
+}
+
+// Copies the text of a name to another that holds nothing. The copy has room for its bytes.
+pub(crate) fn copied<C: ChunkSource>(
+    a: &mut Allocator<C>,
+    things: &Names<Thing>,
+    name: u32,
+    other: u32,
+    text: StringBuilder,
+) -> Grown<Act>
+    requires things { AreThings a.old.memory things.now }
+    requires found { get things.now name ≡ Some (Thing.Text text) }
+    requires none { get things.now other ≡ None }
+    ensures { Acts (Command.CopyTo name other) things.now a.old a.new result }
+{
+    length_rule();
+    let _ = a.min_align();
+    let source = text.into_str();
+    match source.clone_within(CloneInSemanticIds::With, a) {
+        Ok(copy) => Ok(Act::Gives {
+            name: other,
+            thing: Thing::Text(StringBuilder {
+                block: copy.block,
+                len: text.len,
+                cap: text.len,
+            }),
+            reply: ScriptReply::Done,
+        }),
+        Err(e) => Err(e),
+    }
+}

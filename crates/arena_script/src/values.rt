@@ -1,0 +1,96 @@
+// Commands on values.
+#![tactic(auto, unfolding(script_rules::specs::Effects::effect))]
+
+ghost use Rattle.std.specs.Prelude.{◌≡◌, Ok, Some, None};
+ghost use Rattle.script_rules.specs.Objects.{get};
+ghost use Rattle.arena_script.specs.Things.{AreThings};
+ghost use Rattle.arena_script.specs.Acts.{Acts};
+
+use crate::act::Act;
+use crate::kinds::value_of;
+use crate::thing::Thing;
+use arena_chunks::{Allocator, ChunkSource};
+use arena_clone::FromIn;
+use arena_items::{Box, Grown};
+use script_rules::{Command, Names, ScriptReply};
+
+pub(crate) fn make_value<C: ChunkSource>(
+    a: &mut Allocator<C>,
+    things: &Names<Thing>,
+    name: u32,
+    value: u64,
+) -> Grown<Act>
+    requires { AreThings a.old.memory things.now }
+    ensures { Acts (Command.MakeValue name value) things.now a.old a.new result }
+{
+    let _ = a.min_align();
+    if things.get(name).is_some() {
+        return Ok(Act::Tells(ScriptReply::NameTaken));
+    }
+    let made: Grown<Box<u64>> = Box::from_in(value, a);
+    match made {
+        Ok(value) => Ok(Act::Gives {
+            name,
+            thing: Thing::Value(value),
+            reply: ScriptReply::Done,
+        }),
+        Err(e) => Err(e),
+    }
+}
+
+pub(crate) fn load<C: ChunkSource>(a: &Allocator<C>, things: &Names<Thing>, name: u32) -> Act
+    requires { AreThings a.now.memory things.now }
+    ensures { Acts (Command.Load name) things.now a.now a.now (Ok result) }
+{
+    match value_of(things, name) {
+        Ok(value) => Act::Tells(ScriptReply::Number(value.get(a))),
+        Err(reply) => Act::Tells(reply),
+    }
+}
+
+pub(crate) fn store<C: ChunkSource>(
+    a: &mut Allocator<C>,
+    things: &Names<Thing>,
+    name: u32,
+    new: u64,
+) -> Act
+    requires { AreThings a.old.memory things.now }
+    ensures { Acts (Command.Store name new) things.now a.old a.new (Ok result) }
+{
+    let value = match value_of(things, name) {
+        Ok(value) => value,
+        Err(reply) => return Act::Tells(reply),
+    };
+    value.set(a, new);
+    Act::Gives {
+        name,
+        thing: Thing::Value(value),
+        reply: ScriptReply::Done,
+    }
+}
+
+// Copies the value of a name to another that holds nothing.
+pub(crate) fn copied<C: ChunkSource>(
+    a: &mut Allocator<C>,
+    things: &Names<Thing>,
+    name: u32,
+    other: u32,
+    value: Box<u64>,
+) -> Grown<Act>
+    requires things { AreThings a.old.memory things.now }
+    requires found { get things.now name ≡ Some (Thing.Value value) }
+    requires none { get things.now other ≡ None }
+    ensures { Acts (Command.CopyTo name other) things.now a.old a.new result }
+{
+    let _ = a.min_align();
+    let content = value.get(a);
+    let made: Grown<Box<u64>> = Box::from_in(content, a);
+    match made {
+        Ok(value) => Ok(Act::Gives {
+            name: other,
+            thing: Thing::Value(value),
+            reply: ScriptReply::Done,
+        }),
+        Err(e) => Err(e),
+    }
+}

@@ -1,0 +1,110 @@
+// Commands on things of any kind.
+#![tactic(auto, unfolding(script_rules::specs::Effects::effect))]
+
+ghost use Rattle.std.specs.Prelude.{◌≡◌, Ok, IfOk, IfErr};
+ghost use Rattle.script_rules.specs.Effects as effects;
+ghost use Rattle.arena_script.specs.Things.{AreThings, IsThingIn, object_in};
+ghost use Rattle.arena_script.specs.Acts.{Acts};
+
+use crate::act::Act;
+use crate::thing::Thing;
+use crate::{bits, lists, maps, texts, values};
+use arena_chunks::{Allocator, ChunkSource};
+use arena_items::{AllocError, Grown};
+use arena_text::laws::length_rule;
+use script_rules::{Command, Names, ScriptReply};
+use std::alloc::Global;
+
+pub(crate) fn drop_name<C: ChunkSource>(_a: &Allocator<C>, things: &Names<Thing>, name: u32) -> Act
+    ensures { Acts (Command.DropName name) things.now _a.now _a.now (Ok result) }
+{
+    match things.get(name) {
+        None => Act::Tells(ScriptReply::NoSuchName),
+        Some(_) => Act::LetsGo(name),
+    }
+}
+
+pub(crate) fn len<C: ChunkSource>(_a: &Allocator<C>, things: &Names<Thing>, name: u32) -> Act
+    requires { AreThings _a.now.memory things.now }
+    ensures { Acts (Command.Len name) things.now _a.now _a.now (Ok result) }
+{
+    length_rule();
+    match things.get(name) {
+        None => Act::Tells(ScriptReply::NoSuchName),
+        Some(Thing::List(list)) => Act::Tells(ScriptReply::Number(list.len() as u64)),
+        Some(Thing::Text(text)) => Act::Tells(ScriptReply::Number(text.len())),
+        Some(Thing::Bits(set)) => Act::Tells(ScriptReply::Number(set.capacity())),
+        Some(Thing::Map(map)) => Act::Tells(ScriptReply::Number(map.len() as u64)),
+        Some(Thing::Value(_)) => Act::Tells(ScriptReply::WrongKind),
+    }
+}
+
+// All that a thing holds.
+fn shown<C: ChunkSource>(alloc: Global, a: &Allocator<C>, thing: Thing) -> Grown<ScriptReply>
+    requires { IsThingIn a.now.memory thing }
+    ensures told { IfOk result (λ reply. reply ≡ effects.shown (object_in a.now.memory thing)) }
+    ensures wanting { IfErr result (λ e. e ≡ AllocError.OutOfMemory) }
+{
+    match thing {
+        Thing::List(list) => match lists::numbers_of(alloc, a, list) {
+            Ok(numbers) => Ok(ScriptReply::Numbers(numbers)),
+            Err(e) => Err(e),
+        },
+        Thing::Text(text) => match texts::bytes_of(alloc, a, text) {
+            Ok(bytes) => Ok(ScriptReply::Bytes(bytes)),
+            Err(e) => Err(e),
+        },
+        Thing::Bits(set) => match bits::printed_of(alloc, a, set) {
+            Ok(text) => Ok(ScriptReply::Printed(text)),
+            Err(e) => Err(e),
+        },
+        Thing::Map(map) => match maps::numbers_of(alloc, a, map) {
+            Ok(numbers) => Ok(ScriptReply::Numbers(numbers)),
+            Err(e) => Err(e),
+        },
+        Thing::Value(value) => Ok(ScriptReply::Number(value.get(a))),
+    }
+}
+
+pub(crate) fn show<C: ChunkSource>(
+    alloc: Global,
+    a: &Allocator<C>,
+    things: &Names<Thing>,
+    name: u32,
+) -> Grown<Act>
+    requires { AreThings a.now.memory things.now }
+    ensures { Acts (Command.Show name) things.now a.now a.now result }
+{
+    let Some(thing) = things.get(name) else {
+        return Ok(Act::Tells(ScriptReply::NoSuchName));
+    };
+    match shown(alloc, a, thing) {
+        Ok(reply) => Ok(Act::Tells(reply)),
+        Err(e) => Err(e),
+    }
+}
+
+/// Makes an equal object under another name.
+pub(crate) fn copy<C: ChunkSource>(
+    a: &mut Allocator<C>,
+    things: &Names<Thing>,
+    name: u32,
+    other: u32,
+) -> Grown<Act>
+    requires { AreThings a.old.memory things.now }
+    ensures { Acts (Command.CopyTo name other) things.now a.old a.new result }
+{
+    let Some(thing) = things.get(name) else {
+        return Ok(Act::Tells(ScriptReply::NoSuchName));
+    };
+    if things.get(other).is_some() {
+        return Ok(Act::Tells(ScriptReply::NameTaken));
+    }
+    match thing {
+        Thing::Value(value) => values::copied(a, things, name, other, value),
+        Thing::List(list) => lists::copied(a, things, name, other, list),
+        Thing::Text(text) => texts::copied(a, things, name, other, text),
+        Thing::Bits(set) => bits::copied(a, things, name, other, set),
+        Thing::Map(map) => maps::copied(a, things, name, other, map),
+    }
+}

@@ -1,2 +1,0 @@
-mod BranchLemmas
-mod BesideLemmas

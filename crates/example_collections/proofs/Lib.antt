@@ -1,0 +1,9 @@
+mod SortingLemmas
+mod TakingLemmas
+mod PushingLemmas
+mod NumberLemmas
+mod PlacingLemmas
+mod BranchLemmas
+mod BesideLemmas
+mod ByteLemmas
+mod FillingLemmas

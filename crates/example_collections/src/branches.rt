@@ -1,0 +1,52 @@
+// A tree of one's own, which is copied part by part.
+ghost use Rattle.arena_clone.specs.Kinds.{vec_of};
+ghost use Rattle.example_collections.specs.Branches.{branch_of};
+ghost use Rattle.example_collections.specs.BranchLaws.{branch_lawful};
+
+use arena_chunks::{Allocator, ChunkSource, Str};
+use arena_clone::{CloneIn, CloneInSemanticIds, Grown, SemanticId};
+use arena_items::Item;
+use arena_vec::Vec;
+
+/// A branch of a tree: its name, the number by which an analysis knows it, and its leaves.
+#[derive(Clone, Copy)]
+pub struct Branch<L> {
+    pub name: Str,
+    pub id: SemanticId,
+    pub leaves: Vec<L>,
+}
+
+impl<L: CloneIn + Item> CloneIn for Branch<L> {
+    ghost kind = { branch_of (vec_of L.Item L.kind) };
+
+    ghost lawful = { branch_lawful
+        (record { is_value = L.is_value; encoded = L.encoded; decoded = L.decoded; SIZE = L.SIZE; ALIGN = L.ALIGN })
+        L.kind L.lawful };
+
+    fn is_flat(_ids: CloneInSemanticIds) -> bool {
+        false
+    }
+
+    fn clone_in_impl<C: ChunkSource, D: ChunkSource>(
+        &self,
+        ids: CloneInSemanticIds,
+        from: &Allocator<C>,
+        to: &mut Allocator<D>,
+    ) -> Grown<Self> {
+        let name = self.name.clone_in_impl(ids, from, to)?;
+        let id = self.id.clone_in_impl(ids, from, to)?;
+        let leaves = self.leaves.clone_in_impl(ids, from, to)?;
+        Ok(Branch { name, id, leaves })
+    }
+
+    fn clone_within<C: ChunkSource>(
+        &self,
+        ids: CloneInSemanticIds,
+        a: &mut Allocator<C>,
+    ) -> Grown<Self> {
+        let name = self.name.clone_within(ids, a)?;
+        let id = self.id.clone_within(ids, a)?;
+        let leaves = self.leaves.clone_within(ids, a)?;
+        Ok(Branch { name, id, leaves })
+    }
+}

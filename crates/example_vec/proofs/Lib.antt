@@ -1,3 +1,0 @@
-mod SortingLemmas
-mod TakingLemmas
-mod PushingLemmas

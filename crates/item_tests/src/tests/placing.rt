@@ -1,0 +1,206 @@
+// Tables of calls that place values, each with what it must answer.
+use super::calls::{Call, Row, Wanted, asked, place, takes};
+use super::{ample, layout, refusing, same};
+use arena_chunks::{Allocator, MemoryChunks};
+use arena_items::{ArenaItems, ItemErr};
+use std::test::Fail;
+
+const SEVEN: &[u8] = &[7, 0, 0, 0];
+
+const ONE_TO_THREE: &[u8] = &[1, 0, 0, 0, 2, 0, 0, 0, 3, 0, 0, 0];
+
+const SEVENS: &[u8] = b"\x07\0\0\0\0\0\0\0\x07\0\0\0\0\0\0\0";
+
+const DOUBLES: &[u8] = b"\0\0\0\0\0\0\0\0\x02\0\0\0\0\0\0\0\x04\0\0\0\0\0\0\0";
+
+const NUMBERS: &[u8] = b"\x01\0\0\0\0\0\0\0\x02\0\0\0\0\0\0\0\x03\0\0\0\0\0\0\0";
+
+// Each on a new allocator.
+const ROWS: &[Row] = &[
+    ("alloc", Call::Alloc, Wanted::Placed(20412, SEVEN, 0)),
+    ("try_alloc", Call::TryAlloc, Wanted::Placed(20412, SEVEN, 0)),
+    ("new_in", Call::NewIn, Wanted::Placed(20412, SEVEN, 0)),
+    (
+        "alloc_with",
+        Call::AllocWith,
+        Wanted::Placed(20412, SEVEN, 1),
+    ),
+    (
+        "try_alloc_with",
+        Call::TryAllocWith,
+        Wanted::Placed(20412, SEVEN, 1),
+    ),
+    (
+        "copy",
+        Call::SliceCopy,
+        Wanted::Placed(20404, ONE_TO_THREE, 0),
+    ),
+    (
+        "clone",
+        Call::SliceClone,
+        Wanted::Placed(20404, ONE_TO_THREE, 0),
+    ),
+    (
+        "fill_copy",
+        Call::FillCopy(2),
+        Wanted::Placed(20400, SEVENS, 0),
+    ),
+    (
+        "fill_clone",
+        Call::FillClone(2),
+        Wanted::Placed(20400, SEVENS, 0),
+    ),
+    (
+        "fill_default",
+        Call::FillDefault(2),
+        Wanted::Placed(20400, &[0; 16], 0),
+    ),
+    (
+        "fill_with",
+        Call::FillWith(3),
+        Wanted::Placed(20392, DOUBLES, 123),
+    ),
+    (
+        "fill_iter",
+        Call::FillIter(3, 3),
+        Wanted::Placed(20392, NUMBERS, 123),
+    ),
+    (
+        "more than it tells",
+        Call::FillIter(3, 4),
+        Wanted::Placed(20392, NUMBERS, 123),
+    ),
+    ("one too few", Call::FillIter(3, 2), Wanted::TooFew(2, 12)),
+    ("none of one", Call::FillIter(1, 0), Wanted::TooFew(0, 0)),
+];
+
+// So many values have no layout, or are more than any chunk holds.
+const TOO_MANY: &[Row] = &[
+    ("fill_copy", Call::FillCopy(1 << 61), Wanted::Refused(0)),
+    ("fill_clone", Call::FillClone(1 << 61), Wanted::Refused(0)),
+    (
+        "fill_default",
+        Call::FillDefault(1 << 60),
+        Wanted::Refused(0),
+    ),
+    ("fill_with", Call::FillWith(1 << 61), Wanted::Refused(0)),
+    ("all numbers", Call::FillWith(u64::MAX), Wanted::Refused(0)),
+    (
+        "the most with a layout",
+        Call::FillWith((1 << 60) - 1),
+        Wanted::Refused(0),
+    ),
+    ("fill_iter", Call::FillIter(1 << 61, 5), Wanted::Refused(0)),
+    (
+        "the most with a layout",
+        Call::FillIter((1 << 60) - 1, 5),
+        Wanted::Refused(0),
+    ),
+];
+
+// No values, on an allocator without a chunk.
+const NONE: &[Row] = &[
+    ("fill_copy", Call::FillCopy(0), Wanted::Placed(16, &[], 0)),
+    ("fill_clone", Call::FillClone(0), Wanted::Placed(16, &[], 0)),
+    (
+        "fill_default",
+        Call::FillDefault(0),
+        Wanted::Placed(16, &[], 0),
+    ),
+    ("fill_with", Call::FillWith(0), Wanted::Placed(16, &[], 0)),
+    (
+        "fill_iter",
+        Call::FillIter(0, 5),
+        Wanted::Placed(16, &[], 0),
+    ),
+];
+
+// Calls in a row, on an arena of 16 bytes that doesn't grow.
+const SIXTEEN: &[Row] = &[
+    (
+        "three of 4",
+        Call::SliceCopy,
+        Wanted::Placed(4100, ONE_TO_THREE, 0),
+    ),
+    ("two of 8", Call::FillCopy(2), Wanted::Refused(0)),
+    ("one of 8", Call::FillWith(1), Wanted::Refused(0)),
+    ("one of 4", Call::AllocWith, Wanted::Placed(4096, SEVEN, 1)),
+    ("another", Call::AllocWith, Wanted::Refused(0)),
+    ("none", Call::FillWith(0), Wanted::Placed(4096, &[], 0)),
+];
+
+// Each call also in an allocator that was reset, whose free bytes are no zeros.
+#[test]
+fn ample_memory(rt: HostRuntime) {
+    for row in ROWS {
+        let mut a = ample(rt.alloc());
+        takes(&rt, &mut a, *row);
+        let block = a.alloc_layout(layout(&rt, 64, 1)).expect(&rt, "a block");
+        a.write(block, 0, &[9; 64]);
+        a.reset();
+        takes(&rt, &mut a, *row);
+    }
+    for row in NONE {
+        takes(&rt, &mut ample(rt.alloc()), *row);
+    }
+}
+
+#[test]
+fn a_fixed_arena(rt: HostRuntime) -> Result<(), Fail> {
+    let region = vec![in rt.alloc(); 0; 64]?;
+    let chunks = MemoryChunks::new(rt.alloc(), 1 << 20);
+    let Ok(mut a) = Allocator::from_raw_parts(rt.alloc(), region, chunks) else {
+        return Err(Fail::from("an allocator"));
+    };
+    for row in SIXTEEN {
+        takes(&rt, &mut a, *row);
+    }
+    for row in ROWS {
+        takes(&rt, &mut a, (row.0, row.1, Wanted::Refused(0)));
+    }
+    for row in TOO_MANY {
+        takes(&rt, &mut a, *row);
+    }
+    Ok(())
+}
+
+#[test]
+fn refused_requests(rt: HostRuntime) -> Result<(), Fail> {
+    for row in ROWS {
+        let mut a = Allocator::new(rt.alloc(), refusing(rt.alloc(), &[1])?);
+        takes(&rt, &mut a, (row.0, row.1, Wanted::Refused(1)));
+        takes(&rt, &mut a, *row);
+        asked(&rt, a, row.0, &[(16320, 16), (16320, 16)]);
+    }
+    // Beside a full chunk, twice its size is tried and then the least.
+    for row in ROWS {
+        let mut a = Allocator::new(rt.alloc(), refusing(rt.alloc(), &[2, 3])?);
+        let all = a.alloc_layout(layout(&rt, 16320, 1)).expect(&rt, "a block");
+        assert_eq!(rt; all.addr, 4096);
+        takes(&rt, &mut a, (row.0, row.1, Wanted::Refused(2)));
+        asked(&rt, a, row.0, &[(16320, 16), (32704, 16), (16320, 16)]);
+    }
+    for row in TOO_MANY {
+        let mut a = Allocator::new(rt.alloc(), refusing(rt.alloc(), &[])?);
+        takes(&rt, &mut a, *row);
+        asked(&rt, a, row.0, &[]);
+    }
+    Ok(())
+}
+
+// The padding below the block stays used, and so does a new chunk.
+#[test]
+fn too_few_values(rt: HostRuntime) {
+    let mut a = ample(rt.alloc());
+    takes(
+        &rt,
+        &mut a,
+        ("no chunk yet", Call::FillIter(3, 2), Wanted::TooFew(2, 12)),
+    );
+    same(&rt, (a.used_bytes(), a.capacity()), (0, 16320));
+    let one = a.alloc(1u8).expect(&rt, "a box");
+    let mut asked = 0;
+    let answer = place(&mut a, Call::FillIter(3, 1), &mut asked);
+    same(&rt, answer, Err(ItemErr::TooFew { taken: 1 }));
+    same(&rt, (one.block.addr, asked, a.used_bytes()), (20415, 1, 8));
+}

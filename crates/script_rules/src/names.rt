@@ -1,0 +1,73 @@
+// What names hold.
+ghost use Rattle.std.specs.Prelude.{◌≡◌, ◌^◌, ◌<◌, [], OnOk, OnErr, IsSome, IsOk};
+ghost use Rattle.script_rules.specs.Objects.{get, bind, unbind};
+
+use placement::OutOfMemory;
+use std::alloc::Global;
+use std::collections::HashMap;
+use std::marker::Model;
+
+/// A table of what names hold, which contracts see as its entries by rising names. It is a hash table of the standard
+/// library on the host's memory, whose hash has one fixed seed: each call takes time that doesn't grow with the names,
+/// but for names that were chosen so that their hashes meet.
+#[derive(Drop)]
+pub struct Names<V> {
+    values: HashMap<u32, V>,
+}
+
+impl<V> Model for Names<V> {
+    ghost use Rattle.std.specs.Ordering.{nat_cmp};
+    ghost use Rattle.std.specs.FinMap as map;
+    ghost use Rattle.std.specs.Coded.{coded_ℕ, coded_list, coded×};
+    ghost use Rattle.script_rules.specs.Objects.{Entries};
+
+    ghost Value = { Entries V };
+
+    ghost coded = { coded_list (coded× coded_ℕ V.code) };
+
+    ghost view = { λ n. map.entries (map.from_entries {R = nat_cmp} n.values.entries) };
+}
+
+impl<V: Drop> Names<V> {
+    /// No names. Takes no memory.
+    pub fn new(alloc: Global) -> Names<V>
+        ensures { result ≡ [] }
+    {
+        Names {
+            values: HashMap::new(alloc),
+        }
+    }
+
+    /// The name holds this value, in the place of what it held. A name that held one takes no memory.
+    ///
+    /// # Errors
+    ///
+    /// Memory is wanting. The names hold what they held.
+    pub fn insert(&mut self, name: u32, value: V) -> Result<(), OutOfMemory>
+        ensures ok { OnOk result (self.new ≡ bind self.old name value) }
+        ensures err { OnErr result (self.new ≡ self.old) }
+        ensures held { IsSome (get self.old name) → IsOk result }
+        ensures range { name < 2 ^ 32 }
+    {
+        let Ok(_) = self.values.insert(name, value) else {
+            return Err(OutOfMemory);
+        };
+        Ok(())
+    }
+
+    /// The name holds nothing. Takes no memory.
+    pub fn remove(&mut self, name: u32)
+        ensures { self.new ≡ unbind self.old name }
+    {
+        self.values.remove(&name);
+    }
+}
+
+impl<V: Copy> Names<V> {
+    /// What the name holds, if it holds something.
+    pub fn get(&self, name: u32) -> Option<V>
+        ensures { result ≡ get self.now name }
+    {
+        self.values.get(&name).copied()
+    }
+}
