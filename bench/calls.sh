@@ -8,9 +8,8 @@
 # to them from the newest on; with PROFILE=stay these blocks are empty, so that they stay. The Rust crate has no such calls, so
 # NATIVE isn't run then.
 set -euo pipefail
-export LC_ALL=C
 here=$(dirname "$(readlink -f "$0")")
-[ -x /usr/bin/time ] || { echo "peak memory is measured with GNU time, /usr/bin/time" >&2; exit 1; }
+. "$here/measure.sh"
 program=$("$here/program.sh" arena_run --version)
 seed=${1:-1}
 [ $# -eq 0 ] || shift
@@ -56,52 +55,10 @@ stay() { tries "$1" 0; }
 profile=${PROFILE:-mix}
 [ "$profile" = mix ] || NATIVE=
 
-# weigh WHO COMMAND..: notes the peak memory in KiB, and the sum of the text.
-weigh() {
-    /usr/bin/time -f %M -o "$folder/$1.memory" "${@:2}" < "$input" | cksum > "$folder/$1.text"
-    : > "$folder/$1.times"
-}
-
-# clock WHO COMMAND..: notes the wall time in microseconds.
-clock() {
-    local began=$EPOCHREALTIME
-    "${@:2}" < "$input" > /dev/null
-    local ended=$EPOCHREALTIME
-    echo $((${ended/./} - ${began/./})) >> "$folder/$1.times"
-}
-
-# tell WHO..: prints a line of the table, of these programs.
-tell() {
-    {
-        echo "$lines"
-        for who; do
-            sort -n "$folder/$who.times" | head -n 1
-            tail -n 1 "$folder/$who.memory"
-        done
-    } | paste -sd ' ' | awk '
-        function ratio(a, b) { return sprintf("%7.2f", b > 0 ? a / b : 0) }
-        NF == 3 { printf "%9d %10.2f %10.0f %28.1f\n", $1, $2 / 1000, $2 * 1000 / $1, $3 / 1024 }
-        NF == 5 {
-            printf "%9d %10.2f %10.0f %10.2f %s", $1, $2 / 1000, $2 * 1000 / $1, $4 / 1000, ratio($2, $4)
-            printf " %10.1f %10.1f %s\n", $3 / 1024, $5 / 1024, ratio($3, $5)
-        }'
-}
-
-printf '%9s %10s %10s %10s %7s %10s %10s %7s\n' lines 'here, ms' 'ns a line' 'Rust, ms' ratio 'here, MiB' 'Rust, MiB' ratio
+head_of line
 for lines; do
     "$profile" "$lines" > "$input"
     size=$(stat -c %s "$input")
     [ "$size" -le 16777216 ] || { echo "the input has $size bytes, past the limit" >&2; exit 1; }
-    weigh here "$program" calls
-    [ -z "${NATIVE:-}" ] || weigh Rust "$NATIVE" calls
-    for _ in $(seq "${ROUNDS:-5}"); do
-        clock here "$program" calls
-        [ -z "${NATIVE:-}" ] || clock Rust "$NATIVE" calls
-    done
-    if [ -n "${NATIVE:-}" ]; then
-        tell here Rust
-        cmp "$folder/here.text" "$folder/Rust.text" || { echo "the texts differ" >&2; exit 1; }
-    else
-        tell here
-    fi
+    measure "$lines" calls
 done

@@ -1,0 +1,57 @@
+# What the scripts share that time a whole program beside the driver over the Rust crate whose program is in NATIVE, if set. They
+# set `program`, a scratch `folder`, and `input`, the file that both read.
+export LC_ALL=C
+[ -x /usr/bin/time ] || { echo "peak memory is measured with GNU time, /usr/bin/time" >&2; exit 1; }
+
+# weigh WHO COMMAND..: notes the peak memory in KiB, and the sum of the text.
+weigh() {
+    /usr/bin/time -f %M -o "$folder/$1.memory" "${@:2}" < "$input" 2> /dev/null | cksum > "$folder/$1.text"
+    : > "$folder/$1.times"
+}
+
+# clock WHO COMMAND..: notes the wall time in microseconds.
+clock() {
+    local began=$EPOCHREALTIME
+    "${@:2}" < "$input" > /dev/null 2>&1
+    local ended=$EPOCHREALTIME
+    echo $((${ended/./} - ${began/./})) >> "$folder/$1.times"
+}
+
+# tell COUNT WHO..: prints a line of the table, of these programs.
+tell() {
+    {
+        echo "$1"
+        for who in "${@:2}"; do
+            sort -n "$folder/$who.times" | head -n 1
+            tail -n 1 "$folder/$who.memory"
+        done
+    } | paste -sd ' ' | awk '
+        function ratio(a, b) { return sprintf("%7.2f", b > 0 ? a / b : 0) }
+        NF == 3 { printf "%9d %10.2f %10.0f %28.1f\n", $1, $2 / 1000, $2 * 1000 / ($1 + !$1), $3 / 1024 }
+        NF == 5 {
+            printf "%9d %10.2f %10.0f %10.2f %s", $1, $2 / 1000, $2 * 1000 / ($1 + !$1), $4 / 1000, ratio($2, $4)
+            printf " %10.1f %10.1f %s\n", $3 / 1024, $5 / 1024, ratio($3, $5)
+        }'
+}
+
+# head_of UNIT: prints the head of the table.
+head_of() {
+    printf '%9s %10s %10s %10s %7s %10s %10s %7s\n' "${1}s" 'here, ms' "ns a $1" 'Rust, ms' ratio 'here, MiB' 'Rust, MiB' ratio
+}
+
+# measure COUNT WORD..: runs the programs with these words, ROUNDS times by turns (5 if not set), and prints their line. Both must
+# print the same text.
+measure() {
+    weigh here "$program" "${@:2}"
+    [ -z "${NATIVE:-}" ] || weigh Rust "$NATIVE" "${@:2}"
+    for _ in $(seq "${ROUNDS:-5}"); do
+        clock here "$program" "${@:2}"
+        [ -z "${NATIVE:-}" ] || clock Rust "$NATIVE" "${@:2}"
+    done
+    if [ -n "${NATIVE:-}" ]; then
+        tell "$1" here Rust
+        cmp "$folder/here.text" "$folder/Rust.text" || { echo "the texts differ" >&2; exit 1; }
+    else
+        tell "$1" here
+    fi
+}
