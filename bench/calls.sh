@@ -10,7 +10,7 @@
 set -euo pipefail
 here=$(dirname "$(readlink -f "$0")")
 . "$here/measure.sh"
-program=$("$here/program.sh" arena_run --version)
+program=$("$here/../tools/program.sh" arena_run --version)
 seed=${1:-1}
 [ $# -eq 0 ] || shift
 [ $# -gt 0 ] || set -- 1000000

@@ -6,7 +6,7 @@
 set -euo pipefail
 here=$(dirname "$(readlink -f "$0")")
 . "$here/measure.sh"
-program=$("$here/program.sh" arena_run --version)
+program=$("$here/../tools/program.sh" arena_run --version)
 [ $# -gt 0 ] || set -- 1000000
 folder=$(mktemp -d)
 trap 'rm -rf "$folder"' EXIT

@@ -7,7 +7,7 @@
 # calls alone: both programs must print the same.
 set -euo pipefail
 here=$(dirname "$(readlink -f "$0")")
-program=$("$here/program.sh" bench_arena check)
+program=$("$here/../tools/program.sh" bench_arena check)
 lines=$(mktemp)
 trap 'rm -f "$lines"' EXIT
 

@@ -5,8 +5,7 @@ set -u
 here=$(dirname "$(readlink -f "$0")")
 work=$(mktemp -d)
 trap 'rm -rf "$work"' EXIT
-"$here/../arena_run" --version > /dev/null || exit 1
-program=$here/../crates/arena_run/out/arena_run
+program=$("$here/../tools/program.sh" arena_run --version) || exit 1
 failed=0
 
 # The line that README.md has for this status, with a number in the place of N. A bar is behind a stroke in a table.
@@ -50,15 +49,29 @@ ends "0, 16,777,216 bytes" 0 $none
 run gen 0 1 < "$work"
 printf '%s\n' 'calls 1' 'placed 0' 'failed 0' 'other 1' 'bytes 0' 'sum 0' 'used 0' 'allocated 0' > "$work/one"
 ends "0, gen, which doesn't read its input" 0 "$work/one"
+for words in "scripts 1" "scripts 64" "scripts 2 fixed 144 1" "scripts 2 keep 0"; do
+    # shellcheck disable=SC2086
+    run $words < "$here/scripts/first.txt"
+    ends "0, $words" 0 "$here/scripts/first.replies"
+done
+run scripts 7 < /dev/null
+ends "0, no scripts" 0 $none
+run scripts 7 < "$work/longest"
+ends "0, scripts, 16,777,216 bytes" 0 $none
 run --version
 echo "arena_run 0.1.0" > "$work/text"
 ends "0, --version" 0 "$work/text"
 run --help
 cat > "$work/text" <<'T'
-Runs calls on a bump arena, and prints their replies.
+Runs calls on a bump arena, or scripts on arenas of a pool, and prints their replies.
 
 usage: arena_run calls              reads a call from each line of standard input
        arena_run gen START COUNT    makes so many calls from a number, and prints a summary
+       arena_run scripts WORKERS    reads scripts, and runs them on 1 to 64 threads
+       arena_run scripts WORKERS fixed BYTES ARENAS
+                                    each on one of so many arenas over so many bytes
+       arena_run scripts WORKERS keep BYTES
+                                    keeps of the arenas those of at most so many bytes
        arena_run --help             prints this text
        arena_run --version          prints the version
 
@@ -73,12 +86,23 @@ calls: alloc NAME SIZE ALIGN FILL
        reset
        used
        allocated
+
+a script: script, and then its commands
+       list N, text N, bits N CAPACITY, map N, value N X          make an object
+       push N V, insert N I V, pop N, remove N I, at N I, put N I V, truncate N LEN
+       byte N B, front N B, append N HEX
+       set N B, unset N B, has N B, union N M, ones N
+       bind N KEY V, find N KEY, unbind N KEY
+       load N, store N X
+       len N, show N, copy N M, drop N
 T
 ends "0, --help" 0 "$work/text"
 
 # 1: the words are no command.
 for words in "" "call" "calls calls" "calls --help" "--help calls" "--helps" "gen" "gen 1" "gen 1 1 1" "gen 01 1" "gen 1 01" \
-    "gen 1 1000001" "gen 18446744073709551616 1"; do
+    "gen 1 1000001" "gen 18446744073709551616 1" "scripts" "scripts 0" "scripts 65" "scripts 01" "scripts 1 1" "scripts 1 fixed 48" \
+    "scripts 1 fixed 32 1" "scripts 1 fixed 56 1" "scripts 1 fixed 16777232 1" "scripts 1 fixed 48 0" "scripts 1 fixed 48 65" \
+    "scripts 1 keep" "scripts 1 keep 18446744073709551616" "scripts 1 keep 0 0"; do
     # shellcheck disable=SC2086
     run $words < "$first"
     ends "1, words '$words'" 1 $none
@@ -88,7 +112,7 @@ run $'\377'
 ends "1, a word that is no text" 1 $none
 status=0
 "$program" call > "$work/out" 2> /dev/full || status=$?
-echo "usage: arena_run calls | gen START COUNT" > "$work/err"
+line_for 1 > "$work/err"
 ends "1, the line can't be written" 1 $none
 
 # 2: a line is no call, and nothing was run or written.
@@ -96,18 +120,27 @@ printf 'used\n\nread 1\nRead 1\nread\n' > "$work/input"
 run calls < "$work/input"
 ends "2, line 4" 2 $none 4
 
+printf 'script\npop 1\n\npops 1\n' > "$work/input"
+run scripts 2 < "$work/input"
+ends "2, scripts, line 4" 2 $none 4
+printf '\npop 1\nscript\n' > "$work/input"
+run scripts 2 < "$work/input"
+ends "2, a command before the first script, line 2" 2 $none 2
+
 # 3: memory is wanting. With 16 MiB of memory in all, 16 MiB of input can't be kept.
 status=0
 (ulimit -v 16384; exec "$program" calls < "$work/longest" > "$work/out" 2> "$work/err") || status=$?
 ends "3, 16 MiB in all" 3 $none
 
 status=0
-(ulimit -v 16384; exec "$program" gen 1 1000000 > "$work/out" 2> "$work/err") || status=$?
-ends "3, gen, 16 MiB in all" 3 $none
+(ulimit -v 16384; exec "$program" scripts 1 < "$work/longest" > "$work/out" 2> "$work/err") || status=$?
+ends "3, scripts, 16 MiB in all" 3 $none
 
 # 4: reading fails.
 run calls < "$work"
 ends "4, the input is a folder" 4 $none
+run scripts 2 < "$work"
+ends "4, scripts, the input is a folder" 4 $none
 
 # 5: writing fails.
 status=0
@@ -121,6 +154,10 @@ status=0
 "$program" --help > /dev/full 2> "$work/err" || status=$?
 ends "5, the output for --help is full" 5 $none
 
+status=0
+"$program" scripts 2 < "$here/scripts/first.txt" > /dev/full 2> "$work/err" || status=$?
+ends "5, the output for scripts is full" 5 $none
+
 # 5: writing fails after a first part. The file may have 1,024 bytes.
 for _ in $(seq 1000); do echo used; done > "$work/input"
 for _ in $(seq 1000); do echo "number 0"; done | head -c 1024 > "$work/text"
@@ -132,5 +169,7 @@ ends "5, a first part was written" 5 "$work/text"
 echo >> "$work/longest"
 run calls < "$work/longest"
 ends "6, 16,777,217 bytes" 6 $none
+run scripts 2 < "$work/longest"
+ends "6, scripts, 16,777,217 bytes" 6 $none
 
 exit $failed

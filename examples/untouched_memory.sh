@@ -6,8 +6,7 @@ here=$(dirname "$(readlink -f "$0")")
 work=$(mktemp -d)
 trap 'rm -rf "$work"' EXIT
 [ -x /usr/bin/time ] || { echo "peak memory is measured with GNU time, /usr/bin/time" >&2; exit 1; }
-"$here/../arena_run" --version > /dev/null
-program=$here/../crates/arena_run/out/arena_run
+program=$("$here/../tools/program.sh" arena_run --version)
 
 printf 'alloc 0 1 536870912 7\nread 0\nallocated\n' > "$work/calls"
 /usr/bin/time -f %M -o "$work/peak" "$program" calls < "$work/calls" > "$work/replies"

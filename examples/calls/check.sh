@@ -2,10 +2,11 @@
 # Runs the program on each example and compares the replies.
 set -u
 here=$(dirname "$(readlink -f "$0")")
+program=$("$here/../../tools/program.sh" arena_run --version) || exit 1
 failed=0
 for input in "$here"/*.txt; do
     name=$(basename "$input" .txt)
-    if "$here/../../arena_run" calls <"$input" | cmp -s - "$here/$name.replies"; then
+    if "$program" calls <"$input" | cmp -s - "$here/$name.replies"; then
         echo "ok   $name"
     else
         echo "FAIL $name"

@@ -5,7 +5,8 @@ use Rattle.std.proofs.lemmas.Option.{some_pair_parts}
 use Rattle.placement.specs.Grammar.{call_line}
 use Rattle.placement.specs.declared.calls.Call.{Call}
 use Rattle.placement.specs.declared.calls.Call.TheVariants.{Alloc, Grow}
-use Rattle.arena_calls.specs.Lines.{is_word_end, ReadsFront, Placing, FitsPlacing, placing_fields, BeginsWith}
+use Rattle.line_parts.specs.Reads.{is_word_end, ReadsFront}
+use Rattle.arena_calls.specs.Lines.{Placing, FitsPlacing, placing_fields, BeginsWith}
 
 -- the calls are this word's, one for each placing
 record IsKind (Is : Call → Type 0) (word : List ℕ) (make : Placing → Call) : Type 0 where

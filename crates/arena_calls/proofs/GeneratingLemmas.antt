@@ -1,6 +1,8 @@
 -- Calls from a number, one after another, and what their replies come to.
-use Rattle.std.proofs.Common.{◌≡◌, ℕ, ◌+◌, List, [], ◌∷◌, ◌++◌, refl, sym, ap, ◌∙◌, subst, arith, add-one}
-use Rattle.std.proofs.lemmas.List.FromFn.{map-range_with_len_more}
+use Rattle.std.proofs.Common.{◌≡◌, ℕ, ◌+◌, ◌<◌, ◌≤◌, List, [], ◌∷◌, ◌++◌, Some, take, refl, sym, ap, ◌∙◌, subst, arith, add-one}
+use Rattle.std.specs.Prelude.{slice_get}
+use Rattle.std.proofs.lemmas.Option.{slice_get_read}
+use Rattle.std.proofs.lemmas.List.FromFn.{length-map-range_with_len, get_or-map-range_with_len, take-map-range_with_len, map-range_with_len_more}
 use Rattle.placement.specs.State.{State, used_bytes, allocated_bytes}
 use Rattle.placement.specs.Generator.{call_at, seed_before, seed_behind, gen_calls}
 use Rattle.placement.specs.Summary.{Summary as Eight, summary_of, summary_text}
@@ -17,12 +19,21 @@ pub seed_more : (start i seed new : ℕ) → seed ≡ seed_before start i → ne
 unfolding seed_before
 seed_more start i seed new same is = subst (λ k. new ≡ seed_before start k) (sym (add-one i)) (is ∙ ap (seed_behind i) same)
 
-pub calls_more : (start i seed : ℕ) (old new : List Call) (call : Call) → old ≡ gen_calls start i → seed ≡ seed_before start i
-    → call ≡ call_at i seed → new ≡ old ++ call ∷ []
-    → new ≡ gen_calls start (i + 1)
-calls_more start i seed old new call so_far same is all =
-    all ∙ ap (λ xs. xs ++ call ∷ []) so_far ∙ ap (λ x. gen_calls start i ++ x ∷ []) (is ∙ ap (call_at i) same)
-    ∙ sym (map-range_with_len_more (λ j. call_at j (seed_before start j)) 0 i i (omega arith))
+pub calls_more : (start i seed : ℕ) (call : Call) → seed ≡ seed_before start i → call ≡ call_at i seed
+    → gen_calls start (i + 1) ≡ gen_calls start i ++ call ∷ []
+calls_more start i seed call same is =
+    map-range_with_len_more (λ j. call_at j (seed_before start j)) 0 i i (omega arith)
+    ∙ ap (λ x. gen_calls start i ++ x ∷ []) (sym (is ∙ ap (call_at i) same))
+
+pub calls_first : (start count i : ℕ) → i ≤ count → gen_calls start i ≡ take i (gen_calls start count)
+calls_first start count i within = sym (take-map-range_with_len (λ j. call_at j (seed_before start j)) 0 count i within)
+
+pub call_next : (start count i seed : ℕ) (call : Call) → i < count → seed ≡ seed_before start i → call ≡ call_at i seed
+    → slice_get (gen_calls start count) i ≡ Some call
+call_next start count i seed call within same is =
+    let call_of : ℕ → Call = λ j. call_at j (seed_before start j) in
+    slice_get_read (gen_calls start count) count i call (sym (length-map-range_with_len call_of 0 count)) within
+    (is ∙ ap (call_at i) same ∙ sym (get_or-map-range_with_len call_of 0 count i i call within (omega arith)))
 
 -- what was counted, and the bytes of the chunks
 abbrev counted : Tally → ℕ → ℕ → Eight

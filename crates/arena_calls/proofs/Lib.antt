@@ -1,11 +1,8 @@
 pub mod StreamLemmas
-pub mod ReadingLemmas
-pub mod HexLemmas
 pub mod CallLemmas
 pub mod LineLemmas
 pub mod ReplyLemmas
 pub mod WordLemmas
 pub mod StatusLemmas
 pub mod RunLemmas
-pub mod ProgramLemmas
 pub mod GeneratingLemmas

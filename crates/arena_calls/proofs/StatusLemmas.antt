@@ -10,14 +10,14 @@ use Rattle.arena_calls.specs.ReadAll.{limit, TakesFront, TakesWhole}
 use Rattle.arena_calls.specs.declared.status.Status.{Status}
 use Rattle.arena_calls.specs.declared.status.Status.TheVariants.{Done, Usage, BadLine, OutOfMemory, ReadFault, WriteFault, InputTooLong}
 
-same_bytes : (old new : Outside) (read bytes : List ℕ) → ReadsWhole old new read → old.left ≡ Some bytes → read ≡ bytes
+pub same_bytes : (old new : Outside) (read bytes : List ℕ) → ReadsWhole old new read → old.left ≡ Some bytes → read ≡ bytes
 same_bytes old new read bytes whole is = at old.left whole.told is
   where
     at : (left : Option (List ℕ)) → TakesWhole left new.left read → left ≡ Some bytes → read ≡ bytes
     at None h e = cc
     at (Some all) h e = let same = h.0 in cc
 
-too_many : (old left : Option (List ℕ)) (bytes : List ℕ) → TakesFront old left (λ n. n ≡ limit + 1) → old ≡ Some bytes
+pub too_many : (old left : Option (List ℕ)) (bytes : List ℕ) → TakesFront old left (λ n. n ≡ limit + 1) → old ≡ Some bytes
     → limit < length bytes
 too_many None left bytes h e = cc
 too_many (Some all) None bytes h e = absurd h

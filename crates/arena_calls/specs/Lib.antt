@@ -2,6 +2,6 @@ pub mod Streams
 pub mod ReadAll
 pub mod Lines
 pub mod Ends
-pub mod Program
 pub mod Tallies
+pub mod Draws
 pub mod Arguments

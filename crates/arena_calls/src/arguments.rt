@@ -1,15 +1,9 @@
-// The words behind the program's name.
-ghost use Rattle.std.specs.Prelude.{◌≡◌, ◌∷◌, [], IsTrue, ◌↔◌, IfOk};
-ghost use Rattle.std.specs.IoError.{error_kind};
+// What words ask for.
+ghost use Rattle.std.specs.Prelude.{◌≡◌, ◌∷◌, [], IsTrue, ◌↔◌};
 ghost use Rattle.arena_calls.specs.Arguments.{IsAskedFor};
-ghost use Rattle.arena_calls.specs.Program.{words_of, status_without};
 
-use crate::lines::whole_number;
-use crate::status::Status;
 use arena_chunks::Bytes;
-use std::alloc::{AllocError, Global};
-use std::env::Args;
-use std::io;
+use line_parts::whole_number;
 
 // How many calls a number may make.
 const MOST_CALLS: u64 = 1_000_000;
@@ -23,24 +17,6 @@ pub enum Command {
     Gen { start: u64, count: usize },
 }
 
-/// All words but the first, which is the program's name.
-pub fn words(alloc: Global, args: Args) -> Result<Vec<Bytes>, AllocError>
-    ensures { IfOk result (λ words. words.items ≡ words_of args) }
-{
-    let mut left = args;
-    let mut words = Vec::new(alloc);
-    let _ = left.next();
-    'words: loop {
-        let Some(word) = left.next() else {
-            return Ok(words);
-        };
-        let Ok(word) = Bytes::of(alloc, word.as_bytes()) else {
-            return Err(AllocError);
-        };
-        words.push(word)?;
-    }
-}
-
 /// Whether there is one word, and it is this one.
 pub fn is_one_word(words: &[Bytes], word: &[u8]) -> bool
     ensures { IsTrue result ↔ (words.now ≡ word.now ∷ []) }
@@ -48,17 +24,6 @@ pub fn is_one_word(words: &[Bytes], word: &[u8]) -> bool
     match words {
         [only] => only.as_slice() == word,
         _ => false,
-    }
-}
-
-/// How the program ends where it isn't told its words.
-pub fn without_words(error: &io::Error) -> Status
-    ensures { result ≡ status_without (error_kind error.now) }
-{
-    match error.kind() {
-        io::ErrorKind::OutOfMemory => Status::OutOfMemory,
-        // A word isn't text.
-        _ => Status::Usage,
     }
 }
 

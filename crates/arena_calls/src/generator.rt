@@ -5,5 +5,5 @@ mod summary;
 mod tally;
 
 #[cfg(test)]
-pub use calls::generated;
+pub use calls::Draws;
 pub use run::run_generated;

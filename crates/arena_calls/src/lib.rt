@@ -1,13 +1,10 @@
-//! The program `arena_run` but for its streams: what it prints and answers for its words and its input.
+//! Lines of calls in, lines of replies out: what the program does for the words `calls` and `gen`.
 #![tactic(auto)]
 
 mod arguments;
-mod budget;
 mod generator;
 pub mod laws;
 mod lines;
-mod messages;
-mod program;
 mod replies;
 mod status;
 mod streams;
@@ -15,13 +12,12 @@ mod streams;
 mod tests;
 mod whole_run;
 
-pub use budget::{Budgeted, program_chunks};
+pub use arguments::is_one_word;
 pub use lines::{LinesErr, parse_calls};
-pub use program::run_program;
 pub use replies::Text;
 pub use status::Status;
 pub use streams::{
     Failed, Input, MemoryInput, MemoryOutput, Output, ReadErr, StdInput, StdOutput, read_all,
     write_all,
 };
-pub use whole_run::arena_main;
+pub use whole_run::arena_calls;

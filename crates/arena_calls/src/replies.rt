@@ -1,42 +1,18 @@
 // Replies as the text of their lines.
-ghost use Rattle.std.specs.Prelude.{◌≡◌, ℕ, ◌+◌, ◌*◌, ◌-◌, ◌/◌, ◌++◌, ◌∷◌, [], ◌<◌, ◌≤◌, false, OnOk, length, codes, vec_len, vec_capacity};
-ghost use Rattle.std.specs.List.{flat_map};
-ghost use Rattle.placement.specs.Grammar.{fields, hex, hex_digit, hex_pair};
+ghost use Rattle.std.specs.Prelude.{◌≡◌, ℕ, ◌+◌, ◌*◌, ◌-◌, ◌/◌, ◌++◌, ◌∷◌, [], ◌≤◌, false, OnOk, length, codes, vec_len, vec_capacity};
+ghost use Rattle.placement.specs.Grammar.{fields};
 ghost use Rattle.placement.specs.Replies.{reply_line, text_of};
 ghost use Rattle.arena_chunks.specs.Replies.{has_bytes};
 
 use arena_chunks::Replies;
 use itoa::Buffer;
+pub use line_parts::put;
+use line_parts::{put_field, put_hex};
 use placement::{OutOfMemory, Reply};
 
 // The most bytes that a line has with its feed, where the reply holds none: `placed`, a number of 64 bits,
 // `refused` and a number of 32 bits.
 const LONGEST: usize = 47;
-
-/// Adds bytes for which there is room.
-pub fn put(out: &mut Vec<u8>, bytes: &[u8])
-    requires { vec_len out.old + length bytes.now ≤ vec_capacity out.old }
-    ensures items { out.new.items ≡ out.old.items ++ bytes.now }
-    ensures len { vec_len out.new ≡ vec_len out.old + length bytes.now }
-    ensures capacity { vec_capacity out.old ≤ vec_capacity out.new }
-{
-    match out.extend_from_slice(bytes) {
-        Ok(()) => {}
-        Err(_) => unreachable!(),
-    }
-}
-
-// A space and the number.
-fn put_field(out: &mut Vec<u8>, n: u64)
-    requires { vec_len out.old + 21 ≤ vec_capacity out.old }
-    ensures items { out.new.items ≡ out.old.items ++ fields (n ∷ []) }
-    ensures len { vec_len out.new ≤ vec_len out.old + 21 }
-    ensures capacity { vec_capacity out.old ≤ vec_capacity out.new }
-{
-    put(out, b" ");
-    let mut buffer = Buffer::new();
-    put(out, buffer.format(n).as_bytes());
-}
 
 // How often a request was refused.
 fn put_refused(out: &mut Vec<u8>, refused: u32)
@@ -48,51 +24,6 @@ fn put_refused(out: &mut Vec<u8>, refused: u32)
     put(out, b" refused ");
     let mut buffer = Buffer::new();
     put(out, buffer.format(refused).as_bytes());
-}
-
-fn hex_glyph(d: u8) -> u8
-    requires { d < 16 }
-    ensures { result ≡ hex_digit d }
-{
-    if d < 10 { b'0' + d } else { 87 + d }
-}
-
-// Puts each byte's two digits into the place.
-fn fill_pairs(place: &mut [u8], bytes: &[u8])
-    requires { length place.old ≡ 2 * length bytes.now }
-    ensures { place.new ≡ flat_map hex_pair bytes.now }
-{
-    for i in 0..bytes.len() {
-        place[2 * i] = hex_glyph(bytes[i] / 16);
-        place[2 * i + 1] = hex_glyph(bytes[i] % 16);
-    }
-}
-
-// The place is filled with zeros first, so that the loop over the digits has no room to test.
-fn put_pairs(out: &mut Vec<u8>, bytes: &[u8])
-    requires { vec_len out.old + 2 * length bytes.now ≤ vec_capacity out.old }
-    ensures items { out.new.items ≡ out.old.items ++ flat_map hex_pair bytes.now }
-    ensures len { vec_len out.new ≡ vec_len out.old + 2 * length bytes.now }
-    ensures capacity { vec_capacity out.old ≤ vec_capacity out.new }
-{
-    let at = out.len();
-    match out.resize(at + 2 * bytes.len(), 0) {
-        Ok(()) => fill_pairs(&mut out[at..], bytes),
-        Err(_) => unreachable!(),
-    }
-}
-
-fn put_hex(out: &mut Vec<u8>, bytes: &[u8])
-    requires { vec_len out.old + 2 * length bytes.now + 1 ≤ vec_capacity out.old }
-    ensures items { out.new.items ≡ out.old.items ++ hex bytes.now }
-    ensures len { vec_len out.new ≤ vec_len out.old + 2 * length bytes.now + 1 }
-    ensures capacity { vec_capacity out.old ≤ vec_capacity out.new }
-{
-    if bytes.is_empty() {
-        put(out, b"-");
-    } else {
-        put_pairs(out, bytes);
-    }
 }
 
 // The line of a reply that holds no bytes, without its feed.

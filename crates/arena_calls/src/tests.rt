@@ -3,11 +3,10 @@ mod calls;
 mod endings;
 mod generated;
 mod lines;
-mod programs;
 
 use crate::status::Status;
 use crate::streams::{MemoryInput, MemoryOutput};
-use crate::whole_run::arena_main;
+use crate::whole_run::arena_calls;
 use arena_chunks::{Arena, Bytes, ChunkSource, MemoryChunks};
 use std::alloc::{AllocError, Global};
 use std::fmt::Debug;
@@ -43,7 +42,7 @@ fn run_over<C: ChunkSource>(
     let words = words(alloc, list)?;
     let mut input = MemoryInput::new(alloc, text.to_vec(alloc)?, 4096, Vec::new(alloc));
     let mut output = MemoryOutput::new(alloc, 4096, Vec::new(alloc));
-    let status = arena_main(
+    let status = arena_calls(
         alloc,
         words.as_slice(),
         arena,

@@ -1,4 +1,4 @@
-// The call that the program makes.
+// A run of calls.
 ghost use Rattle.arena_chunks.specs.Source.{view};
 ghost use Rattle.arena_calls.specs.Ends.{Ends, EndsBy, outside};
 
@@ -52,7 +52,7 @@ fn run_lines<C: ChunkSource, I: Input, O: Output>(
 
 /// Does what the words ask for: runs the lines of the input, or calls from a number, over the arena, and writes the replies,
 /// or what they come to. Nothing is written before the last call was run.
-pub fn arena_main<C: ChunkSource, I: Input, O: Output>(
+pub fn arena_calls<C: ChunkSource, I: Input, O: Output>(
     alloc: Global,
     words: &[Bytes],
     arena: &mut Arena<1>,

@@ -46,4 +46,5 @@ mod MeasureLemmas
 mod AskingLemmas
 mod UsedByCallLemmas
 mod NameLemmas
+mod FirstNameLemmas
 pub mod Layers

@@ -1,5 +1,5 @@
 -- A run of calls over an arena, as far as it has come.
-use Rattle.std.proofs.Common.{◌≡◌, ℕ, ◌+◌, ◌<◌, ◌≤◌, ap, refl, sym, ◌∙◌, arith, List, [], ◌∷◌, ◌++◌, Bool, true, false, IsTrue, Option, Some, None, length, take, sum, append_assoc, append-nil}
+use Rattle.std.proofs.Common.{◌≡◌, ℕ, ◌+◌, ◌<◌, ◌≤◌, ap, refl, sym, subst, ◌∙◌, arith, List, [], ◌∷◌, ◌++◌, Bool, true, false, IsTrue, Option, Some, None, length, take, take_all, sum, append_assoc, append-nil}
 use Rattle.std.specs.Prelude.{◌||◌, slice_get}
 use Rattle.std.specs.Option.{option_map}
 use Rattle.std.specs.List.{list_any}
@@ -7,18 +7,19 @@ use Rattle.std.specs.FinMap as finite
 use Rattle.std.proofs.lemmas.Grind.{common_steps}
 use Rattle.std.proofs.lemmas.List.{map-append}
 use Rattle.std.proofs.lemmas.List.Folds.{list_any-append}
-use Rattle.std.proofs.lemmas.Option.{same_Some, none-some, option_and_then_some}
+use Rattle.std.proofs.lemmas.Option.{same_Some, none-some, option_and_then_some, slice_get_within}
 use Rattle.placement.specs.State.{IsValid}
-use Rattle.placement.specs.Machine.{Machine, Held, Contents, step, run, run_from, fresh, reply_first, refused_of, told, is_reset}
-use Rattle.placement.specs.Requests.{call_requests, requests_from, requests_of, takes_memory}
-use Rattle.placement.specs.Statistics.{Statistics, call_statistics, statistics_from, statistics_of}
+use Rattle.placement.specs.Machine.{Machine, Held, step, run_from, fresh, reply_first, refused_of, told, is_reset}
+use Rattle.placement.specs.Requests.{call_requests, requests_from, takes_memory}
+use Rattle.placement.specs.Statistics.{Statistics, call_statistics, statistics_from}
 use Rattle.placement.specs.declared.calls.Call.{Call}
 use Rattle.placement.specs.declared.calls.Reply.{Reply}
 use Rattle.placement.proofs.DoublingRunLemmas.{run_doubling}
-use Rattle.arena_chunks.specs.Source.{View, IsAsked}
-use Rattle.arena_chunks.specs.Runs.{HoldsBytes, StandsFor, RunLeaves, Runs, RunsFirst, held_blocks}
-use Rattle.arena_chunks.specs.Serving.{machine_of, Holds, Keeps, ServesRun}
-use Rattle.arena_chunks.specs.Marks.{Noted, named, Tracks, KeepEntry}
+use Rattle.arena_chunks.specs.Source.{View}
+use Rattle.arena_chunks.specs.Runs.{StandsFor, RunLeaves, Runs, RunsFirst, held_blocks}
+use Rattle.arena_chunks.specs.Serving.{machine_of, ServesRun, Wants}
+use Rattle.arena_chunks.specs.Running.{IsRunning, StaysAt, StaysBehind}
+use Rattle.arena_chunks.specs.Marks.{Noted, named}
 use Rattle.arena_chunks.specs.declared.block.Block.{Block}
 use Rattle.arena_chunks.proofs.AskedLemmas.{asked_none, asked_more}
 use Rattle.arena_chunks.proofs.ServingLemmas.{holds_none, no_bytes_held, none_kept}
@@ -51,18 +52,6 @@ run_more m mid next (c ∷ calls) call (j ∷ ks) k replies reply ran stepped =
       rw (is, on.1) (sym (append_assoc (call_requests c j m) (requests_from first.1 calls ks) (call_requests call k mid))),
       λ s. rw is (on.2 (call_statistics c first.0 m s)),
     )))
-
--- The calls so far are a run of the machine that the arena and its names are.
-pub record IsRunning (entry now : View) (names : Held) (noted : Noted) (calls : List Call) (replies : List Reply) : Type 0 where
-  pub bytes : Contents
-  pub ran : run entry.memory.state calls (told replies) ≡ Some (replies, machine_of now.memory names (named noted.marks) bytes)
-  pub held : HoldsBytes now.memory names bytes
-  pub holds : Holds now.memory.state names
-  pub asked : IsAsked entry.source now.source (sum (told replies)) (requests_of entry.memory.state calls (told replies))
-  pub statistics : now.memory.statistics ≡ statistics_of entry.memory.state calls (told replies) entry.memory.statistics
-  pub tracks : Tracks now.memory.state names noted
-  pub keeps : list_any is_reset calls ≡ false → Keeps entry.memory now.memory names
-      × KeepEntry entry.memory.state now.memory.state noted.marks
 
 pub running_first : (now : View) → IsValid now.memory.state → IsRunning now now finite.empty (record { marks = []; log = [] }) [] []
 unfolding run_from requests_from statistics_from
@@ -166,3 +155,15 @@ running_stopped entry now names noted calls done replies within running stops = 
   },
   refl,
 )
+
+pub stays_at : (call : Call) (old new : View) (names : Held) (noted : Noted) → Wants call old new names (named noted.marks)
+    → StaysAt call old new names noted
+stays_at call old new names noted wants = λ entry calls done replies running at. rw wants.same
+    (running_stopped entry old names noted calls done replies (omega (arith, slice_get_within calls done call at)) running
+    (λ other some is. subst (λ (c : Call). IsTrue (takes_memory c (machine_of old.memory names (named noted.marks) running.bytes)))
+    (same_Some call other (sym at ∙ is)) (wants.takes running.bytes)))
+
+pub stays_behind : (now : View) (names : Held) (noted : Noted) → StaysBehind now names noted
+stays_behind now names noted = λ entry calls replies running.
+    running_stopped entry now names noted calls (length calls) replies (omega arith) (rw (take_all (length calls) calls (omega arith)) running)
+    (λ call some at. absurd (omega (arith, slice_get_within calls (length calls) call at)))

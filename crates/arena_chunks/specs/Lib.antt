@@ -17,7 +17,9 @@ pub mod Finding
 pub mod Checkpoints
 pub mod PlaceCode
 pub mod Marks
+pub mod Names
 pub mod Serving
+pub mod Running
 pub mod Creating
 pub mod Walks
 pub mod Messages

@@ -1,5 +1,6 @@
 -- What new arenas are, and what a reset makes of an arena.
-use Rattle.std.proofs.Common.{◌≡◌, ℕ, ◌-◌, ◌≤◌, false, not, List, [], ◌∷◌, length, take, replicate, refl, ap, sym, ◌∙◌, subst, arith}
+use Rattle.std.proofs.Common.{◌≡◌, ℕ, ◌-◌, ◌≤◌, false, not, Option, None, Some, List, [], ◌∷◌, length, take, replicate, refl, ap, sym, ◌∙◌, subst, arith}
+use Rattle.std.proofs.lemmas.Bool.Decides.{nat_tests}
 use Rattle.std.proofs.lemmas.List.{length-replicate, take-replicate}
 use Rattle.placement.specs.State.{State, IsValid}
 use Rattle.placement.specs.Moves.{reset}
@@ -13,7 +14,7 @@ use Rattle.arena_chunks.specs.Resizes.{NoneReadable}
 use Rattle.arena_chunks.proofs.Layers.{reset_keeps_bytes, unused_unreadable}
 use Rattle.arena_pool.specs.declared.kind.PoolKind.{PoolKind}
 use Rattle.arena_pool.specs.declared.kind.PoolKind.TheVariants.{Standard, FixedSize}
-use Rattle.arena_pool.specs.Kinds.{is_fixed, HasRegions, IsOfKind, IsUnused, IsFresh, IsNew, new_memory, reset_view}
+use Rattle.arena_pool.specs.Kinds.{is_fixed, HasRegions, HasLimit, IsWithin, IsOfKind, IsUnused, IsFresh, IsNew, new_memory, reset_view}
 
 -- a kind with regions is that of arenas that don't grow
 pub still : (kind : PoolKind) (bytes : ℕ) (state : State) → IsOfKind kind state → kind ≡ FixedSize bytes → state.is_growing ≡ false
@@ -45,6 +46,15 @@ new_standard arena new =
       statistics = refl;
       of_kind = record { growing = refl; region = λ bytes is. cc };
     })
+
+-- No new arena passes a limit: one that grows has no bytes yet, and a fixed pool has no limit.
+pub empty_within : (limit : Option ℕ) (arena : View) → IsNew Standard arena → IsWithin limit arena
+empty_within None arena new = refl
+empty_within (Some limit) arena new = rw new.memory (grind (arith, nat_tests))
+
+pub new_within : (kind : PoolKind) (limit : Option ℕ) (arena : View) → HasLimit kind limit → IsNew kind arena → IsWithin limit arena
+new_within Standard limit arena has new = empty_within limit arena new
+new_within (FixedSize bytes) limit arena has new = rw has refl
 
 -- the memory over a region, but for its last 48 bytes
 abbrev region_memory : List ℕ → Memory

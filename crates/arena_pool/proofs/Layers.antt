@@ -12,6 +12,7 @@ pub use Rattle.arena_pool.proofs.KeptLemmas.{
   slice_of_kind,
 }
 pub use Rattle.arena_pool.proofs.PoolLemmas.{got_is_lent, got_is_pool, lent_is_pooled, put_is_pool, given_up_is_pool}
+pub use Rattle.arena_pool.proofs.PoolLemmas.{put_is_kept, put_is_gone, put_unlimited, put_of_fixed, put_is_counted}
 pub use Rattle.arena_pool.proofs.PoolLemmas.{answers_stored, answers_empty, answers_limit, answers_at_once, answers_waiting, put_is_newest}
 pub use Rattle.arena_pool.proofs.ClaimLemmas.{times-append, times-same, times-other, knows_claimed, knows_taken, is_taken}
 pub use Rattle.arena_pool.proofs.ClaimLemmas.{counts_views, one_claims, once_each, happened}
@@ -19,3 +20,6 @@ pub use Rattle.arena_pool.proofs.OwnerLemmas.{once, two_share}
 
 -- for automatic proof: calls keep the kind
 pub ruleset kind_laws = (placed_of_kind, resized_of_kind, returned_of_kind, wrote_of_kind, array_of_kind, box_of_kind, slice_of_kind)
+
+-- what the events of a book leave
+pub ruleset event_laws = (got_is_lent, put_is_counted, put_unlimited)

@@ -1,17 +1,19 @@
 -- What the events of a pool come to.
-use Rattle.std.proofs.Common.{◌≡◌, ℕ, ◌+◌, ◌-◌, ◌^◌, ◌<◌, ◌⊎◌, inl, inr, false, arith, IsTrue, IsOk, Option, Some, Result, Ok, Err, List, [], ◌∷◌, ◌++◌, length, refl, ap, sym, ◌∙◌, subst}
+use Rattle.std.proofs.Common.{◌≡◌, ℕ, ◌+◌, ◌-◌, ◌^◌, ◌<◌, ◌≤◌, ◌⊎◌, inl, inr, false, arith, IsTrue, IsOk, Option, None, Some, Result, Ok, Err, List, [], ◌∷◌, ◌++◌, length, refl, ap, sym, ◌∙◌, subst}
+use Rattle.std.proofs.lemmas.Bool.{cases_Bool}
 use Rattle.std.proofs.lemmas.Bool.Decides.{nat_tests}
 use Rattle.std.proofs.lemmas.List.{length-append, same_from_push}
 use Rattle.std.proofs.lemmas.List.Elements.{All-push, All-pop}
-use Rattle.placement.specs.State.{IsValid}
+use Rattle.placement.specs.State.{IsValid, allocated_bytes}
+use Rattle.placement.specs.Moves.{reset}
 use Rattle.arena_chunks.specs.Source.{View}
 use Rattle.arena_pool.specs.declared.kind.PoolKind.{PoolKind}
-use Rattle.arena_pool.specs.declared.kind.PoolKind.TheVariants.{Standard}
+use Rattle.arena_pool.specs.declared.kind.PoolKind.TheVariants.{Standard, FixedSize}
 use Rattle.arena_pool.specs.declared.book.PoolErr.{PoolErr}
 use Rattle.arena_pool.specs.declared.book.PoolErr.TheVariants.{PoolEmpty, OutOfMemory, Limit}
-use Rattle.arena_pool.specs.Kinds.{is_fixed, IsOfKind, HasId, reset_view}
-use Rattle.arena_pool.specs.Pool.{Pool, Pooled, IsPool, IsPooled, LendsNone, Gets, can_take, most_lent, put, give_up}
-use Rattle.arena_pool.proofs.KindLemmas.{new_standard, reset_is_unused}
+use Rattle.arena_pool.specs.Kinds.{is_fixed, HasLimit, is_within, IsWithin, IsOfKind, HasId, reset_view}
+use Rattle.arena_pool.specs.Pool.{Pool, Pooled, IsPool, IsPooled, LendsNone, Gets, can_take, most_lent, store, put, give_up}
+use Rattle.arena_pool.proofs.KindLemmas.{new_standard, empty_within, reset_is_unused}
 
 -- A list with something behind it isn't empty.
 some_stored : (p : Pool) (stack : List Pooled) (a : Pooled) → p.stack ≡ [] → p.stack ≡ stack ++ a ∷ [] → ⊥
@@ -22,37 +24,92 @@ standard_is_not_fixed kind standard fixed = cc
 
 -- ---- What every book keeps
 
-pub got_is_lent : (p q : Pool) (lent : Pooled) → Gets p (Ok lent) q → (q.lent ≡ p.lent + 1) × (q.kind ≡ p.kind)
-got_is_lent p q lent (inl stored) = (ap (λ (r : Pool). r.lent) stored.pool, ap (λ (r : Pool). r.kind) stored.pool)
-got_is_lent p q lent (inr new) = (ap (λ (r : Pool). r.lent) new.pool, ap (λ (r : Pool). r.kind) new.pool)
+pub got_is_lent : (p q : Pool) (lent : Pooled) → Gets p (Ok lent) q
+    → (q.lent ≡ p.lent + 1) × (q.kind ≡ p.kind) × (q.limit ≡ p.limit) × (q.given_up ≡ p.given_up)
+got_is_lent p q lent (inl stored) = rw stored.pool (refl, refl, refl, refl)
+got_is_lent p q lent (inr new) = rw new.pool (refl, refl, refl, refl)
 
 pub got_is_pool : (p q : Pool) (answer : Result Pooled PoolErr) → IsPool p → Gets p answer q → IsPool q
 got_is_pool p q (Ok lent) pool (inl stored) = subst IsPool (sym stored.pool) (record {
+  limit = pool.limit;
   made = omega (arith, pool.made, pool.stored, ap length stored.stack, length-append q.stack (lent ∷ []));
   stored = omega (arith, pool.stored, ap length stored.stack, length-append q.stack (lent ∷ []));
-  stack = (All-pop (IsPooled p.kind) p.stack q.stack (Some lent) stored.stack pool.stack).0;
+  stack = (All-pop (IsPooled p.kind p.limit) p.stack q.stack (Some lent) stored.stack pool.stack).0;
 })
-got_is_pool p q (Ok lent) pool (inr new) =
-    subst IsPool (sym new.pool) (record { made = omega (arith, pool.made); stored = pool.stored; stack = pool.stack })
+got_is_pool p q (Ok lent) pool (inr new) = subst IsPool (sym new.pool)
+    (record { limit = pool.limit; made = omega (arith, pool.made); stored = pool.stored; stack = pool.stack })
 got_is_pool p q (Err e) pool refused = subst IsPool (sym refused.1) pool
 
-pub lent_is_pooled : (p q : Pool) (lent : Pooled) → IsPool p → Gets p (Ok lent) q → IsPooled p.kind lent
-lent_is_pooled p q lent pool (inl stored) = (All-pop (IsPooled p.kind) p.stack q.stack (Some lent) stored.stack pool.stack).1
-lent_is_pooled p q lent pool (inr new) =
-    record { unused = rw new.standard (new_standard lent.0 new.arena); id = rw (new.standard, new.id) refl }
+pub lent_is_pooled : (p q : Pool) (lent : Pooled) → IsPool p → Gets p (Ok lent) q → IsPooled p.kind p.limit lent
+lent_is_pooled p q lent pool (inl stored) =
+    (All-pop (IsPooled p.kind p.limit) p.stack q.stack (Some lent) stored.stack pool.stack).1
+lent_is_pooled p q lent pool (inr new) = record {
+  unused = rw new.standard (new_standard lent.0 new.arena);
+  id = rw (new.standard, new.id) refl;
+  within = empty_within p.limit lent.0 new.arena;
+}
+
+stored_is_pool : (p : Pool) (a : Pooled) → IsPool p → 0 < p.lent → IsPooled p.kind p.limit a → IsPool (store p a)
+stored_is_pool p a pool lent pooled = record {
+  limit = pool.limit;
+  made = omega (arith, pool.made);
+  stored = omega (arith, pool.stored, length-append p.stack (a ∷ []));
+  stack = All-push (IsPooled p.kind p.limit) p.stack a pool.stack pooled;
+}
+
+pub given_up_is_pool : (p : Pool) → IsPool p → 0 < p.lent → IsPool (give_up p)
+given_up_is_pool p pool lent =
+    record { limit = pool.limit; made = omega (arith, pool.made); stored = pool.stored; stack = pool.stack }
+
+-- ---- What a put comes to
+
+-- What doesn't pass the limit is stored.
+put_within : (p : Pool) (arena : View) (id : Option ℕ) → IsWithin p.limit (reset_view arena)
+    → put p arena id ≡ store p (reset_view arena, id)
+put_within p arena id within = rw within refl
+
+pub put_is_kept : (p : Pool) (arena : View) (id : Option ℕ) (limit : ℕ) → p.limit ≡ Some limit
+    → allocated_bytes (reset arena.memory.state) ≤ limit → put p arena id ≡ store p (reset_view arena, id)
+put_is_kept p arena id limit has few = put_within p arena id (rw has (grind (arith, nat_tests)))
+
+-- What passes it is gone.
+put_over : (p : Pool) (arena : View) (id : Option ℕ) → is_within p.limit (allocated_bytes (reset arena.memory.state)) ≡ false
+    → put p arena id ≡ give_up p
+put_over p arena id over = rw over refl
+
+pub put_is_gone : (p : Pool) (arena : View) (id : Option ℕ) (limit : ℕ) → p.limit ≡ Some limit
+    → limit < allocated_bytes (reset arena.memory.state) → put p arena id ≡ give_up p
+put_is_gone p arena id limit has many = put_over p arena id (rw has (grind (arith, nat_tests)))
+
+-- Where there is no limit each is stored.
+pub put_unlimited : (p : Pool) (arena : View) (id : Option ℕ) → p.limit ≡ None → put p arena id ≡ store p (reset_view arena, id)
+put_unlimited p arena id none = put_within p arena id (rw none refl)
+
+fixed_has_none : (kind : PoolKind) (limit : Option ℕ) → HasLimit kind limit → IsTrue (is_fixed kind) → limit ≡ None
+fixed_has_none Standard limit has fixed = cc
+fixed_has_none (FixedSize bytes) limit has fixed = has
+
+pub put_of_fixed : (p : Pool) (arena : View) (id : Option ℕ) → IsPool p → IsTrue (is_fixed p.kind)
+    → put p arena id ≡ store p (reset_view arena, id)
+put_of_fixed p arena id pool fixed = put_unlimited p arena id (fixed_has_none p.kind p.limit pool.limit fixed)
+
+-- It leaves one less lent, whether the arena is stored or gone.
+pub put_is_counted : (p : Pool) (arena : View) (id : Option ℕ)
+    → ((put p arena id).lent ≡ p.lent - 1) × ((put p arena id).kind ≡ p.kind) × ((put p arena id).limit ≡ p.limit)
+put_is_counted p arena id = elim (cases_Bool (is_within p.limit (allocated_bytes (reset arena.memory.state)))) [
+  | inl within ↦ rw (put_within p arena id within) (refl, refl, refl)
+  | inr over ↦ rw (put_over p arena id over) (refl, refl, refl)
+]
 
 pub put_is_pool : (p : Pool) (arena : View) (id : Option ℕ) → IsPool p → 0 < p.lent → IsValid arena.memory.state
     → IsOfKind p.kind arena.memory.state → HasId p.kind id
     → IsPool (put p arena id)
-put_is_pool p arena id pool lent valid of_kind has_id = record {
-  made = omega (arith, pool.made);
-  stored = omega (arith, pool.stored, length-append p.stack ((reset_view arena, id) ∷ []));
-  stack = All-push (IsPooled p.kind) p.stack (reset_view arena, id) pool.stack
-      (record { unused = reset_is_unused p.kind arena valid of_kind; id = has_id });
-}
-
-pub given_up_is_pool : (p : Pool) → IsPool p → 0 < p.lent → IsPool (give_up p)
-given_up_is_pool p pool lent = record { made = omega (arith, pool.made); stored = pool.stored; stack = pool.stack }
+put_is_pool p arena id pool lent valid of_kind has_id =
+    elim (cases_Bool (is_within p.limit (allocated_bytes (reset arena.memory.state)))) [
+      | inl within ↦ rw (put_within p arena id within) (stored_is_pool p (reset_view arena, id) pool lent
+          (record { unused = reset_is_unused p.kind arena valid of_kind; id = has_id; within = within }))
+      | inr over ↦ rw (put_over p arena id over) (given_up_is_pool p pool lent)
+    ]
 
 -- ---- Which answer a get gives
 
@@ -110,10 +167,15 @@ restored : (p : Pool) (stack : List Pooled) (stored lent : ℕ) → stack ≡ p.
     → record p { stack = stack; stored = stored; lent = lent } ≡ p
 restored p stack stored lent same_stack same_stored same_lent = rw (same_stack, same_stored, same_lent) refl
 
--- What was put last is lent next.
-pub put_is_newest : (p q : Pool) (arena : View) (id : Option ℕ) (lent : Pooled) → 0 < p.lent → Gets (put p arena id) (Ok lent) q
-    → (lent ≡ (reset_view arena, id)) × (q ≡ p)
-put_is_newest p q arena id lent some (inl stored) =
-    let same = same_from_push p.stack q.stack (reset_view arena, id) lent stored.stack in
+-- What was stored last is lent next.
+stored_is_newest : (p q : Pool) (a lent : Pooled) → 0 < p.lent → Gets (store p a) (Ok lent) q → (lent ≡ a) × (q ≡ p)
+stored_is_newest p q a lent some (inl stored) =
+    let same = same_from_push p.stack q.stack a lent stored.stack in
     (sym same.1, stored.pool ∙ restored p q.stack (p.stored + 1 - 1) (p.lent - 1 + 1) (sym same.0) (omega arith) (omega arith))
-put_is_newest p q arena id lent some (inr new) = absurd (some_stored (put p arena id) p.stack (reset_view arena, id) new.none_stored refl)
+stored_is_newest p q a lent some (inr new) = absurd (some_stored (store p a) p.stack a new.none_stored refl)
+
+pub put_is_newest : (p q : Pool) (arena : View) (id : Option ℕ) (lent : Pooled) → 0 < p.lent → IsWithin p.limit (reset_view arena)
+    → Gets (put p arena id) (Ok lent) q
+    → (lent ≡ (reset_view arena, id)) × (q ≡ p)
+put_is_newest p q arena id lent some within gets =
+    stored_is_newest p q (reset_view arena, id) lent some (subst (λ (r : Pool). Gets r (Ok lent) q) (put_within p arena id within) gets)

@@ -1,5 +1,5 @@
 -- The two kinds of arenas that pools have, and arenas as they are stored and lent.
-use Rattle.std.specs.Prelude.{◌≡◌, ℕ, ◌-◌, ◌≤◌, ◌%◌, Bool, true, false, not, Option, None, Some, is_some, IfSome, [], take}
+use Rattle.std.specs.Prelude.{◌≡◌, ℕ, ◌-◌, ◌≤◌, ◌%◌, Bool, true, false, not, nat_le, IsTrue, Option, None, Some, is_some, IfSome, [], take}
 use Rattle.placement.specs.State.{State, IsValid, used_bytes, allocated_bytes}
 use Rattle.placement.specs.Moves.{reset}
 use Rattle.placement.specs.Creation.{empty_state, fixed_state}
@@ -32,6 +32,20 @@ HasId kind id = is_some id ≡ is_fixed kind
 abbrev pub first_id : PoolKind → ℕ → Option ℕ
 first_id Standard i = None
 first_id (FixedSize bytes) i = Some i
+
+-- a limit in bytes on what a pool of the kind keeps: a fixed one has none
+abbrev pub HasLimit : PoolKind → Option ℕ → Type 0
+HasLimit Standard limit = Unit {0}
+HasLimit (FixedSize bytes) limit = limit ≡ None
+
+-- whether so many bytes don't pass the limit
+abbrev pub is_within : Option ℕ → ℕ → Bool
+is_within None allocated = true
+is_within (Some limit) allocated = nat_le allocated limit
+
+-- the arena has no more bytes than the limit, if there is one: all its bytes count, and not just those that are used
+abbrev pub IsWithin : Option ℕ → View → Type 0
+IsWithin limit arena = IsTrue (is_within limit (allocated_bytes arena.memory.state))
 
 -- an arena of the kind of which nothing is used or counted
 pub record IsUnused (kind : PoolKind) (arena : View) : Type 0 where

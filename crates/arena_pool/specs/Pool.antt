@@ -1,8 +1,9 @@
 -- A pool of arenas, and its events.
-use Rattle.std.specs.Prelude.{◌≡◌, ℕ, ◌+◌, ◌-◌, ◌^◌, ◌<◌, ◌⊎◌, IsTrue, Option, None, Result, Ok, Err, List, [], ◌∷◌, ◌++◌, map, length, All, Bool, ◌&&◌, ◌||◌, nat_lt, not}
+use Rattle.std.specs.Prelude.{◌≡◌, ℕ, ◌+◌, ◌-◌, ◌^◌, ◌<◌, ◌⊎◌, IsTrue, Option, None, Result, Ok, Err, List, [], ◌∷◌, ◌++◌, map, length, All, Bool, ◌&&◌, ◌||◌, nat_lt, not, if◌then◌else◌}
 use Rattle.std.specs.List.{range_with_len}
+use Rattle.placement.specs.State.{allocated_bytes}
 use Rattle.arena_chunks.specs.Source.{View}
-use Rattle.arena_pool.specs.Kinds.{is_fixed, first_id, HasId, IsUnused, IsNew, reset_view}
+use Rattle.arena_pool.specs.Kinds.{is_fixed, first_id, HasId, HasLimit, is_within, IsWithin, IsUnused, IsNew, reset_view}
 use Rattle.arena_pool.specs.declared.kind.PoolKind.{PoolKind}
 use Rattle.arena_pool.specs.declared.kind.PoolKind.TheVariants.{Standard}
 use Rattle.arena_pool.specs.declared.book.PoolErr.{PoolErr}
@@ -12,9 +13,11 @@ use Rattle.arena_pool.specs.declared.book.PoolErr.TheVariants.{PoolEmpty, OutOfM
 abbrev pub Pooled : Type 0
 Pooled = View × Option ℕ
 
--- The arenas that are stored, newest last, and how many were made, are stored, are lent and were given up.
+-- What arenas a pool has, and how many bytes one has at most that it keeps, if there is a limit; those that are stored, newest
+-- last; and how many were made, are stored, are lent and were given up.
 pub record Pool : Type 0 where
   pub kind : PoolKind
+  pub limit : Option ℕ
   pub stack : List Pooled
   pub made : ℕ
   pub stored : ℕ
@@ -22,23 +25,25 @@ pub record Pool : Type 0 where
   pub given_up : ℕ
 
 -- as it is stored, and as it is lent
-pub record IsPooled (kind : PoolKind) (p : Pooled) : Type 0 where
+pub record IsPooled (kind : PoolKind) (limit : Option ℕ) (p : Pooled) : Type 0 where
   pub unused : IsUnused kind p.0
   pub id : HasId kind p.1
+  pub within : IsWithin limit p.0
 
--- Every arena that was made is stored, lent or given up.
+-- Every arena that was made is stored, lent or given up. A fixed pool has no limit.
 pub record IsPool (p : Pool) : Type 0 where
+  pub limit : HasLimit p.kind p.limit
   pub made : p.made ≡ p.stored + p.lent + p.given_up
   pub stored : p.stored ≡ length p.stack
-  pub stack : All (IsPooled p.kind) p.stack
+  pub stack : All (IsPooled p.kind p.limit) p.stack
 
 -- ---- How a pool begins
 
 -- so many new arenas are stored
-pub record Begins (kind : PoolKind) (count : ℕ) (p : Pool) : Type 0 where
+pub record Begins (kind : PoolKind) (limit : Option ℕ) (count : ℕ) (p : Pool) : Type 0 where
   pub arenas : All (λ (a : Pooled). IsNew kind a.0) p.stack
   pub ids : map (λ (a : Pooled). a.1) p.stack ≡ map (first_id kind) (range_with_len 0 count)
-  pub pool : p ≡ record { kind = kind; stack = p.stack; made = count; stored = count; lent = 0; given_up = 0 }
+  pub pool : p ≡ record { kind = kind; limit = limit; stack = p.stack; made = count; stored = count; lent = 0; given_up = 0 }
 
 -- ---- Get
 
@@ -80,9 +85,14 @@ can_take p = nat_lt p.lent most_lent && (nat_lt 0 (length p.stack) || not (is_fi
 abbrev pub store : Pool → Pooled → Pool
 store p a = record p { stack = p.stack ++ a ∷ []; stored = p.stored + 1; lent = p.lent - 1 }
 
--- the same for an arena as its borrower left it
-abbrev pub put : Pool → View → Option ℕ → Pool
-put p arena id = store p (reset_view arena, id)
-
+-- one that was lent is gone
 abbrev pub give_up : Pool → Pool
 give_up p = record p { lent = p.lent - 1; given_up = p.given_up + 1 }
+
+-- an arena that was lent is stored, and one that passes the limit is gone
+abbrev pub keep : Pool → Pooled → Pool
+keep p a = if is_within p.limit (allocated_bytes a.0.memory.state) then store p a else give_up p
+
+-- the same for an arena as its borrower left it
+abbrev pub put : Pool → View → Option ℕ → Pool
+put p arena id = keep p (reset_view arena, id)

@@ -1,5 +1,5 @@
 // What a pool keeps: the arenas that are stored, and its counts.
-ghost use Rattle.std.specs.Prelude.{◌≡◌, ◌+◌, ◌%◌, ◌<◌, ◌≤◌, IfOk};
+ghost use Rattle.std.specs.Prelude.{◌≡◌, ◌+◌, ◌%◌, ◌<◌, ◌≤◌, None, Some, IfOk};
 ghost use Rattle.arena_pool.specs.Kinds.{HasId, IsOfKind};
 ghost use Rattle.arena_pool.specs.Pool.{Begins, Gets, IsPool, IsPooled, put, give_up};
 ghost use Rattle.arena_pool.specs.declared.kind.PoolKind.TheVariants.{Standard, FixedSize};
@@ -41,7 +41,8 @@ pub struct Counts {
 }
 
 /// The arenas that are stored, newest last, and the counts of a pool. Each arena is of the pool's kind, and nothing of it
-/// is used. A place is reserved for each arena that is lent, so that to give one back takes no memory.
+/// is used; where the pool has a limit, none has more bytes. A place is reserved for each arena that is lent, so that to
+/// give one back takes no memory.
 #[derive(Drop)]
 pub struct Book<K: ChunkMaker> {
     stock: Stock<K, Bare>,
@@ -64,9 +65,29 @@ impl<K: ChunkMaker> Book<K> {
     pub fn new(alloc: Global, count: u32, maker: K) -> Result<Book<K>, OutOfMemory>
     where
         K: Drop,
-        ensures { IfOk result (Begins Standard count) }
+        ensures { IfOk result (Begins Standard None count) }
     {
-        let stock = Stock::of_kind(alloc, PoolKind::Standard, count, maker)?;
+        let stock = Stock::of_kind(alloc, PoolKind::Standard, None, count, maker)?;
+        Ok(Book { stock })
+    }
+
+    /// The same with a limit in bytes: an arena that comes back and still has more after its reset, which keeps the newest
+    /// chunk alone, isn't stored.
+    ///
+    /// # Errors
+    ///
+    /// Memory for their table is wanting.
+    pub fn new_with_limit(
+        alloc: Global,
+        count: u32,
+        limit: u64,
+        maker: K,
+    ) -> Result<Book<K>, OutOfMemory>
+    where
+        K: Drop,
+        ensures { IfOk result (Begins Standard (Some limit) count) }
+    {
+        let stock = Stock::of_kind(alloc, PoolKind::Standard, Some(limit), count, maker)?;
         Ok(Book { stock })
     }
 
@@ -85,9 +106,9 @@ impl<K: ChunkMaker> Book<K> {
         K: Drop,
         requires units { bytes % 16 ≡ 0 }
         requires room { 48 ≤ bytes }
-        ensures { IfOk result (Begins (FixedSize bytes) count) }
+        ensures { IfOk result (Begins (FixedSize bytes) None count) }
     {
-        let stock = Stock::of_kind(alloc, PoolKind::FixedSize { bytes }, count, maker)?;
+        let stock = Stock::of_kind(alloc, PoolKind::FixedSize { bytes }, None, count, maker)?;
         Ok(Book { stock })
     }
 
@@ -100,13 +121,14 @@ impl<K: ChunkMaker> Book<K> {
     /// 2^64 - 1. `OutOfMemory` comes only of a new one. Nothing changes then.
     pub fn take(&mut self) -> Result<(Allocator<K::Chunks>, Option<u32>), PoolErr>
         ensures gets { Gets self.old result self.new }
-        ensures lent { IfOk result (IsPooled self.old.kind) }
+        ensures lent { IfOk result (IsPooled self.old.kind self.old.limit) }
     {
         let Stored { arena, id } = self.stock.take()?;
         Ok((arena, id))
     }
 
-    /// Resets an arena that was lent, and stores it. Takes no memory.
+    /// Resets an arena that was lent, and stores it. Where there is a limit, and the arena then has more bytes, it is dropped
+    /// and counted as given up. Takes no memory.
     pub fn store(&mut self, a: Allocator<K::Chunks>, id: Option<u32>)
         requires lent { 0 < self.old.lent }
         requires kind { IsOfKind self.old.kind a.memory.state }
@@ -114,8 +136,8 @@ impl<K: ChunkMaker> Book<K> {
         ensures { self.new ≡ put self.old a id }
     {
         let mut a = a;
-        empty(&mut a);
-        self.stock.keep(a, id);
+        let allocated = empty(&mut a);
+        drop(self.stock.keep(a, allocated, id));
     }
 
     /// One arena that was lent doesn't come back.
@@ -124,6 +146,13 @@ impl<K: ChunkMaker> Book<K> {
         ensures { self.new ≡ give_up self.old }
     {
         self.stock.forget();
+    }
+
+    /// How many bytes a stored arena has at most, if there is a limit.
+    pub fn limit(&self) -> Option<u64>
+        ensures { result ≡ self.now.limit }
+    {
+        self.stock.limit()
     }
 
     /// The four counts. By this call a caller knows what every book keeps.

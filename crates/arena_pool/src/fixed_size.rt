@@ -1,5 +1,5 @@
 // A fixed pool that lends bare arenas.
-ghost use Rattle.std.specs.Prelude.{◌≡◌, ◌%◌, ◌≤◌, true, IfOk, IsOk};
+ghost use Rattle.std.specs.Prelude.{◌≡◌, ◌%◌, ◌≤◌, true, None, IfOk, IsOk};
 ghost use Rattle.arena_pool.specs.Kinds.{is_fixed, IsOfKind, IsUnused};
 ghost use Rattle.arena_pool.specs.Names.{IsBlankOf};
 ghost use Rattle.arena_pool.specs.declared.kind.PoolKind.TheVariants.{FixedSize};
@@ -40,10 +40,17 @@ impl<K: ChunkMaker, L: PoolName> FixedSizeAllocatorPool<K, L> {
         K: Drop,
         requires blank { IsBlankOf L.name L.parts blank }
         requires kind { L.kind ≡ FixedSize bytes }
+        requires limit { L.limit ≡ None }
         requires units { bytes % 16 ≡ 0 }
         requires room { 48 ≤ bytes }
     {
-        let stock = Stock::of_kind(alloc, PoolKind::FixedSize { bytes }, thread_count, maker)?;
+        let stock = Stock::of_kind(
+            alloc,
+            PoolKind::FixedSize { bytes },
+            None,
+            thread_count,
+            maker,
+        )?;
         let pool = Shared::over(stock, blank);
         Ok(FixedSizeAllocatorPool { pool })
     }
@@ -66,8 +73,8 @@ impl<K: ChunkMaker, L: PoolName> FixedSizeAllocatorPool<K, L> {
         requires { IsOfKind L.kind a.memory.state }
     {
         let mut a = a;
-        empty(&mut a);
-        self.pool.add(rt, a, loan);
+        let allocated = empty(&mut a);
+        self.pool.add(rt, a, allocated, loan);
     }
 
     /// The arena of the loan doesn't come back. Once none is left who asks waits without end.

@@ -54,7 +54,7 @@ impl<'a, K: ChunkMaker, L: PoolName> AllocatorGuard<'a, K, L> {
     /// The lent arena.
     pub fn parts_mut(&mut self) -> &mut Allocator<K::Chunks>
         ensures* writes_back { sem 𝓛 (lends_arena K.row L.row K.Chunks.row K.Chunks.ChunkSource
-            (record { kind = L.kind }) (record { name = L.name; parts = L.parts }) self.entry result) }
+            (record { kind = L.kind; limit = L.limit }) (record { name = L.name; parts = L.parts }) self.entry result) }
         ensures shows { result.now ≡ self.old.0 }
     {
         &mut self.arena
@@ -68,7 +68,8 @@ impl<'a, K: ChunkMaker, L: PoolName> AllocatorGuard<'a, K, L> {
         self.loan.id().map(|id| FixedSizeAllocatorMetadata { id })
     }
 
-    /// Gives the arena back. It is reset, and one that waits is woken. Takes no memory.
+    /// Gives the arena back. It is reset, and one that waits is woken. Where it then has more bytes than the pool's limit it
+    /// is dropped. Takes no memory.
     pub fn put_back<R: Wait>(self, rt: &R)
         requires { IsOfKind L.kind self.0.memory.state }
     {
@@ -77,8 +78,8 @@ impl<'a, K: ChunkMaker, L: PoolName> AllocatorGuard<'a, K, L> {
             mut arena,
             loan,
         } = self;
-        empty(&mut arena);
-        pool.shared.add(rt, arena, loan);
+        let allocated = empty(&mut arena);
+        pool.shared.add(rt, arena, allocated, loan);
     }
 
     /// Keeps the arena, as it stands. It doesn't come back to the pool: a fixed one whose arenas were all given up lends none

@@ -1,10 +1,10 @@
 // What the events of a pool come to, and which arenas are of a kind. Each law is a call that does nothing: made in a body,
 // it gives its facts there.
-ghost use Rattle.std.specs.Prelude.{◌≡◌, ℕ, ◌+◌, ◌-◌, ◌^◌, ◌<◌, ◌⊎◌, [], ◌∷◌, length, map, take, slice_index, false, IsTrue, if◌then◌else◌, List, Option, Result, Ok, Err, IsOk};
+ghost use Rattle.std.specs.Prelude.{◌≡◌, ℕ, ◌+◌, ◌-◌, ◌^◌, ◌<◌, ◌≤◌, ◌⊎◌, [], ◌∷◌, length, map, take, slice_index, false, IsTrue, if◌then◌else◌, List, Option, None, Some, Result, Ok, Err, IsOk};
 ghost use mathlib.Core.Option.{some};
 ghost use lib.ListN.{get_elem?};
 ghost use Rattle.atomic_table.specs.Table.{State as TableState};
-ghost use Rattle.placement.specs.State.{State, IsValid};
+ghost use Rattle.placement.specs.State.{State, IsValid, allocated_bytes};
 ghost use Rattle.placement.specs.Moves.{reset, Resizing};
 ghost use Rattle.arena_chunks.specs.Memory.{Memory};
 ghost use Rattle.arena_chunks.specs.Source.{View};
@@ -17,8 +17,8 @@ ghost use Rattle.arena_items.specs.Placing.{Answers, PlacesArray};
 ghost use Rattle.arena_items.specs.declared.boxes.Box.{Box};
 ghost use Rattle.arena_items.specs.declared.slices.BoxSlice.{BoxSlice};
 ghost use Rattle.arena_items.specs.declared.placing.ItemErr.{ItemErr};
-ghost use Rattle.arena_pool.specs.Kinds.{is_fixed, IsOfKind, HasId, IsUnused, reset_view};
-ghost use Rattle.arena_pool.specs.Pool.{Pool, Pooled, IsPool, IsPooled, Gets, can_take, most_lent, put, give_up};
+ghost use Rattle.arena_pool.specs.Kinds.{is_fixed, IsOfKind, HasId, IsUnused, IsWithin, reset_view};
+ghost use Rattle.arena_pool.specs.Pool.{Pool, Pooled, IsPool, IsPooled, Gets, can_take, most_lent, store, put, give_up};
 ghost use Rattle.arena_pool.specs.Claiming.{has, claimers, IsKept, IsOnce, ClaimedOnce, Happen};
 ghost use Rattle.arena_pool.specs.Sharing.{Shares, FreedOnce};
 ghost use Rattle.arena_pool.specs.declared.claims.rule.ClaimView.{ClaimView};
@@ -29,12 +29,13 @@ ghost use Rattle.arena_pool.specs.declared.book.PoolErr.{PoolErr};
 ghost use Rattle.arena_pool.specs.declared.book.PoolErr.TheVariants.{PoolEmpty, Limit, OutOfMemory};
 
 /// Each event keeps what every book keeps: each arena that was made is stored, lent or given up, and those that are stored
-/// are of the kind, with nothing used. So is each one that is lent. A get that lends one leaves one more lent.
+/// are of the kind, with nothing used, and don't pass the limit. So is each one that is lent. A get that lends one leaves
+/// one more lent, none given up, and kind and limit as they are.
 pub fn events()
     ensures counted { (p q : Pool) (lent : Pooled) → Gets p (Ok lent) q
-        → (q.lent ≡ p.lent + 1) × (q.kind ≡ p.kind) }
+        → (q.lent ≡ p.lent + 1) × (q.kind ≡ p.kind) × (q.limit ≡ p.limit) × (q.given_up ≡ p.given_up) }
     ensures got { (p q : Pool) (answer : Result Pooled PoolErr) → IsPool p → Gets p answer q → IsPool q }
-    ensures lent { (p q : Pool) (lent : Pooled) → IsPool p → Gets p (Ok lent) q → IsPooled p.kind lent }
+    ensures lent { (p q : Pool) (lent : Pooled) → IsPool p → Gets p (Ok lent) q → IsPooled p.kind p.limit lent }
     ensures put { (p : Pool) (arena : View) (id : Option ℕ) → IsPool p → 0 < p.lent
         → IsValid arena.memory.state → IsOfKind p.kind arena.memory.state → HasId p.kind id
         → IsPool (put p arena id) }
@@ -56,9 +57,26 @@ pub fn answers()
         → p.lent < most_lent → (answer ≡ Err PoolEmpty) ⊎ (answer ≡ Err Limit) }
 {}
 
-/// What was put last is lent next, with its id, and reset.
+/// What a put comes to. An arena that has no more bytes than the limit after its reset becomes the newest of the stack, and
+/// so does each where there is no limit, as in a fixed pool. One that has more is gone. Either way one less is lent, and
+/// kind and limit stay.
+pub fn puts()
+    ensures kept { (p : Pool) (arena : View) (id : Option ℕ) (limit : ℕ) → p.limit ≡ Some limit
+        → allocated_bytes (reset arena.memory.state) ≤ limit → put p arena id ≡ store p (reset_view arena, id) }
+    ensures gone { (p : Pool) (arena : View) (id : Option ℕ) (limit : ℕ) → p.limit ≡ Some limit
+        → limit < allocated_bytes (reset arena.memory.state) → put p arena id ≡ give_up p }
+    ensures unlimited { (p : Pool) (arena : View) (id : Option ℕ) → p.limit ≡ None
+        → put p arena id ≡ store p (reset_view arena, id) }
+    ensures fixed { (p : Pool) (arena : View) (id : Option ℕ) → IsPool p → IsTrue (is_fixed p.kind)
+        → put p arena id ≡ store p (reset_view arena, id) }
+    ensures counted { (p : Pool) (arena : View) (id : Option ℕ) → let q = put p arena id in
+        (q.lent ≡ p.lent - 1) × (q.kind ≡ p.kind) × (q.limit ≡ p.limit) }
+{}
+
+/// What was put last, and doesn't pass the limit, is lent next, with its id, and reset.
 pub fn newest()
     ensures { (p q : Pool) (arena : View) (id : Option ℕ) (lent : Pooled) → 0 < p.lent
+        → IsWithin p.limit (reset_view arena)
         → Gets (put p arena id) (Ok lent) q → (lent ≡ (reset_view arena, id)) × (q ≡ p) }
 {}
 

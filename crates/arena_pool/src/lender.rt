@@ -1,7 +1,8 @@
 // What lies under a pool's lock.
 ghost use Rattle.std.specs.Prelude.{◌≡◌, IfOk, OnErr, IsOk, IsTrue, Ok, Err};
-ghost use Rattle.arena_pool.specs.Kinds.{is_fixed, IsUnused};
-ghost use Rattle.arena_pool.specs.Pool.{Gets, can_take, store, give_up};
+ghost use Rattle.placement.specs.State.{allocated_bytes};
+ghost use Rattle.arena_pool.specs.Kinds.{is_fixed, IsUnused, IsWithin};
+ghost use Rattle.arena_pool.specs.Pool.{Gets, can_take, keep, give_up};
 
 use crate::book::{Counts, PoolErr};
 use crate::lending::{Lending, Loan};
@@ -30,7 +31,7 @@ impl<K: ChunkMaker, L: PoolName, P: Packing<Allocator<K::Chunks>>> Model for Len
 
     ghost view = { λ l. l.pair.0 };
 
-    ghost invariant = { λ l. (l.pair.0.kind ≡ L.kind) × (l.pair.1 ≡ l.pair.0.lent) };
+    ghost invariant = { λ l. (l.pair.0.kind ≡ L.kind) × (l.pair.0.limit ≡ L.limit) × (l.pair.1 ≡ l.pair.0.lent) };
 }
 
 impl<K: ChunkMaker, L: PoolName, P: Packing<Allocator<K::Chunks>>> Lender<K, L, P> {
@@ -50,6 +51,7 @@ impl<K: ChunkMaker, L: PoolName, P: Packing<Allocator<K::Chunks>>> Lender<K, L, 
         ensures lent { IfOk result (λ lent. Gets self.old (Ok (P.unpacked lent.0, lent.1.id)) self.new) }
         ensures wanting { OnErr result (Gets self.old (Err PoolErr.OutOfMemory) self.new) }
         ensures unused { IfOk result (λ lent. IsUnused L.kind (P.unpacked lent.0)) }
+        ensures within { IfOk result (λ lent. IsWithin L.limit (P.unpacked lent.0)) }
         ensures fixed { IsTrue (is_fixed L.kind) → IsOk result }
     {
         let (stock, lending) = &mut self.pair;
@@ -60,15 +62,21 @@ impl<K: ChunkMaker, L: PoolName, P: Packing<Allocator<K::Chunks>>> Lender<K, L, 
         }
     }
 
-    // The arena of a loan, of which nothing is used, is stored.
+    // The arena of a loan, of which nothing is used, is stored. Where it passes the limit it comes back to be let go.
     #[inline]
-    pub(crate) fn keep(&mut self, arena: P::Packed, loan: Loan<L>)
-        requires { IsUnused L.kind (P.unpacked arena) }
-        ensures { self.new ≡ store self.old (P.unpacked arena, loan.id) }
+    pub(crate) fn keep(
+        &mut self,
+        arena: P::Packed,
+        allocated: u64,
+        loan: Loan<L>,
+    ) -> Option<P::Packed>
+        requires unused { IsUnused L.kind (P.unpacked arena) }
+        requires allocated { allocated ≡ allocated_bytes (P.unpacked arena).memory.state }
+        ensures { self.new ≡ keep self.old (P.unpacked arena, loan.id) }
     {
         let (stock, lending) = &mut self.pair;
         let id = lending.settle(loan);
-        stock.keep(arena, id);
+        stock.keep(arena, allocated, id)
     }
 
     // The arena of a loan doesn't come back.

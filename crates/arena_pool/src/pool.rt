@@ -1,6 +1,6 @@
 // The pool under its lock.
-ghost use Rattle.std.specs.Prelude.{◌≡◌, ◌%◌, ◌≤◌, IfOk, IsOk, IsTrue};
-ghost use Rattle.arena_pool.specs.Kinds.{is_fixed, IsUnused};
+ghost use Rattle.std.specs.Prelude.{◌≡◌, ◌%◌, ◌≤◌, None, Some, IfOk, IsOk, IsTrue};
+ghost use Rattle.arena_pool.specs.Kinds.{is_fixed, IsUnused, IsWithin};
 ghost use Rattle.arena_pool.specs.Names.{IsBlankOf};
 ghost use Rattle.arena_pool.specs.declared.kind.PoolKind.TheVariants.{Standard, FixedSize};
 
@@ -40,8 +40,34 @@ impl<K: ChunkMaker, L: PoolName> AllocatorPool<K, L> {
         K: Drop,
         requires blank { IsBlankOf L.name L.parts blank }
         requires kind { L.kind ≡ Standard }
+        requires limit { L.limit ≡ None }
     {
-        let stock = Stock::of_kind(alloc, PoolKind::Standard, thread_count, maker)?;
+        let stock = Stock::of_kind(alloc, PoolKind::Standard, None, thread_count, maker)?;
+        Ok(AllocatorPool {
+            shared: Shared::over(stock, blank),
+        })
+    }
+
+    /// The same with a limit in bytes: an arena that comes back and still has more after its reset, which keeps the newest
+    /// chunk alone, is dropped and counted as given up.
+    ///
+    /// # Errors
+    ///
+    /// Memory is wanting.
+    pub fn new_with_limit(
+        alloc: Global,
+        thread_count: u32,
+        limit: u64,
+        maker: K,
+        blank: Blank,
+    ) -> Result<AllocatorPool<K, L>, OutOfMemory>
+    where
+        K: Drop,
+        requires blank { IsBlankOf L.name L.parts blank }
+        requires kind { L.kind ≡ Standard }
+        requires limit { L.limit ≡ Some limit }
+    {
+        let stock = Stock::of_kind(alloc, PoolKind::Standard, Some(limit), thread_count, maker)?;
         Ok(AllocatorPool {
             shared: Shared::over(stock, blank),
         })
@@ -63,10 +89,17 @@ impl<K: ChunkMaker, L: PoolName> AllocatorPool<K, L> {
         K: Drop,
         requires blank { IsBlankOf L.name L.parts blank }
         requires kind { L.kind ≡ FixedSize bytes }
+        requires limit { L.limit ≡ None }
         requires units { bytes % 16 ≡ 0 }
         requires room { 48 ≤ bytes }
     {
-        let stock = Stock::of_kind(alloc, PoolKind::FixedSize { bytes }, thread_count, maker)?;
+        let stock = Stock::of_kind(
+            alloc,
+            PoolKind::FixedSize { bytes },
+            None,
+            thread_count,
+            maker,
+        )?;
         Ok(AllocatorPool {
             shared: Shared::over(stock, blank),
         })
@@ -81,6 +114,7 @@ impl<K: ChunkMaker, L: PoolName> AllocatorPool<K, L> {
     /// Memory for the place or the box of a new arena is wanting. A fixed pool never refuses.
     pub fn get<R: Wait>(&self, rt: &R) -> Result<AllocatorGuard<'_, K, L>, OutOfMemory>
         ensures unused { IfOk result (λ guard. IsUnused L.kind guard.0) }
+        ensures within { IfOk result (λ guard. IsWithin L.limit guard.0) }
         ensures fixed { IsTrue (is_fixed L.kind) → IsOk result }
     {
         let (arena, loan) = self.shared.lend(rt)?;
@@ -94,6 +128,7 @@ impl<K: ChunkMaker, L: PoolName> AllocatorPool<K, L> {
     /// As of `get`.
     pub fn get_wait<R: Wait>(&self, rt: &R) -> Result<AllocatorGuard<'_, K, L>, OutOfMemory>
         ensures unused { IfOk result (λ guard. IsUnused L.kind guard.0) }
+        ensures within { IfOk result (λ guard. IsWithin L.limit guard.0) }
         ensures fixed { IsTrue (is_fixed L.kind) → IsOk result }
     {
         self.get(rt)

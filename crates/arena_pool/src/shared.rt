@@ -1,7 +1,8 @@
 // A stock of arenas under a lock, whoever lends them.
 ghost use Rattle.std.specs.Prelude.{◌≡◌, IfOk, IsOk, IsTrue};
 ghost use Rattle.std.specs.Sync.Mutex.{mutex_guard_value};
-ghost use Rattle.arena_pool.specs.Kinds.{is_fixed, IsUnused};
+ghost use Rattle.placement.specs.State.{allocated_bytes};
+ghost use Rattle.arena_pool.specs.Kinds.{is_fixed, IsUnused, IsWithin};
 ghost use Rattle.arena_pool.specs.Names.{IsBlankOf};
 ghost use Rattle.arena_pool.specs.Pool.{can_take};
 
@@ -28,6 +29,7 @@ impl<K: ChunkMaker, L: PoolName, P: Packing<Allocator<K::Chunks>>> Shared<K, L, 
     pub(crate) fn over(stock: Stock<K, P>, blank: Blank) -> Shared<K, L, P>
         requires blank { IsBlankOf L.name L.parts blank }
         requires kind { stock.kind ≡ L.kind }
+        requires limit { stock.limit ≡ L.limit }
         requires none_lent { stock.lent ≡ 0 }
     {
         let pair = (stock, Lending::open(blank));
@@ -46,6 +48,7 @@ impl<K: ChunkMaker, L: PoolName, P: Packing<Allocator<K::Chunks>>> Shared<K, L, 
     #[inline]
     pub(crate) fn lend<R: Wait>(&self, rt: &R) -> Result<(P::Packed, Loan<L>), OutOfMemory>
         ensures unused { IfOk result (λ lent. IsUnused L.kind (P.unpacked lent.0)) }
+        ensures within { IfOk result (λ lent. IsWithin L.limit (P.unpacked lent.0)) }
         ensures fixed { IsTrue (is_fixed L.kind) → IsOk result }
     {
         let mut lender = self.ready(rt);
@@ -108,14 +111,17 @@ impl<K: ChunkMaker, L: PoolName, P: Packing<Allocator<K::Chunks>>> Shared<K, L, 
         }
     }
 
-    // Stores an arena of which nothing is used, and wakes one that waits.
+    // Stores an arena of which nothing is used and which has so many bytes, and wakes one that waits. Where it passes the
+    // limit it is dropped, once the lock is free.
     #[inline]
-    pub(crate) fn add<R: Wait>(&self, rt: &R, arena: P::Packed, loan: Loan<L>)
-        requires { IsUnused L.kind (P.unpacked arena) }
+    pub(crate) fn add<R: Wait>(&self, rt: &R, arena: P::Packed, allocated: u64, loan: Loan<L>)
+        requires unused { IsUnused L.kind (P.unpacked arena) }
+        requires allocated { allocated ≡ allocated_bytes (P.unpacked arena).memory.state }
     {
         let mut lender = self.lock(rt);
-        lender.keep(arena, loan);
+        let gone = lender.keep(arena, allocated, loan);
         self.wake_one(lender);
+        drop(gone);
     }
 
     // An arena doesn't come back. One that waits for its part of the ledger is woken.

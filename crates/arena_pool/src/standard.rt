@@ -1,5 +1,5 @@
 // A standard pool that lends bare arenas.
-ghost use Rattle.std.specs.Prelude.{◌≡◌, IfOk};
+ghost use Rattle.std.specs.Prelude.{◌≡◌, None, IfOk};
 ghost use Rattle.arena_pool.specs.Kinds.{IsOfKind, IsUnused};
 ghost use Rattle.arena_pool.specs.Names.{IsBlankOf};
 ghost use Rattle.arena_pool.specs.declared.kind.PoolKind.TheVariants.{Standard};
@@ -39,8 +39,9 @@ impl<K: ChunkMaker, L: PoolName> StandardAllocatorPool<K, L> {
         K: Drop,
         requires blank { IsBlankOf L.name L.parts blank }
         requires kind { L.kind ≡ Standard }
+        requires limit { L.limit ≡ None }
     {
-        let stock = Stock::of_kind(alloc, PoolKind::Standard, thread_count, maker)?;
+        let stock = Stock::of_kind(alloc, PoolKind::Standard, None, thread_count, maker)?;
         let pool = Shared::over(stock, blank);
         Ok(StandardAllocatorPool { pool })
     }
@@ -61,8 +62,8 @@ impl<K: ChunkMaker, L: PoolName> StandardAllocatorPool<K, L> {
         requires { IsOfKind Standard a.memory.state }
     {
         let mut a = a;
-        empty(&mut a);
-        self.pool.add(rt, a, loan);
+        let allocated = empty(&mut a);
+        self.pool.add(rt, a, allocated, loan);
     }
 
     /// The arena of the loan doesn't come back.

@@ -1,7 +1,8 @@
 // The arenas that a pool stores, however it packs them, and its counts.
 ghost use Rattle.std.specs.Prelude.{◌≡◌, ◌+◌, ◌<◌, IfOk};
-ghost use Rattle.arena_pool.specs.Kinds.{is_fixed, HasId, HasRegions, IsNew, IsUnused};
-ghost use Rattle.arena_pool.specs.Pool.{Begins, Gets, LendsStored, IsPool, IsPooled, store, give_up};
+ghost use Rattle.placement.specs.State.{allocated_bytes};
+ghost use Rattle.arena_pool.specs.Kinds.{is_fixed, is_within, HasId, HasLimit, HasRegions, IsNew, IsUnused, IsWithin};
+ghost use Rattle.arena_pool.specs.Pool.{Begins, Gets, LendsStored, IsPool, IsPooled, store, keep, give_up};
 
 use crate::book::{Counts, PoolErr};
 use crate::kind::PoolKind;
@@ -16,6 +17,7 @@ use std::marker::Model;
 #[derive(Drop)]
 pub(crate) struct Stock<K: ChunkMaker, P: Packing<Allocator<K::Chunks>>> {
     kind: PoolKind,
+    limit: Option<u64>,
     stack: Vec<Stored<K, P>>,
     made: u64,
     lent: u64,
@@ -26,12 +28,14 @@ pub(crate) struct Stock<K: ChunkMaker, P: Packing<Allocator<K::Chunks>>> {
 
 impl<K: ChunkMaker, P: Packing<Allocator<K::Chunks>>> Model for Stock<K, P> {
     ghost use Rattle.std.specs.Prelude.{◌≡◌, ◌+◌, ◌≤◌, All, vec_len, vec_capacity};
+    ghost use Rattle.arena_pool.specs.Kinds.{HasLimit};
     ghost use Rattle.arena_pool.specs.Pool.{Pool, IsPooled};
 
     ghost Value = { Pool };
 
     ghost view = { λ b. record {
       kind = b.kind;
+      limit = b.limit;
       stack = b.stack.items;
       made = b.made;
       stored = vec_len b.stack;
@@ -41,7 +45,8 @@ impl<K: ChunkMaker, P: Packing<Allocator<K::Chunks>>> Model for Stock<K, P> {
 
     ghost invariant = { λ b. (b.made ≡ vec_len b.stack + b.lent + b.given_up)
         × (vec_len b.stack + b.lent ≤ vec_capacity b.stack)
-        × All (IsPooled b.kind) b.stack.items };
+        × All (IsPooled b.kind b.limit) b.stack.items
+        × HasLimit b.kind b.limit };
 }
 
 // A new arena of the kind.
@@ -80,17 +85,19 @@ fn new_packed<K: ChunkMaker, P: Packing<Allocator<K::Chunks>>>(
 }
 
 impl<K: ChunkMaker, P: Packing<Allocator<K::Chunks>>> Stock<K, P> {
-    // A pool with so many new arenas.
+    // A pool with so many new arenas, which keeps none of more bytes than the limit.
     pub(crate) fn of_kind(
         alloc: Global,
         kind: PoolKind,
+        limit: Option<u64>,
         count: u32,
         maker: K,
     ) -> Result<Stock<K, P>, OutOfMemory>
     where
         K: Drop,
-        requires { HasRegions kind }
-        ensures { IfOk result (Begins kind count) }
+        requires regions { HasRegions kind }
+        requires limit { HasLimit kind limit }
+        ensures { IfOk result (Begins kind limit count) }
     {
         let mut maker = maker;
         let Ok(mut stack) = Vec::with_capacity(alloc, count as usize) else {
@@ -105,6 +112,7 @@ impl<K: ChunkMaker, P: Packing<Allocator<K::Chunks>>> Stock<K, P> {
         }
         Ok(Stock {
             kind,
+            limit,
             stack,
             made: u64::from(count),
             lent: 0,
@@ -118,7 +126,7 @@ impl<K: ChunkMaker, P: Packing<Allocator<K::Chunks>>> Stock<K, P> {
     #[inline]
     pub(crate) fn take(&mut self) -> Result<Stored<K, P>, PoolErr>
         ensures gets { Gets self.old result self.new }
-        ensures lent { IfOk result (IsPooled self.old.kind) }
+        ensures lent { IfOk result (IsPooled self.old.kind self.old.limit) }
     {
         if self.stack.len() > 0 {
             return Ok(self.take_stored());
@@ -131,7 +139,7 @@ impl<K: ChunkMaker, P: Packing<Allocator<K::Chunks>>> Stock<K, P> {
     fn take_stored(&mut self) -> Stored<K, P>
         requires { 0 < self.old.stored }
         ensures lends { LendsStored self.old result self.new }
-        ensures lent { IsPooled self.old.kind result }
+        ensures lent { IsPooled self.old.kind self.old.limit result }
     {
         self.lent += 1;
         self.stack.take_last()
@@ -143,7 +151,7 @@ impl<K: ChunkMaker, P: Packing<Allocator<K::Chunks>>> Stock<K, P> {
     fn take_new(&mut self) -> Result<Stored<K, P>, PoolErr>
         requires { self.old.stored ≡ 0 }
         ensures gets { Gets self.old result self.new }
-        ensures lent { IfOk result (IsPooled self.old.kind) }
+        ensures lent { IfOk result (IsPooled self.old.kind self.old.limit) }
     {
         if self.kind.is_fixed() {
             return Err(PoolErr::PoolEmpty);
@@ -162,11 +170,46 @@ impl<K: ChunkMaker, P: Packing<Allocator<K::Chunks>>> Stock<K, P> {
         Ok(Stored { arena, id: None })
     }
 
-    // Stores one that was lent and of which nothing is used.
+    // Stores one that was lent and of which nothing is used. Where it has more bytes than the limit it is counted as given
+    // up, and comes back to be let go.
     #[inline]
-    pub(crate) fn keep(&mut self, arena: P::Packed, id: Option<u32>)
+    pub(crate) fn keep(
+        &mut self,
+        arena: P::Packed,
+        allocated: u64,
+        id: Option<u32>,
+    ) -> Option<P::Packed>
         requires lent { 0 < self.old.lent }
         requires unused { IsUnused self.old.kind (P.unpacked arena) }
+        requires allocated { allocated ≡ allocated_bytes (P.unpacked arena).memory.state }
+        requires id { HasId self.old.kind id }
+        ensures { self.new ≡ keep self.old (P.unpacked arena, id) }
+    {
+        if self.is_within(allocated) {
+            self.store(arena, id);
+            return None;
+        }
+        self.forget();
+        Some(arena)
+    }
+
+    // Whether one of so many bytes doesn't pass the limit.
+    #[inline]
+    fn is_within(&self, allocated: u64) -> bool
+        ensures { result ≡ is_within self.now.limit allocated }
+    {
+        match self.limit {
+            Some(limit) => allocated <= limit,
+            None => true,
+        }
+    }
+
+    // Stores one that was lent, of which nothing is used and which doesn't pass the limit.
+    #[inline]
+    fn store(&mut self, arena: P::Packed, id: Option<u32>)
+        requires lent { 0 < self.old.lent }
+        requires unused { IsUnused self.old.kind (P.unpacked arena) }
+        requires within { IsWithin self.old.limit (P.unpacked arena) }
         requires id { HasId self.old.kind id }
         ensures { self.new ≡ store self.old (P.unpacked arena, id) }
     {
@@ -181,6 +224,13 @@ impl<K: ChunkMaker, P: Packing<Allocator<K::Chunks>>> Stock<K, P> {
     {
         self.lent -= 1;
         self.given_up += 1;
+    }
+
+    // The limit, if there is one.
+    pub(crate) fn limit(&self) -> Option<u64>
+        ensures { result ≡ self.now.limit }
+    {
+        self.limit
     }
 
     // Whether the arenas don't grow.

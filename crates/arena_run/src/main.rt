@@ -1,8 +1,10 @@
-//! Reads calls on a bump arena from standard input, a line for each, and prints a line for each reply.
+//! Reads calls on a bump arena, or scripts, from standard input, and prints a line for each reply.
 #![tactic(auto)]
 
-use arena_calls::{StdInput, StdOutput, program_chunks, run_program};
+use arena_calls::{StdInput, StdOutput};
 use arena_chunks::Arena;
+use arena_program::{program_chunks, program_maker, run_program};
+use arena_script::Engine;
 use std::io::Lock;
 use std::process::ExitCode;
 use std::{env, io};
@@ -13,7 +15,9 @@ fn main(rt: HostRuntime) -> ExitCode {
     let mut input = StdInput::new(rt.reader());
     let mut output = StdOutput::new(io::writer(&rt));
     let mut messages = StdOutput::new(rt.stderr().lock());
+    let mut starved = Vec::new(rt.alloc());
     run_program(
+        &rt,
         rt.alloc(),
         env::args(&rt),
         &mut arena,
@@ -21,5 +25,8 @@ fn main(rt: HostRuntime) -> ExitCode {
         &mut input,
         &mut output,
         &mut messages,
+        program_maker(rt.alloc()),
+        &Engine,
+        &mut starved,
     )
 }

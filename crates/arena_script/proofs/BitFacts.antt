@@ -5,10 +5,10 @@ use Rattle.std.proofs.lemmas.Bool.{cases_lt}
 use Rattle.std.proofs.lemmas.Bool.Decides.{nat_tests}
 use Rattle.placement.specs.Bits.{Set, nothing, with_bit, without_bit, joined, below}
 use Rattle.script_rules.specs.Objects.{Bits, get, has, bind, unbind, united, are_rising}
-use Rattle.script_rules.proofs.EntryLemmas.{rising_bind, rising_unbind, rising_united}
-use Rattle.script_rules.proofs.LookupLemmas.{get_bind, get_unbind, has_united}
+use Rattle.script_rules.proofs.EntryLemmas.{rising_united}
+use Rattle.script_rules.proofs.LookupLemmas.{has_united}
 use Rattle.arena_script.specs.Things.{bits_below}
-use Rattle.arena_script.proofs.EntryFacts.{get_at, get_past, rising_from, entries_are}
+use Rattle.arena_script.proofs.EntryFacts.{get_at, get_past, rising_from, entries_are, entries_with, entries_without}
 
 abbrev mark : Bool → Option (Unit {0})
 mark b = if b then Some tt else None
@@ -48,13 +48,8 @@ module _ (end : ℕ) (set : Set) where
 
   -- A bit more, in both.
   pub bits_with : (bit : ℕ) → bit < end → bits_below end (with_bit set bit) ≡ bind (bits_below end set) bit tt
-  bits_with bit inside = entries_are (λ n. mark (with_bit set bit n)) end (bind (bits_below end set) bit tt)
-      (rising_bind (bits_below end set) bit tt rising)
-      (λ q low. get_bind (bits_below end set) bit tt q ∙ ap (λ o. if q == bit then Some tt else o) (get_bit q low) ∙ with_mark (set q)
-      (q == bit))
-      (λ q high. get_bind (bits_below end set) bit tt q
-      ∙ ap (λ b. if b then Some tt else get (bits_below end set) q) (let f : (q == bit) ≡ false = grind (arith, nat_tests) in f) ∙ no_bit
-      q high)
+  bits_with bit inside = entries_with (λ n. mark (set n)) (λ n. mark (with_bit set bit n)) end bit tt inside
+      (λ q low. sym (with_mark (set q) (q == bit)))
 
   without_mark : (s t : Bool) → (if t then None else mark s) ≡ mark (s && not t)
   without_mark true true = refl
@@ -64,15 +59,8 @@ module _ (end : ℕ) (set : Set) where
 
   -- A bit less, in both.
   pub bits_without : (bit : ℕ) → bits_below end (without_bit set bit) ≡ unbind (bits_below end set) bit
-  bits_without bit = entries_are (λ n. mark (without_bit set bit n)) end (unbind (bits_below end set) bit)
-      (rising_unbind (bits_below end set) bit rising)
-      (λ q low. get_unbind (bits_below end set) bit q ∙ ap (λ o. if q == bit then None else o) (get_bit q low) ∙ without_mark (set q)
-      (q == bit))
-      (λ q high. get_unbind (bits_below end set) bit q ∙ either (q == bit) (get (bits_below end set) q) (no_bit q high))
-    where
-      either : (b : Bool) (o : Option (Unit {0})) → o ≡ None → (if b then None else o) ≡ None
-      either true o e = refl
-      either false o e = e
+  bits_without bit = entries_without (λ n. mark (set n)) (λ n. mark (without_bit set bit n)) end bit
+      (λ q low. sym (without_mark (set q) (q == bit)))
 
 -- Those of two sets, in both.
 module _ (end other_end : ℕ) (set other : Set) where

@@ -1,5 +1,6 @@
 -- What calls of a command cost: one block, or none.
-use Rattle.std.proofs.Common.{◌≡◌, ◌≢◌, ℕ, ◌+◌, ◌-◌, ◌*◌, ◌^◌, ◌≤◌, refl, ap, ◌∙◌, subst, arith, IsTrue, Result, Ok, Err}
+use Rattle.std.proofs.Common.{◌≡◌, ◌≢◌, ℕ, ◌+◌, ◌-◌, ◌*◌, ◌^◌, ◌≤◌, refl, ap, ◌∙◌, sym, subst, arith, IsTrue, Result, Ok, Err, inl}
+use Rattle.std.specs.Prelude.{IsErrAnd}
 use Rattle.placement.specs.Rounding.{is_layout}
 use Rattle.placement.specs.State.{State, used_bytes, allocated_bytes}
 use Rattle.placement.specs.Asking.{IsStarved as IsStateStarved}
@@ -10,14 +11,17 @@ use Rattle.arena_chunks.specs.Answers.Answer.{Placed, Wanting, Refused}
 use Rattle.arena_chunks.specs.BlockCalls.{PlacesBlock}
 use Rattle.arena_chunks.specs.declared.block.Block.{Block}
 use Rattle.arena_chunks.proofs.Layers.{asks_same}
-use Rattle.arena_items.specs.Costs.{Costs, Covers, farthest}
+use Rattle.arena_items.specs.Costs.{Costs, farthest}
 use Rattle.arena_items.specs.Room.{MakesRoom, TakesRoom, RoomAnswer, SamePlaces}
 use Rattle.arena_items.specs.Values.{IsHeld}
 use Rattle.arena_items.specs.declared.room.Growth.TheVariants.{GrowsTo}
 use Rattle.arena_items.specs.declared.room.AllocError.{AllocError}
 use Rattle.arena_items.specs.declared.room.AllocError.TheVariants.{AllocErr, CapacityOverflow, OutOfMemory}
 use Rattle.arena_items.proofs.Layers.{costs_nothing, room_costs, costs_weaken}
-use Rattle.arena_script.specs.Acts.{used, far, CostsGiven, CostsRefused}
+use Rattle.script_rules.specs.declared.commands.Command.{Command}
+use Rattle.arena_script.specs.Things.{Things}
+use Rattle.arena_script.specs.Acts.{used, far, CostsGiven, CostsRefused, GivesNothing, Acts}
+use Rattle.arena_script.specs.declared.act.Act.{Act}
 
 pub still : (a : View) → SamePlaces a a
 still a = record { state = refl; statistics = refl; source = refl }
@@ -67,6 +71,12 @@ pub record IsRefused (cost before : ℕ) (old new : View) (e : AllocError) : Typ
   pub fits : e ≢ CapacityOverflow
   pub costs : CostsRefused cost before before old new e
   pub same : new.memory.state ≡ old.memory.state
+
+-- What was refused is handed on.
+pub not_given : {command : Command} {things : Things} {old new : View} {e : AllocError} (result : Result Act AllocError)
+    → IsErrAnd result (λ x. x ≡ e) → GivesNothing command things old new e → Acts command things old new result
+not_given (Ok act) is gives = absurd is
+not_given {command} {things} {old} {new} (Err x) is gives = inl (subst (λ y. GivesNothing command things old new y) (sym is) gives)
 
 -- ---- Room that grows
 

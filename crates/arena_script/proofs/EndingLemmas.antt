@@ -1,11 +1,12 @@
 -- How a run ends.
-use Rattle.std.proofs.Common.{◌≡◌, ℕ, ◌+◌, ◌*◌, ◌≤◌, ◌<◌, refl, sym, ap, ◌∙◌, subst, arith, inl, inr, Bool, true, false, Some, Ok, Err, get_or, add-one, List, [], ◌∷◌, ◌++◌, length, take, length-take, slice_get, IsTrue}
+use Rattle.std.proofs.Common.{◌≡◌, ℕ, ◌+◌, ◌*◌, ◌≤◌, ◌<◌, refl, sym, ap, ◌∙◌, subst, arith, inl, inr, Bool, true, false, Some, Err, get_or, add-one, List, [], ◌∷◌, ◌++◌, length, take, length-take, slice_get, IsTrue}
 use Rattle.std.specs.Prelude.{if◌then◌else◌, IsSomeAnd, ◌≢◌}
 use Rattle.std.proofs.Math.Seq.{take-length, take-suc}
 use Rattle.std.proofs.lemmas.Option.{slice_get-get_or}
 use Rattle.placement.proofs.AskingLemmas.{asks_more}
 use Rattle.arena_chunks.specs.Memory.{Memory}
 use Rattle.arena_chunks.specs.Source.{View}
+use Rattle.arena_chunks.specs.Asking.{IsFull}
 use Rattle.arena_hash.specs.Maps.{IsMapIn}
 use Rattle.arena_hash.specs.declared.map.HashMap.{HashMap}
 use Rattle.arena_hash.specs.declared.hasher.FxHasher.{FxHasher}
@@ -13,6 +14,7 @@ use Rattle.arena_items.specs.declared.room.AllocError.{AllocError}
 use Rattle.arena_items.specs.declared.room.AllocError.TheVariants.{AllocErr}
 use Rattle.script_rules.specs.Objects.{need}
 use Rattle.script_rules.specs.Machine.{run, run_from, cost_of, cost_of_first}
+use Rattle.script_rules.specs.Starved.{IsStarvedWithin}
 use Rattle.script_rules.specs.declared.commands.Command.{Command}
 use Rattle.script_rules.specs.declared.commands.Ended.{Ended}
 use Rattle.script_rules.specs.declared.commands.Ended.TheVariants.{Done, Full, Refused, OutOfMemory}
@@ -22,7 +24,7 @@ use Rattle.script_rules.proofs.RunLemmas.{first_cost, first_replies, reply_count
 use Rattle.arena_script.specs.Kinds.{pairs}
 use Rattle.arena_script.specs.Things.{Things}
 use Rattle.arena_script.specs.Acts.{used}
-use Rattle.arena_script.specs.Serves.{IsAfter, KeepsKind, Stops}
+use Rattle.arena_script.specs.Serves.{IsAfter, Stops}
 use Rattle.arena_script.specs.Wants.{takes_memory}
 use Rattle.arena_script.specs.Running.{IsRun, IsStoppedAt, cost_with_next}
 use Rattle.arena_script.proofs.RunningLemmas.{stopped_costs, stopped_kind}
@@ -109,54 +111,44 @@ module _ (script : List Command) (start : View) (replies : List ScriptReply) (i 
     stopped_at ended = subst (λ n. IsSomeAnd (slice_get script n) (λ c. IsTrue (takes_memory c))) (sym counted)
         (subst (λ o. IsSomeAnd o (λ c. IsTrue (takes_memory c))) (sym at.is) stops.taken)
 
-    -- Memory was wanting.
-    pub run_wanting : IsRun script start next (came replies OutOfMemory bytes)
-    run_wanting = record {
-      replies = record { first = first; all = λ e. absurd (cc) };
-      holds = λ e. absurd (cc);
+    -- It ended otherwise than done.
+    run_stopped : (ended : Ended) → ended ≢ Done → (ended ≡ Full → IsFull (cost_with_next script (came replies ended bytes)) start)
+        → (ended ≡ Refused → IsStarvedWithin (cost_with_next script (came replies ended bytes)) start.memory.state next.memory.state
+        start.source next.source)
+        → IsRun script start next (came replies ended bytes)
+    run_stopped ended other full refused = record {
+      replies = record { first = first; all = λ e. absurd (other e) };
+      holds = λ e. absurd (other e);
       used = is;
-      most = most_used OutOfMemory;
-      least = λ e. absurd (cc);
-      full = λ e. absurd (cc);
-      refused = λ e. absurd (cc);
-      stopped = λ other. inr (stopped_at OutOfMemory);
+      most = most_used ended;
+      least = λ e. absurd (other e);
+      full = full;
+      refused = refused;
+      stopped = λ _. inr (stopped_at ended);
       kind = stopped_kind script start now next things i c at.more after e stops;
     }
+
+    -- Memory was wanting.
+    pub run_wanting : IsRun script start next (came replies OutOfMemory bytes)
+    run_wanting = run_stopped OutOfMemory (λ e. cc) (λ e. absurd (cc)) (λ e. absurd (cc))
 
     -- The arena refused a block.
     pub run_refused : (k : ℕ) → e ≡ AllocErr k → (grows : Bool) → next.memory.state.is_growing ≡ grows
         → IsRun script start next (came replies (if grows then Refused else Full) bytes)
     run_refused k refused true grows =
         let costs = stopped_costs script start now next things i c at.more after e stops in
-        let kind = stopped_kind script start now next things i c at.more after e stops in record {
-          replies = record { first = first; all = λ e. absurd (cc) };
-          holds = λ e. absurd (cc);
-          used = is;
-          most = most_used Refused;
-          least = λ e. absurd (cc);
-          full = λ e. absurd (cc);
-          refused = λ _. record {
-            asks = asks_more _ _ start.memory.state next.memory.state start.source next.source
-                (omega (arith, next_cost Refused bytes)) costs.asks;
-            starved = costs.starved (sym kind.is_growing ∙ grows) k (ap Err refused);
-          };
-          stopped = λ other. inr (stopped_at Refused);
-          kind = kind;
-        }
+        let kind = stopped_kind script start now next things i c at.more after e stops in
+        run_stopped Refused (λ e. cc) (λ e. absurd (cc)) (λ _. record {
+          asks = asks_more _ _ start.memory.state next.memory.state start.source next.source
+              (omega (arith, next_cost Refused bytes)) costs.asks;
+          starved = costs.starved (sym kind.is_growing ∙ grows) k (ap Err refused);
+        })
     run_refused k refused false stays =
         let costs = stopped_costs script start now next things i c at.more after e stops in
         let kind = stopped_kind script start now next things i c at.more after e stops in
-        let short = costs.full (sym kind.is_growing ∙ stays) k (ap Err refused) in record {
-          replies = record { first = first; all = λ e. absurd (cc) };
-          holds = λ e. absurd (cc);
-          used = is;
-          most = most_used Full;
-          least = λ e. absurd (cc);
-          full = λ _. record { still = short.still; short = omega (arith, short.short, unused, next_cost Full bytes) };
-          refused = λ e. absurd (cc);
-          stopped = λ other. inr (stopped_at Full);
-          kind = kind;
-        }
+        let short = costs.full (sym kind.is_growing ∙ stays) k (ap Err refused) in
+        run_stopped Full (λ e. cc)
+        (λ _. record { still = short.still; short = omega (arith, short.short, unused, next_cost Full bytes) }) (λ e. absurd (cc))
 
 -- No command was served, since there was no memory for the replies.
 pub run_unbegun : (script : List Command) (start : View) → used start ≡ 0 → (bytes : ℕ) → bytes ≡ used start

@@ -1,11 +1,13 @@
 -- Entries of functions.
-use Rattle.std.proofs.Common.{◌≡◌, ℕ, zero, suc, ◌+◌, ◌<◌, ◌≤◌, refl, sym, ap, ◌∙◌, arith, true, false, cond, ◌&&◌, Option, Some, None, IsTrue, nat_cmp, is_lt, inl, inr}
+use Rattle.std.proofs.Common.{◌≡◌, ℕ, zero, suc, ◌+◌, ◌<◌, ◌≤◌, refl, sym, ap, ◌∙◌, arith, Bool, true, false, cond, ◌&&◌, Option, Some, None, IsTrue, nat_cmp, is_lt, inl, inr}
+use Rattle.std.specs.Prelude.{◌==◌, if◌then◌else◌}
 use Rattle.std.specs.Ordering.{eq_by_cmp}
 use Rattle.std.specs.FinMap.Entries.{below_all}
 use Rattle.std.proofs.lemmas.Bool.{cases_lt}
 use Rattle.std.proofs.lemmas.Bool.Decides.{nat_tests}
-use Rattle.script_rules.specs.Objects.{Entries, get, are_rising}
-use Rattle.script_rules.proofs.LookupLemmas.{same_by_get}
+use Rattle.script_rules.specs.Objects.{Entries, get, bind, unbind, are_rising}
+use Rattle.script_rules.proofs.EntryLemmas.{rising_bind, rising_unbind}
+use Rattle.script_rules.proofs.LookupLemmas.{same_by_get, get_bind, get_unbind}
 use Rattle.arena_script.specs.Things.{entry_then, entries_from, entries_below}
 
 tied : (x : ℕ) → eq_by_cmp nat_cmp x x ≡ true
@@ -94,3 +96,30 @@ module _ {X : Type 0} (f : ℕ → Option X) where
         | inl low ↦ get_at end 0 q (omega arith) (omega arith) ∙ sym (within q low)
         | inr high ↦ get_past end 0 q (omega arith) ∙ sym (past q high)
       ]
+
+-- Two functions that differ at one key have entries that differ there.
+module _ {X : Type 0} (f g : ℕ → Option X) (end key : ℕ) where
+  abbrev old_entries : Entries X
+  old_entries = entries_below end f
+
+  rising_old : IsTrue (are_rising old_entries)
+  rising_old = rising_from f end 0
+
+  pub entries_with : (x : X) → key < end → ((q : ℕ) → q < end → g q ≡ (if q == key then Some x else f q))
+      → entries_below end g ≡ bind old_entries key x
+  entries_with x inside differ = entries_are g end (bind old_entries key x) (rising_bind old_entries key x rising_old)
+      (λ q low. get_bind old_entries key x q ∙ ap (λ o. if q == key then Some x else o) (get_at f end 0 q (omega arith) (omega arith))
+      ∙ sym (differ q low))
+      (λ q high. get_bind old_entries key x q
+      ∙ ap (λ b. if b then Some x else get old_entries q) (let t : (q == key) ≡ false = grind (arith, nat_tests) in t)
+      ∙ get_past f end 0 q (omega arith))
+
+  pub entries_without : ((q : ℕ) → q < end → g q ≡ (if q == key then None else f q)) → entries_below end g ≡ unbind old_entries key
+  entries_without differ = entries_are g end (unbind old_entries key) (rising_unbind old_entries key rising_old)
+      (λ q low. get_unbind old_entries key q ∙ ap (λ o. if q == key then None else o) (get_at f end 0 q (omega arith) (omega arith))
+      ∙ sym (differ q low))
+      (λ q high. get_unbind old_entries key q ∙ either (q == key) (get_past f end 0 q (omega arith)))
+    where
+      either : (b : Bool) {o : Option X} → o ≡ None → (if b then None else o) ≡ None
+      either true e = refl
+      either false e = e

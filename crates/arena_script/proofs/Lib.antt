@@ -3,6 +3,7 @@ pub mod BitFacts
 pub mod PairFacts
 pub mod CostFacts
 pub mod ThingLemmas
+pub mod GivingLemmas
 pub mod NeedLemmas
 pub mod ServeLemmas
 pub mod RunningLemmas

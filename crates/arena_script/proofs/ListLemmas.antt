@@ -1,9 +1,9 @@
 -- Lists in an arena: what their growth costs.
-use Rattle.std.proofs.Common.{◌≡◌, ℕ, ◌+◌, ◌-◌, ◌*◌, ◌^◌, ◌<◌, ◌≤◌, refl, sym, ap, ◌∙◌, arith, IsTrue, Ok, Err, Result, List, length}
+use Rattle.std.proofs.Common.{◌≡◌, ℕ, ◌+◌, ◌*◌, ◌^◌, ◌<◌, ◌≤◌, refl, ap, arith, IsTrue, Ok, Err, Result, List, length}
 use Rattle.placement.specs.Rounding.{is_layout}
 use Rattle.arena_chunks.specs.Source.{View}
 use Rattle.arena_items.specs.LayoutLaws.{plain_4}
-use Rattle.arena_items.specs.Room.{MakesRoom, capacity_after}
+use Rattle.arena_items.specs.Room.{capacity_after}
 use Rattle.arena_items.specs.declared.room.AllocError.{AllocError}
 use Rattle.arena_items.specs.declared.room.AllocError.TheVariants.{CapacityOverflow}
 use Rattle.arena_items.specs.declared.room.Growth.{Growth}

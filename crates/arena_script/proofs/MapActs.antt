@@ -1,18 +1,17 @@
 -- What commands on maps do.
-use Rattle.std.proofs.Common.{◌≡◌, ℕ, ◌+◌, ◌-◌, ◌^◌, ◌<◌, ◌≤◌, refl, sym, ap, ◌∙◌, subst, arith, Bool, true, false, is_some, Ok, Err, inl, inr, Option, Some, None, Result, [], ◌∷◌, length, cond, not, IsTrue, nat_cmp}
+use Rattle.std.proofs.Common.{◌≡◌, ℕ, ◌+◌, ◌-◌, ◌^◌, ◌<◌, ◌≤◌, refl, sym, ap, ◌∙◌, subst, arith, Bool, true, false, is_some, Ok, Err, inl, inr, Option, Some, None, [], ◌∷◌, length, cond, IsTrue}
 use Rattle.std.specs.Prelude.{nat_le, nat_lt, if◌then◌else◌}
-use Rattle.std.specs.Option.{option_map}
 use Rattle.std.proofs.lemmas.Bool.{cases_lt, false≢true}
 use Rattle.std.proofs.lemmas.Bool.Decides.{nat_tests}
 use Rattle.placement.specs.Rounding.{up, is_layout, is_power_among}
 use Rattle.placement.proofs.RoundingLemmas.{up_close}
+use Rattle.arena_chunks.specs.Memory.{Memory}
 use Rattle.arena_chunks.specs.Source.{View}
 use Rattle.arena_chunks.specs.declared.block.Block.{Block}
 use Rattle.arena_chunks.proofs.Layers.{empty_after, frame_reflexive, placed_least}
 use Rattle.arena_items.specs.Room.{SamePlaces}
 use Rattle.arena_items.specs.declared.room.AllocError.{AllocError}
-use Rattle.arena_items.specs.declared.room.AllocError.TheVariants.{AllocErr, CapacityOverflow, OutOfMemory}
-use Rattle.arena_hash.specs.Accounts.{spare_of, AsksOnce}
+use Rattle.arena_hash.specs.Accounts.{spare_of}
 use Rattle.arena_hash.specs.Changes.{Puts, TakesOut, IsNew, is_value}
 use Rattle.arena_hash.specs.Finite.{Finite, has, value_of}
 use Rattle.arena_hash.specs.Policy.{limit, growth_for}
@@ -22,83 +21,59 @@ use Rattle.arena_hash.specs.declared.map.HashMap.{HashMap}
 use Rattle.arena_hash.specs.declared.table.Table.{Table}
 use Rattle.arena_chunks.specs.Frame.{Frame}
 use Rattle.arena_hash.specs.declared.hasher.FxHasher.{FxHasher}
-use Rattle.script_rules.specs.Objects.{Entries, get, bind, unbind, are_rising, Object, AMap, most_pairs}
-use Rattle.script_rules.specs.Effects.{Effect, Tells, Gives, unless, binds, number_or_nothing, effect}
-use Rattle.script_rules.specs.Effects as effects
+use Rattle.script_rules.specs.Objects.{Entries, get, bind, unbind, AMap, most_pairs}
+use Rattle.script_rules.specs.Effects.{Tells, Gives, binds, number_or_nothing, effect}
 use Rattle.script_rules.specs.declared.commands.Command.TheVariants.{MakeMap, Bind, Find, Unbind}
-use Rattle.script_rules.specs.declared.commands.ScriptReply.TheVariants.{Done, Nothing, CapacityOverflow as Overflow}
+use Rattle.script_rules.specs.declared.commands.ScriptReply.TheVariants.{Done, CapacityOverflow as Overflow}
 use Rattle.script_rules.proofs.EntryLemmas.{length_bind, length_unbind}
 use Rattle.arena_script.specs.Kinds.{pairs}
-use Rattle.arena_script.specs.Things.{Things, object_in, seen, content, pairs_of, credit_of, size_of, IsPairsIn}
+use Rattle.arena_script.specs.Things.{Things, seen, content, pairs_of, credit_of, IsPairsIn}
 use Rattle.arena_script.specs.Acts.{used, GivesThing, GivesNothing, CostsGiven}
 use Rattle.arena_script.specs.declared.thing.Thing.TheVariants as thing
+use Rattle.arena_script.proofs.GivingLemmas.{exchanged, kept, made}
+use Rattle.arena_script.proofs.ThingLemmas.{Holds}
 use Rattle.arena_script.proofs.PairFacts.{rising, get_pair, has_pair, pairs_with, pairs_without, pairs_none}
 use Rattle.arena_script.proofs.CostFacts.{IsRefused, still, same_used, nothing_given, block_given, block_refused}
 
 -- ---- A new map
 
-module _ (things : Things) (old : View) (name : ℕ) (none : get things name ≡ None) (h : HashMap ℕ ℕ FxHasher)
-    (is : IsNew pairs h.hasher h) where
-  map_made : effect (MakeMap name) (seen old.memory things) ≡ Gives name (AMap []) Done 0
-  unfolding effect
-  map_made = ap (λ (x : Option Object). effects.free x (Gives name (AMap []) Done 0)) (ap (option_map (object_in old.memory)) none)
-
-  no_pairs : pairs_of (map_in pairs old.memory h) ≡ []
-  no_pairs = ap pairs_of (is.map_is old.memory) ∙ pairs_none
-
-  pub made_map : GivesThing (MakeMap name) things old old name (thing.Map h) Done
-  made_map = record {
-    cost = 0;
-    effect_is = rw no_pairs map_made;
-    taken = λ _. refl;
-    held = record { held = is.held old.memory; count = is.len ∙ sym (ap (λ (es : Entries ℕ). length es) no_pairs) };
-    least = rw none (omega (arith, is.block));
-    costs = rw none (nothing_given 0 0 (credit_of (thing.Map h)) old old (still old) (omega (arith, is.credit)));
-    frame = rw none ((empty_after old.memory old.memory [] [] [] h.table.block is.block).1 (frame_reflexive old.memory []));
-  }
+pub made_map : {things : Things} {name : ℕ} → (old : View) → get things name ≡ None → {h : HashMap ℕ ℕ FxHasher} → IsNew pairs h.hasher h
+    → GivesThing (MakeMap name) things old old name (thing.Map h) Done
+unfolding effect
+made_map old none {h} is =
+    let no_pairs = ap pairs_of (is.map_is old.memory) ∙ pairs_none in made none refl (rw (none, no_pairs) refl) (record {
+      held = record { held = is.held old.memory; count = is.len ∙ sym (ap (λ (es : Entries ℕ). length es) no_pairs) };
+      least = omega (arith, is.block);
+      costs = nothing_given 0 0 (credit_of (thing.Map h)) old old (still old) (omega (arith, is.credit));
+      frame = (empty_after old.memory old.memory [] [] [] h.table.block is.block).1 (frame_reflexive old.memory []);
+    })
 
 -- ---- A map that a name holds
 
-module _ (things : Things) (old : View) (name : ℕ) (h : HashMap ℕ ℕ FxHasher) (found : get things name ≡ Some (thing.Map h))
-    (held : IsPairsIn old.memory h) where
+module _ {things : Things} {m : Memory} {name : ℕ} {h : HashMap ℕ ℕ FxHasher} (holds : Holds things m name (thing.Map h)) where
   abbrev is : Finite ℕ ℕ
-  is = map_in pairs old.memory h
+  is = map_in pairs m h
 
   abbrev es : Entries ℕ
   es = pairs_of is
 
-  mapped : (go : Entries ℕ → Effect) → effects.held (seen old.memory things name) (λ o. effects.a_map o go) ≡ go es
-  mapped go = ap (λ (x : Option Object). effects.held x (λ o. effects.a_map o go)) (ap (option_map (object_in old.memory)) found)
-
-  pub find_told : (key : ℕ) → key < 2 ^ 32 → effect (Find name key) (seen old.memory things) ≡ Tells
-      (number_or_nothing (value_of (is (content key))))
+  pub find_told : (key : ℕ) → key < 2 ^ 32 → effect (Find name key) (seen m things) ≡ Tells (number_or_nothing (value_of (is (content key))))
   unfolding effect
-  find_told key small = mapped (λ pairs. Tells (number_or_nothing (get pairs key))) ∙ ap (λ o. Tells (number_or_nothing o))
-      (get_pair is key small)
-
-  -- ---- A key less
+  find_told key small = rw (holds.found, get_pair is key small) refl
 
   pub unbind_given : (key : ℕ) → key < 2 ^ 32
-      → effect (Unbind name key) (seen old.memory things) ≡ Gives name (AMap (unbind es key))
-      (number_or_nothing (value_of (is (content key)))) 0
+      → effect (Unbind name key) (seen m things) ≡ Gives name (AMap (unbind es key)) (number_or_nothing (value_of (is (content key)))) 0
   unfolding effect
-  unbind_given key small =
-      mapped (λ pairs. Gives name (AMap (unbind pairs key)) (number_or_nothing (get pairs key)) 0)
-      ∙ ap (λ o. Gives name (AMap (unbind es key)) (number_or_nothing o) 0) (get_pair is key small)
-
-  -- ---- A pair more
+  unbind_given key small = rw (holds.found, get_pair is key small) refl
 
   pub bind_full : (key value : ℕ) → key < 2 ^ 32 → has is (content key) ≡ false → most_pairs ≤ h.len
-      → effect (Bind name key value) (seen old.memory things) ≡ Tells Overflow
+      → effect (Bind name key value) (seen m things) ≡ Tells Overflow
   unfolding effect
-  bind_full key value small none full =
-      mapped (λ pairs. binds name pairs key value (get pairs key))
-      ∙ by (get es key) (has_pair is key small ∙ none)
+  bind_full key value small none full = rw holds.found (by (get es key) (has_pair is key small ∙ none))
     where
       by : (o : Option ℕ) → is_some o ≡ false → binds name es key value o ≡ Tells Overflow
       by None test =
-          let full_test : nat_le most_pairs (length es) ≡ true = grind (arith, nat_tests, held.count) in
-          ap (λ b. unless b Overflow (Gives name (AMap (bind es key value)) Nothing 256)) full_test
+          let full_test : nat_le most_pairs (length es) ≡ true = grind (arith, nat_tests, holds.held.count) in rw full_test refl
       by (Some old) test = absurd (cc)
 
   -- the cost of a pair, by whether its key is there
@@ -106,85 +81,94 @@ module _ (things : Things) (old : View) (name : ℕ) (h : HashMap ℕ ℕ FxHash
   cost_by there = if there then 0 else 256
 
   pub bind_given : (key value : ℕ) → key < 2 ^ 32 → (has is (content key) ≡ false → h.len < most_pairs)
-      → effect (Bind name key value) (seen old.memory things)
+      → effect (Bind name key value) (seen m things)
       ≡ Gives name (AMap (bind es key value)) (number_or_nothing (value_of (is (content key)))) (cost_by (has is (content key)))
   unfolding effect
   bind_given key value small room =
-      mapped (λ pairs. binds name pairs key value (get pairs key))
-      ∙ by (get es key) (has is (content key)) (has_pair is key small) room
+      rw holds.found (by (get es key) (has is (content key)) (has_pair is key small) room)
       ∙ ap (λ o. Gives name (AMap (bind es key value)) (number_or_nothing o) (cost_by (has is (content key)))) (get_pair is key small)
     where
       by : (o : Option ℕ) (there : Bool) → is_some o ≡ there → (there ≡ false → h.len < most_pairs)
           → binds name es key value o ≡ Gives name (AMap (bind es key value)) (number_or_nothing o) (cost_by there)
       by None false test room =
           let less = room refl in
-          let test : nat_le most_pairs (length es) ≡ false = grind (arith, nat_tests, held.count) in
-          ap (λ b. unless b Overflow (Gives name (AMap (bind es key value)) Nothing 256)) test
+          let test : nat_le most_pairs (length es) ≡ false = grind (arith, nat_tests, holds.held.count) in rw test refl
       by None true test room = absurd (cc)
       by (Some x) true test room = refl
       by (Some x) false test room = absurd (cc)
 
-  -- ---- What the arena does
+-- ---- What the arena does: a key less
 
-  pub unbind_gives : (new : View) (w : HashMap ℕ ℕ FxHasher) (key : ℕ) (old_value : Option ℕ) → key < 2 ^ 32
-      → TakesOut pairs old new h key is_value w old_value
-      → GivesThing (Unbind name key) things old new name (thing.Map w) (number_or_nothing old_value)
-  unbind_gives new w key old_value small out =
-      let same : pairs_of (map_in pairs new.memory w) ≡ unbind es key = ap pairs_of out.becomes.map_is ∙ pairs_without is key small in
-      let count : w.len ≡ length (unbind es key) = out.len ∙ fewer key (has is (content key)) (has_pair is key small) in
-      let given = unbind_given key small in record {
-        cost = 0;
-        effect_is = rw (same, out.says) given;
-        taken = λ none. absurd (cc);
-        held = record { held = out.becomes.held; count = count ∙ sym (ap (λ (fs : Entries ℕ). length fs) same) };
-        least = rw found (omega (arith, out.becomes.costs.bytes, ap (λ (t : Table ℕ ℕ). t.block.size) out.becomes.table));
-        costs = rw found (nothing_given 0 (credit_of (thing.Map h)) (credit_of (thing.Map w)) old new out.becomes.places
-            (omega (arith, out.becomes.costs.credit)));
-        frame = rw found (subst (λ (t : Table ℕ ℕ). Frame old.memory new.memory (h.table.block ∷ []) (t.block ∷ [])) (sym out.becomes.table)
-            out.becomes.frame);
-      }
-    where
-      fewer : (key : ℕ) (there : Bool) → is_some (get es key) ≡ there → (if there then h.len - 1 else h.len) ≡ length (unbind es key)
-      fewer key there is = rw held.count (sym (length_unbind es key (rising (map_in pairs old.memory h))
-          ∙ ap (λ b. cond b (length es - 1) (length es)) is))
+pub unbind_gives : {things : Things} {old new : View} {name : ℕ} {h w : HashMap ℕ ℕ FxHasher} {key : ℕ} {old_value : Option ℕ}
+    → Holds things old.memory name (thing.Map h) → key < 2 ^ 32 → TakesOut pairs old new h key is_value w old_value
+    → GivesThing (Unbind name key) things old new name (thing.Map w) (number_or_nothing old_value)
+unbind_gives {things} {old} {new} {name} {h} {w} {key} {old_value} holds small out =
+    let same : pairs_of (map_in pairs new.memory w) ≡ unbind (es holds) key = ap pairs_of out.becomes.map_is
+    ∙ pairs_without (is holds) key small in
+    let count : w.len ≡ length (unbind (es holds) key) = out.len ∙ fewer (has (is holds) (content key)) (has_pair (is holds) key small) in
+    let given = unbind_given holds key small in exchanged holds (rw (same, out.says) given) (record {
+      held = record { held = out.becomes.held; count = count ∙ sym (ap (λ (fs : Entries ℕ). length fs) same) };
+      least = omega (arith, out.becomes.costs.bytes, ap (λ (t : Table ℕ ℕ). t.block.size) out.becomes.table);
+      costs = nothing_given 0 (credit_of (thing.Map h)) (credit_of (thing.Map w)) old new out.becomes.places
+          (omega (arith, out.becomes.costs.credit));
+      frame = subst (λ (t : Table ℕ ℕ). Frame old.memory new.memory (h.table.block ∷ []) (t.block ∷ [])) (sym out.becomes.table)
+          out.becomes.frame;
+    })
+  where
+    fewer : (there : Bool) → is_some (get (es holds) key) ≡ there → (if there then h.len - 1 else h.len) ≡ length (unbind (es holds) key)
+    fewer there is_there = rw holds.held.count (sym (length_unbind (es holds) key (rising (is holds))
+        ∙ ap (λ b. cond b (length (es holds) - 1) (length (es holds))) is_there))
 
-  -- ---- A pair more
+-- what a table of so many bytes takes
+pub slots_layout : (size : ℕ) → size ≤ 2 ^ 62 → IsTrue (is_layout size 8)
+unfolding is_power_among
+slots_layout size bounded =
+    let near = up_close size 8 (omega arith) in
+    let fits : nat_le (up size 8) (2 ^ 63 - 1) ≡ true = grind (arith, nat_tests) in
+    rw fits refl
+
+-- ---- A pair more
+
+module _ (things : Things) (old : View) (name : ℕ) (h : HashMap ℕ ℕ FxHasher) (holds : Holds things old.memory name (thing.Map h)) where
+  few : h.len < 2 ^ 32
+  few = omega (arith, holds.is.0, holds.held.count)
+
+  abbrev is_old : Finite ℕ ℕ
+  is_old = map_in pairs old.memory h
+
+  abbrev es_old : Entries ℕ
+  es_old = pairs_of is_old
 
   module _ (new : View) (w : HashMap ℕ ℕ FxHasher) (key value : ℕ) (small : key < 2 ^ 32)
-      (room : has is (content key) ≡ false → h.len < most_pairs)
-      (few : h.len < 2 ^ 32) (one : old.memory.state.min_align ≡ 1) where
+      (room : has is_old (content key) ≡ false → h.len < most_pairs) (one : old.memory.state.min_align ≡ 1) where
     abbrev there : Bool
-    there = has is (content key)
+    there = has is_old (content key)
 
-    slots_layout : (size : ℕ) → size ≤ 2 ^ 62 → IsTrue (is_layout size 8)
-    unfolding is_power_among
-    slots_layout size bounded =
-        let near = up_close size 8 (omega arith) in
-        let fits : nat_le (up size 8) (2 ^ 63 - 1) ≡ true = grind (arith, nat_tests) in
-        rw fits refl
+    abbrev paid : Bool → ℕ
+    paid b = if b then 0 else 256
 
     abbrev credit : ℕ
     credit = credit_of (thing.Map h)
 
     credit_small : credit ≤ 2 ^ 40
-    credit_small = omega arith
+    credit_small = omega (arith, few)
 
     -- ---- The pair is put.
 
     module _ (old_value : Option ℕ) (puts : Puts pairs old new h key value is_value w (Ok old_value)) where
-      same_pairs : pairs_of (map_in pairs new.memory w) ≡ bind es key value
-      same_pairs = ap pairs_of puts.map_is ∙ pairs_with is key value small
+      same_pairs : pairs_of (map_in pairs new.memory w) ≡ bind es_old key value
+      same_pairs = ap pairs_of puts.map_is ∙ pairs_with is_old key value small
 
       put_held : IsPairsIn new.memory w
       put_held = record {
         held = puts.held;
-        count = puts.len ∙ counts there (has_pair is key small) ∙ sym (ap (λ (fs : Entries ℕ). length fs) same_pairs);
+        count = puts.len ∙ counts there (has_pair is_old key small) ∙ sym (ap (λ (fs : Entries ℕ). length fs) same_pairs);
       }
         where
-          counts : (b : Bool) → is_some (get es key) ≡ b → (if b then h.len else h.len + 1) ≡ length (bind es key value)
-          counts true test = held.count ∙ sym (length_bind es key value (rising is) ∙ ap (λ b. cond b (length es) (length es + 1)) test)
-          counts false test = ap (λ n. n + 1) held.count ∙ sym
-              (length_bind es key value (rising is) ∙ ap (λ b. cond b (length es) (length es + 1)) test)
+          counts : (b : Bool) → is_some (get es_old key) ≡ b → (if b then h.len else h.len + 1) ≡ length (bind es_old key value)
+          counts true test = holds.held.count ∙ sym (length_bind es_old key value (rising is_old) ∙ ap (λ b. cond b (length es_old) (length es_old + 1)) test)
+          counts false test = ap (λ n. n + 1) holds.held.count ∙ sym
+              (length_bind es_old key value (rising is_old) ∙ ap (λ b. cond b (length es_old) (length es_old + 1)) test)
 
       -- the table stays
       table_stays : growth_for there h.table.slots h.len ≡ Stays → (w.table.block ≡ h.table.block) × SamePlaces old new
@@ -192,14 +176,14 @@ module _ (things : Things) (old : View) (name : ℕ) (h : HashMap ℕ ℕ FxHash
 
       pub record IsPut : Type 0 where
         pub least : used old + w.table.block.size ≤ used new + h.table.block.size
-        pub costs : CostsGiven (cost_by there) credit (credit_of (thing.Map w)) old new
+        pub costs : CostsGiven (paid there) credit (credit_of (thing.Map w)) old new
 
       by_there : (b : Bool) → there ≡ b → IsPut
       by_there true is_there =
           let costs = (puts.costs.there is_there).1 in
           let table = table_stays (rw is_there refl) in record {
             least = omega (arith, costs.bytes, ap (λ (b : Block). b.size) table.0);
-            costs = nothing_given (cost_by there) credit (credit_of (thing.Map w)) old new table.1 (omega (arith, costs.credit));
+            costs = nothing_given (paid there) credit (credit_of (thing.Map w)) old new table.1 (omega (arith, costs.credit));
           }
       by_there false none = elim (cases_lt 0 (spare_of h)) [
         | inl spare ↦ (
@@ -207,11 +191,11 @@ module _ (things : Things) (old : View) (name : ℕ) (h : HashMap ℕ ℕ FxHash
             let less : nat_lt h.len (limit h.table.slots) ≡ true = grind (arith, nat_tests) in
             let table = table_stays (rw (none, less) refl) in record {
               least = omega (arith, costs.bytes, ap (λ (b : Block). b.size) table.0);
-              costs = nothing_given (cost_by there) credit (credit_of (thing.Map w)) old new table.1
+              costs = nothing_given (paid there) credit (credit_of (thing.Map w)) old new table.1
                   (rw none (omega (arith, costs.credit)));
             })
         | inr spent ↦ (
-            let asks = puts.costs.asks none (omega arith) (omega (arith, room none)) in
+            let asks = puts.costs.asks none (omega arith) (omega (arith, room none, few)) in
             let layout = slots_layout asks.size asks.bounded in
             let places = asks.took.took in
             let base = block_given old asks.took.between new asks.size 8 256 credit 0 one layout (omega arith)
@@ -233,38 +217,22 @@ module _ (things : Things) (old : View) (name : ℕ) (h : HashMap ℕ ℕ FxHash
       ]
 
       pub bind_gives : GivesThing (Bind name key value) things old new name (thing.Map w) (number_or_nothing old_value)
-      bind_gives = let put = by_there there refl in record {
-        cost = cost_by there;
-        effect_is = rw (same_pairs, puts.says) (bind_given key value small room);
-        taken = λ _. refl;
-        held = put_held;
-        least = rw found put.least;
-        costs = rw found put.costs;
-        frame = rw found puts.frame;
-      }
+      bind_gives = let put = by_there there refl in
+          exchanged holds (rw (same_pairs, puts.says) (bind_given holds key value small room))
+          (record { held = put_held; least = put.least; costs = put.costs; frame = puts.frame })
 
     -- ---- It isn't.
 
     pub bind_gives_nothing : (e : AllocError) → Puts {X = Option ℕ} pairs old new h key value is_value w (Err e)
         → GivesNothing (Bind name key value) things old new e
-    bind_gives_nothing e puts = let refused = by there refl in record {
-      name = name;
-      object = AMap (bind es key value);
-      reply = number_or_nothing (value_of (is (content key)));
-      cost = cost_by there;
-      effect_is = bind_given key value small room;
-      taken = refl;
-      fits = refused.fits;
-      costs = rw found refused.costs;
-      same = refused.same;
-    }
+    bind_gives_nothing e puts = kept holds refl (bind_given holds key value small room) (by there refl)
       where
-        by : (b : Bool) → there ≡ b → IsRefused (cost_by there) credit old new e
+        by : (b : Bool) → there ≡ b → IsRefused (paid there) credit old new e
         by true is_there = absurd (false≢true (puts.costs.there is_there).0)
         by false none = elim (cases_lt 0 (spare_of h)) [
           | inl spare ↦ absurd (false≢true (puts.costs.room none spare).0)
           | inr spent ↦ (
-              let asks = puts.costs.asks none (omega arith) (omega (arith, room none)) in
+              let asks = puts.costs.asks none (omega arith) (omega (arith, room none, few)) in
               rw none (block_refused old asks.took.between new asks.size 8 256 credit 0 one (slots_layout asks.size asks.bounded)
               (omega arith)
               (omega (arith, asks.within, credit_small)) asks.took.places (λ (x : Option ℕ). w.table.block) e (omega (arith, asks.within))

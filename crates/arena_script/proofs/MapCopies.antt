@@ -1,10 +1,6 @@
 -- What copies of maps do.
-use Rattle.std.proofs.Common.{IsPermutation, ◌≡◌, ℕ, zero, suc, ◌+◌, ◌-◌, ◌*◌, ◌^◌, ◌<◌, ◌≤◌, refl, sym, ap, ◌∙◌, subst, arith, true, is_some, Ok, Err, Option, Some, None, Result, List, [], ◌∷◌, length, IsTrue}
-use Rattle.std.specs.Prelude.{nat_le}
+use Rattle.std.proofs.Common.{IsPermutation, ◌≡◌, ℕ, zero, suc, ◌+◌, ◌-◌, ◌*◌, ◌^◌, ◌<◌, ◌≤◌, refl, sym, ap, ◌∙◌, subst, arith, is_some, Ok, Err, Option, Some, None, Result, List, [], ◌∷◌, length}
 use Rattle.std.proofs.Math.Path.{fun_ext}
-use Rattle.std.proofs.lemmas.Bool.Decides.{nat_tests}
-use Rattle.placement.specs.Rounding.{up, is_layout, is_power_among}
-use Rattle.placement.proofs.RoundingLemmas.{up_close}
 use Rattle.arena_chunks.specs.Memory.{Memory}
 use Rattle.arena_chunks.specs.Source.{View}
 use Rattle.arena_chunks.specs.Frame.{Frame}
@@ -22,15 +18,19 @@ use Rattle.arena_clone.specs.FlatLaws.{none_in_all}
 use Rattle.arena_clone.specs.Kinds.{Kind, plain, row_of, of_some}
 use Rattle.arena_clone.specs.MapKind.{map_of, pair_of, table_ask}
 use Rattle.arena_clone.specs.declared.ids.CloneInSemanticIds.TheVariants.{With}
-use Rattle.script_rules.specs.Objects.{Entries, get, AMap, IsObject, copy_cost}
+use Rattle.script_rules.specs.Objects.{Entries, get, AMap}
 use Rattle.script_rules.specs.declared.commands.Command.TheVariants.{CopyTo}
 use Rattle.script_rules.specs.declared.commands.ScriptReply.TheVariants.{Done}
 use Rattle.arena_script.specs.Kinds.{pairs}
-use Rattle.arena_script.specs.Things.{Things, object_in, content, pairs_of, entries_below, IsPairsIn, credit_of}
-use Rattle.arena_script.specs.Acts.{used, GivesThing, GivesNothing}
+use Rattle.arena_script.specs.Things.{Things, content, pairs_of, entries_below, IsPairsIn, credit_of}
+use Rattle.arena_script.specs.Acts.{GivesThing, GivesNothing}
 use Rattle.arena_script.specs.declared.thing.Thing.TheVariants as thing
-use Rattle.arena_script.proofs.CopyActs.{IsCopied, copy_gives, copy_gives_nothing}
+use Rattle.arena_script.proofs.CopyActs.{copy_gives, copy_gives_nothing}
+use Rattle.arena_script.proofs.GivingLemmas.{IsMade}
 use Rattle.arena_script.proofs.CostFacts.{IsRefused, same_used, nothing_given}
+use Rattle.arena_script.proofs.MapActs.{slots_layout}
+use Rattle.arena_script.proofs.PairFacts.{value_some}
+use Rattle.arena_script.proofs.ThingLemmas.{Holds}
 use Rattle.arena_script.proofs.TakenLemmas.{taken, not_taken, one_block}
 
 abbrev Map : Type 0
@@ -54,20 +54,6 @@ some_same (Some v) = refl
 value_is : (o : Option (ℕ × ℕ)) → of_some (λ (p : ℕ × ℕ). p.1) o ≡ value_of o
 value_is None = refl
 value_is (Some p) = refl
-
-value_some : (o : Option (ℕ × ℕ)) → is_some (value_of o) ≡ is_some o
-value_some None = refl
-value_some (Some p) = refl
-
-table_layout : (size : ℕ) → size ≤ 2 ^ 62 → IsTrue (is_layout size 8)
-unfolding is_power_among
-table_layout size bounded =
-    let near = up_close size 8 (omega arith) in
-    let fits : nat_le (up size 8) (2 ^ 63 - 1) ≡ true = grind (arith, nat_tests) in
-    rw fits refl
-
-pub map_few : (m : Memory) (h : Map) → IsObject (object_in m (thing.Map h)) → IsPairsIn m h → h.len < 2 ^ 32
-map_few m h is held = omega (arith, is.0, held.count)
 
 -- what a new table for so many pairs takes
 abbrev IsTableBound : Type 0
@@ -129,7 +115,7 @@ module _ (old new : View) (h : Map) (one : old.memory.state.min_align ≡ 1) (he
     map_frame : (b : Block) → copies.blocks ≡ b ∷ [] → Frame old.memory new.memory [] (copy.table.block ∷ [])
     map_frame b is = subst (λ bs. Frame old.memory new.memory [] bs) (is ∙ ap (λ (b : Block). b ∷ []) (sym (own b is))) copies.placed.frame
 
-    by_len : (n : ℕ) → h.len ≡ n → AsksFor (table_ask pairs n ∷ []) old new copies.blocks None → IsCopied cost old new (thing.Map copy)
+    by_len : (n : ℕ) → h.len ≡ n → AsksFor (table_ask pairs n ∷ []) old new copies.blocks None → IsMade cost old new (thing.Map copy)
     by_len zero none (b, rest, empty, is, (last, empties, same)) =
         let whole = is ∙ ap (λ (bs : List Block). b ∷ bs) empties in record {
           held = map_held;
@@ -139,7 +125,7 @@ module _ (old new : View) (h : Map) (one : old.memory.state.min_align ≡ 1) (he
         }
     by_len (suc n) some (slots, are, takes) =
         let within = bound (suc n) slots (omega arith) are in
-        let layout = table_layout (slots * 9) (omega (arith, within, some)) in
+        let layout = slots_layout (slots * 9) (omega (arith, within, some)) in
         let is = taken old new (slots * 9) 8 copies.blocks cost one layout (omega arith) (omega (arith, within, some))
         (credit_of (thing.Map copy))
         (omega (arith, within, some, same_len)) takes in record {
@@ -149,7 +135,7 @@ module _ (old new : View) (h : Map) (one : old.memory.state.min_align ≡ 1) (he
           frame = map_frame is.block is.is;
         }
 
-    map_copied : IsCopied cost old new (thing.Map copy)
+    map_copied : IsMade cost old new (thing.Map copy)
     map_copied = by_len h.len refl (table_asked copies.blocks None copies.placed.asked)
 
   -- Why there is no copy.
@@ -158,18 +144,23 @@ module _ (old new : View) (h : Map) (one : old.memory.state.min_align ≡ 1) (he
   map_denied blocks e zero none (b, rest, empty, is, (last, empties, same)) = absurd (let no = last in cc)
   map_denied blocks e (suc n) some (slots, are, takes) =
       let within = bound (suc n) slots (omega arith) are in
-      let layout = table_layout (slots * 9) (omega (arith, within, some)) in
+      let layout = slots_layout (slots * 9) (omega (arith, within, some)) in
       not_taken old new (slots * 9) 8 blocks cost one layout (omega arith) (omega (arith, within, some)) e (omega (arith, within, some))
       takes
 
-  module _ (things : Things) (name other : ℕ) (found : get things name ≡ Some (thing.Map h)) (none : get things other ≡ None) where
-    map_costs : copy_cost (object_in old.memory (thing.Map h)) ≡ cost
-    map_costs = ap (λ k. 256 * k) (sym held.count)
+map_few : {things : Things} {m : Memory} {name : ℕ} {h : Map} → Holds things m name (thing.Map h) → h.len < 2 ^ 32
+map_few holds = omega (arith, holds.is.0, holds.held.count)
 
-    pub map_copy_gives : (copy : Map) → Cloned (Ok copy) → GivesThing (CopyTo name other) things old new other (thing.Map copy) Done
-    map_copy_gives copy copies = copy_gives things old name other (thing.Map h) found none new cost map_costs (thing.Map copy)
-        (ap AMap (same_pairs copy copies)) (map_copied copy copies)
+module _ {things : Things} {old new : View} {name other : ℕ} {h : Map} (holds : Holds things old.memory name (thing.Map h))
+    (none : get things other ≡ None) (one : old.memory.state.min_align ≡ 1) (bound : IsTableBound) (lengths : SameLength) where
+  pub map_copy_gives : {copy : Map} → Copies map_kind With old.memory old new h (Ok copy)
+      → GivesThing (CopyTo name other) things old new other (thing.Map copy) Done
+  map_copy_gives {copy} copies = copy_gives holds none (ap (λ k. 256 * k) (sym holds.held.count)) (thing.Map copy)
+      (ap AMap (same_pairs old new h one holds.held (map_few holds) bound lengths copy copies))
+      (map_copied old new h one holds.held (map_few holds) bound lengths copy copies)
 
-    pub map_copy_gives_nothing : (e : AllocError) → Cloned (Err e) → GivesNothing (CopyTo name other) things old new e
-    map_copy_gives_nothing e copies = copy_gives_nothing things old name other (thing.Map h) found none new cost map_costs e
-        (map_denied copies.blocks e h.len refl (table_asked copies.blocks (Some e) copies.placed.asked))
+  pub map_copy_gives_nothing : {e : AllocError} → Copies map_kind With old.memory old new h (Err e)
+      → GivesNothing (CopyTo name other) things old new e
+  map_copy_gives_nothing {e} copies = copy_gives_nothing holds none (ap (λ k. 256 * k) (sym holds.held.count))
+      (map_denied old new h one holds.held (map_few holds) bound lengths copies.blocks e h.len refl
+      (table_asked old new h one holds.held (map_few holds) bound lengths copies.blocks (Some e) copies.placed.asked))

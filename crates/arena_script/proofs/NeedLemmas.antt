@@ -1,5 +1,5 @@
 -- Things have the bytes that their objects need.
-use Rattle.std.proofs.Common.{◌≡◌, ℕ, ◌+◌, ◌*◌, ◌≤◌, refl, sym, subst, arith, Bool, true, false, cond, Some, None, [], ◌∷◌, length-take, IsTrue, nat_cmp}
+use Rattle.std.proofs.Common.{◌≡◌, ℕ, ◌+◌, ◌*◌, ◌≤◌, refl, sym, subst, arith, true, false, cond, Some, [], ◌∷◌, length-take, IsTrue, nat_cmp}
 use Rattle.std.specs.Prelude.{IfSome}
 use Rattle.std.specs.Ordering.{eq_by_cmp}
 use Rattle.std.specs.List.{AllByRecursion}

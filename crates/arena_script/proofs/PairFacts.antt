@@ -1,5 +1,5 @@
 -- Maps from contents as entries by rising keys.
-use Rattle.std.proofs.Common.{◌≡◌, ℕ, ◌^◌, ◌<◌, ◌≤◌, refl, sym, ap, ◌∙◌, arith, Bool, true, false, is_some, Option, Some, None, [], IsTrue, eqb-true, inl, inr}
+use Rattle.std.proofs.Common.{◌≡◌, ℕ, ◌^◌, ◌<◌, refl, sym, ap, ◌∙◌, arith, Bool, true, false, is_some, Option, Some, None, [], IsTrue, eqb-true, inl, inr}
 use Rattle.std.specs.Prelude.{◌==◌, ◌≢◌, if◌then◌else◌, bytes_eq}
 use Rattle.std.specs.Int.{w32, from_le_bytes}
 use Rattle.std.proofs.lemmas.Bool.{cases_Bool}
@@ -8,10 +8,8 @@ use Rattle.std.proofs.lemmas.Slice.Eq.{bytes_eq-Decides}
 use Rattle.arena_items.specs.NumberLaws.{bytes_back}
 use Rattle.arena_hash.specs.Finite.{Finite, empty, has, value_of, key_or, with_pair, without}
 use Rattle.script_rules.specs.Objects.{get, bind, unbind, are_rising}
-use Rattle.script_rules.proofs.EntryLemmas.{rising_bind, rising_unbind}
-use Rattle.script_rules.proofs.LookupLemmas.{get_bind, get_unbind}
 use Rattle.arena_script.specs.Things.{content, pairs_of}
-use Rattle.arena_script.proofs.EntryFacts.{get_at, get_past, rising_from, entries_are}
+use Rattle.arena_script.proofs.EntryFacts.{get_at, rising_from, entries_are, entries_with, entries_without}
 
 -- keys with one content are one
 same_key : (q k : ℕ) → q < 2 ^ 32 → k < 2 ^ 32 → content q ≡ content k → q ≡ k
@@ -31,6 +29,10 @@ content_eq q k low small = elim (cases_Bool (q == k)) [
     other : (q k : ℕ) → (q == k) ≡ false → q ≢ k
     other q k f e = grind (arith, nat_tests)
 
+pub value_some : (o : Option (ℕ × ℕ)) → is_some (value_of o) ≡ is_some o
+value_some None = refl
+value_some (Some p) = refl
+
 module _ (is : Finite ℕ ℕ) where
   pub rising : IsTrue (are_rising (pairs_of is))
   rising = rising_from (λ key. value_of (is (content key))) (2 ^ 32) 0
@@ -38,13 +40,6 @@ module _ (is : Finite ℕ ℕ) where
   -- what stands at a key
   pub get_pair : (key : ℕ) → key < 2 ^ 32 → get (pairs_of is) key ≡ value_of (is (content key))
   get_pair key low = get_at (λ key. value_of (is (content key))) (2 ^ 32) 0 key (omega arith) (omega arith)
-
-  no_pair : (key : ℕ) → 2 ^ 32 ≤ key → get (pairs_of is) key ≡ None
-  no_pair key high = get_past (λ key. value_of (is (content key))) (2 ^ 32) 0 key (omega arith)
-
-  value_some : (o : Option (ℕ × ℕ)) → is_some (value_of o) ≡ is_some o
-  value_some None = refl
-  value_some (Some p) = refl
 
   pub has_pair : (key : ℕ) → key < 2 ^ 32 → is_some (get (pairs_of is) key) ≡ has is (content key)
   has_pair key low = ap is_some (get_pair key low) ∙ value_some (is (content key))
@@ -55,21 +50,10 @@ module _ (is : Finite ℕ ℕ) where
 
   -- A pair more, in both.
   pub pairs_with : (key value : ℕ) → key < 2 ^ 32 → pairs_of (with_pair is (content key) key value) ≡ bind (pairs_of is) key value
-  pairs_with key value small = entries_are (λ q. value_of (with_pair is (content key) key value (content q))) (2 ^ 32)
-      (bind (pairs_of is) key value)
-      (rising_bind (pairs_of is) key value rising) within past
-    where
-      within : (q : ℕ) → q < 2 ^ 32 → get (bind (pairs_of is) key value) q ≡ value_of (with_pair is (content key) key value (content q))
-      within q low =
-          get_bind (pairs_of is) key value q ∙ ap (λ o. if q == key then Some value else o) (get_pair q low)
-          ∙ ap (λ b. if b then Some value else value_of (is (content q))) (sym (content_eq q key low small))
-          ∙ sym (value_if (bytes_eq (content q) (content key)) (key_or (is (content key)) key, value) (is (content q)))
-
-      past : (q : ℕ) → 2 ^ 32 ≤ q → get (bind (pairs_of is) key value) q ≡ None
-      past q high =
-          get_bind (pairs_of is) key value q
-          ∙ ap (λ b. if b then Some value else get (pairs_of is) q) (let f : (q == key) ≡ false = grind (arith, nat_tests) in f) ∙ no_pair
-          q high
+  pairs_with key value small = entries_with (λ q. value_of (is (content q)))
+      (λ q. value_of (with_pair is (content key) key value (content q))) (2 ^ 32) key value small
+      (λ q low. value_if (bytes_eq (content q) (content key)) (key_or (is (content key)) key, value) (is (content q))
+      ∙ ap (λ b. if b then Some value else value_of (is (content q))) (content_eq q key low small))
 
   value_unless : (b : Bool) (o : Option (ℕ × ℕ)) → value_of (if b then None else o) ≡ (if b then None else value_of o)
   value_unless true o = refl
@@ -77,19 +61,10 @@ module _ (is : Finite ℕ ℕ) where
 
   -- A key less, in both.
   pub pairs_without : (key : ℕ) → key < 2 ^ 32 → pairs_of (without is (content key)) ≡ unbind (pairs_of is) key
-  pairs_without key small = entries_are (λ q. value_of (without is (content key) (content q))) (2 ^ 32) (unbind (pairs_of is) key)
-      (rising_unbind (pairs_of is) key rising) within past
-    where
-      within : (q : ℕ) → q < 2 ^ 32 → get (unbind (pairs_of is) key) q ≡ value_of (without is (content key) (content q))
-      within q low =
-          get_unbind (pairs_of is) key q ∙ ap (λ o. if q == key then None else o) (get_pair q low)
-          ∙ ap (λ b. if b then None else value_of (is (content q))) (sym (content_eq q key low small))
-          ∙ sym (value_unless (bytes_eq (content q) (content key)) (is (content q)))
-
-      past : (q : ℕ) → 2 ^ 32 ≤ q → get (unbind (pairs_of is) key) q ≡ None
-      past q high =
-          get_unbind (pairs_of is) key q
-          ∙ ap (λ b. if b then None else get (pairs_of is) q) (let f : (q == key) ≡ false = grind (arith, nat_tests) in f) ∙ no_pair q high
+  pairs_without key small = entries_without (λ q. value_of (is (content q))) (λ q. value_of (without is (content key) (content q))) (2 ^ 32)
+      key
+      (λ q low. value_unless (bytes_eq (content q) (content key)) (is (content q))
+      ∙ ap (λ b. if b then None else value_of (is (content q))) (content_eq q key low small))
 
 -- no pairs
 pub pairs_none : pairs_of empty ≡ []

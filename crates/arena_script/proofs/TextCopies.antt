@@ -1,5 +1,5 @@
 -- What copies of texts do.
-use Rattle.std.proofs.Common.{IsPermutation, ◌≡◌, ℕ, ◌+◌, ◌-◌, ◌*◌, ◌^◌, ◌<◌, ◌≤◌, refl, sym, ap, ◌∙◌, subst, arith, IsTrue, Ok, Err, Some, None, Result, List, [], ◌∷◌, length, take}
+use Rattle.std.proofs.Common.{IsPermutation, ◌≡◌, ℕ, ◌+◌, ◌*◌, ◌^◌, ◌<◌, sym, ap, ◌∙◌, subst, arith, IsTrue, Ok, Err, None, Result, List, [], ◌∷◌, length, take}
 use Rattle.std.proofs.lemmas.List.{take_all}
 use Rattle.placement.specs.Rounding.{is_layout}
 use Rattle.arena_chunks.specs.Memory.{Memory}
@@ -14,19 +14,18 @@ use Rattle.arena_text.specs.declared.text.StringBuilder.{StringBuilder}
 use Rattle.arena_clone.specs.Copies.{Copies}
 use Rattle.arena_clone.specs.Kinds.{text}
 use Rattle.arena_clone.specs.declared.ids.CloneInSemanticIds.TheVariants.{With}
-use Rattle.script_rules.specs.Objects.{get, AText, IsObject, copy_cost}
+use Rattle.script_rules.specs.Objects.{get, AText}
 use Rattle.script_rules.specs.declared.commands.Command.TheVariants.{CopyTo}
 use Rattle.script_rules.specs.declared.commands.ScriptReply.TheVariants.{Done}
 use Rattle.arena_script.specs.Things.{Things, object_in, credit_of, IsWordsIn}
 use Rattle.arena_script.specs.Acts.{GivesThing, GivesNothing}
 use Rattle.arena_script.specs.declared.thing.Thing.TheVariants as thing
-use Rattle.arena_script.proofs.CopyActs.{IsCopied, copy_gives, copy_gives_nothing}
+use Rattle.arena_script.proofs.CopyActs.{copy_gives, copy_gives_nothing}
+use Rattle.arena_script.proofs.GivingLemmas.{IsMade}
+use Rattle.arena_script.proofs.CostFacts.{IsRefused}
+use Rattle.arena_script.proofs.ThingLemmas.{Holds}
 use Rattle.arena_script.proofs.TakenLemmas.{IsTaken, taken, not_taken, one_block}
 use Rattle.arena_script.proofs.TextLemmas.{bytes_layout}
-
-pub text_few : (m : Memory) (t : StringBuilder) → IsObject (object_in m (thing.Text t)) → t.len ≡ length (builder_bytes m t) → t.len < 2 ^
-    32
-text_few m t is count = omega (arith, is.1, count)
 
 module _ (old new : View) (t : StringBuilder) (s : Str) (one : old.memory.state.min_align ≡ 1) (few : t.len < 2 ^ 32)
     (count : t.len ≡ length (builder_bytes old.memory t)) (bytes_are : text_bytes old.memory s ≡ builder_bytes old.memory t)
@@ -43,6 +42,11 @@ module _ (old new : View) (t : StringBuilder) (s : Str) (one : old.memory.state.
   -- a text of as many bytes
   abbrev now : Str → StringBuilder
   now copy = record { block = copy.block; len = t.len; cap = t.len }
+
+  text_denied : (e : AllocError) → Cloned (Err e) → IsRefused cost 0 old new e
+  text_denied e copies =
+      not_taken old new s.block.size 1 copies.blocks cost one layout (omega arith) (omega (arith, size)) e (omega (arith, size))
+      copies.placed.asked
 
   module _ (copy : Str) (copies : Cloned (Ok copy)) where
     abbrev after : ℕ
@@ -72,7 +76,7 @@ module _ (old new : View) (t : StringBuilder) (s : Str) (one : old.memory.state.
     text_is = ap (λ (bs : List ℕ). AText (take t.len bs)) (copies.made.means ∙ bytes_are)
         ∙ ap AText (take_all t.len (builder_bytes old.memory t) (omega (arith, count)))
 
-    text_copied : IsCopied cost old new (thing.Text (now copy))
+    text_copied : IsMade cost old new (thing.Text (now copy))
     text_copied = record {
       held = text_held;
       least = omega (arith, is_taken.least, is_taken.of_size, ap (λ (b : Block). b.size) own);
@@ -80,15 +84,20 @@ module _ (old new : View) (t : StringBuilder) (s : Str) (one : old.memory.state.
       frame = subst (λ bs. Frame old.memory new.memory [] bs) (is_taken.is ∙ ap (λ (b : Block). b ∷ []) (sym own)) copies.placed.frame;
     }
 
-  module _ (things : Things) (name other : ℕ) (found : get things name ≡ Some (thing.Text t)) (none : get things other ≡ None) where
-    text_costs : copy_cost (object_in old.memory (thing.Text t)) ≡ cost
-    text_costs = ap (λ k. 32 + 4 * k) (sym count)
+text_few : {things : Things} {m : Memory} {name : ℕ} {t : StringBuilder} → Holds things m name (thing.Text t)
+    → t.len ≡ length (builder_bytes m t) → t.len < 2 ^ 32
+text_few h count = omega (arith, h.is.1, count)
 
-    pub text_copy_gives : (copy : Str) → Cloned (Ok copy) → GivesThing (CopyTo name other) things old new other (thing.Text (now copy)) Done
-    text_copy_gives copy copies = copy_gives things old name other (thing.Text t) found none new cost text_costs (thing.Text (now copy))
-        (text_is copy copies) (text_copied copy copies)
+module _ {things : Things} {old new : View} {name other : ℕ} {t : StringBuilder} (h : Holds things old.memory name (thing.Text t))
+    (none : get things other ≡ None) (s : Str) (one : old.memory.state.min_align ≡ 1)
+    (count : t.len ≡ length (builder_bytes old.memory t)) (bytes_are : text_bytes old.memory s ≡ builder_bytes old.memory t)
+    (size : s.block.size ≡ t.len) where
+  pub text_copy_gives : {copy : Str} → Copies text With old.memory old new s (Ok copy)
+      → GivesThing (CopyTo name other) things old new other (thing.Text (record { block = copy.block; len = t.len; cap = t.len })) Done
+  text_copy_gives {copy} copies = copy_gives h none (ap (λ k. 32 + 4 * k) (sym count)) _
+      (text_is old new t s one (text_few h count) count bytes_are size copy copies) (text_copied old new t s one (text_few h count) count bytes_are size copy copies)
 
-    pub text_copy_gives_nothing : (e : AllocError) → Cloned (Err e) → GivesNothing (CopyTo name other) things old new e
-    text_copy_gives_nothing e copies = copy_gives_nothing things old name other (thing.Text t) found none new cost text_costs e
-        (not_taken old new s.block.size 1 copies.blocks cost one layout (omega arith) (omega (arith, size)) e (omega (arith, size))
-        copies.placed.asked)
+  pub text_copy_gives_nothing : {e : AllocError} → Copies text With old.memory old new s (Err e)
+      → GivesNothing (CopyTo name other) things old new e
+  text_copy_gives_nothing {e} copies = copy_gives_nothing h none (ap (λ k. 32 + 4 * k) (sym count))
+      (text_denied old new t s one (text_few h count) count bytes_are size e copies)

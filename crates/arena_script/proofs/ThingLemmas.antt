@@ -1,20 +1,22 @@
 -- Things beside a call on another block, and under names.
-use Rattle.std.proofs.Common.{◌≡◌, ℕ, refl, sym, ap, subst, true, false, cond, ◌&&◌, Option, Some, None, List, [], ◌∷◌, map, nat_cmp, is_lt}
-use Rattle.std.specs.Prelude.{IfSome, ◌≢◌}
+use Rattle.std.proofs.Common.{◌≡◌, ℕ, refl, sym, ap, ◌∙◌, subst, true, false, cond, arith, ◌&&◌, Option, Some, None, List, [], ◌∷◌, map, nat_cmp, is_lt}
+use Rattle.std.specs.Prelude.{IfSome, ◌==◌, ◌≢◌}
 use Rattle.std.specs.Option.{option_map}
 use Rattle.std.specs.Ordering.{eq_by_cmp}
 use Rattle.std.specs.FinMap.Entries.{below_all}
+use Rattle.std.proofs.lemmas.Bool.Decides.{nat_tests}
 use Rattle.std.proofs.Math.Path.{fun_ext}
 use Rattle.arena_chunks.specs.Memory.{Memory}
 use Rattle.arena_chunks.specs.Frame.{Frame, IsApart, AreAllApart}
 use Rattle.arena_chunks.specs.declared.block.Block.{Block}
 use Rattle.arena_chunks.proofs.Layers.{apart_empty, frame_keeps_all}
 use Rattle.arena_items.proofs.Layers.{stays_readable, stays_agree, stays_apart}
-use Rattle.script_rules.specs.Objects.{get, are_rising}
+use Rattle.script_rules.specs.Objects.{get, are_rising, IsObject}
 use Rattle.script_rules.specs.Effects.{effect}
 use Rattle.script_rules.specs.declared.commands.Command.{Command}
+use Rattle.script_rules.proofs.EntryLemmas.{get_among}
 use Rattle.arena_script.specs.Kinds.{pairs}
-use Rattle.arena_script.specs.Things.{Things, IsThingIn, object_in, objects_in, block_of, blocks_in, blocks_of, seen, AreHeldApart}
+use Rattle.arena_script.specs.Things.{Things, IsThingIn, object_in, objects_in, block_of, blocks_in, blocks_of, seen, AreHeldApart, AreThings}
 use Rattle.arena_script.specs.ThingLaws.{thing_readable, same_object, thing_again}
 use Rattle.arena_script.specs.declared.thing.Thing.{Thing}
 use Rattle.arena_script.specs.declared.thing.Thing.TheVariants as thing
@@ -62,6 +64,9 @@ thing_stays old new before after t frame held apart =
 
 -- ---- Under names
 
+pub other_name : (a b : ℕ) → (a == b) ≡ false → a ≢ b
+other_name a b test same = grind (arith, nat_tests)
+
 pub get_mapped : (m : Memory) (things : Things) (n : ℕ) → get (objects_in m things) n ≡ seen m things n
 get_mapped m [] n = refl
 get_mapped m (e ∷ es) n =
@@ -101,8 +106,16 @@ pub seen_again : (old new : Memory) (after : List Block) (o : Option Thing) → 
 seen_again old new after None stays = refl
 seen_again old new after (Some t) stays = ap Some stays.means
 
--- what a name holds is well formed
-pub thing_held : (m : Memory) (things : Things) (n : ℕ) (t : Thing) → ((n : ℕ) → IfSome (get things n) (IsThingIn m)) → get things n ≡
-    Some t
-    → IsThingIn m t
-thing_held m things n t held found = subst (λ o. IfSome o (IsThingIn m)) found (held n)
+-- What a name holds is well formed, and an object.
+pub record Holds (things : Things) (m : Memory) (name : ℕ) (t : Thing) : Type 0 where
+  pub found : get things name ≡ Some t
+  pub held : IsThingIn m t
+  pub is : IsObject (object_in m t)
+
+pub holds : {m : Memory} {things : Things} → AreThings m things → (name : ℕ) (t : Thing) → get things name ≡ Some t → Holds things m name t
+holds {m} {things} are name t found = record {
+  found = found;
+  held = subst (λ o. IfSome o (IsThingIn m)) found (are.held name);
+  is = get_among IsObject (objects_in m things) name (object_in m t) are.objects.each
+      (get_mapped m things name ∙ ap (option_map (object_in m)) found);
+}

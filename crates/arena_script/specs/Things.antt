@@ -1,6 +1,6 @@
 -- What stands for objects in an arena.
 use Rattle.std.specs.Int.{w32, to_le_bytes}
-use Rattle.std.specs.Prelude.{◌≡◌, ◌≢◌, ℕ, zero, suc, ◌+◌, ◌-◌, ◌*◌, ◌^◌, ◌<◌, length, nat_lt, if◌then◌else◌, Option, Some, None, List, [], ◌∷◌, map, IsTrue, IfSome}
+use Rattle.std.specs.Prelude.{◌≡◌, ◌≢◌, ℕ, zero, suc, ◌+◌, ◌-◌, ◌*◌, ◌^◌, ◌<◌, length, if◌then◌else◌, Option, Some, None, List, [], ◌∷◌, map, IsTrue, IfSome}
 use Rattle.std.specs.Option.{option_map, option_map_or}
 use Rattle.arena_chunks.specs.Memory.{Memory}
 use Rattle.arena_chunks.specs.Frame.{AreBlocksApart}

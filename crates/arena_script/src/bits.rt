@@ -30,6 +30,7 @@ fn has_word(set: BitSet, bit: u32) -> bool
     bit as u64 / 64 < set.words.length
 }
 
+#[inline(never)]
 pub(crate) fn make_bits<C: ChunkSource>(
     a: &mut Allocator<C>,
     things: &Names<Thing>,
@@ -43,108 +44,110 @@ pub(crate) fn make_bits<C: ChunkSource>(
     if things.get(name).is_some() {
         return Ok(Act::Tells(ScriptReply::NameTaken));
     }
-    match BitSet::new_in(capacity as u64, a) {
-        Ok(set) => Ok(Act::Gives {
-            name,
-            thing: Thing::Bits(set),
-            reply: ScriptReply::Done,
-        }),
-        Err(e) => Err(e),
-    }
+    let set = BitSet::new_in(capacity as u64, a)?;
+    Ok(Act::Gives {
+        name,
+        thing: Thing::Bits(set),
+        reply: ScriptReply::Done,
+    })
 }
 
+#[inline(never)]
 pub(crate) fn set_bit<C: ChunkSource>(
     a: &mut Allocator<C>,
     things: &Names<Thing>,
     name: u32,
     bit: u32,
-) -> Act
+) -> Grown<Act>
     requires { AreThings a.old.memory things.now }
-    ensures { Acts (Command.SetBit name bit) things.now a.old a.new (Ok result) }
+    ensures { Acts (Command.SetBit name bit) things.now a.old a.new result }
 {
     let mut set = match set_of(things, name) {
         Ok(set) => set,
-        Err(reply) => return Act::Tells(reply),
+        Err(reply) => return Ok(Act::Tells(reply)),
     };
     if !has_word(set, bit) {
-        return Act::Tells(ScriptReply::OutOfRange);
+        return Ok(Act::Tells(ScriptReply::OutOfRange));
     }
     set.set_bit(a, bit as u64);
-    Act::Gives {
+    Ok(Act::Gives {
         name,
         thing: Thing::Bits(set),
         reply: ScriptReply::Done,
-    }
+    })
 }
 
+#[inline(never)]
 pub(crate) fn unset_bit<C: ChunkSource>(
     a: &mut Allocator<C>,
     things: &Names<Thing>,
     name: u32,
     bit: u32,
-) -> Act
+) -> Grown<Act>
     requires { AreThings a.old.memory things.now }
-    ensures { Acts (Command.UnsetBit name bit) things.now a.old a.new (Ok result) }
+    ensures { Acts (Command.UnsetBit name bit) things.now a.old a.new result }
 {
     let mut set = match set_of(things, name) {
         Ok(set) => set,
-        Err(reply) => return Act::Tells(reply),
+        Err(reply) => return Ok(Act::Tells(reply)),
     };
     if !has_word(set, bit) {
-        return Act::Tells(ScriptReply::OutOfRange);
+        return Ok(Act::Tells(ScriptReply::OutOfRange));
     }
     set.unset_bit(a, bit as u64);
-    Act::Gives {
+    Ok(Act::Gives {
         name,
         thing: Thing::Bits(set),
         reply: ScriptReply::Done,
-    }
+    })
 }
 
+#[inline(never)]
 pub(crate) fn has_bit<C: ChunkSource>(
     a: &Allocator<C>,
     things: &Names<Thing>,
     name: u32,
     bit: u32,
-) -> Act
+) -> Grown<Act>
     requires { AreThings a.now.memory things.now }
-    ensures { Acts (Command.HasBit name bit) things.now a.now a.now (Ok result) }
+    ensures { Acts (Command.HasBit name bit) things.now a.now a.now result }
 {
     match set_of(things, name) {
-        Ok(set) => Act::Tells(ScriptReply::Truth(set.contains(a, bit as u64))),
-        Err(reply) => Act::Tells(reply),
+        Ok(set) => Ok(Act::Tells(ScriptReply::Truth(set.contains(a, bit as u64)))),
+        Err(reply) => Ok(Act::Tells(reply)),
     }
 }
 
+#[inline(never)]
 pub(crate) fn union<C: ChunkSource>(
     a: &mut Allocator<C>,
     things: &Names<Thing>,
     name: u32,
     other: u32,
-) -> Act
+) -> Grown<Act>
     requires { AreThings a.old.memory things.now }
-    ensures { Acts (Command.Union name other) things.now a.old a.new (Ok result) }
+    ensures { Acts (Command.Union name other) things.now a.old a.new result }
 {
     if things.get(name).is_none() {
-        return Act::Tells(ScriptReply::NoSuchName);
+        return Ok(Act::Tells(ScriptReply::NoSuchName));
     }
     let Some(_other) = things.get(other) else {
-        return Act::Tells(ScriptReply::NoSuchName);
+        return Ok(Act::Tells(ScriptReply::NoSuchName));
     };
     let mut set = match set_of(things, name) {
         Ok(set) => set,
-        Err(reply) => return Act::Tells(reply),
+        Err(reply) => return Ok(Act::Tells(reply)),
     };
     let more = match set_of(things, other) {
         Ok(more) => more,
-        Err(reply) => return Act::Tells(reply),
+        Err(reply) => return Ok(Act::Tells(reply)),
     };
     set.union(a, &more);
-    Act::Gives {
+    Ok(Act::Gives {
         name,
         thing: Thing::Bits(set),
         reply: ScriptReply::Done,
-    }
+    })
 }
 
 // The numbers of a set.
@@ -159,6 +162,7 @@ fn numbers_of<C: ChunkSource>(alloc: Global, a: &Allocator<C>, set: BitSet) -> G
     }
 }
 
+#[inline(never)]
 pub(crate) fn ones<C: ChunkSource>(
     alloc: Global,
     a: &Allocator<C>,
@@ -172,10 +176,8 @@ pub(crate) fn ones<C: ChunkSource>(
         Ok(set) => set,
         Err(reply) => return Ok(Act::Tells(reply)),
     };
-    match numbers_of(alloc, a, set) {
-        Ok(numbers) => Ok(Act::Tells(ScriptReply::Numbers(numbers))),
-        Err(e) => Err(e),
-    }
+    let numbers = numbers_of(alloc, a, set)?;
+    Ok(Act::Tells(ScriptReply::Numbers(numbers)))
 }
 
 // The printed form of a set.
@@ -211,6 +213,7 @@ fn copy_of<C: ChunkSource>(a: &mut Allocator<C>, set: BitSet) -> Grown<BitSet>
 }
 
 // Copies the set of a name to another that holds nothing.
+#[inline(never)]
 pub(crate) fn copied<C: ChunkSource>(
     a: &mut Allocator<C>,
     things: &Names<Thing>,
@@ -224,12 +227,10 @@ pub(crate) fn copied<C: ChunkSource>(
     ensures { Acts (Command.CopyTo name other) things.now a.old a.new result }
 {
     let _ = a.min_align();
-    match copy_of(a, set) {
-        Ok(set) => Ok(Act::Gives {
-            name: other,
-            thing: Thing::Bits(set),
-            reply: ScriptReply::Done,
-        }),
-        Err(e) => Err(e),
-    }
+    let copy = copy_of(a, set)?;
+    Ok(Act::Gives {
+        name: other,
+        thing: Thing::Bits(copy),
+        reply: ScriptReply::Done,
+    })
 }

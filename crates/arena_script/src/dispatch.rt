@@ -1,4 +1,4 @@
-// Each command by its own function.
+// Each command by its own function. These stand out of line, so that a command clears the room of its own values and no others.
 ghost use Rattle.std.specs.Prelude.{◌≡◌};
 ghost use Rattle.arena_script.specs.Things.{AreThings};
 ghost use Rattle.arena_script.specs.Acts.{Acts};
@@ -12,6 +12,7 @@ use script_rules::{Command, Names};
 use std::alloc::Global;
 
 /// Does what a command says to the things under names.
+#[inline(never)]
 pub(crate) fn act<C: ChunkSource>(
     alloc: Global,
     a: &mut Allocator<C>,
@@ -22,34 +23,34 @@ pub(crate) fn act<C: ChunkSource>(
     ensures { Acts command.now things.now a.old a.new result }
 {
     match command {
-        Command::MakeList { name } => Ok(lists::make_list(a, things, *name)),
-        Command::MakeText { name } => Ok(texts::make_text(a, things, *name)),
+        Command::MakeList { name } => lists::make_list(a, things, *name),
+        Command::MakeText { name } => texts::make_text(a, things, *name),
         Command::MakeBits { name, capacity } => bits::make_bits(a, things, *name, *capacity),
-        Command::MakeMap { name } => Ok(maps::make_map(a, things, *name)),
+        Command::MakeMap { name } => maps::make_map(a, things, *name),
         Command::MakeValue { name, value } => values::make_value(a, things, *name, *value),
         Command::Push { name, value } => lists::push(a, things, *name, *value),
         Command::Insert { name, at, value } => lists::insert(a, things, *name, *at, *value),
-        Command::Pop { name } => Ok(lists::pop(a, things, *name)),
-        Command::Remove { name, at } => Ok(lists::remove(a, things, *name, *at)),
-        Command::At { name, at } => Ok(lists::at(a, things, *name, *at)),
-        Command::Put { name, at, value } => Ok(lists::put(a, things, *name, *at, *value)),
-        Command::Truncate { name, len } => Ok(lists::truncate(a, things, *name, *len)),
+        Command::Pop { name } => lists::pop(a, things, *name),
+        Command::Remove { name, at } => lists::remove(a, things, *name, *at),
+        Command::At { name, at } => lists::at(a, things, *name, *at),
+        Command::Put { name, at, value } => lists::put(a, things, *name, *at, *value),
+        Command::Truncate { name, len } => lists::truncate(a, things, *name, *len),
         Command::Byte { name, byte } => texts::byte(a, things, *name, *byte),
         Command::Front { name, byte } => texts::front(a, things, *name, *byte),
         Command::Append { name, bytes } => texts::append(a, things, *name, bytes.as_slice()),
-        Command::SetBit { name, bit } => Ok(bits::set_bit(a, things, *name, *bit)),
-        Command::UnsetBit { name, bit } => Ok(bits::unset_bit(a, things, *name, *bit)),
-        Command::HasBit { name, bit } => Ok(bits::has_bit(a, things, *name, *bit)),
-        Command::Union { name, other } => Ok(bits::union(a, things, *name, *other)),
+        Command::SetBit { name, bit } => bits::set_bit(a, things, *name, *bit),
+        Command::UnsetBit { name, bit } => bits::unset_bit(a, things, *name, *bit),
+        Command::HasBit { name, bit } => bits::has_bit(a, things, *name, *bit),
+        Command::Union { name, other } => bits::union(a, things, *name, *other),
         Command::Ones { name } => bits::ones(alloc, a, things, *name),
         Command::Bind { name, key, value } => maps::bind(a, things, *name, *key, *value),
-        Command::Find { name, key } => Ok(maps::find(a, things, *name, *key)),
-        Command::Unbind { name, key } => Ok(maps::unbind(a, things, *name, *key)),
-        Command::Load { name } => Ok(values::load(a, things, *name)),
-        Command::Store { name, value } => Ok(values::store(a, things, *name, *value)),
-        Command::Len { name } => Ok(whole::len(a, things, *name)),
+        Command::Find { name, key } => maps::find(a, things, *name, *key),
+        Command::Unbind { name, key } => maps::unbind(a, things, *name, *key),
+        Command::Load { name } => values::load(a, things, *name),
+        Command::Store { name, value } => values::store(a, things, *name, *value),
+        Command::Len { name } => whole::len(a, things, *name),
         Command::Show { name } => whole::show(alloc, a, things, *name),
         Command::CopyTo { name, other } => whole::copy(a, things, *name, *other),
-        Command::DropName { name } => Ok(whole::drop_name(a, things, *name)),
+        Command::DropName { name } => whole::drop_name(a, things, *name),
     }
 }

@@ -18,6 +18,7 @@ use script_rules::{Names, ScriptReply};
 /// # Errors
 ///
 /// There is no such name, or it holds no list.
+#[inline(always)]
 pub(crate) fn list_of(things: &Names<Thing>, name: u32) -> Result<Vec<u32>, ScriptReply>
     ensures { MatchResult result (λ v. get things.now name ≡ Some (Thing.List v))
         (λ reply. (m : Memory) (go : List ℕ → Effect)
@@ -38,6 +39,7 @@ pub(crate) fn list_of(things: &Names<Thing>, name: u32) -> Result<Vec<u32>, Scri
 /// # Errors
 ///
 /// There is no such name, or it holds no value.
+#[inline(always)]
 pub(crate) fn value_of(things: &Names<Thing>, name: u32) -> Result<Box<u64>, ScriptReply>
     ensures { MatchResult result (λ b. get things.now name ≡ Some (Thing.Value b))
         (λ reply. (m : Memory) (go : ℕ → Effect)
@@ -58,6 +60,7 @@ pub(crate) fn value_of(things: &Names<Thing>, name: u32) -> Result<Box<u64>, Scr
 /// # Errors
 ///
 /// There is no such name, or it holds no text.
+#[inline(always)]
 pub(crate) fn text_of(things: &Names<Thing>, name: u32) -> Result<StringBuilder, ScriptReply>
     ensures { MatchResult result (λ t. get things.now name ≡ Some (Thing.Text t))
         (λ reply. (m : Memory) (go : List ℕ → Effect)
@@ -78,6 +81,7 @@ pub(crate) fn text_of(things: &Names<Thing>, name: u32) -> Result<StringBuilder,
 /// # Errors
 ///
 /// There is no such name, or it holds no set.
+#[inline(always)]
 pub(crate) fn set_of(things: &Names<Thing>, name: u32) -> Result<BitSet, ScriptReply>
     ensures { MatchResult result (λ s. get things.now name ≡ Some (Thing.Bits s))
         (λ reply. (m : Memory) (go : ℕ → Bits → Effect)
@@ -98,6 +102,7 @@ pub(crate) fn set_of(things: &Names<Thing>, name: u32) -> Result<BitSet, ScriptR
 /// # Errors
 ///
 /// There is no such name, or it holds no map.
+#[inline(always)]
 pub(crate) fn map_of(things: &Names<Thing>, name: u32) -> Result<HashMap<u32, u32>, ScriptReply>
     ensures { MatchResult result (λ m. get things.now name ≡ Some (Thing.Map m))
         (λ reply. (m : Memory) (go : Entries ℕ → Effect)

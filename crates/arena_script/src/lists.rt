@@ -21,19 +21,25 @@ use std::alloc::Global;
 /// The most items of a list.
 const MOST_ITEMS: u32 = 536_870_912;
 
-pub(crate) fn make_list<C: ChunkSource>(_a: &Allocator<C>, things: &Names<Thing>, name: u32) -> Act
-    ensures { Acts (Command.MakeList name) things.now _a.now _a.now (Ok result) }
+#[inline(never)]
+pub(crate) fn make_list<C: ChunkSource>(
+    _a: &Allocator<C>,
+    things: &Names<Thing>,
+    name: u32,
+) -> Grown<Act>
+    ensures { Acts (Command.MakeList name) things.now _a.now _a.now result }
 {
     if things.get(name).is_some() {
-        return Act::Tells(ScriptReply::NameTaken);
+        return Ok(Act::Tells(ScriptReply::NameTaken));
     }
-    Act::Gives {
+    Ok(Act::Gives {
         name,
         thing: Thing::List(Vec::new_in()),
         reply: ScriptReply::Done,
-    }
+    })
 }
 
+#[inline(never)]
 pub(crate) fn push<C: ChunkSource>(
     a: &mut Allocator<C>,
     things: &Names<Thing>,
@@ -54,16 +60,15 @@ pub(crate) fn push<C: ChunkSource>(
     if list.len() >= MOST_ITEMS {
         return Ok(Act::Tells(ScriptReply::CapacityOverflow));
     }
-    match list.push(a, value) {
-        Ok(()) => Ok(Act::Gives {
-            name,
-            thing: Thing::List(list),
-            reply: ScriptReply::Done,
-        }),
-        Err(e) => Err(e),
-    }
+    list.push(a, value)?;
+    Ok(Act::Gives {
+        name,
+        thing: Thing::List(list),
+        reply: ScriptReply::Done,
+    })
 }
 
+#[inline(never)]
 pub(crate) fn insert<C: ChunkSource>(
     a: &mut Allocator<C>,
     things: &Names<Thing>,
@@ -87,114 +92,122 @@ pub(crate) fn insert<C: ChunkSource>(
     if list.len() >= MOST_ITEMS {
         return Ok(Act::Tells(ScriptReply::CapacityOverflow));
     }
-    match list.insert(a, at, value) {
-        Ok(()) => Ok(Act::Gives {
-            name,
-            thing: Thing::List(list),
-            reply: ScriptReply::Done,
-        }),
-        Err(e) => Err(e),
-    }
+    list.insert(a, at, value)?;
+    Ok(Act::Gives {
+        name,
+        thing: Thing::List(list),
+        reply: ScriptReply::Done,
+    })
 }
 
-pub(crate) fn pop<C: ChunkSource>(a: &Allocator<C>, things: &Names<Thing>, name: u32) -> Act
+#[inline(never)]
+pub(crate) fn pop<C: ChunkSource>(a: &Allocator<C>, things: &Names<Thing>, name: u32) -> Grown<Act>
     requires { AreThings a.now.memory things.now }
-    ensures { Acts (Command.Pop name) things.now a.now a.now (Ok result) }
+    ensures { Acts (Command.Pop name) things.now a.now a.now result }
 {
     let mut list = match list_of(things, name) {
         Ok(list) => list,
-        Err(reply) => return Act::Tells(reply),
+        Err(reply) => return Ok(Act::Tells(reply)),
     };
     let last = list.pop(a);
-    Act::Gives {
+    Ok(Act::Gives {
         name,
         thing: Thing::List(list),
         reply: number_or_nothing(last),
-    }
+    })
 }
 
+#[inline(never)]
 pub(crate) fn remove<C: ChunkSource>(
     a: &mut Allocator<C>,
     things: &Names<Thing>,
     name: u32,
     at: u32,
-) -> Act
+) -> Grown<Act>
     requires { AreThings a.old.memory things.now }
-    ensures { Acts (Command.Remove name at) things.now a.old a.new (Ok result) }
+    ensures { Acts (Command.Remove name at) things.now a.old a.new result }
 {
     let mut list = match list_of(things, name) {
         Ok(list) => list,
-        Err(reply) => return Act::Tells(reply),
+        Err(reply) => return Ok(Act::Tells(reply)),
     };
     if at >= list.len() {
-        return Act::Tells(ScriptReply::OutOfRange);
+        return Ok(Act::Tells(ScriptReply::OutOfRange));
     }
     let number = list.remove(a, at);
-    Act::Gives {
+    Ok(Act::Gives {
         name,
         thing: Thing::List(list),
         reply: ScriptReply::Number(number as u64),
-    }
+    })
 }
 
-pub(crate) fn at<C: ChunkSource>(a: &Allocator<C>, things: &Names<Thing>, name: u32, at: u32) -> Act
+#[inline(never)]
+pub(crate) fn at<C: ChunkSource>(
+    a: &Allocator<C>,
+    things: &Names<Thing>,
+    name: u32,
+    at: u32,
+) -> Grown<Act>
     requires { AreThings a.now.memory things.now }
-    ensures { Acts (Command.At name at) things.now a.now a.now (Ok result) }
+    ensures { Acts (Command.At name at) things.now a.now a.now result }
 {
     let list = match list_of(things, name) {
         Ok(list) => list,
-        Err(reply) => return Act::Tells(reply),
+        Err(reply) => return Ok(Act::Tells(reply)),
     };
     if at >= list.len() {
-        return Act::Tells(ScriptReply::OutOfRange);
+        return Ok(Act::Tells(ScriptReply::OutOfRange));
     }
-    Act::Tells(ScriptReply::Number(list.get(a, at) as u64))
+    Ok(Act::Tells(ScriptReply::Number(list.get(a, at) as u64)))
 }
 
+#[inline(never)]
 pub(crate) fn put<C: ChunkSource>(
     a: &mut Allocator<C>,
     things: &Names<Thing>,
     name: u32,
     at: u32,
     value: u32,
-) -> Act
+) -> Grown<Act>
     requires { AreThings a.old.memory things.now }
-    ensures { Acts (Command.Put name at value) things.now a.old a.new (Ok result) }
+    ensures { Acts (Command.Put name at value) things.now a.old a.new result }
 {
     let mut list = match list_of(things, name) {
         Ok(list) => list,
-        Err(reply) => return Act::Tells(reply),
+        Err(reply) => return Ok(Act::Tells(reply)),
     };
     if at >= list.len() {
-        return Act::Tells(ScriptReply::OutOfRange);
+        return Ok(Act::Tells(ScriptReply::OutOfRange));
     }
     list.set(a, at, value);
-    Act::Gives {
+    Ok(Act::Gives {
         name,
         thing: Thing::List(list),
         reply: ScriptReply::Done,
-    }
+    })
 }
 
+#[inline(never)]
 pub(crate) fn truncate<C: ChunkSource>(
     _a: &Allocator<C>,
     things: &Names<Thing>,
     name: u32,
     len: u32,
-) -> Act
+) -> Grown<Act>
     requires { AreThings _a.now.memory things.now }
-    ensures { Acts (Command.Truncate name len) things.now _a.now _a.now (Ok result) }
+    ensures { Acts (Command.Truncate name len) things.now _a.now _a.now result }
 {
     let mut list = match list_of(things, name) {
         Ok(list) => list,
-        Err(reply) => return Act::Tells(reply),
+        Err(reply) => return Ok(Act::Tells(reply)),
     };
     list.truncate(len);
-    Act::Gives {
+    Ok(Act::Gives {
         name,
         thing: Thing::List(list),
         reply: ScriptReply::Done,
-    }
+    })
 }
 
 // The numbers of a list.
@@ -218,6 +231,7 @@ pub(crate) fn numbers_of<C: ChunkSource>(
 
 // Copies the list of a name to another that holds nothing. What a split at the start gives is a list of all its numbers, in a block of
 // its own, and the old block is as it was.
+#[inline(never)]
 pub(crate) fn copied<C: ChunkSource>(
     a: &mut Allocator<C>,
     things: &Names<Thing>,
@@ -232,12 +246,10 @@ pub(crate) fn copied<C: ChunkSource>(
 {
     let _ = a.min_align();
     let mut source = list;
-    match source.split_off(a, 0) {
-        Ok(copy) => Ok(Act::Gives {
-            name: other,
-            thing: Thing::List(copy),
-            reply: ScriptReply::Done,
-        }),
-        Err(e) => Err(e),
-    }
+    let copy = source.split_off(a, 0)?;
+    Ok(Act::Gives {
+        name: other,
+        thing: Thing::List(copy),
+        reply: ScriptReply::Done,
+    })
 }

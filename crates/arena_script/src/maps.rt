@@ -21,53 +21,60 @@ use arena_items::{AllocError, Grown};
 use script_rules::{Command, Names, Numbers, ScriptReply};
 use std::alloc::Global;
 
-pub(crate) fn make_map<C: ChunkSource>(_a: &Allocator<C>, things: &Names<Thing>, name: u32) -> Act
-    ensures { Acts (Command.MakeMap name) things.now _a.now _a.now (Ok result) }
+#[inline(never)]
+pub(crate) fn make_map<C: ChunkSource>(
+    _a: &Allocator<C>,
+    things: &Names<Thing>,
+    name: u32,
+) -> Grown<Act>
+    ensures { Acts (Command.MakeMap name) things.now _a.now _a.now result }
 {
     if things.get(name).is_some() {
-        return Act::Tells(ScriptReply::NameTaken);
+        return Ok(Act::Tells(ScriptReply::NameTaken));
     }
-    Act::Gives {
+    Ok(Act::Gives {
         name,
         thing: Thing::Map(HashMap::new_in()),
         reply: ScriptReply::Done,
-    }
+    })
 }
 
+#[inline(never)]
 pub(crate) fn find<C: ChunkSource>(
     a: &Allocator<C>,
     things: &Names<Thing>,
     name: u32,
     key: u32,
-) -> Act
+) -> Grown<Act>
     requires { AreThings a.now.memory things.now }
-    ensures { Acts (Command.Find name key) things.now a.now a.now (Ok result) }
+    ensures { Acts (Command.Find name key) things.now a.now a.now result }
 {
     match map_of(things, name) {
-        Ok(map) => Act::Tells(number_or_nothing(map.get(a, key))),
-        Err(reply) => Act::Tells(reply),
+        Ok(map) => Ok(Act::Tells(number_or_nothing(map.get(a, key)))),
+        Err(reply) => Ok(Act::Tells(reply)),
     }
 }
 
+#[inline(never)]
 pub(crate) fn unbind<C: ChunkSource>(
     a: &mut Allocator<C>,
     things: &Names<Thing>,
     name: u32,
     key: u32,
-) -> Act
+) -> Grown<Act>
     requires { AreThings a.old.memory things.now }
-    ensures { Acts (Command.Unbind name key) things.now a.old a.new (Ok result) }
+    ensures { Acts (Command.Unbind name key) things.now a.old a.new result }
 {
     let mut map = match map_of(things, name) {
         Ok(map) => map,
-        Err(reply) => return Act::Tells(reply),
+        Err(reply) => return Ok(Act::Tells(reply)),
     };
     let old = map.remove(a, key);
-    Act::Gives {
+    Ok(Act::Gives {
         name,
         thing: Thing::Map(map),
         reply: number_or_nothing(old),
-    }
+    })
 }
 
 // Whether a map has no room for a key.
@@ -79,6 +86,7 @@ fn has_no_room<C: ChunkSource>(a: &Allocator<C>, map: HashMap<u32, u32>, key: u3
     map.len() == u32::MAX && !map.contains_key(a, key)
 }
 
+#[inline(never)]
 pub(crate) fn bind<C: ChunkSource>(
     a: &mut Allocator<C>,
     things: &Names<Thing>,
@@ -97,18 +105,16 @@ pub(crate) fn bind<C: ChunkSource>(
     if has_no_room(a, map, key) {
         return Ok(Act::Tells(ScriptReply::CapacityOverflow));
     }
-    let _len = map.len();
-    match map.insert(a, key, value) {
-        Ok(old) => Ok(Act::Gives {
-            name,
-            thing: Thing::Map(map),
-            reply: number_or_nothing(old),
-        }),
-        Err(e) => Err(e),
-    }
+    let old = map.insert(a, key, value)?;
+    Ok(Act::Gives {
+        name,
+        thing: Thing::Map(map),
+        reply: number_or_nothing(old),
+    })
 }
 
 // Copies the map of a name to another that holds nothing. The copy has the table of a new map for its pairs.
+#[inline(never)]
 pub(crate) fn copied<C: ChunkSource>(
     a: &mut Allocator<C>,
     things: &Names<Thing>,
@@ -124,14 +130,12 @@ pub(crate) fn copied<C: ChunkSource>(
     bytes_law::<u32, u32, FxHasher>();
     lengths_law::<u32, u32, FxHasher>();
     let _ = a.min_align();
-    match map.clone_within(CloneInSemanticIds::With, a) {
-        Ok(copy) => Ok(Act::Gives {
-            name: other,
-            thing: Thing::Map(copy),
-            reply: ScriptReply::Done,
-        }),
-        Err(e) => Err(e),
-    }
+    let copy = map.clone_within(CloneInSemanticIds::With, a)?;
+    Ok(Act::Gives {
+        name: other,
+        thing: Thing::Map(copy),
+        reply: ScriptReply::Done,
+    })
 }
 
 // Each key of a map with its value, by rising keys.
@@ -144,8 +148,5 @@ pub(crate) fn numbers_of<C: ChunkSource>(
     ensures numbers { IfOk result (λ all. all ≡ flat_map (λ e. e.0 ∷ e.1 ∷ []) (pairs_of (map_in pairs a.now.memory map))) }
     ensures wanting { IfErr result (λ e. e ≡ AllocError.OutOfMemory) }
 {
-    match by_keys(alloc, a, map) {
-        Ok(pairs) => pairs.listed(alloc),
-        Err(e) => Err(e),
-    }
+    by_keys(alloc, a, map)?.listed(alloc)
 }

@@ -42,8 +42,6 @@ pub(crate) fn serve<C: ChunkSource>(
     requires { AreThings a.old.memory things.old }
     ensures { ServesOrStops command.now a.old a.new things.old things.new result }
 {
-    match act(alloc, a, things, command) {
-        Ok(act) => settle(things, act),
-        Err(e) => Err(e),
-    }
+    let act = act(alloc, a, things, command)?;
+    settle(things, act)
 }

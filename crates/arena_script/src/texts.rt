@@ -35,19 +35,25 @@ fn has_other(bytes: &[u8]) -> bool
     false
 }
 
-pub(crate) fn make_text<C: ChunkSource>(_a: &Allocator<C>, things: &Names<Thing>, name: u32) -> Act
-    ensures { Acts (Command.MakeText name) things.now _a.now _a.now (Ok result) }
+#[inline(never)]
+pub(crate) fn make_text<C: ChunkSource>(
+    _a: &Allocator<C>,
+    things: &Names<Thing>,
+    name: u32,
+) -> Grown<Act>
+    ensures { Acts (Command.MakeText name) things.now _a.now _a.now result }
 {
     if things.get(name).is_some() {
-        return Act::Tells(ScriptReply::NameTaken);
+        return Ok(Act::Tells(ScriptReply::NameTaken));
     }
-    Act::Gives {
+    Ok(Act::Gives {
         name,
         thing: Thing::Text(StringBuilder::new_in()),
         reply: ScriptReply::Done,
-    }
+    })
 }
 
+#[inline(never)]
 pub(crate) fn append<C: ChunkSource>(
     a: &mut Allocator<C>,
     things: &Names<Thing>,
@@ -70,16 +76,15 @@ pub(crate) fn append<C: ChunkSource>(
     if text.len().saturating_add(bytes.len() as u64) > MOST_BYTES {
         return Ok(Act::Tells(ScriptReply::CapacityOverflow));
     }
-    match text.push_bytes_unchecked(a, bytes) {
-        Ok(()) => Ok(Act::Gives {
-            name,
-            thing: Thing::Text(text),
-            reply: ScriptReply::Done,
-        }),
-        Err(e) => Err(e),
-    }
+    text.push_bytes_unchecked(a, bytes)?;
+    Ok(Act::Gives {
+        name,
+        thing: Thing::Text(text),
+        reply: ScriptReply::Done,
+    })
 }
 
+#[inline(never)]
 pub(crate) fn byte<C: ChunkSource>(
     a: &mut Allocator<C>,
     things: &Names<Thing>,
@@ -92,6 +97,7 @@ pub(crate) fn byte<C: ChunkSource>(
     append(a, things, name, &[byte])
 }
 
+#[inline(never)]
 pub(crate) fn front<C: ChunkSource>(
     a: &mut Allocator<C>,
     things: &Names<Thing>,
@@ -114,14 +120,12 @@ pub(crate) fn front<C: ChunkSource>(
     if text.len() >= MOST_BYTES {
         return Ok(Act::Tells(ScriptReply::CapacityOverflow));
     }
-    match text.push_byte_start_unchecked(a, byte) {
-        Ok(()) => Ok(Act::Gives {
-            name,
-            thing: Thing::Text(text),
-            reply: ScriptReply::Done,
-        }),
-        Err(e) => Err(e),
-    }
+    text.push_byte_start_unchecked(a, byte)?;
+    Ok(Act::Gives {
+        name,
+        thing: Thing::Text(text),
+        reply: ScriptReply::Done,
+    })
 }
 
 // The bytes of a text.
@@ -141,6 +145,7 @@ pub(crate) fn bytes_of<C: ChunkSource>(
 }
 
 // Copies the text of a name to another that holds nothing. The copy has room for its bytes.
+#[inline(never)]
 pub(crate) fn copied<C: ChunkSource>(
     a: &mut Allocator<C>,
     things: &Names<Thing>,
@@ -156,16 +161,14 @@ pub(crate) fn copied<C: ChunkSource>(
     length_rule();
     let _ = a.min_align();
     let source = text.into_str();
-    match source.clone_within(CloneInSemanticIds::With, a) {
-        Ok(copy) => Ok(Act::Gives {
-            name: other,
-            thing: Thing::Text(StringBuilder {
-                block: copy.block,
-                len: text.len,
-                cap: text.len,
-            }),
-            reply: ScriptReply::Done,
+    let copy = source.clone_within(CloneInSemanticIds::With, a)?;
+    Ok(Act::Gives {
+        name: other,
+        thing: Thing::Text(StringBuilder {
+            block: copy.block,
+            len: text.len,
+            cap: text.len,
         }),
-        Err(e) => Err(e),
-    }
+        reply: ScriptReply::Done,
+    })
 }

@@ -14,6 +14,7 @@ use arena_clone::FromIn;
 use arena_items::{Box, Grown};
 use script_rules::{Command, Names, ScriptReply};
 
+#[inline(never)]
 pub(crate) fn make_value<C: ChunkSource>(
     a: &mut Allocator<C>,
     things: &Names<Thing>,
@@ -28,48 +29,49 @@ pub(crate) fn make_value<C: ChunkSource>(
         return Ok(Act::Tells(ScriptReply::NameTaken));
     }
     let made: Grown<Box<u64>> = Box::from_in(value, a);
-    match made {
-        Ok(value) => Ok(Act::Gives {
-            name,
-            thing: Thing::Value(value),
-            reply: ScriptReply::Done,
-        }),
-        Err(e) => Err(e),
-    }
+    let value = made?;
+    Ok(Act::Gives {
+        name,
+        thing: Thing::Value(value),
+        reply: ScriptReply::Done,
+    })
 }
 
-pub(crate) fn load<C: ChunkSource>(a: &Allocator<C>, things: &Names<Thing>, name: u32) -> Act
+#[inline(never)]
+pub(crate) fn load<C: ChunkSource>(a: &Allocator<C>, things: &Names<Thing>, name: u32) -> Grown<Act>
     requires { AreThings a.now.memory things.now }
-    ensures { Acts (Command.Load name) things.now a.now a.now (Ok result) }
+    ensures { Acts (Command.Load name) things.now a.now a.now result }
 {
     match value_of(things, name) {
-        Ok(value) => Act::Tells(ScriptReply::Number(value.get(a))),
-        Err(reply) => Act::Tells(reply),
+        Ok(value) => Ok(Act::Tells(ScriptReply::Number(value.get(a)))),
+        Err(reply) => Ok(Act::Tells(reply)),
     }
 }
 
+#[inline(never)]
 pub(crate) fn store<C: ChunkSource>(
     a: &mut Allocator<C>,
     things: &Names<Thing>,
     name: u32,
     new: u64,
-) -> Act
+) -> Grown<Act>
     requires { AreThings a.old.memory things.now }
-    ensures { Acts (Command.Store name new) things.now a.old a.new (Ok result) }
+    ensures { Acts (Command.Store name new) things.now a.old a.new result }
 {
     let value = match value_of(things, name) {
         Ok(value) => value,
-        Err(reply) => return Act::Tells(reply),
+        Err(reply) => return Ok(Act::Tells(reply)),
     };
     value.set(a, new);
-    Act::Gives {
+    Ok(Act::Gives {
         name,
         thing: Thing::Value(value),
         reply: ScriptReply::Done,
-    }
+    })
 }
 
 // Copies the value of a name to another that holds nothing.
+#[inline(never)]
 pub(crate) fn copied<C: ChunkSource>(
     a: &mut Allocator<C>,
     things: &Names<Thing>,
@@ -85,12 +87,10 @@ pub(crate) fn copied<C: ChunkSource>(
     let _ = a.min_align();
     let content = value.get(a);
     let made: Grown<Box<u64>> = Box::from_in(content, a);
-    match made {
-        Ok(value) => Ok(Act::Gives {
-            name: other,
-            thing: Thing::Value(value),
-            reply: ScriptReply::Done,
-        }),
-        Err(e) => Err(e),
-    }
+    let copy = made?;
+    Ok(Act::Gives {
+        name: other,
+        thing: Thing::Value(copy),
+        reply: ScriptReply::Done,
+    })
 }

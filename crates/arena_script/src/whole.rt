@@ -15,27 +15,33 @@ use arena_text::laws::length_rule;
 use script_rules::{Command, Names, ScriptReply};
 use std::alloc::Global;
 
-pub(crate) fn drop_name<C: ChunkSource>(_a: &Allocator<C>, things: &Names<Thing>, name: u32) -> Act
-    ensures { Acts (Command.DropName name) things.now _a.now _a.now (Ok result) }
+#[inline(never)]
+pub(crate) fn drop_name<C: ChunkSource>(
+    _a: &Allocator<C>,
+    things: &Names<Thing>,
+    name: u32,
+) -> Grown<Act>
+    ensures { Acts (Command.DropName name) things.now _a.now _a.now result }
 {
     match things.get(name) {
-        None => Act::Tells(ScriptReply::NoSuchName),
-        Some(_) => Act::LetsGo(name),
+        None => Ok(Act::Tells(ScriptReply::NoSuchName)),
+        Some(_) => Ok(Act::LetsGo(name)),
     }
 }
 
-pub(crate) fn len<C: ChunkSource>(_a: &Allocator<C>, things: &Names<Thing>, name: u32) -> Act
+#[inline(never)]
+pub(crate) fn len<C: ChunkSource>(_a: &Allocator<C>, things: &Names<Thing>, name: u32) -> Grown<Act>
     requires { AreThings _a.now.memory things.now }
-    ensures { Acts (Command.Len name) things.now _a.now _a.now (Ok result) }
+    ensures { Acts (Command.Len name) things.now _a.now _a.now result }
 {
     length_rule();
     match things.get(name) {
-        None => Act::Tells(ScriptReply::NoSuchName),
-        Some(Thing::List(list)) => Act::Tells(ScriptReply::Number(list.len() as u64)),
-        Some(Thing::Text(text)) => Act::Tells(ScriptReply::Number(text.len())),
-        Some(Thing::Bits(set)) => Act::Tells(ScriptReply::Number(set.capacity())),
-        Some(Thing::Map(map)) => Act::Tells(ScriptReply::Number(map.len() as u64)),
-        Some(Thing::Value(_)) => Act::Tells(ScriptReply::WrongKind),
+        None => Ok(Act::Tells(ScriptReply::NoSuchName)),
+        Some(Thing::List(list)) => Ok(Act::Tells(ScriptReply::Number(list.len() as u64))),
+        Some(Thing::Text(text)) => Ok(Act::Tells(ScriptReply::Number(text.len()))),
+        Some(Thing::Bits(set)) => Ok(Act::Tells(ScriptReply::Number(set.capacity()))),
+        Some(Thing::Map(map)) => Ok(Act::Tells(ScriptReply::Number(map.len() as u64))),
+        Some(Thing::Value(_)) => Ok(Act::Tells(ScriptReply::WrongKind)),
     }
 }
 
@@ -45,27 +51,16 @@ fn shown<C: ChunkSource>(alloc: Global, a: &Allocator<C>, thing: Thing) -> Grown
     ensures told { IfOk result (λ reply. reply ≡ effects.shown (object_in a.now.memory thing)) }
     ensures wanting { IfErr result (λ e. e ≡ AllocError.OutOfMemory) }
 {
-    match thing {
-        Thing::List(list) => match lists::numbers_of(alloc, a, list) {
-            Ok(numbers) => Ok(ScriptReply::Numbers(numbers)),
-            Err(e) => Err(e),
-        },
-        Thing::Text(text) => match texts::bytes_of(alloc, a, text) {
-            Ok(bytes) => Ok(ScriptReply::Bytes(bytes)),
-            Err(e) => Err(e),
-        },
-        Thing::Bits(set) => match bits::printed_of(alloc, a, set) {
-            Ok(text) => Ok(ScriptReply::Printed(text)),
-            Err(e) => Err(e),
-        },
-        Thing::Map(map) => match maps::numbers_of(alloc, a, map) {
-            Ok(numbers) => Ok(ScriptReply::Numbers(numbers)),
-            Err(e) => Err(e),
-        },
-        Thing::Value(value) => Ok(ScriptReply::Number(value.get(a))),
-    }
+    Ok(match thing {
+        Thing::List(list) => ScriptReply::Numbers(lists::numbers_of(alloc, a, list)?),
+        Thing::Text(text) => ScriptReply::Bytes(texts::bytes_of(alloc, a, text)?),
+        Thing::Bits(set) => ScriptReply::Printed(bits::printed_of(alloc, a, set)?),
+        Thing::Map(map) => ScriptReply::Numbers(maps::numbers_of(alloc, a, map)?),
+        Thing::Value(value) => ScriptReply::Number(value.get(a)),
+    })
 }
 
+#[inline(never)]
 pub(crate) fn show<C: ChunkSource>(
     alloc: Global,
     a: &Allocator<C>,
@@ -78,13 +73,11 @@ pub(crate) fn show<C: ChunkSource>(
     let Some(thing) = things.get(name) else {
         return Ok(Act::Tells(ScriptReply::NoSuchName));
     };
-    match shown(alloc, a, thing) {
-        Ok(reply) => Ok(Act::Tells(reply)),
-        Err(e) => Err(e),
-    }
+    Ok(Act::Tells(shown(alloc, a, thing)?))
 }
 
 /// Makes an equal object under another name.
+#[inline(never)]
 pub(crate) fn copy<C: ChunkSource>(
     a: &mut Allocator<C>,
     things: &Names<Thing>,

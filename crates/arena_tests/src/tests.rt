@@ -4,6 +4,7 @@ mod allocators;
 mod beside;
 mod blocks;
 mod creation;
+mod ends;
 mod growth;
 mod layers;
 mod marks;

@@ -1,5 +1,5 @@
 // Many threads over one pool.
-ghost use Rattle.std.specs.Prelude.{◌≡◌, ℕ, ◌%◌, ◌<◌, ◌≤◌, None, IfOk, IfSome, length, vec_len, slice_index, slice_index_or};
+ghost use Rattle.std.specs.Prelude.{◌≡◌, ℕ, ◌%◌, ◌<◌, ◌≤◌, None, Some, IfOk, IfSome, length, vec_len, slice_index, slice_index_or};
 ghost use Rattle.arena_pool.specs.Names.{IsBlankOf};
 ghost use Rattle.arena_pool.specs.declared.kind.PoolKind.TheVariants.{Standard, FixedSize};
 ghost use Rattle.example_pool.specs.Through.{ComeBack};
@@ -66,10 +66,56 @@ fn in_standard<L: PoolName + Send + Sync, R: Threads + Wait + Sync>(
 ) -> Result<Vec<Option<u64>>, OutOfMemory>
     requires blank { IsBlankOf L.name L.parts blank }
     requires kind { L.kind ≡ Standard }
+    requires limit { L.limit ≡ None }
     ensures { IfOk result (λ back. ComeBack values.now back.items) }
 {
     let maker = MemoryMaker::new(alloc, budget);
     let pool = AllocatorPool::<MemoryMaker, L>::new(alloc, arenas, maker, blank)?;
+    all_through(rt, alloc, &pool, values)
+}
+
+/// The same over a new standard pool that keeps no arena of more than so many bytes.
+///
+/// # Errors
+///
+/// Memory is wanting.
+pub fn over_limited<R: Threads + Wait + Sync>(
+    rt: &R,
+    alloc: Global,
+    arenas: u32,
+    limit: u64,
+    budget: u64,
+    values: &[u64],
+) -> Result<Vec<Option<u64>>, OutOfMemory>
+    ensures { IfOk result (λ back. ComeBack values.now back.items) }
+{
+    in_limited::<Brand, R>(
+        rt,
+        alloc,
+        arenas,
+        limit,
+        budget,
+        Blank::new(MOST_LENT),
+        values,
+    )
+}
+
+fn in_limited<L: PoolName + Send + Sync, R: Threads + Wait + Sync>(
+    rt: &R,
+    alloc: Global,
+    arenas: u32,
+    limit: u64,
+    budget: u64,
+    blank: Blank,
+    values: &[u64],
+) -> Result<Vec<Option<u64>>, OutOfMemory>
+    requires blank { IsBlankOf L.name L.parts blank }
+    requires kind { L.kind ≡ Standard }
+    requires limit { L.limit ≡ Some limit }
+    ensures { IfOk result (λ back. ComeBack values.now back.items) }
+{
+    let maker = MemoryMaker::new(alloc, budget);
+    let pool = AllocatorPool::<MemoryMaker, L>::new_with_limit(alloc, arenas, limit, maker, blank)?;
     all_through(rt, alloc, &pool, values)
 }
 
@@ -103,6 +149,7 @@ fn in_fixed<L: PoolName + Send + Sync, R: Threads + Wait + Sync>(
 ) -> Result<Vec<Option<u64>>, OutOfMemory>
     requires blank { IsBlankOf L.name L.parts blank }
     requires kind { L.kind ≡ FixedSize bytes }
+    requires limit { L.limit ≡ None }
     requires units { bytes % 16 ≡ 0 }
     requires room { 48 ≤ bytes }
     ensures { IfOk result (λ back. ComeBack values.now back.items) }

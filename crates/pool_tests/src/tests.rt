@@ -27,26 +27,49 @@ const MARKED: u64 = 32;
 /// Arenas over regions in which 64 bytes have a place.
 const SMALL: PoolKind = PoolKind::FixedSize { bytes: 112 };
 
-// A pool that is named, of so many arenas of a kind.
+/// What pool is made: of what kind, with what limit, and with how many arenas at first.
+#[derive(Clone, Copy)]
+struct Plan {
+    kind: PoolKind,
+    limit: Option<u64>,
+    arenas: u32,
+}
+
+// A pool that is named, as planned.
 fn pool_of<L: PoolName, R: Wait + Abort>(
     rt: &R,
     alloc: Global,
-    kind: PoolKind,
-    arenas: u32,
+    plan: Plan,
     blank: Blank,
 ) -> AllocatorPool<MemoryMaker, L>
     requires blank { IsBlankOf L.name L.parts blank }
-    requires kind { L.kind ≡ kind }
+    requires kind { L.kind ≡ plan.kind }
+    requires limit { L.limit ≡ plan.limit }
 {
     let maker = MemoryMaker::new(alloc, 1 << 20);
-    let pool = match kind {
-        PoolKind::Standard => AllocatorPool::new(alloc, arenas, maker, blank),
-        PoolKind::FixedSize { bytes } => {
-            assert!(rt; bytes % 16 == 0 && bytes >= 48);
-            AllocatorPool::new_fixed_size(alloc, arenas, bytes, maker, blank)
+    let pool = match (plan.kind, plan.limit) {
+        (PoolKind::Standard, None) => AllocatorPool::new(alloc, plan.arenas, maker, blank),
+        (PoolKind::Standard, Some(limit)) => {
+            AllocatorPool::new_with_limit(alloc, plan.arenas, limit, maker, blank)
+        }
+        (PoolKind::FixedSize { bytes }, limit) => {
+            assert!(rt; bytes % 16 == 0 && bytes >= 48 && limit.is_none());
+            AllocatorPool::new_fixed_size(alloc, plan.arenas, bytes, maker, blank)
         }
     };
     pool.ok().expect(rt, "a pool")
+}
+
+// Whether an arena has a place for a block of so many bytes.
+#[tactic(auto, using(arena_pool::proofs::Layers::kind_laws))]
+fn places<C: ChunkSource>(a: &mut Allocator<C>, size: u64) -> bool
+    ensures { (kind : PoolKind) → IsOfKind kind a.old.memory.state → IsOfKind kind a.new.memory.state }
+{
+    kinds();
+    match Layout::new(size, 1) {
+        Some(layout) => a.alloc_layout(layout).is_ok(),
+        None => false,
+    }
 }
 
 // Whether an arena begins with nothing used, and a block in it still holds its own bytes once other threads had a turn.

@@ -2,6 +2,7 @@
 mod commands;
 mod engine;
 mod examples;
+mod many;
 mod refusals;
 
 use commands::{BITS, LISTS, MAPS_AND_VALUES, TEXTS};

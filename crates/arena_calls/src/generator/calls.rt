@@ -1,9 +1,11 @@
 // Makes the calls.
-ghost use Rattle.std.specs.Prelude.{◌≡◌, ◌∷◌, ◌++◌, [], IfOk, OnOk};
-ghost use Rattle.placement.specs.Generator.{next_seed, drawn, size_in, align_in, fill_in, call_at, seed_behind, gen_calls};
+ghost use Rattle.std.specs.Prelude.{◌≡◌, ◌∷◌, [], IfOk, length};
+ghost use Rattle.placement.specs.Generator.{next_seed, drawn, size_in, align_in, fill_in, call_at, seed_behind};
+ghost use Rattle.arena_calls.specs.Draws.{HasByte};
 
 use placement::{Bytes, Call, OutOfMemory};
 use std::alloc::Global;
+use std::mem;
 
 // One call of so many gives all blocks back: the last one.
 const TURN: usize = 65_536;
@@ -26,20 +28,55 @@ fn block_from(q: u64) -> Wanted
     }
 }
 
-fn one_byte(alloc: Global, byte: u8) -> Result<Bytes, OutOfMemory>
-    ensures { IfOk result (λ bytes. bytes ≡ byte ∷ []) }
-{
-    Bytes::of(alloc, &[byte])
-}
-
-// Draws numbers, one after another.
+/// Draws numbers, one after another, and makes calls of them. The one byte that a call may write is lent to the call, so that
+/// no call takes memory.
 #[derive(Drop)]
-struct Draws {
+pub struct Draws {
+    alloc: Global,
     seed: u64,
+    spare: Vec<u8>,
 }
 
 impl Draws {
+    /// Draws from this seed on.
+    ///
+    /// # Errors
+    ///
+    /// `OutOfMemory` where there is none for one byte.
+    pub fn new(alloc: Global, seed: u64) -> Result<Draws, OutOfMemory>
+        ensures seed { IfOk result (λ draws. draws.seed ≡ seed) }
+        ensures byte { IfOk result (λ draws. length draws.spare.items ≡ 1) }
+    {
+        match Vec::from_slice(alloc, &[0]) {
+            Ok(spare) => Ok(Draws { alloc, seed, spare }),
+            Err(_) => Err(OutOfMemory),
+        }
+    }
+
+    // The bytes of a call that writes this one.
+    fn one_byte(&mut self, byte: u8) -> Bytes
+        requires { length self.old.spare.items ≡ 1 }
+        ensures bytes { result ≡ byte ∷ [] }
+        ensures seed { self.new.seed ≡ self.old.seed }
+    {
+        let mut items = mem::replace(&mut self.spare, Vec::new(self.alloc));
+        items[0] = byte;
+        Bytes::from_vec(items)
+    }
+
+    /// Takes back the byte of a call that was made.
+    pub fn take_back(&mut self, call: Call)
+        requires { HasByte call self.old.spare.items }
+        ensures byte { length self.new.spare.items ≡ 1 }
+        ensures seed { self.new.seed ≡ self.old.seed }
+    {
+        if let Call::Write { bytes, .. } = call {
+            self.spare = bytes.into_vec();
+        }
+    }
+
     fn draw(&mut self) -> u64
+        ensures spare { self.new.spare ≡ self.old.spare }
         ensures seed { self.new.seed ≡ next_seed self.old.seed }
         ensures value { result ≡ drawn self.old.seed }
     {
@@ -50,74 +87,53 @@ impl Draws {
         self.seed >> 33
     }
 
-    // The call with this index.
-    fn call(&mut self, alloc: Global, i: usize) -> Result<Call, OutOfMemory>
-        ensures call { IfOk result (λ call. call ≡ call_at i self.old.seed) }
-        ensures seed { OnOk result (self.new.seed ≡ seed_behind i self.old.seed) }
+    /// The call with this index, where that before it was taken back.
+    #[inline(always)]
+    pub fn call(&mut self, i: usize) -> Call
+        requires { length self.old.spare.items ≡ 1 }
+        ensures call { result ≡ call_at i self.old.seed }
+        ensures seed { self.new.seed ≡ seed_behind i self.old.seed }
+        ensures byte { HasByte result self.new.spare.items }
     {
         if i % TURN == TURN - 1 {
-            return Ok(Call::Reset);
+            return Call::Reset;
         }
         let r = self.draw();
         let name = (r / 8 % 256) as u32;
         match r % 8 {
             0..=2 => {
                 let Wanted { size, align, fill } = block_from(self.draw());
-                Ok(Call::Alloc {
+                Call::Alloc {
                     name,
                     size,
                     align,
                     fill,
-                })
+                }
             }
             3 => {
                 let Wanted { size, align, fill } = block_from(self.draw());
-                Ok(Call::Grow {
+                Call::Grow {
                     name,
                     size,
                     align,
                     fill,
-                })
+                }
             }
             4 => {
                 let Wanted { size, align, .. } = block_from(self.draw());
-                Ok(Call::Shrink { name, size, align })
+                Call::Shrink { name, size, align }
             }
-            5 => Ok(Call::Dealloc { name }),
+            5 => Call::Dealloc { name },
             6 => {
                 let q = self.draw();
-                let bytes = one_byte(alloc, (q / 512 % 256) as u8)?;
-                Ok(Call::Write {
+                let bytes = self.one_byte((q / 512 % 256) as u8);
+                Call::Write {
                     name,
                     at: q % 512,
                     bytes,
-                })
+                }
             }
-            _ => Ok(Call::Read { name }),
+            _ => Call::Read { name },
         }
     }
-}
-
-fn add(calls: &mut Vec<Call>, call: Call) -> Result<(), OutOfMemory>
-    ensures { OnOk result (calls.new.items ≡ calls.old.items ++ call ∷ []) }
-{
-    match calls.push(call) {
-        Ok(()) => Ok(()),
-        Err(_) => Err(OutOfMemory),
-    }
-}
-
-/// The first calls from this start, so many. All room for them is made at once.
-pub fn generated(alloc: Global, start: u64, count: usize) -> Result<Vec<Call>, OutOfMemory>
-    ensures { IfOk result (λ calls. calls.items ≡ gen_calls start count) }
-{
-    let Ok(mut calls) = Vec::with_capacity(alloc, count) else {
-        return Err(OutOfMemory);
-    };
-    let mut draws = Draws { seed: start };
-    for i in 0..count {
-        let call = draws.call(alloc, i)?;
-        add(&mut calls, call)?;
-    }
-    Ok(calls)
 }

@@ -1,15 +1,53 @@
 // Makes calls from one number, runs them, and writes what their replies come to.
-ghost use Rattle.std.specs.Prelude.{ℕ, List, Option};
+ghost use Rattle.std.specs.Prelude.{◌≡◌, ℕ, ◌⊎◌, List, Option, IfOk, OnErr};
+ghost use Rattle.placement.specs.Generator.{gen_calls};
+ghost use Rattle.placement.specs.declared.calls.Reply.{Reply};
 ghost use Rattle.arena_chunks.specs.Source.{view};
+ghost use Rattle.arena_chunks.specs.Runs.{Runs, RunsFirst};
+ghost use Rattle.arena_chunks.specs.declared.block.Block.{Block};
+ghost use Rattle.arena_calls.specs.Tallies.{IsTally};
 ghost use Rattle.arena_calls.specs.Ends.{outside, GenEnds};
 
-use super::calls::generated;
+use super::calls::Draws;
 use super::summary::{Summary, room_for_text};
 use super::tally::Tally;
 use crate::status::Status;
 use crate::streams::{Output, write_all};
-use arena_chunks::{Arena, ChunkSource, run_calls_into};
+use arena_chunks::{Arena, ChunkSource, OutOfMemory, Replies, Run};
 use std::alloc::Global;
+
+// Runs so many calls from this start, each made when its turn comes, and counts their replies.
+fn count_replies<C: ChunkSource>(
+    alloc: Global,
+    start: u64,
+    count: usize,
+    arena: &mut Arena<1>,
+    chunks: &mut C,
+) -> Result<Tally, OutOfMemory>
+    ensures ok { IfOk result (λ tally. (replies : List Reply) × (blocks : List (ℕ × Block))
+        × Runs (view arena.old (C.source chunks.old)) (view arena.new (C.source chunks.new)) (gen_calls start count) replies blocks
+        × IsTally tally replies) }
+    ensures err { OnErr result
+        ((view arena.new (C.source chunks.new) ≡ view arena.old (C.source chunks.old))
+        ⊎ ((done : ℕ)
+        × RunsFirst (view arena.old (C.source chunks.old)) (view arena.new (C.source chunks.new)) (gen_calls start count) done)) }
+{
+    let mut draws = Draws::new(alloc, start)?;
+    let mut run = Run::new(alloc, arena)?;
+    let mut tally = Tally::new();
+    tally.reserve(count)?;
+    for i in 0..count {
+        let call = draws.call(i);
+        let Ok(()) = run.serve(arena, chunks, &call, count - i - 1, &mut tally) else {
+            return Err(OutOfMemory);
+        };
+        draws.take_back(call);
+    }
+    let Ok(_) = run.held(arena) else {
+        return Err(OutOfMemory);
+    };
+    Ok(tally)
+}
 
 /// Runs so many calls from this start over the arena, and writes their summary. Nothing is written before the last call
 /// was run.
@@ -25,14 +63,10 @@ pub fn run_generated<C: ChunkSource, O: Output>(
         (outside left read_faults (O.written output.old) (O.faults output.old) (view arena.old (C.source chunks.old)))
         (outside left read_faults (O.written output.new) (O.faults output.new) (view arena.new (C.source chunks.new))) }
 {
-    let Ok(calls) = generated(alloc, start, count) else {
-        return Status::OutOfMemory;
-    };
     let Ok(mut text) = room_for_text(alloc) else {
         return Status::OutOfMemory;
     };
-    let mut tally = Tally::new();
-    let Ok(_) = run_calls_into(alloc, arena, chunks, calls.as_slice(), &mut tally) else {
+    let Ok(tally) = count_replies(alloc, start, count, arena, chunks) else {
         return Status::OutOfMemory;
     };
     let summary = Summary {

@@ -4,17 +4,17 @@ ghost use Rattle.std.specs.Prelude.{◌≡◌, ◌*◌, ◌^◌, ◌≤◌, leng
 use arena_chunks::Replies;
 use placement::{OutOfMemory, Reply};
 
-// So many bytes are added up as a number of 32 bits.
-const PIECE: usize = 65_536;
+// The sum of so many bytes fits in 16 bits, so that the most of them are added at once.
+const PIECE: usize = 256;
 
-fn sum_of_piece(bytes: &[u8]) -> u32
-    requires { length bytes.now ≤ 65536 }
+fn sum_of_piece(bytes: &[u8]) -> u16
+    requires { length bytes.now ≤ 256 }
     ensures value { result ≡ sum bytes.now }
     ensures small { result ≤ 255 * length bytes.now }
 {
     let mut total = 0;
     for b in bytes {
-        total += u32::from(*b);
+        total += u16::from(*b);
     }
     total
 }

@@ -1,11 +1,10 @@
 // Reads a call from the front of a line.
 ghost use Rattle.std.specs.Prelude.{IfOk, codes};
 ghost use Rattle.placement.specs.Grammar.{Fits, call_line};
-ghost use Rattle.arena_calls.specs.Lines.{Reads, FitsPlacing, placing_fields, BeginsWith};
+ghost use Rattle.line_parts.specs.Reads.{Reads};
+ghost use Rattle.arena_calls.specs.Lines.{FitsPlacing, placing_fields, BeginsWith};
 
-use super::hex::hex_bytes;
-use super::number::{field, name_field};
-use super::word::behind;
+use line_parts::{behind, field, hex_bytes, name_field};
 use placement::Call;
 use std::alloc::{AllocError, Global};
 

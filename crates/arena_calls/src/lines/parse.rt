@@ -1,9 +1,11 @@
 // Reads the lines of calls.
 ghost use Rattle.std.specs.Prelude.{◌≡◌, IfOk, IfErr, MatchOption, Ok};
-ghost use Rattle.placement.specs.Grammar.{CallsOf};
-ghost use Rattle.arena_calls.specs.Lines.{IsCauseIn, TakesLine, RefusesLine, is_line_end};
+ghost use Rattle.placement.specs.Grammar.{CallsOf, AreCalls, IsRefused};
+ghost use Rattle.line_parts.specs.Lines.{TakesLine, RefusesLine};
+ghost use Rattle.arena_calls.specs.Lines.{IsCauseIn};
 
 use super::call::read_call;
+use line_parts::at_line_end;
 use placement::Call;
 use std::alloc::{AllocError, Global};
 
@@ -15,15 +17,6 @@ pub enum LinesErr {
     OutOfMemory,
 }
 
-fn at_line_end(bytes: &[u8]) -> bool
-    ensures { result ≡ is_line_end bytes.now }
-{
-    match bytes.first() {
-        Some(b) => *b == b'\n',
-        None => true,
-    }
-}
-
 // Adds the call of the first line, unless the line is empty. Gives what comes behind the line, from its line feed on.
 fn take_line<'a>(
     alloc: Global,
@@ -31,8 +24,8 @@ fn take_line<'a>(
     calls: &mut Vec<Call>,
 ) -> Result<Option<&'a [u8]>, AllocError>
     ensures { IfOk result (λ o. MatchOption o
-        (RefusesLine bytes.now)
-        (λ behind. TakesLine bytes.now behind.now calls.old.items calls.new.items)) }
+        (RefusesLine IsRefused bytes.now)
+        (λ behind. TakesLine AreCalls bytes.now behind.now calls.old.items calls.new.items)) }
 {
     if at_line_end(bytes) {
         return Ok(Some(bytes));

@@ -4,7 +4,7 @@ ghost use Rattle.std.specs.Prelude.{◌<◌};
 use super::{Ended, run_over, same, words};
 use crate::status::Status;
 use crate::streams::{MemoryInput, MemoryOutput, Output, StdInput, StdOutput};
-use crate::whole_run::arena_main;
+use crate::whole_run::arena_calls;
 use arena_chunks::{Arena, MemoryChunks};
 use std::alloc::Global;
 use std::process::Abort;
@@ -24,22 +24,24 @@ fn other_words_are_usage(rt: HostRuntime) -> Result<(), Fail> {
     Ok(())
 }
 
-// Runs a text whose reads give so many bytes and whose writes take 4, where the listed reads and writes fail.
+// Runs a text whose reads give and whose writes take so many bytes, where the listed reads and writes fail.
 fn faulty(
     alloc: Global,
     text: Vec<u8>,
-    step: u32,
+    steps: (u32, u32),
     reads: Vec<u64>,
     writes: Vec<u64>,
 ) -> Result<Ended, Fail>
-    requires { 0 < step }
+    requires reads { 0 < steps.0 }
+    requires writes { 0 < steps.1 }
 {
+    let (given, taken) = steps;
     let words = words(alloc, &["calls"])?;
     let mut arena = Arena::<1>::new(alloc);
     let mut chunks = MemoryChunks::new(alloc, 1 << 30);
-    let mut input = MemoryInput::new(alloc, text, step, reads);
-    let mut output = MemoryOutput::new(alloc, 4, writes);
-    let status = arena_main(
+    let mut input = MemoryInput::new(alloc, text, given, reads);
+    let mut output = MemoryOutput::new(alloc, taken, writes);
+    let status = arena_calls(
         alloc,
         words.as_slice(),
         &mut arena,
@@ -71,11 +73,53 @@ fn each_read_and_each_write_fails_in_turn(rt: HostRuntime) -> Result<(), Fail> {
     let alloc = rt.alloc();
     for (reads, writes, code, written) in FAULTS {
         let input = b"used".to_vec(alloc)?;
-        let ended = faulty(alloc, input, 2, reads.to_vec(alloc)?, writes.to_vec(alloc)?)?;
+        let ended = faulty(
+            alloc,
+            input,
+            (2, 4),
+            reads.to_vec(alloc)?,
+            writes.to_vec(alloc)?,
+        )?;
         same(&rt, ended.status.code(), code);
         same(&rt, ended.text.as_slice(), written.as_bytes());
     }
     Ok(())
+}
+
+// Calls, and the replies that the rules give.
+const CALLS: &str = "alloc 7 5 1 46\nwrite 7 0 68656c6c6f\nread 7\nused\nallocated\n";
+
+const REPLIES: &str = "placed 20411 refused 0\ndone\nbytes 68656c6c6f\nnumber 5\nnumber 16320\n";
+
+// Runs the calls with reads and writes of one byte, where the read and the write of these numbers fail.
+fn by_bytes(
+    rt: &impl Abort,
+    alloc: Global,
+    (read, write): (u64, u64),
+    code: u8,
+    written: &[u8],
+) -> Result<(), Fail> {
+    let text = CALLS.as_bytes().to_vec(alloc)?;
+    let (reads, writes) = (vec![in alloc; read; 1]?, vec![in alloc; write; 1]?);
+    let ended = faulty(alloc, text, (1, 1), reads, writes)?;
+    same(rt, ended.status.code(), code);
+    same(rt, ended.text.as_slice(), written);
+    Ok(())
+}
+
+// There is one read for each byte and one that meets the end, and one write for each byte. Calls are numbered from 1, so 0
+// is none, and the next number is never reached.
+#[test]
+fn each_byte_fails_in_turn(rt: HostRuntime) -> Result<(), Fail> {
+    let (reads, replies) = (CALLS.len() as u64 + 1, REPLIES.as_bytes());
+    for read in 1..=reads {
+        by_bytes(&rt, rt.alloc(), (read, 0), 4, b"")?;
+    }
+    for n in 0..replies.len() {
+        by_bytes(&rt, rt.alloc(), (0, n as u64 + 1), 5, &replies[..n])?;
+    }
+    let behind = (reads + 1, replies.len() as u64 + 1);
+    by_bytes(&rt, rt.alloc(), behind, 0, replies)
 }
 
 #[test]
@@ -86,7 +130,7 @@ fn the_longest_input_and_one_byte_more(rt: HostRuntime) -> Result<(), Fail> {
         let Ended { status, text } = faulty(
             alloc,
             feeds,
-            1 << 20,
+            (1 << 20, 4),
             Vec::new(alloc),
             Vec::new(alloc),
         )?;
@@ -116,7 +160,7 @@ fn over_a_reader_and_a_writer_of_std(rt: HostRuntime) -> Result<(), Fail> {
     let mut output = StdOutput::new(&mut text);
     let mut arena = Arena::<1>::new(alloc);
     let mut chunks = MemoryChunks::new(alloc, 1 << 30);
-    let status = arena_main(
+    let status = arena_calls(
         alloc,
         words(alloc, &["calls"])?.as_slice(),
         &mut arena,

@@ -1,10 +1,10 @@
 // Calls from a number, and what their replies come to.
 use super::words;
-use crate::generator::generated;
+use crate::generator::Draws;
 use crate::lines::parse_calls;
 use crate::status::Status;
 use crate::streams::{MemoryInput, MemoryOutput};
-use crate::whole_run::arena_main;
+use crate::whole_run::arena_calls;
 use arena_chunks::{Arena, MemoryChunks};
 use std::alloc::{AllocError, Global};
 use std::test::Fail;
@@ -37,13 +37,18 @@ const FIRST: &[(u64, usize, &str)] = &[
 fn first_calls_of_a_start(rt: HostRuntime) -> Result<(), Fail> {
     let alloc = rt.alloc();
     for (start, count, lines) in FIRST {
-        let Ok(calls) = generated(alloc, *start, *count) else {
+        let Ok(mut draws) = Draws::new(alloc, *start) else {
             return Err(Fail::from(AllocError));
         };
         let Ok(told) = parse_calls(alloc, lines.as_bytes()) else {
             return Err(Fail::from(AllocError));
         };
-        assert_eq!(rt; calls.as_slice(), told.as_slice());
+        assert_eq!(rt; told.len(), *count);
+        for i in 0..*count {
+            let call = draws.call(i);
+            assert_eq!(rt; call, told[i]);
+            draws.take_back(call);
+        }
     }
     Ok(())
 }
@@ -63,7 +68,7 @@ fn run(alloc: Global, list: &[&str], fail: &[u64]) -> Result<Ended, Fail> {
     let used = b"used".to_vec(alloc)?;
     let mut input = MemoryInput::new(alloc, used, 4096, vec![in alloc; 1]?);
     let mut output = MemoryOutput::new(alloc, 4, fail.to_vec(alloc)?);
-    let status = arena_main(
+    let status = arena_calls(
         alloc,
         words.as_slice(),
         &mut arena,

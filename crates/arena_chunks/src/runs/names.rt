@@ -8,21 +8,29 @@ ghost use Rattle.arena_chunks.specs.Marks.{stands};
 
 use crate::arena::Arena;
 use crate::block::Block;
+use crate::runs::others::Others;
 use placement::{OutOfMemory, Place};
 use std::alloc::Global;
-use std::collections::{BTreeMap, HashMap};
+use std::collections::BTreeMap;
 use std::marker::Model;
+
+// So many names, from 0 on, have a place in a list.
+const FIRST: usize = 256;
 
 /// A map from names to places.
 #[derive(Drop)]
 pub(crate) struct Names {
-    places: HashMap<u32, Place>,
+    // The places of the first names, by number.
+    first: Vec<Option<Place>>,
+    others: Others,
 }
 
 impl Model for Names {
+    ghost use Rattle.std.specs.Prelude.{◌≤◌, length};
     ghost use Rattle.std.specs.Ordering.{nat_cmp};
     ghost use Rattle.std.specs.FinMap as map;
     ghost use Rattle.placement.specs.Machine.{Held};
+    ghost use Rattle.arena_chunks.specs.Names.{held_with, HoldsNoneBelow};
     ghost use Rattle.arena_chunks.specs.PlaceCode.{place_code};
     ghost use Rattle.std.specs.Coded.{coded_ℕ};
 
@@ -30,33 +38,68 @@ impl Model for Names {
 
     ghost coded = { map.code coded_ℕ place_code };
 
-    ghost view = { λ a. map.from_entries a.places.entries };
+    ghost view = { λ a. held_with 0 a.first.items a.others };
+
+    ghost invariant = { λ a. (length a.first.items ≤ 256) × HoldsNoneBelow (length a.first.items) a.others };
 }
 
 impl Names {
-    pub(crate) fn new(alloc: Global) -> Names
-        ensures { result ≡ map.empty }
+    pub(crate) fn new(alloc: Global) -> Result<Names, OutOfMemory>
+        ensures { IfOk result (λ names. names ≡ map.empty) }
     {
-        Names {
-            places: HashMap::new(alloc),
+        let mut first = Vec::new(alloc);
+        for _ in 0..FIRST {
+            let Ok(()) = first.push(None) else {
+                return Err(OutOfMemory);
+            };
         }
+        Ok(Names {
+            first,
+            others: Others::new(alloc),
+        })
     }
 
+    #[inline(always)]
     pub(crate) fn get(&self, name: u32) -> Option<Place>
         ensures { result ≡ map.get self.now name }
     {
-        self.places.get(&name).copied()
+        let at = name as usize;
+        if at < self.first.len() {
+            return self.first[at];
+        }
+        self.others.get(name)
     }
 
+    #[inline(always)]
     pub(crate) fn insert(&mut self, name: u32, place: Place) -> Result<(), OutOfMemory>
         ensures ok { OnOk result (self.new ≡ map.insert self.old name place) }
         ensures err { OnErr result (self.new ≡ self.old) }
         ensures held { IsSome (map.get self.old name) → IsOk result }
     {
-        let Ok(_) = self.places.insert(name, place) else {
+        let at = name as usize;
+        if at < self.first.len() {
+            self.first[at] = Some(place);
+            return Ok(());
+        }
+        let Ok(()) = self.others.insert(name, place) else {
             return Err(OutOfMemory);
         };
         Ok(())
+    }
+
+    // Lets a name go, and answers the place that it had.
+    #[inline(always)]
+    pub(crate) fn remove(&mut self, name: u32) -> Option<Place>
+        ensures place { result ≡ map.get self.old name }
+        ensures rest { self.new ≡ map.remove self.old name }
+    {
+        let at = name as usize;
+        if at < self.first.len() {
+            let held = self.first[at];
+            self.first[at] = None;
+            return held;
+        }
+        self.others.remove(name)
     }
 
     // Lets a name go whose block isn't in use. Answers whether it is, and has some bytes.
@@ -75,15 +118,8 @@ impl Names {
         place.size > 0
     }
 
-    // Lets a name go, and answers the place that it had.
-    pub(crate) fn remove(&mut self, name: u32) -> Option<Place>
-        ensures place { result ≡ map.get self.old name }
-        ensures rest { self.new ≡ map.remove self.old name }
-    {
-        self.places.remove(&name)
-    }
-
     // Gives a name that is held another place, which takes no memory.
+    #[inline(always)]
     pub(crate) fn replace(&mut self, name: u32, place: Place)
         requires { IsSome (map.get self.old name) }
         ensures { self.new ≡ map.insert self.old name place }
@@ -94,22 +130,29 @@ impl Names {
         }
     }
 
-    // Lets all names go. The table is let go with them, since to clear it would take as long as it once was large.
+    // Lets all names go.
     pub(crate) fn clear(&mut self, alloc: Global)
         ensures { self.new ≡ map.empty }
     {
-        self.places = HashMap::new(alloc);
+        for at in 0..self.first.len() {
+            self.first[at] = None;
+        }
+        self.others = Others::new(alloc);
     }
 
     // The names and their places, in a tree.
     fn sorted(&self, alloc: Global) -> Result<BTreeMap<u32, Place>, OutOfMemory>
         ensures { IfOk result (λ tree. map.from_entries tree.entries ≡ self.now) }
     {
-        let mut tree = BTreeMap::new(alloc);
-        for (name, place) in &self.places {
-            let Ok(_) = tree.insert(*name, *place) else {
-                return Err(OutOfMemory);
-            };
+        let mut tree = self.others.sorted(alloc)?;
+        let mut at = self.first.len();
+        while at > 0 {
+            at -= 1;
+            if let Some(place) = self.first[at] {
+                let Ok(_) = tree.insert(at as u32, place) else {
+                    return Err(OutOfMemory);
+                };
+            }
         }
         Ok(tree)
     }

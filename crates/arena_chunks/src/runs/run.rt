@@ -1,9 +1,10 @@
 // A run of calls.
-ghost use Rattle.std.specs.Prelude.{List, IfOk, IfErr};
+ghost use Rattle.std.specs.Prelude.{◌<◌, ◌≤◌, List, [], ◌∷◌, IfOk, IfErr, OnOk, OnErr};
 ghost use Rattle.placement.specs.declared.calls.Reply.{Reply};
-ghost use Rattle.arena_chunks.specs.Replies.{TakesMore};
-ghost use Rattle.arena_chunks.specs.Source.{view};
+ghost use Rattle.arena_chunks.specs.Replies.{StillTaken, TakesMore};
+ghost use Rattle.arena_chunks.specs.Source.{Source, view};
 ghost use Rattle.arena_chunks.specs.Runs.{Runs, Stops, StopsWith};
+ghost use Rattle.arena_chunks.specs.Running.{IsRunning, IsOnTheWay, GoesOn, StaysAt, StaysBehind, EndsWith};
 
 use crate::arena::Arena;
 use crate::block::Block;
@@ -11,8 +12,8 @@ use crate::chunks::ChunkSource;
 use crate::runs::marks::Marks;
 use crate::runs::names::Names;
 use crate::runs::replies::{Listed, Replies};
-use crate::runs::serve::{Run, serve_into};
-use placement::{Call, Reply};
+use crate::runs::serve::serve_into;
+use placement::{Call, OutOfMemory, Reply};
 use std::alloc::Global;
 
 /// What a run of calls gives: a reply for each call, and the blocks that names hold at its end, by ascending name.
@@ -27,6 +28,84 @@ pub struct Ran {
 pub enum Stopped {
     /// Memory is wanting. The first `done` calls were run, and the arena is as after them.
     OutOfMemory { done: u64 },
+}
+
+/// A run over an arena, call by call. It has what the arena doesn't know: the blocks by name, and the marks.
+#[derive(Drop)]
+pub struct Run {
+    pub(crate) alloc: Global,
+    pub(crate) names: Names,
+    pub(crate) marks: Marks,
+}
+
+impl Run {
+    /// A run of no calls over this arena, with no names and no marks.
+    ///
+    /// # Errors
+    ///
+    /// `OutOfMemory` where memory is wanting.
+    pub fn new<const M: usize>(alloc: Global, arena: &Arena<M>) -> Result<Run, OutOfMemory>
+        ensures { (source : Source) → IfOk result (λ run. IsRunning
+            (view arena.now source) (view arena.now source) run.names run.marks [] []) }
+    {
+        // The contract of this call tells that the state is valid.
+        let _ = arena.cursor();
+        Ok(Run {
+            alloc,
+            names: Names::new(alloc)?,
+            marks: Marks::new(alloc),
+        })
+    }
+
+    /// Runs one more call over the run's arena, and gives the reply to what takes the replies, which has room for one that
+    /// holds no bytes and for `left` more behind it.
+    ///
+    /// # Errors
+    ///
+    /// `OutOfMemory` where memory is wanting, at a call that places a block anew, answers bytes or sets a mark, or that gives
+    /// a block another size while there is a mark. The arena is as after the calls before, and no reply was taken; the run
+    /// is over.
+    #[inline(always)]
+    pub fn serve<const M: usize, C: ChunkSource, R: Replies>(
+        &mut self,
+        arena: &mut Arena<M>,
+        chunks: &mut C,
+        call: &Call,
+        left: usize,
+        replies: &mut R,
+    ) -> Result<(), OutOfMemory>
+        requires running { IsOnTheWay (view arena.old (C.source chunks.old)) self.old.names self.old.marks }
+        requires room { left < R.room replies.old }
+        ensures serves { OnOk result ((reply : Reply)
+            × GoesOn call.now reply (view arena.old (C.source chunks.old)) (view arena.new (C.source chunks.new))
+            self.old.names self.new.names self.old.marks self.new.marks
+            × TakesMore R.has_taken replies.old replies.new (reply ∷ [])) }
+        ensures room { OnOk result (left ≤ R.room replies.new) }
+        ensures stays { OnErr result (StaysAt call.now
+            (view arena.old (C.source chunks.old)) (view arena.new (C.source chunks.new)) self.old.names self.old.marks) }
+        ensures same { OnErr result (StillTaken R.has_taken replies.old replies.new) }
+    {
+        let Ok(()) = serve_into(arena, chunks, self, call, left, replies) else {
+            return Err(OutOfMemory);
+        };
+        Ok(())
+    }
+
+    /// The blocks that names hold, by ascending name.
+    ///
+    /// # Errors
+    ///
+    /// `OutOfMemory` where memory is wanting.
+    pub fn held<const M: usize>(&self, arena: &Arena<M>) -> Result<Vec<(u32, Block)>, OutOfMemory>
+        ensures ok { (source : Source) → IfOk result (λ held.
+            EndsWith (view arena.now source) self.now.names self.now.marks held.items) }
+        ensures err { (source : Source) → OnErr result (StaysBehind (view arena.now source) self.now.names self.now.marks) }
+    {
+        let Ok(held) = self.names.blocks(self.alloc, arena.generation()) else {
+            return Err(OutOfMemory);
+        };
+        Ok(held)
+    }
 }
 
 /// Runs calls over an arena, one after another, beginning with no names and no marks, and gives each reply to what takes the
@@ -54,10 +133,8 @@ pub fn run_calls_into<const M: usize, C: ChunkSource, R: Replies>(
 {
     // A run begins with a valid state, which the contract of this call tells.
     let _ = arena.cursor();
-    let mut run = Run {
-        alloc,
-        names: Names::new(alloc),
-        marks: Marks::new(alloc),
+    let Ok(mut run) = Run::new(alloc, arena) else {
+        return Err(Stopped::OutOfMemory { done: 0 });
     };
     // All room for the replies is made first, so that no call is run whose reply has no place.
     let Ok(()) = replies.reserve(calls.len()) else {
@@ -65,11 +142,11 @@ pub fn run_calls_into<const M: usize, C: ChunkSource, R: Replies>(
     };
     for (done, call) in calls.iter().enumerate() {
         let left = calls.len() - done - 1;
-        let Ok(()) = serve_into(arena, chunks, &mut run, call, left, replies) else {
+        let Ok(()) = run.serve(arena, chunks, call, left, replies) else {
             return Err(Stopped::OutOfMemory { done: done as u64 });
         };
     }
-    match run.names.blocks(alloc, arena.generation()) {
+    match run.held(arena) {
         Ok(held) => Ok(held),
         Err(_) => Err(Stopped::OutOfMemory {
             done: calls.len() as u64,

@@ -14,20 +14,11 @@ ghost use Rattle.arena_chunks.specs.Serving.{Serves, ServesNoting, ServesRun, Wa
 use crate::arena::Arena;
 use crate::block::{ArenaErr, Block};
 use crate::chunks::ChunkSource;
-use crate::runs::marks::Marks;
 use crate::runs::names::Names;
 use crate::runs::replies::Replies;
+use crate::runs::run::Run;
 use arena_place::Layout;
 use placement::{Call, OutOfMemory, Place, Reply};
-use std::alloc::Global;
-
-// What a run has beside its arena: the blocks by name, and the marks.
-#[derive(Drop)]
-pub(crate) struct Run {
-    pub(crate) alloc: Global,
-    pub(crate) names: Names,
-    pub(crate) marks: Marks,
-}
 
 // The size and the alignment wanted for the block of a name.
 #[derive(Clone, Copy)]
@@ -60,6 +51,7 @@ impl Wanted {
     }
 }
 
+#[inline(always)]
 fn serve_alloc<const M: usize, C: ChunkSource>(
     arena: &mut Arena<M>,
     chunks: &mut C,
@@ -102,6 +94,7 @@ fn serve_alloc<const M: usize, C: ChunkSource>(
 }
 
 // Gives the block at a place another size: a greater one, where a byte is given that fills what is new, or a smaller one.
+#[inline(always)]
 fn resize<const M: usize, C: ChunkSource>(
     arena: &mut Arena<M>,
     chunks: &mut C,
@@ -123,6 +116,7 @@ fn resize<const M: usize, C: ChunkSource>(
     Ok((grown, refused))
 }
 
+#[inline(always)]
 fn serve_resize<const M: usize, C: ChunkSource>(
     arena: &mut Arena<M>,
     chunks: &mut C,
@@ -163,6 +157,7 @@ fn serve_resize<const M: usize, C: ChunkSource>(
     }
 }
 
+#[inline(always)]
 fn serve_dealloc<const M: usize>(arena: &mut Arena<M>, names: &mut Names, name: u32) -> Reply
     requires { Holds arena.old.state names.old }
     ensures serves { (source : Source) → Serves (Call.Dealloc name) result (view arena.old source)
@@ -177,6 +172,7 @@ fn serve_dealloc<const M: usize>(arena: &mut Arena<M>, names: &mut Names, name: 
     Reply::Done
 }
 
+#[inline(always)]
 fn serve_write<const M: usize>(
     arena: &mut Arena<M>,
     names: &Names,
@@ -201,6 +197,7 @@ fn serve_write<const M: usize>(
 }
 
 // Lends the bytes of a name's block to what takes the replies.
+#[inline(always)]
 fn serve_read<const M: usize, R: Replies>(
     arena: &Arena<M>,
     names: &Names,
@@ -274,6 +271,7 @@ fn serve_reset<const M: usize>(arena: &mut Arena<M>, run: &mut Run) -> Reply
 }
 
 // Serves a call, and gives its reply to what takes the replies.
+#[inline(always)]
 pub(crate) fn serve_into<const M: usize, C: ChunkSource, R: Replies>(
     arena: &mut Arena<M>,
     chunks: &mut C,

@@ -49,6 +49,18 @@ const RUNS: &[Run] = &[
         ],
     },
     Run {
+        name: "blocks of no bytes that grow to no layout",
+        refuse: &[],
+        lines: &[
+            (Row::Alloc(0, 0, 16, 0), Says::Placed(16, 0)),
+            (Row::Grow(0, u64::MAX >> 1, 1, 0), Says::AllocErr(0)),
+            (Row::Read(0), Says::Bytes(&[])),
+            (Row::Alloc(1, 0, FAR, 0), Says::Placed(FAR, 0)),
+            (Row::Grow(1, FAR + 1, 1, 0), Says::AllocErr(0)),
+            (Row::Read(1), Says::Bytes(&[])),
+        ],
+    },
+    Run {
         name: "blocks far up",
         refuse: &[],
         lines: &[
@@ -310,6 +322,28 @@ const GROWING_RUNS: &[Run] = &[
             (Row::Alloc(2, 16320, 1, 0), Says::AllocErr(2)),
             (Row::Used, Says::Number(128)),
             (Row::Allocated, Says::Number(16320)),
+        ],
+    },
+    Run {
+        name: "the first and the second",
+        refuse: &[1, 2],
+        lines: &[
+            (Row::Alloc(0, 64, 1, 0), Says::AllocErr(1)),
+            (Row::Alloc(1, 64, 1, 0), Says::AllocErr(1)),
+            (Row::Alloc(2, 16320, 1, 0), Says::Placed(4096, 0)),
+            (Row::Alloc(3, 32640, 1, 0), Says::Placed(20528, 0)),
+            (Row::Allocated, Says::Number(49024)),
+        ],
+    },
+    Run {
+        name: "the first and the third",
+        refuse: &[1, 3],
+        lines: &[
+            (Row::Alloc(0, 64, 1, 0), Says::AllocErr(1)),
+            (Row::Alloc(1, 64, 1, 0), Says::Placed(20352, 0)),
+            (Row::Alloc(2, 16320, 1, 0), Says::Placed(20464, 1)),
+            (Row::Alloc(3, 32640, 1, 0), Says::Placed(36896, 0)),
+            (Row::Allocated, Says::Number(65344)),
         ],
     },
 ];

@@ -1,8 +1,9 @@
 // A source that writes `request` alone, as one that hands out vectors does.
 ghost use Rattle.std.specs.Prelude.{◌≡◌, IfOk, replicate};
 
+use super::runs::{Row, calls};
 use super::{has, layout, placed, reads, same};
-use arena_chunks::{Allocator, ArenaErr, ChunkSource, MemoryChunks};
+use arena_chunks::{Allocator, Arena, ArenaErr, ChunkSource, MemoryChunks, Ran, Reply, run_calls};
 use std::alloc::{AllocError, Global};
 use std::test::Fail;
 
@@ -61,6 +62,27 @@ fn a_source_of_vectors(rt: HostRuntime) {
     has(&rt, "afterwards", &a, 16323, (2, 0));
     let (arena, chunks) = a.into_parts();
     same(&rt, (arena.allocated_bytes(), chunks.refused), (49024, 2));
+}
+
+// The count stands at its last value, so it tells no refusal; each answer does.
+#[test]
+fn a_count_that_stands(rt: HostRuntime) -> Result<(), Fail> {
+    let alloc = rt.alloc();
+    let mut chunks = Vectors {
+        alloc,
+        grants: 0,
+        refused: u64::MAX,
+    };
+    let calls = calls(alloc, &[Row::Alloc(0, 1, 1, 0); 2])?;
+    let mut arena = Arena::<1>::new(alloc);
+    let Ok(Ran { replies, .. }) = run_calls(alloc, &mut arena, &mut chunks, calls.as_slice()) else {
+        return Err(Fail::from("memory is ample"));
+    };
+    same(&rt, (replies.len(), chunks.refused), (2, u64::MAX));
+    for reply in &replies {
+        assert!(rt; *reply == Reply::AllocErr { refused: 1 });
+    }
+    Ok(())
 }
 
 // Chunks of a gibibyte, of which little is used. To touch all bytes of one takes half a second, so that these would take longer

@@ -1,5 +1,6 @@
 // All tables of steps.
 use super::blocks::{BYTES, COPIES, CURSORS, HELD};
+use super::ends::ENDS;
 use super::growth::{CHUNKS, FIRST_CHUNKS, PLACES, PLACES_BY_8, PLACES_BY_16, RESETS};
 use super::marks::{MARKS, MARKS_BY_8};
 use super::reallocation::SIZES;
@@ -67,4 +68,9 @@ fn held_and_cursors(rt: HostRuntime) {
 fn marks(rt: HostRuntime) {
     all_hold::<1>(&rt, rt.alloc(), MARKS);
     all_hold::<8>(&rt, rt.alloc(), MARKS_BY_8);
+}
+
+#[test]
+fn ends(rt: HostRuntime) {
+    all_hold::<1>(&rt, rt.alloc(), ENDS);
 }

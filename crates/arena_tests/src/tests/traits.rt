@@ -40,6 +40,7 @@ fn the_trait_of_the_fork(rt: HostRuntime) {
     same(&rt, size, 10);
     a.write(block, 0, &[7; 10]);
     same(&rt, a.grow_in_place(block, 11), Err(CannotReallocInPlace));
+    same(&rt, a.shrink_in_place(block, 9), Err(CannotReallocInPlace));
     same(
         &rt,
         CannotReallocInPlace.description(),
@@ -85,6 +86,8 @@ fn elements_and_arrays(rt: HostRuntime) {
     let ten = held(&rt, &a, ten);
     let eleven = a.realloc_array(ten, byte, 10, 11);
     let eleven = placed(&rt, "realloc_array", &a, eleven, 20404);
+    same(&rt, a.dealloc_array(eleven, byte, 0), Err(REFUSED));
+    let eleven = held(&rt, &a, eleven);
     same(&rt, a.dealloc_array(eleven, byte, 11), Ok(()));
     let one = held(&rt, &a, one);
     a.dealloc_one(one);

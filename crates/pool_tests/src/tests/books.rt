@@ -2,9 +2,9 @@
 ghost use Rattle.std.specs.Prelude.{◌≡◌, ◌+◌};
 ghost use Rattle.arena_pool.specs.Kinds.{HasId, IsOfKind};
 
-use super::{SMALL, marks};
+use super::{Plan, SMALL, marks, places};
 use arena_chunks::{Allocator, MemoryChunks};
-use arena_pool::laws::events;
+use arena_pool::laws::{events, puts};
 use arena_pool::{Book, ClaimErr, Counts, MemoryMaker, PoolErr, PoolKind};
 use std::alloc::Global;
 use std::process::Abort;
@@ -27,6 +27,10 @@ enum Event {
     Lends(Option<u32>, u64),
     // None is lent.
     Refuses(PoolErr),
+    // The one that was lent last takes a block of so many bytes.
+    Fills(u64),
+    // One is lent, and comes back as it was.
+    Passes,
     // The one that was lent last comes back, or the one that was lent first.
     StoresLast,
     StoresFirst,
@@ -34,15 +38,16 @@ enum Event {
     Forgets,
 }
 
-fn book_of(rt: &impl Abort, alloc: Global, kind: PoolKind, count: u32) -> Book<MemoryMaker>
-    ensures { result.kind ≡ kind }
+fn book_of(rt: &impl Abort, alloc: Global, plan: Plan) -> Book<MemoryMaker>
+    ensures { result.kind ≡ plan.kind }
 {
     let maker = MemoryMaker::new(alloc, 1 << 20);
-    let book = match kind {
-        PoolKind::Standard => Book::new(alloc, count, maker),
-        PoolKind::FixedSize { bytes } => {
-            assert!(rt; bytes % 16 == 0 && bytes >= 48);
-            Book::new_fixed(alloc, count, bytes, maker)
+    let book = match (plan.kind, plan.limit) {
+        (PoolKind::Standard, None) => Book::new(alloc, plan.arenas, maker),
+        (PoolKind::Standard, Some(limit)) => Book::new_with_limit(alloc, plan.arenas, limit, maker),
+        (PoolKind::FixedSize { bytes }, limit) => {
+            assert!(rt; bytes % 16 == 0 && bytes >= 48 && limit.is_none());
+            Book::new_fixed(alloc, plan.arenas, bytes, maker)
         }
     };
     match book {
@@ -52,7 +57,7 @@ fn book_of(rt: &impl Abort, alloc: Global, kind: PoolKind, count: u32) -> Book<M
 }
 
 // What the book lends, marked.
-#[tactic(auto, using(arena_pool::proofs::Layers::got_is_lent))]
+#[tactic(auto, using(arena_pool::proofs::Layers::event_laws))]
 fn take(
     rt: &impl Abort,
     book: &mut Book<MemoryMaker>,
@@ -70,12 +75,38 @@ fn take(
 }
 
 // An arena that was lent comes back.
+#[tactic(auto, using(arena_pool::proofs::Layers::event_laws))]
 fn store(rt: &impl Abort, book: &mut Book<MemoryMaker>, kind: PoolKind, lent: Lent)
     requires { book.old.kind ≡ kind }
     ensures { book.new.kind ≡ kind }
 {
+    puts();
     assert!(rt; lent.kind == kind && book.counts().lent > 0);
     book.store(lent.arena, lent.id);
+}
+
+// One is lent, and comes back as it was.
+#[tactic(auto, using(arena_pool::proofs::Layers::event_laws))]
+fn pass(rt: &impl Abort, book: &mut Book<MemoryMaker>)
+    ensures { book.new.kind ≡ book.old.kind }
+{
+    events();
+    puts();
+    match book.take() {
+        Ok((arena, id)) => book.store(arena, id),
+        Err(_) => panic!(rt; "no arena"),
+    }
+}
+
+// The same arena with one more block of so many bytes.
+fn filled(rt: &impl Abort, lent: Lent, size: u64) -> Lent {
+    let Lent {
+        mut arena,
+        id,
+        kind,
+    } = lent;
+    assert!(rt; places(&mut arena, size));
+    Lent { arena, id, kind }
 }
 
 fn happens(
@@ -97,6 +128,11 @@ fn happens(
         Event::Refuses(why) => {
             assert_eq!(rt; take(rt, book, kind, 0).err(), Some(why));
         }
+        Event::Fills(size) => {
+            let lent = filled(rt, about.pop().expect(rt, "an arena"), size);
+            assert!(rt; about.push(lent).is_ok());
+        }
+        Event::Passes => pass(rt, book),
         Event::StoresLast => store(rt, book, kind, about.pop().expect(rt, "an arena")),
         Event::StoresFirst => {
             assert!(rt; about.len() > 0);
@@ -112,20 +148,14 @@ fn happens(
 // The four counts: made, stored, lent, given up.
 type All = (u64, u64, u64, u64);
 
-// A book of so many arenas, its counts at first, and events with the counts then.
-fn runs(
-    rt: &impl Abort,
-    alloc: Global,
-    kind: PoolKind,
-    count: u32,
-    first: All,
-    rows: &[(Event, All)],
-) {
-    let mut book = book_of(rt, alloc, kind, count);
+// A book as planned, its counts at first, and events with the counts then.
+fn runs(rt: &impl Abort, alloc: Global, plan: Plan, first: All, rows: &[(Event, All)]) {
+    let mut book = book_of(rt, alloc, plan);
+    assert_eq!(rt; book.limit(), plan.limit);
     counts(rt, &book, first);
     let mut about = Vec::new(alloc);
     for (event, all) in rows {
-        happens(rt, &mut book, kind, &mut about, *event);
+        happens(rt, &mut book, plan.kind, &mut about, *event);
         counts(rt, &book, *all);
     }
 }
@@ -201,9 +231,123 @@ const BOOKS: [(PoolKind, u32, All, &[(Event, All)]); 5] = [
 
 #[test]
 fn books(rt: HostRuntime) {
-    for (kind, count, first, rows) in BOOKS {
-        runs(&rt, rt.alloc(), kind, count, first, rows);
+    for (kind, arenas, first, rows) in BOOKS {
+        let limit = None;
+        runs(
+            &rt,
+            rt.alloc(),
+            Plan {
+                kind,
+                limit,
+                arenas,
+            },
+            first,
+            rows,
+        );
     }
+}
+
+// Standard books with a limit. The first chunk of an arena has 16320 bytes, and the second 32704.
+const LIMITS: [(u64, u32, All, &[(Event, All)]); 7] = [
+    // One with its first chunk is kept, and one with its second is gone.
+    (
+        16320,
+        1,
+        (1, 1, 0, 0),
+        &[
+            (Event::Lends(None, 0), (1, 0, 1, 0)),
+            (Event::StoresLast, (1, 1, 0, 0)),
+            (Event::Lends(None, 16320), (1, 0, 1, 0)),
+            (Event::Fills(16320), (1, 0, 1, 0)),
+            (Event::StoresLast, (1, 0, 0, 1)),
+            (Event::Lends(None, 0), (2, 0, 1, 1)),
+        ],
+    ),
+    // The others stay.
+    (
+        16320,
+        2,
+        (2, 2, 0, 0),
+        &[
+            (Event::Lends(None, 0), (2, 1, 1, 0)),
+            (Event::Lends(None, 0), (2, 0, 2, 0)),
+            (Event::Fills(16320), (2, 0, 2, 0)),
+            (Event::StoresLast, (2, 0, 1, 1)),
+            (Event::StoresLast, (2, 1, 0, 1)),
+        ],
+    ),
+    (
+        16319,
+        0,
+        (0, 0, 0, 0),
+        &[
+            (Event::Lends(None, 0), (1, 0, 1, 0)),
+            (Event::StoresLast, (1, 0, 0, 1)),
+        ],
+    ),
+    // What counts is what is left after the reset: the newest chunk.
+    (
+        32704,
+        0,
+        (0, 0, 0, 0),
+        &[
+            (Event::Lends(None, 0), (1, 0, 1, 0)),
+            (Event::Fills(16320), (1, 0, 1, 0)),
+            (Event::StoresLast, (1, 1, 0, 0)),
+            (Event::Lends(None, 32704), (1, 0, 1, 0)),
+        ],
+    ),
+    (
+        32703,
+        0,
+        (0, 0, 0, 0),
+        &[
+            (Event::Lends(None, 0), (1, 0, 1, 0)),
+            (Event::Fills(16320), (1, 0, 1, 0)),
+            (Event::StoresLast, (1, 0, 0, 1)),
+        ],
+    ),
+    // One without a chunk passes no limit.
+    (
+        0,
+        1,
+        (1, 1, 0, 0),
+        &[
+            (Event::Passes, (1, 1, 0, 0)),
+            (Event::Lends(None, 0), (1, 0, 1, 0)),
+            (Event::StoresLast, (1, 0, 0, 1)),
+            (Event::Passes, (2, 1, 0, 1)),
+        ],
+    ),
+    (
+        u64::MAX,
+        0,
+        (0, 0, 0, 0),
+        &[
+            (Event::Lends(None, 0), (1, 0, 1, 0)),
+            (Event::Fills(16320), (1, 0, 1, 0)),
+            (Event::StoresLast, (1, 1, 0, 0)),
+        ],
+    ),
+];
+
+#[test]
+fn limits(rt: HostRuntime) {
+    for (limit, arenas, first, rows) in LIMITS {
+        let plan = Plan {
+            kind: PoolKind::Standard,
+            limit: Some(limit),
+            arenas,
+        };
+        runs(&rt, rt.alloc(), plan, first, rows);
+    }
+}
+
+#[test]
+fn a_region_that_no_memory_has(rt: HostRuntime) {
+    let maker = MemoryMaker::new(rt.alloc(), 0);
+    let made = Book::new_fixed(rt.alloc(), 1, 1 << 62, maker);
+    assert!(rt; made.is_err());
 }
 
 #[test]

@@ -1,10 +1,10 @@
 // Guards and loans, one after another.
-ghost use Rattle.std.specs.Prelude.{◌≡◌, ◌%◌, ◌≤◌};
+ghost use Rattle.std.specs.Prelude.{◌≡◌, ◌%◌, ◌≤◌, None, Some};
 ghost use Rattle.arena_pool.specs.Kinds.{IsOfKind};
 ghost use Rattle.arena_pool.specs.Names.{IsBlankOf};
 ghost use Rattle.arena_pool.specs.declared.kind.PoolKind.TheVariants.{Standard, FixedSize};
 
-use super::{SMALL, marks, pool_of};
+use super::{Plan, SMALL, marks, places, pool_of};
 use arena_chunks::{Allocator, ChunkSource};
 use arena_place::Layout;
 use arena_pool::laws::kinds;
@@ -33,11 +33,24 @@ fn counts<K: ChunkMaker, L: PoolName, R: Wait>(
     (counts.made, counts.stored, counts.lent, counts.given_up)
 }
 
+// A plan of so many arenas without a limit.
+fn unlimited(kind: PoolKind, arenas: u32) -> Plan
+    ensures kind { result.kind ≡ kind }
+    ensures limit { result.limit ≡ None }
+{
+    Plan {
+        kind,
+        limit: None,
+        arenas,
+    }
+}
+
 fn guards_of_one<L: PoolName, R: Wait + Abort>(rt: &R, alloc: Global, kind: PoolKind, blank: Blank)
     requires blank { IsBlankOf L.name L.parts blank }
     requires kind { L.kind ≡ kind }
+    requires limit { L.limit ≡ None }
 {
-    let pool = pool_of::<L, R>(rt, alloc, kind, 1, blank);
+    let pool = pool_of::<L, R>(rt, alloc, unlimited(kind, 1), blank);
     let mut guard = pool.get(rt).ok().expect(rt, "an arena");
     assert_eq!(rt;
         guard.fixed_size_metadata(),
@@ -110,8 +123,9 @@ fn guards_of_three<L: PoolName, R: Wait + Abort>(
 )
     requires blank { IsBlankOf L.name L.parts blank }
     requires kind { L.kind ≡ kind }
+    requires limit { L.limit ≡ None }
 {
-    let pool = pool_of::<L, R>(rt, alloc, kind, 3, blank);
+    let pool = pool_of::<L, R>(rt, alloc, unlimited(kind, 3), blank);
     for round in 0..3 {
         assert_eq!(rt; ids_of_three(rt, &pool, round == 0), 7);
     }
@@ -120,8 +134,9 @@ fn guards_of_three<L: PoolName, R: Wait + Abort>(
 fn guards_without_end<L: PoolName, R: Wait + Abort>(rt: &R, alloc: Global, blank: Blank)
     requires blank { IsBlankOf L.name L.parts blank }
     requires kind { L.kind ≡ Standard }
+    requires limit { L.limit ≡ None }
 {
-    let pool = pool_of::<L, R>(rt, alloc, PoolKind::Standard, 0, blank);
+    let pool = pool_of::<L, R>(rt, alloc, unlimited(PoolKind::Standard, 0), blank);
     let first = pool.get(rt).ok().expect(rt, "an arena");
     let mut second = pool.get(rt).ok().expect(rt, "an arena");
     assert!(rt; first.fixed_size_metadata().is_none());
@@ -140,11 +155,39 @@ fn guards_without_end<L: PoolName, R: Wait + Abort>(rt: &R, alloc: Global, blank
     assert_eq!(rt; counts(rt, &pool), (2, 0, 0, 2));
 }
 
+// The arena comes back with one block, and then with one more that takes a second chunk.
+fn guards_with_limit<L: PoolName, R: Wait + Abort>(rt: &R, alloc: Global, limit: u64, blank: Blank)
+    requires blank { IsBlankOf L.name L.parts blank }
+    requires kind { L.kind ≡ Standard }
+    requires limit { L.limit ≡ Some limit }
+{
+    let plan = Plan {
+        kind: PoolKind::Standard,
+        limit: Some(limit),
+        arenas: 1,
+    };
+    let pool = pool_of::<L, R>(rt, alloc, plan, blank);
+    let mut guard = pool.get(rt).ok().expect(rt, "an arena");
+    assert!(rt; places(guard.parts_mut(), 1));
+    guard.put_back(rt);
+    assert_eq!(rt; counts(rt, &pool), (1, 1, 0, 0));
+    let mut guard = pool.get(rt).ok().expect(rt, "an arena");
+    assert_eq!(rt; guard.parts_mut().capacity(), 16320);
+    assert!(rt; places(guard.parts_mut(), 1) && places(guard.parts_mut(), 16320));
+    guard.put_back(rt);
+    assert_eq!(rt; counts(rt, &pool), (1, 0, 0, 1));
+    let mut guard = pool.get(rt).ok().expect(rt, "an arena");
+    assert_eq!(rt; guard.parts_mut().capacity(), 0);
+    assert_eq!(rt; counts(rt, &pool), (2, 0, 1, 1));
+    guard.put_back(rt);
+}
+
 #[test]
 fn guards(rt: HostRuntime) {
     guards_of_one::<Brand, _>(&rt, rt.alloc(), SMALL, Blank::new(MOST_LENT));
     guards_of_three::<Brand, _>(&rt, rt.alloc(), SMALL, Blank::new(MOST_LENT));
     guards_without_end::<Brand, _>(&rt, rt.alloc(), Blank::new(MOST_LENT));
+    guards_with_limit::<Brand, _>(&rt, rt.alloc(), 16320, Blank::new(MOST_LENT));
 }
 
 /// What threads send through arenas.
@@ -165,6 +208,7 @@ fn loans_of_two<L: PoolName + Send + Sync, R: Threads + Wait + Abort + Sync>(
 )
     requires blank { IsBlankOf L.name L.parts blank }
     requires kind { L.kind ≡ FixedSize bytes }
+    requires limit { L.limit ≡ None }
     requires units { bytes % 16 ≡ 0 }
     requires room { 48 ≤ bytes }
 {
@@ -199,6 +243,7 @@ fn loans_without_end<L: PoolName + Send + Sync, R: Threads + Wait + Abort + Sync
 )
     requires blank { IsBlankOf L.name L.parts blank }
     requires kind { L.kind ≡ Standard }
+    requires limit { L.limit ≡ None }
 {
     let maker = MemoryMaker::new(alloc, 1 << 20);
     let pool = StandardAllocatorPool::<MemoryMaker, L>::new(alloc, arenas, maker, blank);

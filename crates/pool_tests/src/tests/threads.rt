@@ -2,9 +2,9 @@
 ghost use Rattle.std.specs.Prelude.{◌≡◌};
 ghost use Rattle.arena_pool.specs.Names.{IsBlankOf};
 
-use super::{SMALL, marks, pool_of};
+use super::{Plan, SMALL, marks, pool_of};
 use arena_pool::{AllocatorPool, ChunkMaker, MOST_LENT, PoolKind, PoolName};
-use example_pool::{over_fixed, over_standard};
+use example_pool::{over_fixed, over_limited, over_standard};
 use std::alloc::Global;
 use std::marker::Brand;
 use std::process::Abort;
@@ -45,20 +45,21 @@ fn work<K: ChunkMaker, L: PoolName, R: Wait>(
     true
 }
 
-// All threads over a pool of so many arenas. The first `givers` give up their last one.
+// All threads over a pool. The first `givers` give up their last one. In the end so many were given up, by them or by the limit.
 fn crowd<L: PoolName + Send + Sync, R: Threads + Wait + Abort + Sync>(
     rt: &R,
     alloc: Global,
-    kind: PoolKind,
-    arenas: u32,
+    plan: Plan,
     givers: usize,
+    given_up: usize,
     blank: Blank,
 )
     requires blank { IsBlankOf L.name L.parts blank }
-    requires kind { L.kind ≡ kind }
+    requires kind { L.kind ≡ plan.kind }
+    requires limit { L.limit ≡ plan.limit }
 {
-    let pool = pool_of::<L, R>(rt, alloc, kind, arenas, blank);
-    let arenas = u64::from(arenas);
+    let pool = pool_of::<L, R>(rt, alloc, plan, blank);
+    let arenas = u64::from(plan.arenas);
     let counts = pool.counts(rt);
     assert_eq!(rt;
         (counts.made, counts.stored, counts.lent, counts.given_up),
@@ -72,23 +73,38 @@ fn crowd<L: PoolName + Send + Sync, R: Threads + Wait + Abort + Sync>(
     );
     assert!(rt; intact.expect(rt, "results").iter().all(|all| *all));
     let counts = pool.counts(rt);
-    assert_eq!(rt; (counts.lent, counts.given_up), (0, givers as u64));
+    assert_eq!(rt; (counts.lent, counts.given_up), (0, given_up as u64));
     // A fixed pool made no more. A standard one made as many as were lent at once, and one for each that was given up.
-    let most = (arenas + WORKERS as u64).saturating_add(givers as u64);
-    assert!(rt; counts.made == arenas || kind == PoolKind::Standard && counts.made <= most);
+    let most = (arenas + WORKERS as u64).saturating_add(given_up as u64);
+    assert!(rt; counts.made == arenas || plan.kind == PoolKind::Standard && counts.made <= most);
 }
 
 #[test]
 fn crowds(rt: HostRuntime) {
-    for (kind, arenas, givers) in [
-        (SMALL, 1, 0),
-        (SMALL, 4, 3),
-        (SMALL, 64, 63),
-        (PoolKind::Standard, 1, 32),
-        (PoolKind::Standard, 4, 32),
-        (PoolKind::Standard, 64, 32),
+    for (kind, limit, arenas, givers, given_up) in [
+        (SMALL, None, 1, 0, 0),
+        (SMALL, None, 4, 3, 3),
+        (SMALL, None, 64, 63, 63),
+        (PoolKind::Standard, None, 1, 32, 32),
+        (PoolKind::Standard, None, 4, 32, 32),
+        (PoolKind::Standard, None, 64, 32, 32),
+        // Each arena comes back with one chunk of 16320 bytes.
+        (PoolKind::Standard, Some(16320), 4, 32, 32),
+        (PoolKind::Standard, Some(16319), 4, 32, WORKERS * ROUNDS),
     ] {
-        crowd::<Brand, _>(&rt, rt.alloc(), kind, arenas, givers, Blank::new(MOST_LENT));
+        let plan = Plan {
+            kind,
+            limit,
+            arenas,
+        };
+        crowd::<Brand, _>(
+            &rt,
+            rt.alloc(),
+            plan,
+            givers,
+            given_up,
+            Blank::new(MOST_LENT),
+        );
     }
 }
 
@@ -133,13 +149,14 @@ fn wait_for<K: ChunkMaker, L: PoolName, R: Wait>(
 fn one_waits<L: PoolName + Send + Sync, R: Threads + Wait + Abort + Sync>(
     rt: &R,
     alloc: Global,
-    kind: PoolKind,
+    plan: Plan,
     blank: Blank,
 )
     requires blank { IsBlankOf L.name L.parts blank }
-    requires kind { L.kind ≡ kind }
+    requires kind { L.kind ≡ plan.kind }
+    requires limit { L.limit ≡ plan.limit }
 {
-    let pool = pool_of::<L, R>(rt, alloc, kind, 1, blank);
+    let pool = pool_of::<L, R>(rt, alloc, plan, blank);
     let stage = AtomicU64::new(0);
     let done = join(
         rt,
@@ -151,8 +168,12 @@ fn one_waits<L: PoolName + Send + Sync, R: Threads + Wait + Abort + Sync>(
 
 #[test]
 fn a_borrower_waits_until_another_gives_back(rt: HostRuntime) {
-    let kind = PoolKind::FixedSize { bytes: 48 };
-    one_waits::<Brand, _>(&rt, rt.alloc(), kind, Blank::new(MOST_LENT));
+    let plan = Plan {
+        kind: PoolKind::FixedSize { bytes: 48 },
+        limit: None,
+        arenas: 1,
+    };
+    one_waits::<Brand, _>(&rt, rt.alloc(), plan, Blank::new(MOST_LENT));
 }
 
 #[test]
@@ -162,6 +183,7 @@ fn values_through_arenas(rt: HostRuntime) {
         for back in [
             over_fixed(&rt, rt.alloc(), arenas, 64, &values),
             over_standard(&rt, rt.alloc(), arenas, 1 << 20, &values),
+            over_limited(&rt, rt.alloc(), arenas, 0, 1 << 20, &values),
         ] {
             let back = back.ok().expect(&rt, "results");
             assert!(rt;

@@ -46,7 +46,7 @@ fn cost_of(rows: &[Row], count: u64) -> u64 {
 }
 
 // Whether an outcome's replies are the first ones of these.
-fn are_first(outcome: &Outcome, replies: &[ScriptReply]) -> bool {
+pub(super) fn are_first(outcome: &Outcome, replies: &[ScriptReply]) -> bool {
     let told = outcome.replies.as_slice();
     let mut i = 0;
     for reply in told {
@@ -59,7 +59,7 @@ fn are_first(outcome: &Outcome, replies: &[ScriptReply]) -> bool {
 }
 
 // An arena that doesn't grow, of 16 bytes for each step.
-fn fixed(alloc: Global, step: u8) -> Result<Allocator<MemoryChunks>, OutOfMemory>
+pub(super) fn fixed(alloc: Global, step: u16) -> Result<Allocator<MemoryChunks>, OutOfMemory>
     ensures { IfOk result (λ a. used_bytes a.memory.state ≡ 0) }
 {
     let Ok(region) = vec![in alloc; 0u8; 16 * (step as usize + 3)] else {
@@ -114,7 +114,7 @@ fn each_table_is_served_as_far_as_the_bytes_go(rt: HostRuntime) -> Result<(), Fa
         let script = script_of(alloc, rows)?;
         let replies = replies_of(alloc, rows)?;
         let cost = cost_of(rows, rows.len() as u64);
-        for step in 0..96u8 {
+        for step in 0..96u16 {
             let mut a = fixed(alloc, step)?;
             let bytes = 16 * step as u64;
             let outcome = run_script(alloc, &mut a, &script);
@@ -148,7 +148,25 @@ fn each_table_is_served_as_far_as_the_bytes_go(rt: HostRuntime) -> Result<(), Fa
     Ok(())
 }
 
-// The first requests are refused, so many: refused or done, with the first replies.
+// An arena whose source refuses so many requests, from one on.
+pub(super) fn refusing(
+    alloc: Global,
+    from: u64,
+    count: u64,
+) -> Result<Allocator<RefusingChunks>, OutOfMemory>
+    ensures { IfOk result (λ a. used_bytes a.memory.state ≡ 0) }
+{
+    let mut refuse = Vec::new(alloc);
+    for i in 0..count {
+        if refuse.push(from.saturating_add(i)).is_err() {
+            return Err(OutOfMemory);
+        }
+    }
+    Ok(Allocator::new(alloc, RefusingChunks::new(alloc, refuse)))
+}
+
+// The first requests are refused, so many, or a later one alone: refused or done, with the first replies. A later one alone
+// is followed by one for a smaller chunk, which is granted.
 #[test]
 fn each_table_is_served_as_far_as_chunks_are_granted(rt: HostRuntime) -> Result<(), Fail> {
     let alloc = rt.alloc();
@@ -158,18 +176,12 @@ fn each_table_is_served_as_far_as_chunks_are_granted(rt: HostRuntime) -> Result<
         }
         let script = script_of(alloc, rows)?;
         let replies = replies_of(alloc, rows)?;
-        for most in 0..4u64 {
-            let mut refuse = Vec::new(alloc);
-            for i in 0..most {
-                if refuse.push(i + 1).is_err() {
-                    return Ok(());
-                }
-            }
-            let mut a = Allocator::new(alloc, RefusingChunks::new(alloc, refuse));
+        for (from, count) in [(1, 0), (1, 1), (1, 2), (1, 3), (2, 1), (3, 1), (4, 1)] {
+            let mut a = refusing(alloc, from, count)?;
             let outcome = run_script(alloc, &mut a, &script);
             assert!(rt;
                 are_first(&outcome, replies.as_slice()),
-                "replies of table {n}, {most} refused"
+                "replies of table {n}, {count} refused from {from} on"
             );
             let refused = outcome.ended == Ended::Refused;
             assert!(rt;
@@ -177,7 +189,10 @@ fn each_table_is_served_as_far_as_chunks_are_granted(rt: HostRuntime) -> Result<
                 "table {n} ended {:?}",
                 outcome.ended
             );
-            assert!(rt; most > 0 || !refused, "table {n} is refused for nothing");
+            assert!(rt;
+                !refused || count > 0 && from == 1,
+                "table {n} is refused for nothing, {count} from {from} on"
+            );
         }
     }
     Ok(())

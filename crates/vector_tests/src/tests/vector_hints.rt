@@ -10,7 +10,7 @@ use std::process::Abort;
 const MANY: usize = 1 << 30;
 
 // What is told, the list then, and its capacity.
-const NEW_VECTORS: [(Hints, &[u32], u32); 10] = [
+const NEW_VECTORS: [(Hints, &[u32], u32); 11] = [
     (Hints::Exactly(5), &[1, 2, 3, 4, 5], 5),
     (Hints::Exactly(0), &[], 0),
     (Hints::AtMost(10, 3), &[1, 2, 3], 10),
@@ -22,6 +22,7 @@ const NEW_VECTORS: [(Hints, &[u32], u32); 10] = [
     (Hints::Between(3, 1 << 40, 3), &[1, 2, 3], 3),
     (Hints::AtMost(MANY, 3), &[1, 2, 3], 4),
     (Hints::AtLeast(MANY, 3), &[1, 2, 3], 4),
+    (Hints::AtLeast(usize::MAX, 2), &[1, 2], 2),
 ];
 
 // The list, for how many more it has room, what is told, the list then, and its capacity.

@@ -1,5 +1,5 @@
 use Rattle.std.proofs.Common.{◌++◌, ◌∷◌, [], codes, append_assoc, arith, sym, ◌∙◌}
-use Rattle.arena_calls.proofs.ReplyLemmas.{field_put}
+use Rattle.line_parts.proofs.PrintingLemmas.{field_put}
 use Rattle.arena_calls.proofs.replies.put_refused.Goals as goal
 
 pub returns-clause-items : goal.returns-clause-items

@@ -1,20 +1,18 @@
-use Rattle.std.proofs.Common.{refl, inl, ◌∙◌, sym}
+use Rattle.std.proofs.Common.{refl, ◌∙◌, sym}
 use Rattle.arena_script.proofs.ValueActs.{is_none}
+use Rattle.arena_script.proofs.CostFacts.{not_given}
 use Rattle.arena_script.proofs.BitActs.{made_given, made_gives, made_gives_nothing}
-use Rattle.placement.specs.Bits.{nothing}
-use Rattle.script_rules.specs.declared.commands.Command.TheVariants.{MakeBits}
 use Rattle.arena_script.proofs.bits.make_bits.Goals as goal
 
-pub returns-in-Ok : goal.returns-in-Ok
-returns-in-Ok g c =
+pub returns-in_err-set : goal.returns-in_err-set
+returns-in_err-set g c =
     let none = sym c.get.ensures ∙ is_none c.get.result (sym c.if-is_some.ensures) in
-    made_gives (MakeBits c.args.name c.args.capacity) c.args.things.now c.args.a.now c.new_in.new.a c.args.name c.args.capacity nothing
-    refl none c.ranges.capacity.fits c.min_align.ensures.state
-    (made_given c.args.things.now c.args.a.now.memory c.args.name c.args.capacity none) c.in-Ok.set c.in-Ok.ensures
+    not_given c.from_residual.result c.from_residual.ensures.1
+    (made_gives_nothing refl none c.ranges.capacity.fits c.min_align.ensures.state
+    (made_given c.args.things.now c.args.a.now.memory c.args.name c.args.capacity none) c.in_err-set.ensures)
 
-pub returns-in-Err : goal.returns-in-Err
-returns-in-Err g c =
+pub returns : goal.returns
+returns g c =
     let none = sym c.get.ensures ∙ is_none c.get.result (sym c.if-is_some.ensures) in
-    inl (made_gives_nothing (MakeBits c.args.name c.args.capacity) c.args.things.now c.args.a.now c.new_in.new.a c.args.name
-    c.args.capacity nothing refl none c.ranges.capacity.fits c.min_align.ensures.state
-    (made_given c.args.things.now c.args.a.now.memory c.args.name c.args.capacity none) c.in-Err.e c.in-Err.ensures)
+    made_gives refl none c.ranges.capacity.fits c.min_align.ensures.state
+    (made_given c.args.things.now c.args.a.now.memory c.args.name c.args.capacity none) c.in_ok-set.ensures

@@ -1,4 +1,4 @@
-use Rattle.std.proofs.Common.{◌≡◌, ◌-◌, ◌+◌, ◌≤◌, length, take}
+use Rattle.std.proofs.Common.{◌≡◌, ◌≤◌, length, take}
 use Rattle.std.specs.Vec.{vec_capacity}
 use Rattle.script_rules.specs.Machine.{run}
 use Rattle.arena_script.specs.Serves.{IsAfter}

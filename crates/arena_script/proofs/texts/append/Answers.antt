@@ -1,45 +1,29 @@
-use Rattle.std.proofs.Common.{inl, arith, refl, sym, ◌∙◌, ◌++◌}
-use Rattle.arena_text.specs.Builders.{builder_bytes}
-use Rattle.script_rules.specs.declared.commands.Command.TheVariants.{Append}
-use Rattle.arena_script.proofs.ThingLemmas.{thing_held}
+use Rattle.std.proofs.Common.{arith, refl, sym, ◌∙◌}
+use Rattle.arena_script.proofs.ThingLemmas.{holds}
+use Rattle.arena_script.proofs.CostFacts.{not_given}
 use Rattle.arena_script.proofs.TextActs.{append_puts, put_past, put_gives, put_gives_nothing}
 use Rattle.arena_script.specs.declared.thing.Thing.TheVariants as thing
 use Rattle.arena_script.proofs.texts.append.Goals as goal
 
 pub returns-then-saturating_add-gt-MOST_BYTES : goal.returns-then-saturating_add-gt-MOST_BYTES
 returns-then-saturating_add-gt-MOST_BYTES g c =
-    let t = c.in-Ok.text in
-    let held = thing_held c.args.a.now.memory c.args.things.now c.args.name (thing.Text t) c.requires.held c.in-Ok.ensures in (
-      put_past c.args.things.now c.args.a.now c.args.name t c.in-Ok.ensures (Append c.args.name c.args.bytes.now) (c.args.bytes.now)
-          (builder_bytes c.args.a.now.memory t ++ c.args.bytes.now)
-          refl (append_puts c.args.things.now c.args.a.now c.args.name t c.in-Ok.ensures c.args.bytes.now)
-          (sym c.has_other.ensures ∙ c.if-has_other.false)
-          (c.length_rule.ensures c.args.a.now.memory t held.held) (omega (arith, c.len.ensures, c.saturating_add.ensures)),
+    let h = holds c.requires c.args.name (thing.Text c.in-Ok.text) c.in-Ok.ensures in (
+      put_past h (append_puts h c.args.bytes.now) (sym c.has_other.ensures ∙ c.if-has_other.false)
+          (c.length_rule.ensures c.args.a.now.memory c.in-Ok.text h.held.held) (omega (arith, c.len.ensures, c.saturating_add.ensures)),
       refl,
     )
 
-pub returns-in-Ok-push_bytes_unchecked : goal.returns-in-Ok-push_bytes_unchecked
-returns-in-Ok-push_bytes_unchecked g c =
-    let t = c.in-Ok.text in
-    let held = thing_held c.args.a.now.memory c.args.things.now c.args.name (thing.Text t) c.requires.held c.in-Ok.ensures in
-    put_gives c.args.things.now c.args.a.now c.args.name t c.in-Ok.ensures (Append c.args.name c.args.bytes.now) (c.args.bytes.now)
-    (builder_bytes c.args.a.now.memory t ++ c.args.bytes.now)
-    refl (append_puts c.args.things.now c.args.a.now c.args.name t c.in-Ok.ensures c.args.bytes.now)
-    (sym c.has_other.ensures ∙ c.if-has_other.false)
-    (c.length_rule.ensures c.args.a.now.memory t held.held)
-    (record { stays = c.growth_rule.ensures.stays; grows = c.growth_rule.ensures.grows })
-    c.min_align.ensures.state held (omega (arith, c.len.ensures, c.saturating_add.ensures))
-    c.push_bytes_unchecked.new.a c.push_bytes_unchecked.new.self c.in-Ok-push_bytes_unchecked.ensures
+pub returns-in_err-push_bytes_unchecked : goal.returns-in_err-push_bytes_unchecked
+returns-in_err-push_bytes_unchecked g c =
+    let h = holds c.requires c.args.name (thing.Text c.in-Ok.text) c.in-Ok.ensures in
+    not_given c.from_residual.result c.from_residual.ensures.1
+    (put_gives_nothing (record { stays = c.growth_rule.ensures.stays; grows = c.growth_rule.ensures.grows }) h
+    c.min_align.ensures.state (append_puts h c.args.bytes.now) (sym c.has_other.ensures ∙ c.if-has_other.false)
+    (c.length_rule.ensures c.args.a.now.memory c.in-Ok.text h.held.held) (omega (arith, c.len.ensures, c.saturating_add.ensures)) c.in_err-push_bytes_unchecked.ensures)
 
-pub returns-in-Err-push_bytes_unchecked : goal.returns-in-Err-push_bytes_unchecked
-returns-in-Err-push_bytes_unchecked g c =
-    let t = c.in-Ok.text in
-    let held = thing_held c.args.a.now.memory c.args.things.now c.args.name (thing.Text t) c.requires.held c.in-Ok.ensures in
-    inl (put_gives_nothing c.args.things.now c.args.a.now c.args.name t c.in-Ok.ensures (Append c.args.name c.args.bytes.now)
-    (c.args.bytes.now) (builder_bytes c.args.a.now.memory t ++ c.args.bytes.now)
-    refl (append_puts c.args.things.now c.args.a.now c.args.name t c.in-Ok.ensures c.args.bytes.now)
-    (sym c.has_other.ensures ∙ c.if-has_other.false)
-    (c.length_rule.ensures c.args.a.now.memory t held.held)
-    (record { stays = c.growth_rule.ensures.stays; grows = c.growth_rule.ensures.grows })
-    c.min_align.ensures.state held (omega (arith, c.len.ensures, c.saturating_add.ensures))
-    c.push_bytes_unchecked.new.a c.push_bytes_unchecked.new.self c.in-Err-push_bytes_unchecked.e c.in-Err-push_bytes_unchecked.ensures)
+pub returns : goal.returns
+returns g c =
+    let h = holds c.requires c.args.name (thing.Text c.in-Ok.text) c.in-Ok.ensures in
+    put_gives (record { stays = c.growth_rule.ensures.stays; grows = c.growth_rule.ensures.grows }) h
+    c.min_align.ensures.state (append_puts h c.args.bytes.now) (sym c.has_other.ensures ∙ c.if-has_other.false)
+    (c.length_rule.ensures c.args.a.now.memory c.in-Ok.text h.held.held) (omega (arith, c.len.ensures, c.saturating_add.ensures)) c.in_ok-push_bytes_unchecked.ensures

@@ -1,18 +1,15 @@
-use Rattle.std.proofs.Common.{refl, inl, ◌∙◌, sym}
+use Rattle.std.proofs.Common.{refl, ◌∙◌, sym}
+use Rattle.arena_script.proofs.CostFacts.{not_given}
 use Rattle.arena_script.proofs.ValueActs.{is_none, made_given, made_gives, made_gives_nothing}
-use Rattle.script_rules.specs.declared.commands.Command.TheVariants.{MakeValue}
 use Rattle.arena_script.proofs.values.make_value.Goals as goal
 
-pub returns-in-Ok : goal.returns-in-Ok
-returns-in-Ok g c =
+pub returns-in_err-value : goal.returns-in_err-value
+returns-in_err-value g c =
     let none = sym c.get.ensures ∙ is_none c.get.result (sym c.if-is_some.ensures) in
-    made_gives (MakeValue c.args.name c.args.value) c.args.things.now c.args.a.now c.from_in-made.new.a c.args.name c.args.value refl none
-    c.min_align.ensures.state
-    (made_given c.args.things.now c.args.a.now.memory c.args.name c.args.value none) c.in-Ok.value c.in-Ok.ensures
+    not_given c.from_residual.result c.from_residual.ensures.1
+    (made_gives_nothing refl none c.min_align.ensures.state (made_given c.args.things.now c.args.a.now.memory c.args.name c.args.value none) c.in_err-value.ensures)
 
-pub returns-in-Err : goal.returns-in-Err
-returns-in-Err g c =
+pub returns : goal.returns
+returns g c =
     let none = sym c.get.ensures ∙ is_none c.get.result (sym c.if-is_some.ensures) in
-    inl (made_gives_nothing (MakeValue c.args.name c.args.value) c.args.things.now c.args.a.now c.from_in-made.new.a c.args.name
-    c.args.value refl none c.min_align.ensures.state
-    (made_given c.args.things.now c.args.a.now.memory c.args.name c.args.value none) c.in-Err.e c.in-Err.ensures)
+    made_gives refl none c.min_align.ensures.state (made_given c.args.things.now c.args.a.now.memory c.args.name c.args.value none) c.in_ok-value.ensures

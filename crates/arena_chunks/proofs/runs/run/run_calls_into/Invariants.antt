@@ -2,7 +2,7 @@ use Rattle.std.proofs.Common.{◌+◌, ◌≤◌, List, length, take}
 use Rattle.placement.specs.declared.calls.Reply.{Reply}
 use Rattle.arena_chunks.specs.Replies.{TakesMore}
 use Rattle.arena_chunks.specs.Source.{view}
-use Rattle.arena_chunks.proofs.RunLemmas.{IsRunning}
+use Rattle.arena_chunks.specs.Running.{IsRunning}
 use Rattle.arena_chunks.proofs.runs.run.run_calls_into.Given as goal
 
 abbrev pub invariant-loop-done : goal.invariant-loop-done

@@ -8,5 +8,5 @@ loop-i-preserved g c =
       length = omega arith;
       room = omega arith;
       first = rw (c.push_reserved.ensures.items, c.first_id.ensures)
-          (one_more c.args.kind c.loop-i.i _ _ c.loop-i.invariant.first e.new e.unused);
+          (one_more c.args.kind c.args.limit c.loop-i.i _ _ c.requires.limit c.loop-i.invariant.first e.new e.unused);
     }

@@ -1,3 +1,4 @@
+use Rattle.std.proofs.Common.{None, Some}
 use Rattle.arena_pool.specs.declared.kind.PoolKind.TheVariants.{Standard}
 use Rattle.pool_tests.proofs.tests.pools.guards.Given as goal
 
@@ -5,16 +6,22 @@ abbrev pub ghosts-guards_of_one-L-Ledger : goal.ghosts-guards_of_one-L-Ledger
 ghosts-guards_of_one-L-Ledger g a = record { name = a.blank.name; parts = a.blank.parts }
 
 abbrev pub ghosts-guards_of_one-L-PoolName : goal.ghosts-guards_of_one-L-PoolName
-ghosts-guards_of_one-L-PoolName g a = record { kind = a.kind }
+ghosts-guards_of_one-L-PoolName g a = record { kind = a.kind; limit = None }
 
 abbrev pub ghosts-guards_of_three-L-Ledger : goal.ghosts-guards_of_three-L-Ledger
 ghosts-guards_of_three-L-Ledger g a = record { name = a.blank.name; parts = a.blank.parts }
 
 abbrev pub ghosts-guards_of_three-L-PoolName : goal.ghosts-guards_of_three-L-PoolName
-ghosts-guards_of_three-L-PoolName g a = record { kind = a.kind }
+ghosts-guards_of_three-L-PoolName g a = record { kind = a.kind; limit = None }
 
 abbrev pub ghosts-guards_without_end-L-Ledger : goal.ghosts-guards_without_end-L-Ledger
 ghosts-guards_without_end-L-Ledger g a = record { name = a.blank.name; parts = a.blank.parts }
 
 abbrev pub ghosts-guards_without_end-L-PoolName : goal.ghosts-guards_without_end-L-PoolName
-ghosts-guards_without_end-L-PoolName g a = record { kind = Standard }
+ghosts-guards_without_end-L-PoolName g a = record { kind = Standard; limit = None }
+
+abbrev pub ghosts-guards_with_limit-L-Ledger : goal.ghosts-guards_with_limit-L-Ledger
+ghosts-guards_with_limit-L-Ledger g a = record { name = a.blank.name; parts = a.blank.parts }
+
+abbrev pub ghosts-guards_with_limit-L-PoolName : goal.ghosts-guards_with_limit-L-PoolName
+ghosts-guards_with_limit-L-PoolName g a = record { kind = Standard; limit = Some a.limit }

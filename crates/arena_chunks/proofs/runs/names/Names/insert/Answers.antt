@@ -1,14 +1,22 @@
-use Rattle.std.proofs.Common.{◌≡◌, ◌∙◌, None}
-use Rattle.std.specs.FinMap as map
-use Rattle.arena_chunks.proofs.NameLemmas.{table_get, table_insert}
+use Rattle.std.proofs.Common.{arith, length}
+use Rattle.arena_chunks.proofs.FirstNameLemmas.{get_other, insert_first, insert_other, none_inserted}
 use Rattle.arena_chunks.proofs.runs.names.Names.insert.Goals as goal
 
-pub returns-in_default-clause-held : goal.returns-in_default-clause-held
-returns-in_default-clause-held c = λ held.
-    let none : map.get c.args.self.now c.args.name ≡ None =
-    rw (← c.self.view_is) (table_get c.self.inside.places c.args.name ∙ c.in_default.ensures.absent) in
-    rw none at held
+pub returns-then-at-len-clause-ok : goal.returns-then-at-len-clause-ok
+returns-then-at-len-clause-ok c = rw (← c.self.view_is)
+    (insert_first c.self.inside.first.items c.self.inside.others c.args.name c.args.place c.self.invariant.1 (omega arith))
+
+pub invariant_of-self-2 : goal.invariant_of-self-2
+invariant_of-self-2 c = (
+  c.self.invariant.0,
+  rw c.in-Ok.ensures.ok (none_inserted (length c.self.inside.first.items) c.self.inside.others c.args.name c.args.place
+      c.self.invariant.1 (omega arith)),
+)
 
 pub returns-clause-ok : goal.returns-clause-ok
-returns-clause-ok c = rw (← c.self.view_is)
-    (table_insert c.self.inside.places c.insert.new.self c.args.name c.args.place c.in-Ok.ensures.updates)
+returns-clause-ok c = rw (← c.self.view_is, c.in-Ok.ensures.ok)
+    (insert_other c.self.inside.first.items c.self.inside.others c.args.name c.args.place (omega arith))
+
+pub returns-in_default-clause-held : goal.returns-in_default-clause-held
+returns-in_default-clause-held c = rw (← c.self.view_is, ← get_other c.self.inside.first.items c.self.inside.others c.args.name (omega arith))
+    c.in_default.ensures.held

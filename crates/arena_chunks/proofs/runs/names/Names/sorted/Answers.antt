@@ -1,13 +1,20 @@
-use Rattle.std.proofs.Common.{ℕ, List, None, ap, ◌∙◌}
-use Rattle.std.specs.Ordering.{nat_cmp, eq_by_cmp}
-use Rattle.std.specs.Map.{update_all}
-use Rattle.placement.specs.declared.place.Place.{Place}
-use Rattle.arena_chunks.proofs.NameLemmas.{table_in_tree}
+use Rattle.std.proofs.Common.{◌≡◌, ℕ, ◌+◌, ◌-◌, ap, sym, ◌∙◌, arith, drop}
+use Rattle.std.specs.FinMap as map
+use Rattle.placement.specs.Machine.{Held}
+use Rattle.placement.proofs.MapLemmas.{tree_insert}
+use Rattle.arena_chunks.specs.Names.{held_with}
+use Rattle.arena_chunks.proofs.FirstNameLemmas.{with_some}
 use Rattle.arena_chunks.proofs.runs.names.Names.sorted.Goals as goal
 
-pub returns : goal.returns
-returns c =
-    let gives = c.into_iter-name-iterator.ensures.into_iter_gives in
-    rw (← c.self.view_is)
-    (table_in_tree c.self.inside.places c.loop-name.tree gives.4 (rw c.in-None.ensures.steps.0 at c.loop-name.invariant
-    ∙ ap (λ (es : List (ℕ × Place)). update_all (eq_by_cmp nat_cmp) (λ (q : ℕ). None) es) gives.0))
+pub loop-at-preserved-in-Ok-1 : goal.loop-at-preserved-in-Ok-1
+loop-at-preserved-in-Ok-1 c =
+    let back : c.loop-at.at - 1 + 1 ≡ c.loop-at.at = omega arith in
+    let here = with_some c.self.inside.first.items c.self.inside.others (c.loop-at.at - 1) c.index.result.now c.in-Some.place
+    (omega arith) c.index.ensures c.in-Some.is in
+    record {
+      within = omega arith;
+      tree = tree_insert c.loop-at.tree c.insert.new.self (c.loop-at.at - 1) c.in-Some.place c.in-Ok.ensures.updates
+          ∙ ap (λ (m : Held). map.insert m (c.loop-at.at - 1) c.in-Some.place)
+          (c.loop-at.invariant.tree ∙ ap (λ (n : ℕ). held_with n (drop n c.self.inside.first.items) c.self.inside.others) (sym back))
+          ∙ sym here;
+    }

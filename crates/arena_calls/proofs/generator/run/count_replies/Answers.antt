@@ -1,0 +1,63 @@
+use Rattle.std.proofs.Common.{◌≡◌, ◌++◌, ◌∷◌, [], inr, ap, sym, ◌∙◌, arith, length, take}
+use Rattle.std.proofs.lemmas.List.{length-append}
+use Rattle.placement.specs.Generator.{gen_calls}
+use Rattle.arena_calls.proofs.GeneratingLemmas.{seed_first, seed_more, calls_more, calls_first, call_next}
+use Rattle.arena_calls.proofs.generator.run.count_replies.Goals as goal
+
+pub loop-i-init : goal.loop-i-init
+loop-i-init g c =
+    let none = c.reserve.ensures.same [] c.new-tally.ensures in
+    record {
+      list = [];
+      running = c.in_ok-run.ensures _;
+      seed = c.in_ok-draws.ensures.seed ∙ seed_first c.args.start;
+      byte = c.in_ok-draws.ensures.byte;
+      tally = none;
+      calls = none.calls;
+      most = omega (arith, c.in_ok-reserve.ensures.room);
+    }
+
+pub loop-i-preserved : goal.loop-i-preserved
+loop-i-preserved g c =
+    let now = c.loop-i.invariant in
+    let served = c.in-Ok.ensures.serves in
+    let counted = served.2 now.list now.tally in
+    record {
+      list = now.list ++ served.0 ∷ [];
+      running = rw (calls_more c.args.start c.loop-i.i c.loop-i.draws.seed c.call-call.result now.seed c.call-call.ensures.call)
+          (served.1 _ (gen_calls c.args.start c.loop-i.i) now.list now.running);
+      seed = seed_more c.args.start c.loop-i.i c.loop-i.draws.seed c.take_back.new.self.seed now.seed
+          (c.take_back.ensures.seed ∙ c.call-call.ensures.seed);
+      byte = c.take_back.ensures.byte;
+      tally = counted;
+      calls = omega (arith, counted.calls, now.tally.calls, now.calls, length-append now.list (served.0 ∷ []));
+      most = now.most;
+    }
+
+pub returns-clause-ok : goal.returns-clause-ok
+returns-clause-ok g c =
+    let now = c.loop-i.invariant in
+    let over : c.loop-i.i ≡ c.args.count = omega arith in (
+      now.list,
+      c.in-Ok-held.field-0.items,
+      c.in-Ok-held.ensures.ok _ _ (gen_calls c.args.start c.args.count) now.list (rw over at now.running),
+      now.tally,
+    )
+
+-- ---- Where memory is wanting
+
+pub returns-in_default-clause-err : goal.returns-in_default-clause-err
+returns-in_default-clause-err g c =
+    let now = c.loop-i.invariant in
+    let next = call_next c.args.start c.args.count c.loop-i.i c.loop-i.draws.seed c.call-call.result (omega arith) now.seed
+    c.call-call.ensures.call in
+    let stopped = c.in_default.ensures.stays _ (gen_calls c.args.start c.args.count) c.loop-i.i now.list
+    (rw (calls_first c.args.start c.args.count c.loop-i.i (omega arith)) at now.running) next in
+    inr (c.loop-i.i, stopped.0)
+
+pub returns-in_default-held-clause-err : goal.returns-in_default-held-clause-err
+returns-in_default-held-clause-err g c =
+    let now = c.loop-i.invariant in
+    let over : c.loop-i.i ≡ c.args.count = omega arith in
+    let stopped = c.in_default-held.ensures.err _ _ (gen_calls c.args.start c.args.count) now.list (rw over at now.running) in
+    inr (length (gen_calls c.args.start c.args.count), stopped.0)

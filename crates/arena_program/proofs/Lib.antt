@@ -1,0 +1,6 @@
+pub mod TaskLemmas
+pub mod ProgramLemmas
+pub mod MainLemmas
+pub mod ToldLemmas
+pub mod StatusLemmas
+pub mod RunLemmas

@@ -1,0 +1,83 @@
+-- Which words ask for what.
+use Rattle.std.proofs.Common.{◌≡◌, ℕ, List, [], ◌∷◌, drop, get_or, refl, sym, ap, ◌∙◌, subst, arith, codes}
+use Rattle.placement.specs.Grammar.{number}
+use Rattle.arena_chunks.specs.Source.{Source}
+use Rattle.script_rules.specs.declared.commands.Command.{Command}
+use Rattle.script_rules.specs.declared.outcome.Outcome.{Outcome}
+use Rattle.line_parts.proofs.ReadingLemmas.{number_same}
+use Rattle.arena_workers.specs.declared.served.Starved.{Starved}
+use Rattle.arena_calls.specs.Ends.{Outside, AsksCalls, AsksGen, EndsBy}
+use Rattle.arena_calls.specs.declared.status.Status.{Status}
+use Rattle.arena_program.specs.Words.{AsksScripts, lender_words}
+use Rattle.arena_program.specs.ScriptEnds.{ScriptEnds}
+use Rattle.arena_program.specs.MainEnds.{MainEnds}
+use Rattle.arena_program.specs.declared.tasks.Lender.{Lender}
+use Rattle.arena_program.specs.declared.tasks.Lender.TheVariants.{Standard, Keeping, Fixed}
+use Rattle.arena_program.specs.declared.tasks.Task.{Task}
+
+-- ---- Words that ask for scripts ask for nothing else
+
+-- the first letter of the first word
+abbrev letter : List (List ℕ) → ℕ
+letter [] = 0
+letter (word ∷ words) = get_or word 0 0
+
+no_calls : (words : List (List ℕ)) (task : Task) → AsksScripts words task → AsksCalls words → ⊥
+no_calls words task scripts calls = let first : ◌≡◌ {A = ℕ} 115 99 = ap letter (sym scripts.all ∙ calls) in absurd (omega arith)
+
+no_gen : (words : List (List ℕ)) (task : Task) (start count : ℕ) → AsksScripts words task → AsksGen words start count → ⊥
+no_gen words task start count scripts gen =
+    let first : ◌≡◌ {A = ℕ} 115 103 = ap letter (sym scripts.all ∙ gen.all) in absurd (omega arith)
+
+-- ---- They name one pool
+
+abbrev second : List (List ℕ) → List ℕ
+second [] = []
+second (word ∷ []) = []
+second (word ∷ next ∷ words) = next
+
+abbrev third : List (List ℕ) → List ℕ
+third [] = []
+third (word ∷ words) = second words
+
+same_lender : (a b : Lender) → lender_words a ≡ lender_words b → a ≡ b
+same_lender Standard Standard e = refl
+same_lender Standard (Keeping limit) e = let first : ◌≡◌ {A = ℕ} 0 107 = ap letter e in absurd (omega arith)
+same_lender Standard (Fixed bytes arenas) e = let first : ◌≡◌ {A = ℕ} 0 102 = ap letter e in absurd (omega arith)
+same_lender (Keeping limit) Standard e = let first : ◌≡◌ {A = ℕ} 107 0 = ap letter e in absurd (omega arith)
+same_lender (Keeping limit) (Keeping other) e = ap Keeping (number_same limit other (ap second e))
+same_lender (Keeping limit) (Fixed bytes arenas) e = let first : ◌≡◌ {A = ℕ} 107 102 = ap letter e in absurd (omega arith)
+same_lender (Fixed bytes arenas) Standard e = let first : ◌≡◌ {A = ℕ} 102 0 = ap letter e in absurd (omega arith)
+same_lender (Fixed bytes arenas) (Keeping limit) e = let first : ◌≡◌ {A = ℕ} 102 107 = ap letter e in absurd (omega arith)
+same_lender (Fixed bytes arenas) (Fixed others more) e =
+    let same = number_same bytes others (ap second e) in
+    let as_many = number_same arenas more (ap third e) in
+    cc
+
+one_lender : (words : List (List ℕ)) (a b : Task) → AsksScripts words a → AsksScripts words b → a.lender ≡ b.lender
+one_lender words a b p q = same_lender a.lender b.lender (ap (drop 2) (sym p.all ∙ q.all))
+
+-- ---- How runs end
+
+module _ {C : Type 0} (source : C → Source) (worked : List Command → Outcome → Type 0) (words : List (List ℕ)) (status : Status)
+    (old new : Outside) (before after : List (ℕ × Starved C)) where
+  pub scripts_ended : (task : Task) → AsksScripts words task → ScriptEnds source worked task.lender status old new before after
+      → MainEnds source worked words status old new before after
+  scripts_ended task asks ends = record {
+    calls = λ calls. absurd (no_calls words task asks calls);
+    gen = λ start count gen. absurd (no_gen words task start count asks gen);
+    scripts = λ other asked. subst (λ lender. ScriptEnds source worked lender status old new before after)
+        (one_lender words task other asks asked) ends;
+    other = λ calls gen scripts. absurd (scripts task asks);
+    unstarved = λ none. absurd (none task asks);
+  }
+
+  pub calls_ended : ((task : Task) → AsksScripts words task → ⊥) → EndsBy words status old new → after ≡ before
+      → MainEnds source worked words status old new before after
+  calls_ended none ends kept = record {
+    calls = ends.calls;
+    gen = ends.gen;
+    scripts = λ task asks. absurd (none task asks);
+    other = λ calls gen scripts. ends.other calls gen;
+    unstarved = λ n. kept;
+  }

@@ -1,0 +1,4 @@
+pub mod Words
+pub mod ScriptEnds
+pub mod MainEnds
+pub mod Program

@@ -1,0 +1,40 @@
+// Laws of the statuses of runs of scripts.
+ghost use Rattle.std.specs.Prelude.{◌≡◌, ◌≢◌, ◌<◌, ◌≤◌, ◌⊎◌, ℕ, List, Some, Result, length};
+ghost use Rattle.script_rules.specs.Grammar.{ScriptsOf};
+ghost use Rattle.script_rules.specs.declared.commands.Command.{Command};
+ghost use Rattle.arena_workers.specs.declared.served.Starved.{Starved};
+ghost use Rattle.arena_calls.specs.Ends.{Outside, IsFaultless};
+ghost use Rattle.arena_calls.specs.ReadAll.{limit};
+ghost use Rattle.arena_calls.specs.declared.status.Status.{Status};
+ghost use Rattle.arena_program.specs.ScriptEnds.{ScriptEnds, status_of};
+ghost use Rattle.arena_program.specs.declared.tasks.Lender.{Lender};
+
+use arena_chunks::ChunkSource;
+use arena_script::Job;
+use script_rules::laws;
+
+/// Where nothing fails, the bytes of an input that tells them determine the status of a run of scripts, unless memory is
+/// wanting.
+pub fn one_script_status<C: ChunkSource, J: Job<C>>()
+    ensures within { (lender : Lender) (status : Status) (old new : Outside) (before after : List (ℕ × Starved C)) (bytes : List ℕ)
+        (read : Result (List (List Command)) ℕ)
+        → ScriptEnds C.source J.worked lender status old new before after → IsFaultless old new → old.left ≡ Some bytes
+        → length bytes ≤ limit → ScriptsOf bytes read
+        → (status ≡ status_of read) ⊎ (status ≡ Status.OutOfMemory) }
+    ensures over { (lender : Lender) (status : Status) (old new : Outside) (before after : List (ℕ × Starved C)) (bytes : List ℕ)
+        → ScriptEnds C.source J.worked lender status old new before after → IsFaultless old new → old.left ≡ Some bytes
+        → limit < length bytes
+        → (status ≡ Status.InputTooLong) ⊎ (status ≡ Status.OutOfMemory) }
+{
+    laws::one_reading();
+}
+
+/// A read that failed is told as a read fault, and a write that failed as a write fault, whatever else was wanting.
+pub fn told_script_faults<C: ChunkSource, J: Job<C>>()
+    ensures reads { (lender : Lender) (status : Status) (old new : Outside) (before after : List (ℕ × Starved C))
+        → ScriptEnds C.source J.worked lender status old new before after
+        → new.read_faults ≢ old.read_faults → status ≡ Status.ReadFault }
+    ensures writes { (lender : Lender) (status : Status) (old new : Outside) (before after : List (ℕ × Starved C))
+        → ScriptEnds C.source J.worked lender status old new before after
+        → new.write_faults ≢ old.write_faults → status ≡ Status.WriteFault }
+{}

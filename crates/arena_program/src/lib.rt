@@ -1,0 +1,20 @@
+//! The program `arena_run` but for its streams: what it prints and answers for its words and its input.
+#![tactic(auto)]
+
+mod arguments;
+mod budget;
+pub mod laws;
+mod messages;
+mod pools;
+mod program;
+mod run;
+mod tasks;
+#[cfg(test)]
+mod tests;
+mod told;
+mod whole;
+
+pub use budget::{Budgeted, BudgetedMaker, program_chunks, program_maker};
+pub use program::run_program;
+pub use tasks::{Lender, Task};
+pub use whole::arena_main;

@@ -1,0 +1,41 @@
+// What the program says beside its replies.
+ghost use Rattle.std.specs.Prelude.{◌≡◌, OnOk, OnErr};
+ghost use Rattle.placement.specs.Causes.{counted};
+ghost use Rattle.arena_calls.specs.Streams.{Writes, WritesPart};
+ghost use Rattle.arena_program.specs.Program.{line_message, message_of};
+
+use arena_calls::{Failed, Output, Status, write_all};
+use itoa::Buffer;
+
+/// Writes the line that explains the status, or a first part of it and then a fault. `Done` has none.
+pub fn explain<E: Output>(messages: &mut E, status: &Status) -> Result<(), Failed>
+    ensures ok { OnOk result (Writes (E.written messages.old) (E.written messages.new) (message_of status.now)) }
+    ensures part { OnErr result (WritesPart (E.written messages.old) (E.written messages.new) (message_of status.now)) }
+    ensures no_fault { OnOk result (E.faults messages.new ≡ E.faults messages.old) }
+    ensures one_fault { OnErr result (E.faults messages.new ≡ counted (E.faults messages.old) 1) }
+{
+    match status {
+        Status::Done => Ok(()),
+        Status::Usage => write_all(
+            messages,
+            b"usage: arena_run calls | gen START COUNT | scripts WORKERS [fixed BYTES ARENAS | keep BYTES]\n",
+        ),
+        Status::BadLine(n) => explain_line(messages, *n),
+        Status::OutOfMemory => write_all(messages, b"out of memory\n"),
+        Status::ReadFault => write_all(messages, b"read fault\n"),
+        Status::WriteFault => write_all(messages, b"write fault\n"),
+        Status::InputTooLong => write_all(messages, b"input too long\n"),
+    }
+}
+
+fn explain_line<E: Output>(messages: &mut E, n: u64) -> Result<(), Failed>
+    ensures ok { OnOk result (Writes (E.written messages.old) (E.written messages.new) (line_message n)) }
+    ensures part { OnErr result (WritesPart (E.written messages.old) (E.written messages.new) (line_message n)) }
+    ensures no_fault { OnOk result (E.faults messages.new ≡ E.faults messages.old) }
+    ensures one_fault { OnErr result (E.faults messages.new ≡ counted (E.faults messages.old) 1) }
+{
+    let mut digits = Buffer::new();
+    write_all(messages, b"line ")?;
+    write_all(messages, digits.format(n).as_bytes())?;
+    write_all(messages, b" is not understood\n")
+}

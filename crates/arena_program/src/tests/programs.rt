@@ -1,0 +1,297 @@
+// The program whole, by its words.
+use super::{FIRST, FIRST_REPLIES, same};
+use crate::budget::{program_chunks, program_maker};
+use crate::program::run_program;
+use arena_calls::{MemoryInput, MemoryOutput};
+use arena_chunks::Arena;
+use arena_script::Engine;
+use std::alloc::Global;
+use std::env::Args;
+use std::io;
+use std::process::ExitCode;
+use std::sync::Wait;
+use std::test::Fail;
+use std::thread::Threads;
+
+// The exit status, and what was written to the output and to messages.
+#[derive(Drop)]
+struct Ended {
+    status: ExitCode,
+    text: Vec<u8>,
+    messages: Vec<u8>,
+}
+
+fn run_words<R: Threads + Wait + Sync>(
+    rt: &R,
+    alloc: Global,
+    args: io::Result<Args>,
+    text: &str,
+    fail: &[u64],
+) -> Result<Ended, Fail> {
+    let mut arena = Arena::<1>::new(alloc);
+    let mut chunks = program_chunks(alloc);
+    let text = text.as_bytes().to_vec(alloc)?;
+    let mut input = MemoryInput::new(alloc, text, 4096, Vec::new(alloc));
+    let mut output = MemoryOutput::new(alloc, 4096, fail.to_vec(alloc)?);
+    let mut messages = MemoryOutput::new(alloc, 7, fail.to_vec(alloc)?);
+    let mut starved = Vec::new(alloc);
+    let status = run_program(
+        rt,
+        alloc,
+        args,
+        &mut arena,
+        &mut chunks,
+        &mut input,
+        &mut output,
+        &mut messages,
+        program_maker(alloc),
+        &Engine,
+        &mut starved,
+    );
+    Ok(Ended {
+        status,
+        text: output.bytes().to_vec(alloc)?,
+        messages: messages.bytes().to_vec(alloc)?,
+    })
+}
+
+fn args(alloc: Global, words: &[&str]) -> Result<Args, Fail> {
+    let mut args = Vec::new(alloc);
+    for word in words {
+        args.push(word.to_string(alloc)?)?;
+    }
+    Ok(args.into_iter())
+}
+
+const USAGE: &str =
+    "usage: arena_run calls | gen START COUNT | scripts WORKERS [fixed BYTES ARENAS | keep BYTES]\n";
+
+// The words, the input, the write that fails, of the output and of messages, of which each takes 7 bytes, the exit status,
+// and what is written to the output and to messages.
+type Row = (
+    &'static [&'static str],
+    &'static str,
+    &'static [u64],
+    u8,
+    &'static str,
+    &'static str,
+);
+
+const CALLS: [Row; 18] = [
+    (&["arena_run", "calls"], "used\n", &[], 0, "number 0\n", ""),
+    (&["", "calls"], "", &[], 0, "", ""),
+    (
+        &["arena_run", "--version"],
+        "used\n",
+        &[],
+        0,
+        "arena_run 0.1.0\n",
+        "",
+    ),
+    (
+        &["arena_run", "gen", "0", "1"],
+        "used\n",
+        &[],
+        0,
+        "calls 1\nplaced 0\nfailed 0\nother 1\nbytes 0\nsum 0\nused 0\nallocated 0\n",
+        "",
+    ),
+    (&["arena_run", "gen", "1"], "used\n", &[], 1, "", USAGE),
+    (&[], "used\n", &[], 1, "", USAGE),
+    (&["calls"], "used\n", &[], 1, "", USAGE),
+    (&["arena_run", ""], "used\n", &[], 1, "", USAGE),
+    (
+        &["arena_run", "calls", "calls"],
+        "used\n",
+        &[],
+        1,
+        "",
+        USAGE,
+    ),
+    (
+        &["arena_run", "calls", "--help"],
+        "used\n",
+        &[],
+        1,
+        "",
+        USAGE,
+    ),
+    (
+        &["arena_run", "--help", "calls"],
+        "used\n",
+        &[],
+        1,
+        "",
+        USAGE,
+    ),
+    (
+        &["arena_run", "calls"],
+        "used\n\nread\nread\n",
+        &[],
+        2,
+        "",
+        "line 3 is not understood\n",
+    ),
+    (
+        &["arena_run", "calls"],
+        "free 1\n",
+        &[],
+        2,
+        "",
+        "line 1 is not understood\n",
+    ),
+    (&["arena_run", "calls"], "used\n", &[1], 5, "", ""),
+    (&["arena_run", "--version"], "used\n", &[1], 5, "", ""),
+    (&["arena_run", "call"], "used\n", &[1], 1, "", ""),
+    (&["arena_run", "call"], "used\n", &[2], 1, "", "usage: "),
+    (&["arena_run", "call"], "used\n", &[15], 1, "", USAGE),
+];
+
+const SCRIPTS: [Row; 14] = [
+    (
+        &["arena_run", "scripts", "1"],
+        FIRST,
+        &[],
+        0,
+        FIRST_REPLIES,
+        "",
+    ),
+    (
+        &["arena_run", "scripts", "64"],
+        FIRST,
+        &[],
+        0,
+        FIRST_REPLIES,
+        "",
+    ),
+    (
+        &["arena_run", "scripts", "2", "fixed", "144", "1"],
+        FIRST,
+        &[],
+        0,
+        FIRST_REPLIES,
+        "",
+    ),
+    (
+        &["arena_run", "scripts", "1", "fixed", "48", "1"],
+        FIRST,
+        &[],
+        0,
+        "script 0\ndone\nended full\n",
+        "",
+    ),
+    (
+        &["arena_run", "scripts", "1", "keep", "0"],
+        FIRST,
+        &[],
+        0,
+        FIRST_REPLIES,
+        "",
+    ),
+    (&["arena_run", "scripts", "1"], "", &[], 0, "", ""),
+    (
+        &["arena_run", "scripts", "7"],
+        "script\n\nscript",
+        &[],
+        0,
+        "script 0\nended done\nscript 1\nended done\n",
+        "",
+    ),
+    (
+        &["arena_run", "scripts", "1"],
+        "script\nbits 0 4294967295\nbits 1 1\nscript\nlist 0\n",
+        &[],
+        0,
+        "script 0\nended refused\nscript 1\ndone\nended done\n",
+        "",
+    ),
+    (
+        &["arena_run", "scripts", "2"],
+        "\npop 1\nscript\n",
+        &[],
+        2,
+        "",
+        "line 2 is not understood\n",
+    ),
+    (
+        &["arena_run", "scripts", "2"],
+        "script\nscript\npop 1\npops 1\npops 2\n",
+        &[],
+        2,
+        "",
+        "line 4 is not understood\n",
+    ),
+    (&["arena_run", "scripts", "1"], "script\n", &[1], 5, "", ""),
+    (
+        &["arena_run", "scripts", "0"],
+        "script\n",
+        &[],
+        1,
+        "",
+        USAGE,
+    ),
+    (&["arena_run", "scripts"], "pop 1\n", &[], 1, "", USAGE),
+    (&["scripts", "1"], "script\n", &[], 1, "", USAGE),
+];
+
+// Words that ask for nothing.
+const NOTHING: [&[&str]; 17] = [
+    &["", "scripts", "01"],
+    &["", "scripts", "65"],
+    &["", "scripts", "1 "],
+    &["", "Scripts", "1"],
+    &["", "scripts", "1", "1"],
+    &["", "scripts", "1", "fixed"],
+    &["", "scripts", "1", "fixed", "48"],
+    &["", "scripts", "1", "fixed", "32", "1"],
+    &["", "scripts", "1", "fixed", "56", "1"],
+    &["", "scripts", "1", "fixed", "16777232", "1"],
+    &["", "scripts", "1", "fixed", "48", "0"],
+    &["", "scripts", "1", "fixed", "48", "65"],
+    &["", "scripts", "1", "fixed", "48", "1", "1"],
+    &["", "scripts", "1", "keep"],
+    &["", "scripts", "1", "keep", "18446744073709551616"],
+    &["", "scripts", "1", "keep", "0", "0"],
+    &["", "scripts", "1", "--help"],
+];
+
+#[test]
+fn programs_by_their_words(rt: HostRuntime) -> Result<(), Fail> {
+    let alloc = rt.alloc();
+    for rows in [CALLS.as_slice(), SCRIPTS.as_slice()] {
+        for (words, input, fail, status, text, messages) in rows {
+            let args = args(alloc, words)?;
+            let ended = run_words(&rt, alloc, Ok(args), input, fail)?;
+            assert!(rt; ended.status == ExitCode::from(*status));
+            same(&rt, ended.text.as_slice(), text.as_bytes());
+            same(&rt, ended.messages.as_slice(), messages.as_bytes());
+        }
+    }
+    Ok(())
+}
+
+#[test]
+fn words_that_ask_for_nothing(rt: HostRuntime) -> Result<(), Fail> {
+    let alloc = rt.alloc();
+    for words in NOTHING {
+        let args = args(alloc, words)?;
+        let ended = run_words(&rt, alloc, Ok(args), FIRST, &[])?;
+        assert!(rt; ended.status == ExitCode::from(1), "{words:?}");
+        same(&rt, ended.text.len(), 0);
+    }
+    Ok(())
+}
+
+#[test]
+fn words_that_are_not_told(rt: HostRuntime) -> Result<(), Fail> {
+    for (kind, status, messages) in [
+        (io::ErrorKind::OutOfMemory, 3, "out of memory\n"),
+        (io::ErrorKind::InvalidData, 1, USAGE),
+    ] {
+        let ended = run_words(&rt, rt.alloc(), Err(io::Error::from(kind)), "used\n", &[])?;
+        assert!(rt; ended.status == ExitCode::from(status));
+        same(&rt, ended.text.len(), 0);
+        same(&rt, ended.messages.as_slice(), messages.as_bytes());
+    }
+    Ok(())
+}

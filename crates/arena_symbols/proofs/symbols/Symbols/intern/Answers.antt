@@ -1,0 +1,56 @@
+use Rattle.std.proofs.Common.{◌<◌, sym, ◌∙◌, arith}
+use Rattle.std.proofs.lemmas.Result.{err_from_is_err_and}
+use Rattle.arena_symbols.specs.Interner.{most_texts}
+use Rattle.arena_symbols.proofs.InternCalls.{interns_known, interns_full, interns_unplaced, interns_placed, stays, fresh}
+use Rattle.arena_symbols.proofs.symbols.Symbols.intern.Goals as goal
+
+pub returns-in-Some : goal.returns-in-Some
+returns-in-Some g c =
+    interns_known c.args.a.now c.args.self.now c.args.text.now c.requires.held c.in-Some.id (sym c.find.ensures ∙ c.in-Some.is)
+
+pub returns-then-len-ge-MOST_TEXTS : goal.returns-then-len-ge-MOST_TEXTS
+returns-then-len-ge-MOST_TEXTS g c =
+    interns_full c.args.a.now c.args.self.now c.args.text.now c.requires.held (sym c.find.ensures ∙ c.in_default.is)
+    (omega (arith, c.len.ensures, c.if-len-ge-MOST_TEXTS.true))
+
+pub returns-in_err-placed : goal.returns-in_err-placed
+returns-in_err-placed g c =
+    let p = err_from_is_err_and c.from_residual.result c.from_residual.ensures.1 in
+    let few : c.args.self.now.texts.raw.len < most_texts = omega (arith, c.len.ensures, c.if-len-ge-MOST_TEXTS.false) in
+    rw (p.1, p.2) (interns_unplaced c.args.a.now c.args.self.now c.args.text.now c.requires.held (sym c.find.ensures ∙ c.in_default.is) few
+    c.min_align.ensures.state c.requires.length c.place_text.new.a c.in_err-placed.field-0.0 c.in_err-placed.ensures.placed)
+
+pub append-requires-clause-held : goal.append-requires-clause-held
+append-requires-clause-held g c =
+    let few : c.args.self.now.texts.raw.len < most_texts = omega (arith, c.len.ensures, c.if-len-ge-MOST_TEXTS.false) in
+    (stays c.args.a.now c.args.self.now c.args.text.now c.requires.held (sym c.find.ensures ∙ c.in_default.is) few
+    c.min_align.ensures.state c.requires.length c.place_text.new.a c.in_ok-placed.placed c.in_ok-placed.ensures.placed
+    c.in_ok-placed.ensures.text).held
+
+pub append-requires-clause-text : goal.append-requires-clause-text
+append-requires-clause-text g c = c.in_ok-placed.ensures.placed.1.outcome.of_layout.readable
+
+pub append-requires-clause-apart : goal.append-requires-clause-apart
+append-requires-clause-apart g c =
+    let few : c.args.self.now.texts.raw.len < most_texts = omega (arith, c.len.ensures, c.if-len-ge-MOST_TEXTS.false) in
+    (fresh c.args.a.now c.args.self.now c.args.text.now c.requires.held (sym c.find.ensures ∙ c.in_default.is) few
+    c.min_align.ensures.state c.requires.length c.place_text.new.a c.in_ok-placed.placed c.in_ok-placed.ensures.placed
+    c.in_ok-placed.ensures.text).apart
+
+pub append-requires-clause-new : goal.append-requires-clause-new
+append-requires-clause-new g c =
+    let few : c.args.self.now.texts.raw.len < most_texts = omega (arith, c.len.ensures, c.if-len-ge-MOST_TEXTS.false) in
+    (fresh c.args.a.now c.args.self.now c.args.text.now c.requires.held (sym c.find.ensures ∙ c.in_default.is) few
+    c.min_align.ensures.state c.requires.length c.place_text.new.a c.in_ok-placed.placed c.in_ok-placed.ensures.placed
+    c.in_ok-placed.ensures.text).new
+
+pub append-requires-clause-few : goal.append-requires-clause-few
+append-requires-clause-few g c = omega (arith, c.len.ensures, c.if-len-ge-MOST_TEXTS.false)
+
+pub returns : goal.returns
+returns g c =
+    let few : c.args.self.now.texts.raw.len < most_texts = omega (arith, c.len.ensures, c.if-len-ge-MOST_TEXTS.false) in
+    interns_placed c.args.a.now c.args.self.now c.args.text.now c.requires.held (sym c.find.ensures ∙ c.in_default.is) few
+    c.min_align.ensures.state c.requires.length c.place_text.new.a c.in_ok-placed.placed c.in_ok-placed.ensures.placed
+    c.in_ok-placed.ensures.text
+    c.append.new.a c.append.new.self c.append.result c.append.ensures.appends c.append.ensures.pays c.append.ensures.fits

@@ -1,0 +1,47 @@
+-- What calls on interners do.
+use Rattle.std.specs.Prelude.{◌≡◌, ◌≢◌, ℕ, ◌+◌, ◌≤◌, ◌↔◌, List, [], ◌∷◌, ◌++◌, length, Some, None, Result, Err, IfOk, OnOk, OnErr}
+use Rattle.arena_chunks.specs.Memory.{Memory}
+use Rattle.arena_chunks.specs.Source.{View}
+use Rattle.arena_chunks.specs.Frame.{AreAllApart, Frame}
+use Rattle.arena_chunks.specs.declared.block.Block.{Block}
+use Rattle.arena_chunks.specs.declared.allocator.text.Str.{Str}
+use Rattle.arena_items.specs.Values.{bytes_of}
+use Rattle.arena_items.specs.declared.room.AllocError.{AllocError}
+use Rattle.arena_items.specs.declared.room.AllocError.TheVariants.{CapacityOverflow}
+use Rattle.arena_symbols.specs.Paying.{Pays, far_up}
+use Rattle.arena_symbols.specs.Interner.{number_of, with_text, most_texts}
+use Rattle.arena_symbols.specs.Names.{IsInternerIn, names_in, texts_in, blocks_of, own_blocks, names_footprint, names_credit}
+use Rattle.arena_symbols.specs.declared.symbols.Symbols.{Symbols}
+
+-- The interner names the texts that it named, and these; only its own blocks were written.
+pub record KeepsTexts (old new : View) (s t : Symbols) (more : List Block) : Type 0 where
+  pub blocks : blocks_of (texts_in new.memory t) ≡ blocks_of (texts_in old.memory s) ++ more
+  pub frame : Frame old.memory new.memory (own_blocks s) (own_blocks t ++ more)
+
+-- A text is given its number: the one that it has, or the next one. Refused, the texts are as they were.
+pub record Interns (old new : View) (s t : Symbols) (text : List ℕ) (result : Result ℕ AllocError) : Type 0 where
+  pub held : IsInternerIn new.memory t
+  pub names : OnOk result (names_in new.memory t ≡ with_text (names_in old.memory s) text)
+  pub kept : OnErr result (names_in new.memory t ≡ names_in old.memory s)
+  pub number : IfOk result (λ n. number_of (names_in new.memory t) text ≡ Some n)
+  pub overflows : (result ≡ Err CapacityOverflow)
+      ↔ ((number_of (names_in old.memory s) text ≡ None) × (most_texts ≤ length (names_in old.memory s)))
+  pub known : number_of (names_in old.memory s) text ≢ None → (new ≡ old) × (t ≡ s)
+  pub pays : Pays far_up (1024 + length text) (names_credit s) (names_credit t) old new result
+  pub texts : (more : List Block) × KeepsTexts old new s t more
+
+-- A text, which has no number yet, is put at the end, and has the next number. Refused, the texts are as they were.
+pub record Appends (old new : Memory) (s t : Symbols) (text : Str) (result : Result ℕ AllocError) : Type 0 where
+  pub held : IsInternerIn new t
+  pub texts : OnOk result (texts_in new t ≡ texts_in old s ++ text ∷ [])
+  pub names : OnOk result (names_in new t ≡ names_in old s ++ bytes_of old text.block ∷ [])
+  pub kept : OnErr result ((texts_in new t ≡ texts_in old s) × (names_in new t ≡ names_in old s))
+  pub number : IfOk result (λ n. n ≡ s.texts.raw.len)
+  pub frame : Frame old new (own_blocks s) (own_blocks t)
+
+-- An interner with no text, which places nothing: it is one in every arena, apart from all.
+pub record IsNewInterner (s : Symbols) : Type 0 where
+  pub held : (memory : Memory) → IsInternerIn memory s
+  pub names : (memory : Memory) → names_in memory s ≡ []
+  pub apart : (memory : Memory) (others : List Block) → AreAllApart (names_footprint memory s) others
+  pub credit : names_credit s ≡ 0

@@ -1,0 +1,10 @@
+pub mod Interner
+pub mod Scoping
+pub mod Paying
+pub mod Names
+pub mod Interning
+pub mod Tables
+pub mod TableCalls
+pub mod NameLaws
+pub mod TableLaws
+pub mod Named

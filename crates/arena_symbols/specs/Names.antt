@@ -1,0 +1,63 @@
+-- Interners in an arena, and the texts that they are.
+use Rattle.std.specs.Prelude.{◌≡◌, ℕ, ◌+◌, List, [], ◌∷◌, ◌++◌, map}
+use Rattle.std.specs.List.{Contains}
+use Rattle.arena_chunks.specs.Memory.{Memory}
+use Rattle.arena_chunks.specs.Frame.{AreAllApart, ArePairwiseApart}
+use Rattle.arena_chunks.specs.declared.block.Block.{Block}
+use Rattle.arena_chunks.specs.declared.allocator.text.Str.{Str}
+use Rattle.arena_items.specs.Footprint.{AreReadable}
+use Rattle.arena_items.specs.Values.{bytes_of}
+use Rattle.arena_vec.specs.Credit.{credit_of as list_credit}
+use Rattle.arena_vec.specs.Vecs.{IsVecIn, vec_list}
+use Rattle.arena_hash.specs.Accounts.{credit_of}
+use Rattle.arena_hash.specs.Contents.{Kind, kind}
+use Rattle.arena_hash.specs.Finite.{value_of}
+use Rattle.arena_hash.specs.Maps.{IsMapIn, map_in, texts_in as map_texts}
+use Rattle.arena_hash.specs.declared.hasher.FxHasher.{FxHasher}
+use Rattle.arena_symbols.specs.Interner.{number_of, AreDistinct}
+use Rattle.arena_symbols.specs.declared.symbols.Symbols.{Symbols}
+
+-- what the types of its map tell: texts are keys, and numbers values
+abbrev pub name_kind : Kind Str ℕ FxHasher
+name_kind = kind Rattle.arena_items.specs.contracts.handles.StrItem.TheImpl.ghosts
+    Rattle.arena_hash.specs.contracts.key.StrArenaKey.TheImpl.ghosts.key
+    Rattle.arena_items.specs.contracts.numbers.unsigned.U32Item.TheImpl.ghosts
+    Rattle.arena_hash.specs.contracts.hasher.FxHasherKeyHasher.TheImpl.ghosts.hash_of
+
+-- the blocks of texts, and their bytes
+abbrev pub blocks_of : List Str → List Block
+blocks_of list = map (λ (t : Str). t.block) list
+
+abbrev pub contents_of : Memory → List Str → List (List ℕ)
+contents_of memory list = map (λ (t : Str). bytes_of memory t.block) list
+
+-- an interner's texts, by their numbers: their handles, their blocks, and their bytes
+abbrev pub texts_in : Memory → Symbols → List Str
+texts_in memory s = vec_list name_kind.keys memory s.texts
+
+abbrev pub names_in : Memory → Symbols → List (List ℕ)
+names_in memory s = contents_of memory (texts_in memory s)
+
+-- the blocks that its calls write, and all that it reads
+abbrev pub own_blocks : Symbols → List Block
+own_blocks s = s.numbers.table.block ∷ s.texts.raw.block ∷ []
+
+abbrev pub names_footprint : Memory → Symbols → List Block
+names_footprint memory s = own_blocks s ++ blocks_of (texts_in memory s)
+
+-- The handle stands for an interner: a map and a vector of the same distinct texts, in which the map has each one's place. Their blocks
+-- and the texts lie apart.
+pub record IsInternerIn (memory : Memory) (s : Symbols) : Type 0 where
+  pub numbers : IsMapIn name_kind memory s.numbers
+  pub texts : IsVecIn name_kind.keys memory s.texts
+  pub readable : AreReadable memory.state (blocks_of (texts_in memory s))
+  pub apart : ArePairwiseApart (own_blocks s)
+  pub texts_apart : AreAllApart (blocks_of (texts_in memory s)) (own_blocks s)
+  pub keys : (b : Block) → Contains (map_texts name_kind memory s.numbers) b → Contains (blocks_of (texts_in memory s)) b
+  pub count : s.numbers.len ≡ s.texts.raw.len
+  pub places : (q : List ℕ) → value_of (map_in name_kind memory s.numbers q) ≡ number_of (names_in memory s) q
+  pub distinct : AreDistinct (names_in memory s)
+
+-- the bytes that it saved up for its next blocks
+abbrev pub names_credit : Symbols → ℕ
+names_credit s = list_credit 32 s.texts.raw.len s.texts.raw.cap + credit_of name_kind s.numbers

@@ -1,0 +1,13 @@
+//! Texts with numbers, and scopes of names, in an arena.
+#![tactic(auto)]
+
+mod laws;
+mod scopes;
+mod symbols;
+mod uses;
+mod values;
+
+pub use laws::{numbers_law, scopes_law};
+pub use scopes::{Entry, MOST_PAIRS, MOST_SCOPES, Scopes};
+pub use symbols::{MOST_TEXTS, Symbols};
+pub use uses::Names;

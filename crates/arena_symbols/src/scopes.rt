@@ -1,0 +1,220 @@
+// Scopes of names.
+ghost use Rattle.std.specs.Prelude.{◌≡◌, ◌<◌, ◌^◌, length, true};
+ghost use Rattle.arena_chunks.specs.Memory.{Memory};
+ghost use Rattle.std.specs.Int.{w32, to_le_bytes};
+ghost use Rattle.arena_hash.specs.Finite.{has};
+ghost use Rattle.arena_hash.specs.Maps.{IsMapIn, map_in};
+ghost use Rattle.arena_symbols.specs.Scoping.{lookup, is_in_last, start_in, stands_from, newest, most_pairs};
+ghost use Rattle.arena_symbols.specs.Tables.{IsTableIn, scopes_in, starts_in, entries_in, pairs_of, id_kind, entry_item};
+ghost use Rattle.arena_symbols.specs.TableCalls.{IsNewTable, Enters, Leaves, Defines, PutsPair, Undoes, Unhides};
+
+use arena_chunks::{Allocator, ChunkSource};
+use arena_hash::{FxHasher, HashMap, insert_law};
+use arena_items::{AllocError, Grown, Item};
+use arena_vec::Vec;
+use arena_vec::laws::{growth_costs, vector_costs};
+
+/// How many maps a scoped table may have.
+pub const MOST_SCOPES: u32 = 536_870_912;
+
+/// How many pairs its maps may have together.
+pub const MOST_PAIRS: u32 = 134_217_728;
+
+/// A pair with what it hid: the id, the value, and the place of the newest pair before it with that id.
+pub type Entry = (u32, (u32, Option<u32>));
+
+/// Maps from ids to values, one in another. It is a name: two of them may name one table.
+#[derive(Clone, Copy)]
+pub struct Scopes {
+    /// The place of the newest pair of each id.
+    pub newest: HashMap<u32, u32>,
+    /// The pairs of all maps, the outermost map's first.
+    pub pairs: Vec<Entry>,
+    /// Where the pairs of each map begin, but for the outermost.
+    pub starts: Vec<u32>,
+}
+
+#[tactic(auto, unfolding(placement::specs::Rounding::up, arena_items::specs::Layout::pair_size, arena_items::specs::Layout::second_at, arena_items::specs::Layout::option_size))]
+impl Scopes {
+    /// One empty map. It places nothing.
+    pub fn new_in() -> Scopes
+        ensures { IsNewTable entry_item result }
+    {
+        Scopes {
+            newest: HashMap::new_in(),
+            pairs: Vec::new_in(),
+            starts: Vec::new_in(),
+        }
+    }
+
+    /// How many maps there are.
+    pub fn depth(&self) -> u32
+        ensures { (memory : Memory) → IsTableIn entry_item memory self.now
+            → result ≡ length (scopes_in entry_item memory self.now) }
+    {
+        self.starts.len().saturating_add(1)
+    }
+
+    // Where the innermost map begins.
+    fn start<C: ChunkSource>(&self, a: &Allocator<C>) -> u32
+        requires { IsTableIn entry_item a.now.memory self.now }
+        ensures { result ≡ start_in (starts_in a.now.memory self.now) }
+    {
+        let n = self.starts.len();
+        if n == 0 { 0 } else { self.starts.get(a, n - 1) }
+    }
+
+    /// The value of an id in the innermost map that has it.
+    pub fn lookup<C: ChunkSource>(&self, a: &Allocator<C>, id: u32) -> Option<u32>
+        requires { IsTableIn entry_item a.now.memory self.now }
+        ensures { result ≡ lookup (scopes_in entry_item a.now.memory self.now) id }
+    {
+        match self.newest.get(a, id) {
+            Some(at) => {
+                let entry = self.pairs.get(a, at);
+                Some(entry.1.0)
+            }
+            None => None,
+        }
+    }
+
+    /// Whether the innermost map has an id.
+    pub fn in_last<C: ChunkSource>(&self, a: &Allocator<C>, id: u32) -> bool
+        requires { IsTableIn entry_item a.now.memory self.now }
+        ensures { result ≡ is_in_last (scopes_in entry_item a.now.memory self.now) id }
+    {
+        self.is_inner(a, self.newest.get(a, id))
+    }
+
+    // Whether a pair that was found is one of the innermost map's.
+    fn is_inner<C: ChunkSource>(&self, a: &Allocator<C>, found: Option<u32>) -> bool
+        requires { IsTableIn entry_item a.now.memory self.now }
+        ensures { result ≡ stands_from found (start_in (starts_in a.now.memory self.now)) }
+    {
+        match found {
+            Some(at) => at >= self.start(a),
+            None => false,
+        }
+    }
+
+    /// Begins a map inside the others.
+    ///
+    /// # Errors
+    ///
+    /// `CapacityOverflow` at 536,870,912 maps; else as of the arena's `alloc_layout` and `grow`. Nothing changes.
+    pub fn enter<C: ChunkSource>(&mut self, a: &mut Allocator<C>) -> Grown<()>
+        requires { IsTableIn entry_item a.old.memory self.old }
+        ensures { Enters entry_item a.old a.new self.old self.new result }
+    {
+        growth_costs();
+        vector_costs::<u32, ()>();
+        // So the least alignment is known to be 1.
+        let _ = a.min_align();
+        if self.starts.len() >= MOST_SCOPES - 1 {
+            return Err(AllocError::CapacityOverflow);
+        }
+        let n = self.pairs.len();
+        self.starts.push(a, n)
+    }
+
+    /// Puts a pair into the innermost map, unless that has the id.
+    ///
+    /// # Errors
+    ///
+    /// `CapacityOverflow` where a new pair comes at 134,217,728 pairs; else as of the arena's `alloc_layout` and `grow`. The
+    /// maps are as they were.
+    pub fn define<C: ChunkSource>(
+        &mut self,
+        a: &mut Allocator<C>,
+        id: u32,
+        value: u32,
+    ) -> Grown<bool>
+        requires { IsTableIn entry_item a.old.memory self.old }
+        ensures { Defines entry_item a.old a.new self.old self.new id value result }
+    {
+        let hidden = self.newest.get(a, id);
+        if self.is_inner(a, hidden) {
+            return Ok(false);
+        }
+        if self.pairs.len() >= MOST_PAIRS {
+            return Err(AllocError::CapacityOverflow);
+        }
+        self.put(a, id, value, hidden)?;
+        Ok(true)
+    }
+
+    // Puts a pair into the innermost map, which hides this one.
+    fn put<C: ChunkSource>(
+        &mut self,
+        a: &mut Allocator<C>,
+        id: u32,
+        value: u32,
+        hidden: Option<u32>,
+    ) -> Grown<()>
+        requires held { IsTableIn entry_item a.old.memory self.old }
+        requires hidden { hidden ≡ newest (pairs_of (entries_in entry_item a.old.memory self.old)) id }
+        requires few { self.old.pairs.raw.len < most_pairs }
+        ensures { PutsPair entry_item a.old a.new self.old self.new id value result }
+    {
+        insert_law::<u32, u32, FxHasher>();
+        growth_costs();
+        vector_costs::<Entry, ()>();
+        let _ = a.min_align();
+        let n = self.pairs.len();
+        self.pairs.push(a, (id, (value, hidden)))?;
+        match self.newest.insert(a, id, n) {
+            Ok(_) => Ok(()),
+            Err(e) => {
+                self.pairs.truncate(n);
+                Err(e)
+            }
+        }
+    }
+
+    // Takes the newest pair away, so that the one that it hid is the newest of its id. It takes no memory: a key that is
+    // there is put again, or removed.
+    fn undo<C: ChunkSource>(&mut self, a: &mut Allocator<C>)
+        requires held { IsTableIn entry_item a.old.memory self.old }
+        requires inner { start_in (starts_in a.old.memory self.old) < self.old.pairs.raw.len }
+        ensures { Undoes entry_item a.old a.new self.old self.new }
+    {
+        let last = self.pairs.len() - 1;
+        let entry = self.pairs.get(a, last);
+        entry.known();
+        self.unhide(a, entry.0, entry.1.1);
+        self.pairs.truncate(last);
+    }
+
+    // Makes an id that is there tell what was hidden, or nothing.
+    fn unhide<C: ChunkSource>(&mut self, a: &mut Allocator<C>, id: u32, hidden: Option<u32>)
+        requires held { IsMapIn id_kind a.old.memory self.old.newest }
+        requires there { has (map_in id_kind a.old.memory self.old.newest) (to_le_bytes w32 id) ≡ true }
+        ensures unhides { Unhides a.old a.new self.old.newest id hidden self.new.newest }
+        ensures rest { self.new ≡ record self.old { newest = self.new.newest } }
+    {
+        match hidden {
+            Some(at) => {
+                let _ = self.newest.insert(a, id, at);
+            }
+            None => {
+                let _ = self.newest.remove(a, id);
+            }
+        }
+    }
+
+    /// Ends the innermost map, unless it is the only one.
+    pub fn leave<C: ChunkSource>(&mut self, a: &mut Allocator<C>) -> bool
+        requires { IsTableIn entry_item a.old.memory self.old }
+        ensures { Leaves entry_item a.old a.new self.old self.new result }
+    {
+        if self.starts.is_empty() {
+            return false;
+        }
+        let start = self.start(a);
+        self.starts.truncate(self.starts.len() - 1);
+        'pairs: for _ in start..self.pairs.len() {
+            self.undo(a);
+        }
+        true
+    }
+}

@@ -1,0 +1,129 @@
+// Texts with a number each.
+ghost use Rattle.std.specs.Prelude.{◌≡◌, ◌≢◌, ◌+◌, ◌^◌, ◌<◌, Some, None, Err, IfOk, slice_get, length, IsTrue};
+ghost use Rattle.arena_chunks.specs.BlockCalls.{PlacesBlock};
+ghost use Rattle.arena_chunks.specs.Frame.{IsApart};
+ghost use Rattle.arena_chunks.specs.Memory.{Memory, is_readable};
+ghost use Rattle.arena_items.specs.Room.{RoomAnswer};
+ghost use Rattle.arena_items.specs.Values.{bytes_of};
+ghost use Rattle.arena_items.specs.declared.room.AllocError.TheVariants.{CapacityOverflow};
+ghost use Rattle.arena_symbols.specs.Interner.{number_of, most_texts};
+ghost use Rattle.arena_symbols.specs.Interning.{IsNewInterner, Appends, Interns};
+ghost use Rattle.arena_symbols.specs.Names.{IsInternerIn, names_in, texts_in, own_blocks, names_credit};
+ghost use Rattle.arena_symbols.specs.Paying.{Pays, far_up};
+
+use arena_chunks::{Allocator, ChunkSource, Str};
+use arena_hash::{FxHasher, HashMap, insert_law, texts_law};
+use arena_items::{AllocError, Grown, grown};
+use arena_vec::Vec;
+use arena_vec::laws::{growth_costs, vector_costs};
+
+/// How many texts an interner may have.
+pub const MOST_TEXTS: u32 = 67_108_864;
+
+/// Texts, each with a number: its place among them. It is a name: two of them may name one interner.
+#[derive(Clone, Copy)]
+pub struct Symbols {
+    /// The number of each text.
+    pub numbers: HashMap<Str, u32>,
+    /// The texts, by their numbers.
+    pub texts: Vec<Str>,
+}
+
+impl Symbols {
+    /// No text. It places nothing.
+    pub fn new_in() -> Symbols
+        ensures { IsNewInterner result }
+    {
+        Symbols {
+            numbers: HashMap::new_in(),
+            texts: Vec::new_in(),
+        }
+    }
+
+    /// How many texts there are.
+    pub fn len(&self) -> u32
+        ensures { (memory : Memory) → result ≡ length (names_in memory self.now) }
+    {
+        self.texts.len()
+    }
+
+    /// The number of a text, if it has one.
+    pub fn find<C: ChunkSource>(&self, a: &Allocator<C>, text: &str) -> Option<u32>
+        requires { IsInternerIn a.now.memory self.now }
+        ensures { result ≡ number_of (names_in a.now.memory self.now) text.now }
+    {
+        self.numbers.get_by(a, text.as_bytes())
+    }
+
+    /// The text with a number.
+    pub fn text<C: ChunkSource>(&self, a: &Allocator<C>, id: u32) -> Str
+        requires held { IsInternerIn a.now.memory self.now }
+        requires id { id < length (names_in a.now.memory self.now) }
+        ensures handle { slice_get (texts_in a.now.memory self.now) id ≡ Some result }
+        ensures name { slice_get (names_in a.now.memory self.now) id ≡ Some
+            (bytes_of a.now.memory result.block) }
+        ensures readable { IsTrue (is_readable a.now.memory.state result.block) }
+    {
+        self.texts.get(a, id)
+    }
+
+    // Puts a text at the end that has no number yet.
+    fn append<C: ChunkSource>(&mut self, a: &mut Allocator<C>, text: Str) -> Grown<u32>
+        requires held { IsInternerIn a.old.memory self.old }
+        requires text { IsTrue (is_readable a.old.memory.state text.block) }
+        requires apart { IsApart text.block.addr text.block.size (own_blocks self.old) }
+        requires new { number_of (names_in a.old.memory self.old) (bytes_of a.old.memory text.block) ≡ None }
+        requires few { self.old.texts.raw.len < most_texts }
+        ensures appends { Appends a.old.memory a.new.memory self.old self.new text result }
+        ensures pays { Pays (far_up + 2 ^ 61) 839 (names_credit self.old) (names_credit self.new)
+            a.old a.new result }
+        ensures fits { result ≢ Err CapacityOverflow }
+    {
+        texts_law::<Str, u32, FxHasher>();
+        insert_law::<Str, u32, FxHasher>();
+        growth_costs();
+        vector_costs::<Str, ()>();
+        // So the least alignment is known to be 1.
+        let _ = a.min_align();
+        let id = self.texts.len();
+        self.texts.push(a, text)?;
+        match self.numbers.insert(a, text, id) {
+            Ok(_) => Ok(id),
+            Err(e) => {
+                self.texts.truncate(id);
+                Err(e)
+            }
+        }
+    }
+
+    /// The number of a text: the one that it has, or the next one. A new text is placed, and is read from then on.
+    ///
+    /// # Errors
+    ///
+    /// `CapacityOverflow` where a new text comes at 67,108,864 texts; `AllocErr` and `OutOfMemory` as of the arena's
+    /// `alloc_layout` and `grow`. The texts are as they were; what was placed is dead.
+    pub fn intern<C: ChunkSource>(&mut self, a: &mut Allocator<C>, text: &str) -> Grown<u32>
+        requires held { IsInternerIn a.old.memory self.old }
+        requires length { length text.now < 2 ^ 32 }
+        ensures { Interns a.old a.new self.old self.new text.now result }
+    {
+        let _ = a.min_align();
+        if let Some(id) = self.find(a, text) {
+            return Ok(id);
+        }
+        if self.texts.len() >= MOST_TEXTS {
+            return Err(AllocError::CapacityOverflow);
+        }
+        let placed = place_text(a, text)?;
+        self.append(a, placed)
+    }
+}
+
+// Places a text.
+fn place_text<C: ChunkSource>(a: &mut Allocator<C>, text: &str) -> Grown<Str>
+    requires { length text.now < 2 ^ 32 }
+    ensures placed { RoomAnswer (λ s. s.block) result (PlacesBlock a.old a.new (length text.now) 1) }
+    ensures text { IfOk result (λ s. bytes_of a.new.memory s.block ≡ text.now) }
+{
+    grown(a.alloc_str(text))
+}

@@ -1,0 +1,144 @@
+// A caller: the names of a program are declared in scopes, and resolved.
+ghost use Rattle.std.specs.Prelude.{◌≡◌, ◌≢◌, ◌^◌, ◌<◌, ◌≤◌, [], ◌∷◌, Some, Ok, length, true, false, IfOk, OnOk, OnErr};
+ghost use Rattle.arena_chunks.specs.Memory.{Memory};
+ghost use Rattle.arena_symbols.specs.Named.{AreNames, meaning};
+ghost use Rattle.arena_symbols.specs.Scoping.{innermost, outer_of};
+ghost use Rattle.arena_symbols.specs.Tables.{entry_item, scopes_in};
+
+use crate::laws::scopes_law;
+use crate::scopes::Scopes;
+use crate::symbols::Symbols;
+use arena_chunks::{Allocator, ChunkSource};
+use arena_items::Grown;
+use arena_items::laws::frame_law;
+
+/// The names of a program: what number each has, and what the numbers stand for in scopes.
+#[derive(Clone, Copy)]
+pub struct Names {
+    /// The number of each name.
+    pub symbols: Symbols,
+    /// The value of each number.
+    pub scopes: Scopes,
+}
+
+impl Names {
+    /// No name, in one scope. It places nothing.
+    pub fn new_in() -> Names
+        ensures held { (memory : Memory) → AreNames memory result }
+        ensures scopes { (memory : Memory) → scopes_in entry_item memory result.scopes ≡ [] ∷ [] }
+    {
+        Names {
+            symbols: Symbols::new_in(),
+            scopes: Scopes::new_in(),
+        }
+    }
+
+    /// What a name means in the innermost scope that declares it.
+    pub fn resolve<C: ChunkSource>(&self, a: &Allocator<C>, name: &str) -> Option<u32>
+        requires { AreNames a.now.memory self.now }
+        ensures { result ≡ meaning a.now.memory self.now name.now }
+    {
+        match self.symbols.find(a, name) {
+            Some(id) => self.scopes.lookup(a, id),
+            None => None,
+        }
+    }
+
+    /// Declares a name in the innermost scope, unless it is declared there.
+    ///
+    /// # Errors
+    ///
+    /// As of `intern` and of `define`. The scopes are as they were.
+    pub fn declare<C: ChunkSource>(
+        &mut self,
+        a: &mut Allocator<C>,
+        name: &str,
+        value: u32,
+    ) -> Grown<bool>
+        requires held { AreNames a.old.memory self.old }
+        requires short { length name.now < 2 ^ 32 }
+        ensures held { AreNames a.new.memory self.new }
+        ensures means { result ≡ Ok true → meaning a.new.memory self.new name.now ≡ Some value }
+        ensures fresh { innermost (scopes_in entry_item a.old.memory self.old.scopes) ≡ [] → result ≢ Ok false }
+        ensures outer { outer_of (scopes_in entry_item a.new.memory self.new.scopes)
+            ≡ outer_of (scopes_in entry_item a.old.memory self.old.scopes) }
+        ensures kept { OnErr result (scopes_in entry_item a.new.memory self.new.scopes
+            ≡ scopes_in entry_item a.old.memory self.old.scopes) }
+    {
+        frame_law::<Scopes>();
+        frame_law::<Symbols>();
+        scopes_law();
+        let id = self.symbols.intern(a, name)?;
+        self.scopes.define(a, id, value)
+    }
+
+    // Begins a scope inside the others.
+    fn enter<C: ChunkSource>(&mut self, a: &mut Allocator<C>) -> Grown<()>
+        requires { AreNames a.old.memory self.old }
+        ensures held { AreNames a.new.memory self.new }
+        ensures scopes { OnOk result (scopes_in entry_item a.new.memory self.new.scopes
+            ≡ [] ∷ scopes_in entry_item a.old.memory self.old.scopes) }
+        ensures kept { OnErr result (scopes_in entry_item a.new.memory self.new.scopes
+            ≡ scopes_in entry_item a.old.memory self.old.scopes) }
+    {
+        frame_law::<Symbols>();
+        self.scopes.enter(a)
+    }
+
+    // Ends the innermost scope.
+    fn leave<C: ChunkSource>(&mut self, a: &mut Allocator<C>)
+        requires { AreNames a.old.memory self.old }
+        ensures held { AreNames a.new.memory self.new }
+        ensures scopes { 2 ≤ length (scopes_in entry_item a.old.memory self.old.scopes)
+            → scopes_in entry_item a.new.memory self.new.scopes
+            ≡ outer_of (scopes_in entry_item a.old.memory self.old.scopes) }
+    {
+        frame_law::<Symbols>();
+        let _ = self.scopes.leave(a);
+    }
+
+    // Declares a name in an empty scope, and tells what it means then.
+    fn declared<C: ChunkSource>(
+        &mut self,
+        a: &mut Allocator<C>,
+        name: &str,
+        value: u32,
+    ) -> Grown<Option<u32>>
+        requires held { AreNames a.old.memory self.old }
+        requires short { length name.now < 2 ^ 32 }
+        requires empty { innermost (scopes_in entry_item a.old.memory self.old.scopes) ≡ [] }
+        ensures held { AreNames a.new.memory self.new }
+        ensures found { IfOk result (λ found. found ≡ Some value) }
+        ensures outer { outer_of (scopes_in entry_item a.new.memory self.new.scopes)
+            ≡ outer_of (scopes_in entry_item a.old.memory self.old.scopes) }
+    {
+        self.declare(a, name, value)?;
+        Ok(self.resolve(a, name))
+    }
+
+    /// What a name means in a scope of its own, in which it has this value. Then that scope has ended, and the others are as they
+    /// were, whatever they say of the name.
+    ///
+    /// # Errors
+    ///
+    /// As of `enter`, `intern` and `define`. The scopes are as they were.
+    pub fn in_own_scope<C: ChunkSource>(
+        &mut self,
+        a: &mut Allocator<C>,
+        name: &str,
+        value: u32,
+    ) -> Grown<Option<u32>>
+        requires held { AreNames a.old.memory self.old }
+        requires short { length name.now < 2 ^ 32 }
+        ensures held { AreNames a.new.memory self.new }
+        ensures found { IfOk result (λ found. found ≡ Some value) }
+        ensures after { scopes_in entry_item a.new.memory self.new.scopes
+            ≡ scopes_in entry_item a.old.memory self.old.scopes }
+    {
+        scopes_law();
+        self.enter(a)?;
+        let found = self.declared(a, name, value);
+        self.leave(a);
+        found
+    }
+}

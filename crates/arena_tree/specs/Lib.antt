@@ -1,0 +1,14 @@
+pub mod NodeForms
+pub mod TreesAt
+pub mod TreeLaws
+pub mod Parts
+pub mod StmtsAt
+pub mod StmtLaws
+pub mod LineParts
+pub mod Counts
+pub mod Walks
+pub mod Printing
+pub mod Lists
+pub mod Given
+pub mod Spending
+pub mod Parsing

@@ -1,0 +1,57 @@
+-- What parsing a text answers, and what it takes.
+use Rattle.std.specs.Prelude.{◌≡◌, ℕ, ◌+◌, ◌*◌, ◌^◌, ◌≤◌, true, false, List, [], length, Result, Ok, Err}
+use Rattle.arena_chunks.specs.Source.{View}
+use Rattle.arena_chunks.specs.Frame.{Frame}
+use Rattle.arena_chunks.specs.Asking.{AsksWithin, IsStarved, IsFull}
+use Rattle.arena_items.specs.Costs.{used}
+use Rattle.tree_rules.specs.Trees.{Stmts}
+use Rattle.tree_rules.specs.Refusals.{TreeOf}
+use Rattle.tree_rules.specs.declared.refused.Refused.{Refused}
+use Rattle.tree_rules.specs.declared.refused.Refused.TheVariants as refused
+use Rattle.arena_tree.specs.StmtsAt.{AreBuilt}
+use Rattle.arena_tree.specs.Spending.{KeepsKind, IsCounted}
+use Rattle.arena_tree.specs.declared.tree.Tree.{Tree}
+use Rattle.arena_tree.specs.declared.tree.TreeErr.{TreeErr}
+use Rattle.arena_tree.specs.declared.tree.TreeErr.TheVariants.{Syntax, TooDeep, NumberTooBig, AllocErr, OutOfMemory}
+
+-- the bytes of the arena that the tree of a text takes at most
+abbrev pub parse_bytes : ℕ → ℕ
+parse_bytes length = 1024 * (length + 1)
+
+-- A call takes at most so many bytes of the arena, asks for chunks within that, and the arena stays of its kind. No chunk was given up,
+-- and the newest data end rose by at most twice what the arena's bytes rose.
+pub record TakesAtMost (bytes : ℕ) (old new : View) : Type 0 where
+  pub takes : used new ≤ used old + bytes
+  pub asks : AsksWithin (used old + bytes) old new
+  pub kind : KeepsKind old.memory new.memory
+
+-- Why a block was refused in a call that takes at most so many bytes: the arena grows and was starved, or it doesn't and has fewer. The
+-- refusals that are told are the source's.
+pub record IsShortOf (bytes refused : ℕ) (old new : View) : Type 0 where
+  pub counted : IsCounted refused old new
+  pub starved : old.memory.state.is_growing ≡ true → IsStarved (2 ^ 62) old new
+  pub full : old.memory.state.is_growing ≡ false → IsFull (used old + bytes) old
+
+-- a refusal of the text, told so
+abbrev pub refusal_of : Refused → TreeErr
+refusal_of (refused.Syntax at) = Syntax at
+refusal_of (refused.TooDeep at) = TooDeep at
+refusal_of (refused.NumberTooBig at) = NumberTooBig at
+
+-- the text is a program
+abbrev pub IsProgram : List ℕ → Type 0
+IsProgram bytes = (trees : Stmts) × TreeOf bytes (Ok trees)
+
+-- the text is refused so, before anything is placed
+abbrev pub IsRefusedText : List ℕ → View → View → Refused → Type 0
+IsRefusedText bytes old new why = TreeOf bytes (Err why) × (new ≡ old)
+
+-- A text's tree is placed on blocks that were free and lie apart from each other, or the text is refused, or a block of its tree is.
+abbrev pub Parses : List ℕ → View → View → Result Tree TreeErr → Type 0
+Parses bytes old new (Ok t) = (trees : Stmts) × TreeOf bytes (Ok trees) × AreBuilt trees old.memory new.memory t.stmts
+Parses bytes old new (Err (Syntax at)) = IsRefusedText bytes old new (refused.Syntax at)
+Parses bytes old new (Err (TooDeep at)) = IsRefusedText bytes old new (refused.TooDeep at)
+Parses bytes old new (Err (NumberTooBig at)) = IsRefusedText bytes old new (refused.NumberTooBig at)
+Parses bytes old new (Err (AllocErr k)) =
+    IsProgram bytes × IsShortOf (parse_bytes (length bytes)) k old new × Frame old.memory new.memory [] []
+Parses bytes old new (Err OutOfMemory) = IsProgram bytes × Frame old.memory new.memory [] []

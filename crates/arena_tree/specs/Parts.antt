@@ -1,0 +1,116 @@
+-- Parts of a text that were read, and what was placed for them.
+use Rattle.std.specs.Prelude.{◌≡◌, ℕ, ◌<◌, ◌≤◌, Bool, true, false, None, List, [], ◌∷◌, length, slice_range}
+use Rattle.arena_chunks.specs.Memory.{Memory}
+use Rattle.arena_vec.specs.declared.vec.Vec.{Vec}
+use Rattle.tree_rules.specs.Tokens.{Token, Word, Number, Plus, Minus, Star, LeftParen, RightParen, Placed, without_places}
+use Rattle.tree_rules.specs.Trees.{Expr, Neg}
+use Rattle.tree_rules.specs.Grammar.{Factors, Terms, spell_factor, spell_factors, spell_terms, factor_tree, factors_tree, factor_trees, terms_tree, term_trees}
+use Rattle.tree_rules.specs.Reading.{State, state, signs_ended, refusal_from}
+use Rattle.tree_rules.specs.declared.machine.Open.{Open}
+use Rattle.tree_rules.specs.declared.machine.Open.TheVariants.{Paren}
+use Rattle.tree_rules.specs.declared.machine.Mode.TheVariants.{AtFactor, BehindFactor}
+use Rattle.tree_reader.specs.Seen.{tokens_at}
+use Rattle.arena_tree.specs.TreesAt.{IsPlaced, IsBuilt}
+use Rattle.arena_tree.specs.declared.node.Node.{Node}
+use Rattle.arena_tree.specs.declared.look.Start.{Start}
+use Rattle.arena_tree.specs.declared.look.Start.TheVariants as start
+
+-- the text isn't refused from a byte on, in this state
+abbrev pub IsPassed : List ℕ → State → ℕ → Type 0
+IsPassed bytes s at = refusal_from (length bytes) s (tokens_at bytes at) ≡ None
+
+-- a factor's place, in a text that isn't refused
+abbrev pub IsFactorPlace : List ℕ → ℕ → Type 0
+IsFactorPlace bytes at = (opens : List Open) × IsPassed bytes (state AtFactor opens) at
+
+-- the tokens from a byte on
+abbrev pub spelled_at : List ℕ → ℕ → List Token
+spelled_at bytes at = without_places (tokens_at bytes at)
+
+-- a token, and the byte behind it
+pub record IsTokenAt (bytes : List ℕ) (at : ℕ) (token : Token) (end : ℕ) : Type 0 where
+  pub place : ℕ
+  pub tokens_are : tokens_at bytes at ≡ record { at = place; token = token } ∷ tokens_at bytes end
+  pub later : at < end
+  pub within : end ≤ length bytes
+
+-- none of these tokens comes next
+abbrev pub NoStar : List Placed → Type 0
+NoStar [] = Unit {0}
+NoStar (t ∷ ts) = t.token ≡ Star → ⊥
+
+abbrev pub NoSign : List Placed → Type 0
+NoSign [] = Unit {0}
+NoSign (t ∷ ts) = (t.token ≡ Plus → ⊥) × (t.token ≡ Minus → ⊥)
+
+abbrev pub NoClose : List Placed → Type 0
+NoClose [] = Unit {0}
+NoClose (t ∷ ts) = t.token ≡ RightParen → ⊥
+
+-- a term that is taken away is negated
+abbrev pub signed_tree : Bool → Expr → Expr
+signed_tree true e = Neg e
+signed_tree false e = e
+
+abbrev pub sign_of : Bool → Token
+sign_of true = Minus
+sign_of false = Plus
+
+-- A part was read, and a tree placed for it.
+pub record IsPart {P : Type 0} (tree : P → Expr) (spelled : P → List Token → List Token) (stops : List Placed → Type 0)
+    (bytes : List ℕ) (from end : ℕ) (old new : Memory) (n : Node) : Type 0 where
+  pub part : P
+  pub tokens_are : spelled_at bytes from ≡ spelled part (spelled_at bytes end)
+  pub passes : (opens : List Open) → IsPassed bytes (state AtFactor opens) from → IsPassed bytes (state BehindFactor (signs_ended opens))
+      end
+  pub stopped : stops (tokens_at bytes end)
+  pub placed : IsPlaced (tree part) old new n
+  pub later : from < end
+  pub within : end ≤ length bytes
+
+abbrev pub AnyStop : List Placed → Type 0
+AnyStop ts = Unit {0}
+
+abbrev pub TermsStop : List Placed → Type 0
+TermsStop ts = NoStar ts × NoSign ts
+
+abbrev pub IsFactor : List ℕ → ℕ → ℕ → Memory → Memory → Node → Type 0
+IsFactor = IsPart factor_tree spell_factor AnyStop
+
+abbrev pub IsTerm : List ℕ → ℕ → ℕ → Memory → Memory → Node → Type 0
+IsTerm = IsPart factors_tree spell_factors NoStar
+
+abbrev pub IsTerms : List ℕ → ℕ → ℕ → Memory → Memory → Node → Type 0
+IsTerms = IsPart terms_tree spell_terms TermsStop
+
+-- Factors were read up to a star, and their trees are in a list; a factor is to come.
+pub record AreFactors (bytes : List ℕ) (from next : ℕ) (old new : Memory) (list : Vec Node) : Type 0 where
+  pub part : Factors
+  pub tokens_are : spelled_at bytes from ≡ spell_factors part (Star ∷ spelled_at bytes next)
+  pub passes : (opens : List Open) → IsPassed bytes (state AtFactor opens) from → IsPassed bytes (state AtFactor (signs_ended opens)) next
+  pub built : IsBuilt (factor_trees part) old new list
+  pub later : from < next
+  pub within : next ≤ length bytes
+
+-- Terms were read up to a sign, and their trees are in a list; a term is to come.
+pub record AreTerms (bytes : List ℕ) (from next : ℕ) (minus : Bool) (old new : Memory) (list : Vec Node) : Type 0 where
+  pub part : Terms
+  pub tokens_are : spelled_at bytes from ≡ spell_terms part (sign_of minus ∷ spelled_at bytes next)
+  pub passes : (opens : List Open) → IsPassed bytes (state AtFactor opens) from → IsPassed bytes (state AtFactor (signs_ended opens)) next
+  pub built : IsBuilt (term_trees part) old new list
+  pub later : from < next
+  pub within : next ≤ length bytes
+
+-- What a factor begins with: a number, a name, a sign or a parenthesis. Behind the last two a factor is to come.
+abbrev pub IsStart : List ℕ → ℕ → Start → Type 0
+IsStart bytes at (start.Number n end) = IsTokenAt bytes at (Number n) end
+IsStart bytes at (start.Word begin end) = IsTokenAt bytes at (Word (slice_range bytes begin end)) end × (begin ≤ end)
+    × (end ≤ length bytes) × (at ≤ begin)
+IsStart bytes at (start.Minus end) = IsTokenAt bytes at Minus end × IsFactorPlace bytes end × (at < end) × (end ≤ length bytes)
+IsStart bytes at (start.Paren end) = IsTokenAt bytes at LeftParen end × IsFactorPlace bytes end × (at < end) × (end ≤ length bytes)
+
+-- An expression in parentheses ends here.
+pub record MustClose (bytes : List ℕ) (at : ℕ) : Type 0 where
+  pub opens : List Open
+  pub passed : IsPassed bytes (state BehindFactor (Paren ∷ opens)) at
+  pub stop : TermsStop (tokens_at bytes at)

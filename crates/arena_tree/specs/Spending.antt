@@ -1,0 +1,91 @@
+-- What calls that place trees cost: the bytes that come into use, the chunks that are asked for, and why a block was refused.
+use Rattle.std.specs.Prelude.{◌≡◌, ℕ, ◌+◌, ◌-◌, ◌*◌, ◌^◌, ◌<◌, ◌≤◌, ◌⊎◌, true, false, Result, Ok, Err, Option, Some, None, []}
+use Rattle.placement.specs.State.{top_of, allocated_bytes}
+use Rattle.arena_chunks.specs.Memory.{Memory}
+use Rattle.arena_chunks.specs.Source.{View}
+use Rattle.arena_chunks.specs.Frame.{Frame}
+use Rattle.arena_chunks.specs.Asking.{AsksWithin, IsRefusedBySource, IsFull}
+use Rattle.arena_items.specs.Costs.{used, farthest}
+use Rattle.arena_vec.specs.Credit.{credit_of}
+use Rattle.arena_vec.specs.declared.vec.Vec.{Vec}
+use Rattle.arena_tree.specs.declared.node.Node.{Node}
+use Rattle.arena_items.specs.declared.room.AllocError.{AllocError}
+use Rattle.arena_items.specs.declared.room.AllocError.TheVariants.{AllocErr, CapacityOverflow, OutOfMemory}
+
+-- An arena stays one that grows, or one that doesn't and has as many bytes.
+pub record KeepsKind (old new : Memory) : Type 0 where
+  pub is_growing : new.state.is_growing ≡ old.state.is_growing
+  pub allocated : old.state.is_growing ≡ false → allocated_bytes new.state ≡ allocated_bytes old.state
+
+-- The number of refusals that is told is at most what the source's count rose by, or this stands at its last value.
+abbrev pub IsCounted : ℕ → View → View → Type 0
+IsCounted refused old new = (old.source.refusals + refused ≤ new.source.refusals) ⊎ (new.source.refusals ≡ 2 ^ 64 - 1)
+
+-- An arena that grows had no place for a block: the source refused, or much is held, or the newest data end lay far up. Chunks that were
+-- made since the start put it up by at most twice their bytes.
+abbrev pub IsStarvedBehind : View → View → Type 0
+IsStarvedBehind old new =
+    IsRefusedBySource old new ⊎ (2 ^ 60 ≤ allocated_bytes new.memory.state)
+    ⊎ (farthest + 2 * allocated_bytes old.memory.state < top_of old.memory.state.chunks + 2 * allocated_bytes new.memory.state)
+
+-- A block was refused in calls that may bring so many bytes into use.
+pub record IsRefused (bytes refused : ℕ) (old new : View) : Type 0 where
+  pub counted : IsCounted refused old new
+  pub starved : old.memory.state.is_growing ≡ true → IsStarvedBehind old new
+  pub full : old.memory.state.is_growing ≡ false → IsFull bytes old
+
+-- What calls that were stopped leave: all that was in use, and the cause.
+abbrev pub Stops : ℕ → View → View → Option AllocError → Type 0
+Stops bytes old new None = Unit {0}
+Stops bytes old new (Some (AllocErr refused)) = IsRefused bytes refused old new × Frame old.memory new.memory [] []
+Stops bytes old new (Some OutOfMemory) = Frame old.memory new.memory [] []
+Stops bytes old new (Some CapacityOverflow) = ⊥
+
+-- Calls that may bring so many bytes into use, less what is saved afterwards, and more by what was saved before. They ask for no more than
+-- that takes.
+pub record Spends (bytes before after : ℕ) (old new : View) (error : Option AllocError) : Type 0 where
+  pub takes : used new + after ≤ used old + (bytes + before)
+  pub asks : AsksWithin (used old + (bytes + before)) old new
+  pub kind : KeepsKind old.memory new.memory
+  pub stops : Stops (used old + (bytes + before)) old new error
+
+abbrev pub error_of : {X : Type 0} → Result X AllocError → Option AllocError
+error_of (Ok x) = None
+error_of (Err e) = Some e
+
+-- ---- Nodes
+
+-- what it costs to put a node at the end of a list, and what the list saved for that
+abbrev pub node_cost : ℕ
+node_cost = 359
+
+abbrev pub credit : Vec Node → ℕ
+credit v = credit_of 88 v.raw.len v.raw.cap
+
+-- ---- Parts of a text
+
+-- what a part may cost: so much for each of its bytes, and so much is left
+abbrev pub most_for : ℕ → ℕ
+most_for bytes = 1024 * bytes
+
+abbrev pub left_for_node : ℕ
+left_for_node = 512
+
+-- A part was read from a byte on up to another: its node is not in a list yet, and for that something is left.
+abbrev pub SpendsUpTo : {X : Type 0} → ℕ → ℕ → View → View → Result (X × ℕ) AllocError → Type 0
+SpendsUpTo from length old new (Ok r) = Spends (most_for (r.1 - from)) 0 left_for_node old new None
+SpendsUpTo from length old new (Err e) = Spends (most_for (length - from)) 0 0 old new (Some e)
+
+-- Kids were read up to an operator, and their nodes are in a list: so much is left for a kid that may be negated, and what the list saved.
+abbrev pub SpendsOnList : ℕ → View → View → Vec Node → Type 0
+SpendsOnList bytes old new list = Spends (most_for bytes) 0 (1024 + credit list) old new None
+
+-- Statements were read, and their nodes are in a list; or none begins there.
+abbrev pub SpendsAll : {X : Type 0} → ℕ → ℕ → View → View → Result (X × ℕ) AllocError → Type 0
+SpendsAll from length old new (Ok r) = Spends (most_for (r.1 - from)) 0 0 old new None
+SpendsAll from length old new (Err e) = Spends (most_for (length - from)) 0 0 old new (Some e)
+
+abbrev pub SpendsOrNot : {X : Type 0} → ℕ → ℕ → View → View → Result (Option (X × ℕ)) AllocError → Type 0
+SpendsOrNot from length old new (Ok None) = Spends 0 0 0 old new None
+SpendsOrNot from length old new (Ok (Some r)) = Spends (most_for (r.1 - from)) 0 left_for_node old new None
+SpendsOrNot from length old new (Err e) = Spends (most_for (length - from)) 0 0 old new (Some e)

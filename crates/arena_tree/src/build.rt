@@ -1,0 +1,136 @@
+// Nodes with kids.
+ghost use Rattle.std.specs.Prelude.{◌≡◌, ◌+◌, ◌^◌, ◌≤◌, IfOk, OnOk};
+ghost use Rattle.arena_chunks.specs.Memory.{Memory};
+ghost use Rattle.arena_vec.specs.Vecs.{IsVecIn};
+ghost use Rattle.tree_rules.specs.Trees.{Expr, Exprs, NoExprs, And, Neg, with_expr, Stmt, Stmts, with_stmt};
+ghost use Rattle.arena_tree.specs.StmtsAt.{IsStmtPlaced, AreBuilt};
+ghost use Rattle.arena_tree.specs.TreesAt.{node_item, kids_of, IsPlaced, IsBuilt};
+ghost use Rattle.arena_tree.specs.Parts.{signed_tree};
+ghost use Rattle.arena_tree.specs.Spending.{Spends, error_of, node_cost, credit};
+
+use crate::node::{Kind, Node};
+use arena_chunks::{Allocator, Block, ChunkSource, Str};
+use arena_items::Grown;
+use arena_vec::Vec;
+use arena_vec::laws::{growth_costs, vector_costs};
+
+pub(crate) fn number(n: u64) -> Node
+    ensures kind { result.kind ≡ Kind.Num }
+    ensures number { result.number ≡ n }
+{
+    Node {
+        kind: Kind::Num,
+        number: n,
+        text: Str {
+            block: Block::empty(1),
+        },
+        kids: Block::empty(8),
+        len: 0,
+        cap: 0,
+    }
+}
+
+pub(crate) fn named(text: Str) -> Node
+    ensures kind { result.kind ≡ Kind.Name }
+    ensures text { result.text ≡ text }
+{
+    Node {
+        kind: Kind::Name,
+        number: 0,
+        text,
+        kids: Block::empty(8),
+        len: 0,
+        cap: 0,
+    }
+}
+
+// The node of a kind that has these kids.
+pub(crate) fn with_kids(kind: Kind, list: Vec<Node>) -> Node
+    ensures kind { result.kind ≡ kind }
+    ensures kids { kids_of result ≡ list }
+{
+    Node {
+        kind,
+        number: 0,
+        text: Str {
+            block: Block::empty(1),
+        },
+        kids: list.raw.block,
+        len: list.raw.len,
+        cap: list.raw.cap,
+    }
+}
+
+// Puts a node at the end of a list that is built, of expressions or of statements.
+pub(crate) fn push_node<C: ChunkSource>(
+    a: &mut Allocator<C>,
+    list: &mut Vec<Node>,
+    node: Node,
+) -> Grown<()>
+    requires held { IsVecIn node_item a.old.memory list.old }
+    requires few { list.old.raw.len ≤ 2 ^ 24 }
+    ensures kids { (es : Exprs) (e : Expr) (old one : Memory) → IsBuilt es old one list.old
+        → IsPlaced e one a.old.memory node
+        → OnOk result (IsBuilt (with_expr es e) old a.new.memory list.new) }
+    ensures lines { (ss : Stmts) (s : Stmt) (old one : Memory) → AreBuilt ss old one list.old
+        → IsStmtPlaced s one a.old.memory node
+        → OnOk result (AreBuilt (with_stmt ss s) old a.new.memory list.new) }
+    ensures spends { Spends node_cost (credit list.old) (credit list.new) a.old a.new (error_of result) }
+    ensures len { OnOk result (list.new.raw.len ≡ list.old.raw.len + 1) }
+{
+    growth_costs();
+    vector_costs::<Node, ()>();
+    // So the least alignment is known to be 1.
+    let _ = a.min_align();
+    list.push(a, node)
+}
+
+// The negation of a node.
+pub(crate) fn negated<C: ChunkSource>(a: &mut Allocator<C>, node: Node) -> Grown<Node>
+    ensures tree { (e : Expr) (old : Memory) → IsPlaced e old a.old.memory node
+        → IfOk result (IsPlaced (Neg e) old a.new.memory) }
+    ensures spends { Spends node_cost 0 0 a.old a.new (error_of result) }
+{
+    let mut list = Vec::new_in();
+    push_node(a, &mut list, node)?;
+    Ok(with_kids(Kind::Neg, list))
+}
+
+// The node as it is, or its negation.
+pub(crate) fn signed<C: ChunkSource>(a: &mut Allocator<C>, minus: bool, node: Node) -> Grown<Node>
+    ensures tree { (e : Expr) (old : Memory) → IsPlaced e old a.old.memory node
+        → IfOk result (IsPlaced (signed_tree minus e) old a.new.memory) }
+    ensures spends { Spends node_cost 0 0 a.old a.new (error_of result) }
+{
+    if minus {
+        return negated(a, node);
+    }
+    Ok(node)
+}
+
+// A list of this node alone.
+pub(crate) fn only<C: ChunkSource>(a: &mut Allocator<C>, node: Node) -> Grown<Vec<Node>>
+    ensures tree { (e : Expr) (old : Memory) → IsPlaced e old a.old.memory node
+        → IfOk result (IsBuilt (And e NoExprs) old a.new.memory) }
+    ensures spends { Spends node_cost 0 0 a.old a.new (error_of result) }
+{
+    let mut list = Vec::new_in();
+    push_node(a, &mut list, node)?;
+    Ok(list)
+}
+
+// The node of a definition.
+pub(crate) fn let_node(text: Str, list: Vec<Node>) -> Node
+    ensures kind { result.kind ≡ Kind.Let }
+    ensures text { result.text ≡ text }
+    ensures kids { kids_of result ≡ list }
+{
+    Node {
+        kind: Kind::Let,
+        number: 0,
+        text,
+        kids: list.raw.block,
+        len: list.raw.len,
+        cap: list.raw.cap,
+    }
+}

@@ -1,0 +1,110 @@
+// Statements.
+ghost use Rattle.std.specs.Prelude.{◌^◌, ◌≤◌, length, slice_range, IfOk};
+ghost use Rattle.tree_reader.specs.Seen.{tokens_at};
+ghost use Rattle.arena_tree.specs.Parts.{IsFactorPlace};
+ghost use Rattle.arena_tree.specs.LineParts.{IsLinesPlace, IsLet, IsLine, AreLines, LineOrStop, LinesStop, ExprStarts};
+ghost use Rattle.arena_tree.specs.Spending.{SpendsUpTo, SpendsAll, SpendsOrNot};
+
+use crate::begin::{LineStart, brace_at, line_at, semicolon_at};
+use crate::build::{let_node, only, push_node, with_kids};
+use crate::exprs::expr;
+use crate::name::place_name;
+use crate::node::{Kind, Node};
+use arena_chunks::{Allocator, ChunkSource};
+use arena_items::Grown;
+use arena_vec::Vec;
+
+// A definition: its name's bytes, and the byte behind the equals sign.
+fn let_line<C: ChunkSource>(
+    a: &mut Allocator<C>,
+    src: &[u8],
+    at: usize,
+    begin: usize,
+    end: usize,
+    behind: usize,
+) -> Grown<(Node, usize)>
+    requires small { length src.now ≤ 2 ^ 24 }
+    requires name { begin ≤ end }
+    requires first_name { at ≤ begin }
+    requires last_name { end ≤ behind }
+    requires within { end ≤ length src.now }
+    requires place { IsLinesPlace src.now at }
+    requires first { IsLet src.now at (slice_range src.now begin end) behind }
+    requires factor { IsFactorPlace src.now behind }
+    requires rest { behind ≤ length src.now }
+    ensures tree { IfOk result (λ r. IsLine src.now at r.1 a.old.memory a.new.memory r.0) }
+    ensures spends { SpendsUpTo at (length src.now) a.old a.new result }
+{
+    let name = place_name(a, &src[begin..end])?;
+    let (value, stop) = expr(a, src, behind)?;
+    let last = semicolon_at(src, stop);
+    let list = only(a, value)?;
+    Ok((let_node(name, list), last))
+}
+
+fn show_line<C: ChunkSource>(a: &mut Allocator<C>, src: &[u8], at: usize) -> Grown<(Node, usize)>
+    requires small { length src.now ≤ 2 ^ 24 }
+    requires within { at ≤ length src.now }
+    requires place { IsLinesPlace src.now at }
+    requires factor { IsFactorPlace src.now at }
+    requires starts { ExprStarts src.now at at }
+    ensures tree { IfOk result (λ r. IsLine src.now at r.1 a.old.memory a.new.memory r.0) }
+    ensures spends { SpendsUpTo at (length src.now) a.old a.new result }
+{
+    let (value, stop) = expr(a, src, at)?;
+    let last = semicolon_at(src, stop);
+    let list = only(a, value)?;
+    Ok((with_kids(Kind::Show, list), last))
+}
+
+#[cycle(lines)]
+fn line<C: ChunkSource>(a: &mut Allocator<C>, src: &[u8], at: usize) -> Grown<Option<(Node, usize)>>
+    requires small { length src.now ≤ 2 ^ 24 }
+    requires within { at ≤ length src.now }
+    requires place { IsLinesPlace src.now at }
+    ensures tree { IfOk result (λ o. LineOrStop src.now at a.old.memory a.new.memory o) }
+    ensures spends { SpendsOrNot at (length src.now) a.old a.new result }
+{
+    match line_at(src, at) {
+        LineStart::End => Ok(None),
+        LineStart::Let { begin, end, behind } => {
+            let found = let_line(a, src, at, begin, end, behind)?;
+            Ok(Some(found))
+        }
+        LineStart::Expr => {
+            let found = show_line(a, src, at)?;
+            Ok(Some(found))
+        }
+        LineStart::Block(behind) => {
+            let (list, stop) = lines(a, src, behind)?;
+            let last = brace_at(src, stop);
+            Ok(Some((with_kids(Kind::Block, list), last)))
+        }
+    }
+}
+
+#[cycle(lines)]
+pub(crate) fn lines<C: ChunkSource>(
+    a: &mut Allocator<C>,
+    src: &[u8],
+    at: usize,
+) -> Grown<(Vec<Node>, usize)>
+    requires small { length src.now ≤ 2 ^ 24 }
+    requires within { at ≤ length src.now }
+    requires place { IsLinesPlace src.now at }
+    ensures trees { IfOk result (λ r. AreLines src.now at r.1 a.old.memory a.new.memory r.0
+        × LinesStop (tokens_at src.now r.1)) }
+    ensures spends { SpendsAll at (length src.now) a.old a.new result }
+{
+    let mut list = Vec::new_in();
+    let mut here = at;
+    loop {
+        match line(a, src, here)? {
+            None => return Ok((list, here)),
+            Some((node, end)) => {
+                push_node(a, &mut list, node)?;
+                here = end;
+            }
+        }
+    }
+}

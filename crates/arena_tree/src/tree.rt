@@ -1,0 +1,99 @@
+// Trees.
+ghost use Rattle.std.specs.Prelude.{◌≡◌, ◌^◌, ◌≤◌, length, IfOk};
+ghost use Rattle.tree_rules.specs.Trees.{Stmts, text};
+ghost use Rattle.arena_tree.specs.Given.{IsTreeIn, Means};
+ghost use Rattle.arena_tree.specs.Parsing.{Parses, TakesAtMost, parse_bytes, refusal_of};
+
+use crate::node::Node;
+use crate::print::put_lines;
+use crate::program::lines;
+use arena_chunks::{Allocator, ChunkSource};
+use arena_items::AllocError;
+use arena_vec::Vec;
+use placement::{Bytes, OutOfMemory};
+use std::alloc::Global;
+use tree_reader::refusal;
+use tree_rules::Refused;
+use tree_rules::laws::{machine, one_program, some_reading, well_formed};
+
+/// The handle of a tree in an arena: the list of its statements.
+#[derive(Clone, Copy)]
+pub struct Tree {
+    pub stmts: Vec<Node>,
+}
+
+/// Why a tree wasn't placed.
+#[derive(Clone, Copy, PartialEq, Eq, Debug)]
+pub enum TreeErr {
+    /// The tokens before the one at this byte begin a program, and with it they don't; or the text ends there too early.
+    Syntax { at: u64 },
+    /// With the token at this byte, more than 64 parentheses, braces and signs would be open at once.
+    TooDeep { at: u64 },
+    /// The number at this byte passes 64 bits.
+    NumberTooBig { at: u64 },
+    /// There is no place for a block: all requests for a chunk, so many, were refused.
+    AllocErr { refused: u32 },
+    /// Memory for the arena's table of chunks is wanting.
+    OutOfMemory,
+}
+
+// Why a text is refused, told so.
+fn refused_as(refused: Refused) -> TreeErr
+    ensures { result ≡ refusal_of refused }
+{
+    match refused {
+        Refused::Syntax { at } => TreeErr::Syntax { at },
+        Refused::TooDeep { at } => TreeErr::TooDeep { at },
+        Refused::NumberTooBig { at } => TreeErr::NumberTooBig { at },
+    }
+}
+
+impl Tree {
+    /// Places the tree of a text, of at most 16,777,216 bytes. It takes at most 1024 bytes of the arena for each byte of
+    /// the text, and 1024 more.
+    ///
+    /// # Errors
+    ///
+    /// `Syntax`, `TooDeep` or `NumberTooBig` at the first token for which the text is no program: then the arena is as it was.
+    /// `AllocErr` where the arena has no place for a block: it grows and was starved, or it doesn't and has fewer bytes than
+    /// those. `OutOfMemory` where memory is wanting beside. What was placed is dead then.
+    pub fn parse<C: ChunkSource>(a: &mut Allocator<C>, src: &[u8]) -> Result<Tree, TreeErr>
+        requires { length src.now ≤ 2 ^ 24 }
+        ensures parses { Parses src.now a.old a.new result }
+        ensures tree { IfOk result (IsTreeIn a.new.memory) }
+        ensures bytes { TakesAtMost (parse_bytes (length src.now)) a.old a.new }
+    {
+        some_reading();
+        machine();
+        one_program();
+        well_formed();
+        if let Some(refused) = refusal(src) {
+            return Err(refused_as(refused));
+        }
+        match lines(a, src, 0) {
+            Ok((stmts, _end)) => Ok(Tree { stmts }),
+            Err(AllocError::AllocErr { refused }) => Err(TreeErr::AllocErr { refused }),
+            Err(AllocError::OutOfMemory) => Err(TreeErr::OutOfMemory),
+            Err(AllocError::CapacityOverflow) => unreachable!(),
+        }
+    }
+
+    /// The text of the tree.
+    ///
+    /// # Errors
+    ///
+    /// `OutOfMemory` where memory for the text is wanting.
+    pub fn print<C: ChunkSource>(
+        &self,
+        alloc: Global,
+        a: &Allocator<C>,
+    ) -> Result<Bytes, OutOfMemory>
+        requires { IsTreeIn a.now.memory self.now }
+        ensures { (trees : Stmts) → Means a.now.memory self.now trees → IfOk result (λ out. out ≡ text trees) }
+    {
+        let mut out = Bytes::new(alloc);
+        let room = a.used_bytes() / 88 + 1;
+        put_lines(&mut out, a, self.stmts, room)?;
+        Ok(out)
+    }
+}

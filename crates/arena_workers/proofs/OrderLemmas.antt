@@ -1,0 +1,45 @@
+-- Outcomes that are put to their places are those of the pieces at these places.
+use Rattle.std.proofs.Common.{◌≡◌, ℕ, zero, suc, ◌<◌, List, [], ◌∷◌, ◌++◌, length, get_or, set, All, subst, arith}
+use Rattle.std.specs.List.{AllZip}
+use Rattle.std.proofs.lemmas.List.{get_or_default}
+use Rattle.std.proofs.lemmas.List.Elements.{All-nil, All-push, All-head, All-tail}
+use Rattle.arena_workers.specs.Order.{IsOf, IsShift}
+
+-- what holds of all outcomes and comes to a relation with any piece
+pub all_zip : {P S : Type 0} (served : P → S → Type 0) (plain : S → Type 0) → ((p : P) (s : S) → plain s → served p s)
+    → (pieces : List P) (all : List S) → length all ≡ length pieces → All plain all → AllZip served pieces all
+all_zip served plain comes [] [] long is = tt
+all_zip served plain comes [] (s ∷ all) long is = absurd (omega (arith, long))
+all_zip served plain comes (p ∷ pieces) [] long is = absurd (omega (arith, long))
+all_zip served plain comes (p ∷ pieces) (s ∷ all) long is =
+    (comes p s (All-head plain s all is), all_zip served plain comes pieces all (omega (arith, long)) (All-tail plain s all is))
+
+module _ {P S : Type 0} (served : P → S → Type 0) where
+  set_zip : (pieces : List P) (all : List S) (i : ℕ) (d : P) (s : S) → AllZip served pieces all → i < length pieces
+      → served (get_or pieces i d) s → AllZip served pieces (set all i s)
+  set_zip [] all i d s are inside is = absurd (omega (arith, inside))
+  set_zip (p ∷ pieces) [] i d s are inside is = absurd are
+  set_zip (p ∷ pieces) (t ∷ all) zero d s are inside is = (is, are.1)
+  set_zip (p ∷ pieces) (t ∷ all) (suc i) d s are inside is = (are.0, set_zip pieces all i d s are.1 (omega (arith, inside)) is)
+
+  -- an outcome of a piece is put to its place
+  pub places : (pieces : List P) (all : List S) (i : ℕ) (s : S) → AllZip served pieces all → IsOf served pieces (i, s)
+      → AllZip served pieces (set all i s)
+  places [] all i s are is = absurd (omega (arith, is.0))
+  places (p ∷ pieces) all i s are is = set_zip (p ∷ pieces) all i p s are is.0 (is.1 p)
+
+  pub no_shift : (pieces : List P) → IsShift served pieces []
+  no_shift pieces = record { each = All-nil (IsOf served pieces) }
+
+  -- one more piece was worked on
+  pub longer : (pieces : List P) (shift : List (ℕ × S)) (i : ℕ) (d : P) (s : S) → IsShift served pieces shift → i < length pieces
+      → served (get_or pieces i d) s → IsShift served pieces (shift ++ (i, s) ∷ [])
+  longer pieces shift i d s is inside more = record {
+    each = All-push (IsOf served pieces) shift (i, s) is.each
+        (inside, λ p. subst (λ (x : P). served x s) (get_or_default pieces i d p inside) more);
+  }
+
+-- the first of a list of which something holds, and the rest
+pub first_and_rest : {X : Type 0} (P : X → Type 0) (all rest : List X) (x : X) → all ≡ x ∷ rest → All P all → P x × All P rest
+first_and_rest P all rest x is holds =
+    let split = subst (All P) is holds in (All-head P x rest split, All-tail P x rest split)

@@ -1,0 +1,8 @@
+use Rattle.std.proofs.Common.{◌≡◌}
+use Rattle.arena_workers.specs.Working.{IsServed}
+use Rattle.arena_workers.specs.Order.{IsShift}
+use Rattle.arena_workers.proofs.shift.shift.Given as goal
+
+abbrev pub invariant-loop-i : goal.invariant-loop-i
+invariant-loop-i g l =
+    (l.seat.table ≡ l.claims) × IsShift (IsServed g.K.Chunks.ChunkSource.source g.L.PoolName.kind g.W.Work.terms) l.pieces l.done.items

@@ -1,0 +1,91 @@
+// One piece of work on an arena of the pool.
+ghost use Rattle.std.specs.Prelude.{◌≡◌, false};
+ghost use Rattle.arena_pool.specs.Kinds.{IsUnused};
+ghost use Rattle.arena_workers.specs.Working.{LiesLow, IsKept, IsServed, IsUnserved};
+
+use crate::served::{Served, Starved};
+use crate::work::Work;
+use arena_chunks::{Allocator, ChunkSource};
+use arena_pool::{AllocatorGuard, AllocatorPool, ChunkMaker, PoolName};
+use std::alloc::Global;
+use std::sync::Wait;
+
+// An arena that grows isn't worked on any more once its newest chunk ends above this: a later one may have no place behind it.
+const HIGH: u64 = 1 << 62;
+
+// An arena that has so many bytes shows by itself that work was starved on it.
+const LARGE: u64 = 1 << 60;
+
+// Whether an arena that grows lies so high that it isn't worked on any more.
+fn is_high<C: ChunkSource>(a: &Allocator<C>) -> bool
+    ensures { result ≡ false → LiesLow a.now.memory.state }
+{
+    a.is_growing() && a.data_end() > HIGH
+}
+
+// What is kept of an arena that refused: a large one whole, and of another its source.
+fn kept<C: ChunkSource + Drop>(arena: Allocator<C>) -> Starved<C>
+    ensures { IsKept C.source arena result }
+{
+    if arena.capacity() >= LARGE {
+        return Starved::Grown(arena);
+    }
+    let (_, source) = arena.into_parts();
+    Starved::Refused(source)
+}
+
+// What comes of a piece for which there is no memory.
+pub(crate) fn unserved<C: ChunkSource, W: Work<C>>(alloc: Global, work: &W) -> Served<W::Outcome, C>
+    ensures { IsUnserved W.terms result }
+{
+    Served {
+        outcome: work.unserved(alloc),
+        starved: None,
+    }
+}
+
+// Does the work on one piece, on an arena of the pool. One whose newest chunk lies high is given up, and another is taken.
+pub(crate) fn serve<R: Wait, K: ChunkMaker, L: PoolName, W: Work<K::Chunks>>(
+    rt: &R,
+    alloc: Global,
+    pool: &AllocatorPool<K, L>,
+    work: &W,
+    piece: &W::Piece,
+) -> Served<W::Outcome, K::Chunks>
+    requires { W.terms.accepts piece.now }
+    ensures { IsServed K.Chunks.source L.kind W.terms piece.now result }
+{
+    for _ in rt.forever() {
+        let Ok(mut guard) = pool.get_wait(rt) else {
+            break;
+        };
+        if !is_high(guard.parts_mut()) {
+            return serve_on(rt, alloc, guard, work, piece);
+        }
+        let _ = guard.give_up(rt);
+    }
+    unserved(alloc, work)
+}
+
+// Does the work on one piece, on a lent arena.
+fn serve_on<R: Wait, K: ChunkMaker, L: PoolName, W: Work<K::Chunks>>(
+    rt: &R,
+    alloc: Global,
+    mut guard: AllocatorGuard<'_, K, L>,
+    work: &W,
+    piece: &W::Piece,
+) -> Served<W::Outcome, K::Chunks>
+    requires accepted { W.terms.accepts piece.now }
+    requires unused { IsUnused L.kind guard.0 }
+    requires low { LiesLow guard.0.memory.state }
+    ensures { IsServed K.Chunks.source L.kind W.terms piece.now result }
+{
+    let outcome = work.run(alloc, guard.parts_mut(), piece);
+    let starved = if work.is_refused(&outcome) {
+        Some(kept(guard.give_up(rt)))
+    } else {
+        guard.put_back(rt);
+        None
+    };
+    Served { outcome, starved }
+}

@@ -1,0 +1,58 @@
+// Outcomes in the order of the pieces.
+ghost use Rattle.std.specs.Prelude.{◌≡◌, ◌<◌, All, IfOk, slice_set, vec_len};
+ghost use Rattle.std.specs.List.{AllZip};
+ghost use Rattle.arena_workers.specs.Working.{IsServed};
+ghost use Rattle.arena_workers.specs.Order.{IsShift};
+
+use crate::lent::unserved;
+use crate::served::Served;
+use crate::shift::Shift;
+use crate::work::Work;
+use arena_chunks::ChunkSource;
+use arena_pool::{AllocatorPool, ChunkMaker, PoolName};
+use std::alloc::{AllocError, Global};
+
+// Puts what the workers did into the order of the pieces. A piece that no worker had the memory to claim is unserved.
+pub(crate) fn in_order<K: ChunkMaker, L: PoolName, W: Work<K::Chunks>>(
+    alloc: Global,
+    pool: &AllocatorPool<K, L>,
+    work: &W,
+    pieces: &[W::Piece],
+    shifts: Vec<Shift<W::Outcome, K::Chunks>>,
+) -> Result<Vec<Served<W::Outcome, K::Chunks>>, AllocError>
+    requires { All (λ shift. IsShift (IsServed K.Chunks.source L.kind W.terms) pieces.now shift.items) shifts.items }
+    ensures { IfOk result (λ all. AllZip (IsServed K.Chunks.source L.kind W.terms) pieces.now all.items) }
+{
+    let mut all = Vec::with_capacity(alloc, pieces.len())?;
+    for _piece in pieces {
+        all.push_reserved(unserved(alloc, work));
+    }
+    for shift in shifts {
+        place(pool, work, pieces, &mut all, shift);
+    }
+    Ok(all)
+}
+
+// Puts each outcome of a worker to its place.
+fn place<K: ChunkMaker, L: PoolName, W: Work<K::Chunks>>(
+    _pool: &AllocatorPool<K, L>,
+    _work: &W,
+    pieces: &[W::Piece],
+    all: &mut Vec<Served<W::Outcome, K::Chunks>>,
+    shift: Shift<W::Outcome, K::Chunks>,
+)
+    requires all { AllZip (IsServed K.Chunks.source L.kind W.terms) pieces.now all.old.items }
+    requires shift { IsShift (IsServed K.Chunks.source L.kind W.terms) pieces.now shift.items }
+    ensures { AllZip (IsServed K.Chunks.source L.kind W.terms) pieces.now all.new.items }
+{
+    for (i, served) in shift {
+        put(all, i, served);
+    }
+}
+
+fn put<O: Drop, C: ChunkSource + Drop>(all: &mut Vec<Served<O, C>>, i: usize, served: Served<O, C>)
+    requires { i < vec_len all.old }
+    ensures { all.new.items ≡ slice_set all.old.items i served }
+{
+    all[i] = served;
+}

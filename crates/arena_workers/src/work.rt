@@ -1,0 +1,37 @@
+// What is done with a lent arena.
+ghost use Rattle.std.specs.Prelude.{◌≡◌};
+ghost use Rattle.placement.specs.State.{used_bytes};
+ghost use Rattle.arena_pool.specs.Kinds.{IsOfKind};
+ghost use Rattle.arena_pool.specs.declared.kind.PoolKind.{PoolKind};
+
+use arena_chunks::{Allocator, ChunkSource};
+use std::alloc::Global;
+
+/// A kind of work, each piece of which is done on an arena of which nothing is used.
+pub trait Work<C: ChunkSource> {
+    ghost use Rattle.arena_workers.specs.Working.{Terms};
+
+    /// What the work is done on.
+    type Piece: Sync;
+
+    /// What it gives.
+    type Outcome: Drop + Send;
+
+    // What is asked of a piece, and what is known of the outcome.
+    ghost terms: { Terms Self.Piece Self.Outcome };
+
+    /// Does the work on one piece. The arena stays of the kind that it is of.
+    fn run(&self, alloc: Global, a: &mut Allocator<C>, piece: &Self::Piece) -> Self::Outcome
+        requires unused { used_bytes a.old.memory.state ≡ 0 }
+        requires accepted { terms.accepts piece.now }
+        ensures done { terms.done piece.now a.old a.new result }
+        ensures kind { (kind : PoolKind) → IsOfKind kind a.old.memory.state → IsOfKind kind a.new.memory.state };
+
+    /// The outcome of a piece that no worker had the memory to begin. Takes no memory.
+    fn unserved(&self, alloc: Global) -> Self::Outcome
+        ensures { terms.unserved result };
+
+    /// Whether the outcome says that an arena which grows refused a block. Such an arena isn't put back.
+    fn is_refused(&self, outcome: &Self::Outcome) -> bool
+        ensures { result ≡ terms.is_refused outcome.now };
+}

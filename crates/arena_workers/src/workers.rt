@@ -1,0 +1,112 @@
+// Workers that share out pieces of work.
+ghost use Rattle.std.specs.Prelude.{◌≡◌, ℕ, ◌<◌, ◌≤◌, ◌^◌, All, length, IfOk, vec_len};
+ghost use Rattle.std.specs.List.{AllZip};
+ghost use Rattle.arena_workers.specs.Working.{IsServed};
+ghost use Rattle.arena_workers.specs.Order.{IsShift};
+
+use crate::gate::Gate;
+use crate::order::in_order;
+use crate::served::Served;
+use crate::shift::{Shift, shift};
+use crate::work::Work;
+use arena_pool::{AllocatorPool, ChunkMaker, ClaimSeat, Claims, OutOfMemory, PoolName};
+use std::alloc::{AllocError, Global};
+use std::sync::Wait;
+use std::thread;
+use std::thread::Threads;
+
+// A seat for each worker.
+fn seats(
+    alloc: Global,
+    claims: &Claims,
+    mut seat: ClaimSeat,
+    workers: u32,
+) -> Result<Vec<ClaimSeat>, AllocError>
+    requires seat { seat.table ≡ claims.now }
+    requires some { 0 < workers }
+    ensures { IfOk result (λ v. All (λ s. s.table ≡ claims.now) v.items) }
+{
+    let mut all = Vec::with_capacity(alloc, workers as usize)?;
+    for _i in 1..workers {
+        all.push_reserved(claims.split(&mut seat));
+    }
+    all.push_reserved(seat);
+    Ok(all)
+}
+
+// Each seat goes to a worker, and each worker does its shift.
+fn share_out<
+    R: Threads + Wait + Sync,
+    K: ChunkMaker + Drop + Send,
+    L: PoolName + Send + Sync,
+    G: Gate + Sync,
+    W: Work<K::Chunks> + Sync,
+>(
+    rt: &R,
+    alloc: Global,
+    pool: &AllocatorPool<K, L>,
+    claims: &Claims,
+    seats: Vec<ClaimSeat>,
+    gate: &G,
+    work: &W,
+    pieces: &[W::Piece],
+) -> Result<Vec<Served<W::Outcome, K::Chunks>>, AllocError>
+    requires seats { All (λ s. s.table ≡ claims.now) seats.items }
+    requires words { length pieces.now ≡ claims.now.words }
+    requires few { length pieces.now < 2 ^ 32 }
+    requires accepted { All W.terms.accepts pieces.now }
+    ensures { IfOk result (λ all. AllZip (IsServed K.Chunks.source L.kind W.terms) pieces.now all.items) }
+{
+    let shifts = thread::map_vec(
+        rt,
+        seats,
+        &|seat: ClaimSeat| -> Shift<W::Outcome, K::Chunks>
+            requires { (seat.table ≡ claims.now) × (length pieces.now ≡ claims.now.words) × (length pieces.now < 2 ^ 32)
+                × All W.terms.accepts pieces.now }
+            ensures { IsShift (IsServed K.Chunks.source L.kind W.terms) pieces.entry.now result.items }
+        { shift(rt, alloc, pool, claims, seat, gate, work, pieces) },
+    )?;
+    in_order(alloc, pool, work, pieces, shifts)
+}
+
+/// What came of each piece of work, in order, by so many workers at most, each a thread, and never more than there are pieces. Each
+/// claims pieces one after another, and does the work on arenas that it borrows from the pool, one for each piece:
+///
+/// - An arena that grows and whose newest chunk ends above 2^62 is given up, and another is borrowed.
+/// - An arena on which the outcome says that it refused is given up, and what shows why is handed on with the outcome.
+/// - Every other is put back.
+///
+/// A piece for which there is no memory, be it for an arena or for its outcome, is unserved. Nothing goes from one thread to another
+/// but the outcomes. The call waits at the pool's lock, and without end over a fixed pool that has no arena.
+///
+/// # Errors
+///
+/// Memory for the claims, the workers or their outcomes is wanting.
+pub fn run_all<
+    R: Threads + Wait + Sync,
+    K: ChunkMaker + Drop + Send,
+    L: PoolName + Send + Sync,
+    G: Gate + Sync,
+    W: Work<K::Chunks> + Sync,
+>(
+    rt: &R,
+    alloc: Global,
+    pool: &AllocatorPool<K, L>,
+    workers: u32,
+    gate: &G,
+    work: &W,
+    pieces: &[W::Piece],
+) -> Result<Vec<Served<W::Outcome, K::Chunks>>, OutOfMemory>
+    requires some { 0 < workers }
+    requires few { length pieces.now < 2 ^ 32 }
+    requires accepted { All W.terms.accepts pieces.now }
+    ensures { IfOk result (λ all. AllZip (IsServed K.Chunks.source L.kind W.terms) pieces.now all.items) }
+{
+    if pieces.is_empty() {
+        return Ok(Vec::new(alloc));
+    }
+    let count = pieces.len() as u32;
+    let (claims, seat) = Claims::new(alloc, count).map_err(|_| OutOfMemory)?;
+    let seats = seats(alloc, &claims, seat, workers.min(count)).map_err(|_| OutOfMemory)?;
+    share_out(rt, alloc, pool, &claims, seats, gate, work, pieces).map_err(|_| OutOfMemory)
+}

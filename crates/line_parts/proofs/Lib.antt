@@ -1,0 +1,4 @@
+pub mod ReadingLemmas
+pub mod HexLemmas
+pub mod PrintingLemmas
+pub mod LineLemmas

@@ -1,0 +1,122 @@
+-- Lines one after another.
+use Rattle.std.proofs.Common.{◌≡◌, ℕ, ◌+◌, ◌/◌, ◌%◌, ◌≤◌, Bool, true, false, ◌||◌, IsTrue, List, [], ◌∷◌, ◌++◌, length, refl, sym, ap, ◌∙◌, subst, arith, append_assoc, length-append}
+use Rattle.std.specs.Prelude.{◌==◌}
+use Rattle.std.specs.List.{onto_first, flat_map}
+use Rattle.std.proofs.lemmas.List.Splits.{slice_split-cons_yes, slice_split-cons_no}
+use Rattle.std.proofs.lemmas.Bool.Decides.{nat_tests}
+use Rattle.placement.specs.Grammar.{lines_of, number, fields, hex, hex_digit, hex_pair}
+use Rattle.placement.proofs.NumberLemmas.{number_by_steps}
+use Rattle.line_parts.specs.Reads.{is_word_end}
+use Rattle.line_parts.specs.Lines.{is_line_end, lines_behind, TakesLine}
+
+-- ---- Line feeds
+
+abbrev pub has_feed : List ℕ → Bool
+has_feed [] = false
+has_feed (b ∷ bs) = b == 10 || has_feed bs
+
+-- no line feed stands in two lists that are joined
+pub plain : (xs ys : List ℕ) → has_feed xs ≡ false → has_feed ys ≡ false → has_feed (xs ++ ys) ≡ false
+plain [] ys p q = q
+plain (x ∷ xs) ys p q = step (x == 10) p (λ e. plain xs ys e q)
+  where
+    step : (t : Bool) → (t || has_feed xs) ≡ false → (has_feed xs ≡ false → has_feed (xs ++ ys) ≡ false)
+        → (t || has_feed (xs ++ ys)) ≡ false
+    step true e more = e
+    step false e more = more e
+
+pub plain_number : (k : ℕ) → has_feed (number k) ≡ false
+plain_number = number_by_steps (λ k ds. has_feed ds ≡ false) (λ k low. grind (arith, nat_tests))
+    (λ k ds high front. plain ds ((48 + k % 10) ∷ []) front (grind (arith, nat_tests)))
+
+pub plain_fields : (ns : List ℕ) → has_feed (fields ns) ≡ false
+plain_fields [] = refl
+plain_fields (n ∷ ns) = plain (number n) (fields ns) (plain_number n) (plain_fields ns)
+
+plain_pairs : (bytes : List ℕ) → has_feed (flat_map hex_pair bytes) ≡ false
+plain_pairs [] = refl
+plain_pairs (b ∷ bytes) =
+    let high : (hex_digit (b / 16) == 10) ≡ false = grind (arith, nat_tests) in
+    let low : (hex_digit (b % 16) == 10) ≡ false = grind (arith, nat_tests) in
+    rw (high, low) (plain_pairs bytes)
+
+pub plain_hex : (bytes : List ℕ) → has_feed (hex bytes) ≡ false
+plain_hex [] = refl
+plain_hex (b ∷ bytes) = plain_pairs (b ∷ bytes)
+
+-- ---- The first line
+
+-- a line, and what comes behind it
+pub ended : (line rest : List ℕ) → has_feed line ≡ false → is_line_end rest ≡ true → lines_of (line ++ rest) ≡ line ∷ lines_behind rest
+ended [] [] p e = refl
+ended [] (c ∷ cs) p e = slice_split-cons_yes (λ b. b == 10) c cs e
+ended (b ∷ line) rest p e = step (b == 10) refl p (λ q. ended line rest q e)
+  where
+    step : (t : Bool) → (b == 10) ≡ t → (t || has_feed line) ≡ false
+        → (has_feed line ≡ false → lines_of (line ++ rest) ≡ line ∷ lines_behind rest)
+        → lines_of (b ∷ line ++ rest) ≡ (b ∷ line) ∷ lines_behind rest
+    step true is q more = cc
+    step false is q more = slice_split-cons_no (λ x. x == 10) b (line ++ rest) is ∙ ap (onto_first b) (more q)
+
+pub record Split (bytes : List ℕ) : Type 0 where
+  pub line : List ℕ
+  pub rest : List ℕ
+  pub all : bytes ≡ line ++ rest
+  pub plain_line : has_feed line ≡ false
+  pub ends : is_line_end rest ≡ true
+
+pub first_line : (bytes : List ℕ) → Split bytes
+first_line [] = record { line = []; rest = []; all = refl; plain_line = refl; ends = refl }
+first_line (b ∷ bytes) = step (b == 10) refl (first_line bytes)
+  where
+    step : (t : Bool) → (b == 10) ≡ t → Split bytes → Split (b ∷ bytes)
+    step true is s = record { line = []; rest = b ∷ bytes; all = refl; plain_line = refl; ends = is }
+    step false is s = record {
+      line = b ∷ s.line;
+      rest = s.rest;
+      all = ap (λ xs. b ∷ xs) s.all;
+      plain_line = rw is s.plain_line;
+      ends = s.ends;
+    }
+
+-- a word ends where a line ends
+pub word_ends : (rest : List ℕ) → is_line_end rest ≡ true → IsTrue (is_word_end rest)
+word_ends [] e = refl
+word_ends (c ∷ cs) e = grind (arith, nat_tests)
+
+-- ---- Progress
+
+-- some lines were read, and these bytes are left
+pub record Progress {X : Type 0} (Are : List (List ℕ) → X → Type 0) (bytes rest : List ℕ) (read : X) (count : ℕ) : Type 0 where
+  pub before : List (List ℕ)
+  pub all : lines_of bytes ≡ before ++ lines_of rest
+  pub counted : count ≡ length before
+  pub are : Are before read
+  pub small : count + length rest ≤ length bytes
+
+pub no_progress : {X : Type 0} (Are : List (List ℕ) → X → Type 0) (bytes : List ℕ) (read : X) → Are [] read
+    → Progress Are bytes bytes read 0
+no_progress Are bytes read are = record { before = []; all = refl; counted = refl; are = are; small = omega arith }
+
+pub more_progress : {X : Type 0} (Are : List (List ℕ) → X → Type 0) (bytes rest behind : List ℕ) (c : ℕ) (next : List ℕ) (old new : X)
+    (count : ℕ)
+    → Progress Are bytes rest old count → TakesLine Are rest behind old new → behind ≡ c ∷ next → Progress Are bytes next new (count + 1)
+more_progress Are bytes rest behind c next old new count p t feed =
+    let small = p.small in
+    let counted = p.counted in
+    let shorter = t.shorter in
+    let lines : lines_of rest ≡ t.line ∷ lines_of next = t.first ∙ ap (λ xs. t.line ∷ lines_behind xs) feed in
+    record {
+      before = p.before ++ t.line ∷ [];
+      all = p.all ∙ ap (λ xs. p.before ++ xs) lines ∙ sym (append_assoc p.before (t.line ∷ []) (lines_of next));
+      counted = omega (arith, length-append p.before (t.line ∷ []));
+      are = t.adds p.before p.are;
+      small = omega (arith, ap length feed);
+    }
+
+pub all_read : {X : Type 0} (Are : List (List ℕ) → X → Type 0) (bytes rest behind : List ℕ) (old new : X) (count : ℕ)
+    → Progress Are bytes rest old count
+    → TakesLine Are rest behind old new → behind ≡ [] → Are (lines_of bytes) new
+all_read Are bytes rest behind old new count p t none =
+    let lines : lines_of rest ≡ t.line ∷ [] = t.first ∙ ap (λ xs. t.line ∷ lines_behind xs) none in
+    subst (λ xs. Are xs new) (sym (p.all ∙ ap (λ xs. p.before ++ xs) lines)) (t.adds p.before p.are)

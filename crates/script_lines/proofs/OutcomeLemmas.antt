@@ -1,0 +1,117 @@
+-- Lines of outcomes, one after another.
+use Rattle.std.proofs.Common.{◌≡◌, ℕ, zero, suc, ◌+◌, ◌<◌, ◌≤◌, List, [], ◌∷◌, ◌++◌, length, map, take, get_or, refl, sym, ap, ◌∙◌, arith, append_assoc, codes, add-one}
+use Rattle.std.specs.List.{flat_map}
+use Rattle.std.proofs.Math.Seq.{take-suc}
+use Rattle.std.proofs.lemmas.List.{append-nil, map-append}
+use Rattle.std.proofs.lemmas.Grind.{flat_map-append}
+use Rattle.std.proofs.lemmas.List.Folds.{flat_map-map}
+use Rattle.placement.specs.Grammar.{number, fields}
+use Rattle.script_rules.specs.Outcomes.{Told, reply_line, ended_line, outcome_lines, lines_from, with_feed}
+use Rattle.script_rules.specs.declared.commands.ScriptReply.{ScriptReply}
+use Rattle.script_lines.specs.Room.{held_room, rooms, fed_reply, outcome_text}
+
+-- one more from the front
+take_next : {A : Type 0} (xs : List A) (i : ℕ) (d x : A) → i < length xs → x ≡ get_or xs i d → take (i + 1) xs ≡ take i xs ++ x ∷ []
+take_next xs i d x h is = ap (λ k. take k xs) (add-one i) ∙ take-suc xs i d h ∙ ap (λ y. take i xs ++ y ∷ []) (sym is)
+
+-- ---- Numbers
+
+fields_more : (ns : List ℕ) (n : ℕ) → fields (ns ++ n ∷ []) ≡ fields ns ++ fields (n ∷ [])
+fields_more [] n = refl
+fields_more (m ∷ ns) n = ap (λ xs. 32 ∷ number m ++ xs) (fields_more ns n)
+    ∙ ap (λ xs. 32 ∷ xs) (sym (append_assoc (number m) (fields ns) (fields (n ∷ []))))
+
+pub field_more : (old mid new ns : List ℕ) (i : ℕ) → i < length ns → mid ≡ old ++ fields (take i ns)
+    → new ≡ mid ++ fields (get_or ns i 0 ∷ []) → new ≡ old ++ fields (take (i + 1) ns)
+field_more old mid new ns i h before put =
+    put ∙ ap (λ xs. xs ++ fields (get_or ns i 0 ∷ [])) before ∙ append_assoc old (fields (take i ns)) (fields (get_or ns i 0 ∷ []))
+    ∙ ap (λ xs. old ++ xs) (sym (fields_more (take i ns) (get_or ns i 0)) ∙ ap fields (sym (take_next ns i 0 (get_or ns i 0) h refl)))
+
+-- ---- Replies
+
+rooms_last : (replies : List ScriptReply) (reply : ScriptReply) → rooms (replies ++ reply ∷ []) ≡ rooms replies + (held_room reply + 28)
+rooms_last [] reply = omega arith
+rooms_last (r ∷ replies) reply = omega (arith, rooms_last replies reply)
+
+pub rooms_more : (replies : List ScriptReply) (i : ℕ) (reply : ScriptReply) → i < length replies → reply ≡ get_or replies i reply
+    → rooms (take (i + 1) replies) ≡ rooms (take i replies) + (held_room reply + 28)
+rooms_more replies i reply h is = ap rooms (take_next replies i reply reply h is) ∙ rooms_last (take i replies) reply
+
+rooms_front : (replies : List ScriptReply) (i : ℕ) → rooms (take i replies) ≤ rooms replies
+rooms_front [] zero = omega arith
+rooms_front [] (suc i) = omega arith
+rooms_front (r ∷ replies) zero = omega arith
+rooms_front (r ∷ replies) (suc i) = omega (arith, rooms_front replies i)
+
+pub rooms_within : (replies : List ScriptReply) (i : ℕ) (reply : ScriptReply) → i < length replies → reply ≡ get_or replies i reply
+    → rooms (take i replies) + (held_room reply + 28) ≤ rooms replies
+rooms_within replies i reply h is = omega (arith, rooms_more replies i reply h is, rooms_front replies (i + 1))
+
+pub reply_more : (old mid new : List ℕ) (replies : List ScriptReply) (i : ℕ) (reply : ScriptReply) → i < length replies
+    → reply ≡ get_or replies i reply
+    → mid ≡ old ++ flat_map fed_reply (take i replies) → new ≡ mid ++ fed_reply reply
+    → new ≡ old ++ flat_map fed_reply (take (i + 1) replies)
+reply_more old mid new replies i reply h is before put =
+    let more : flat_map fed_reply (take (i + 1) replies) ≡ flat_map fed_reply (take i replies) ++ fed_reply reply
+    = ap (flat_map fed_reply) (take_next replies i reply reply h is) ∙ flat_map-append fed_reply (take i replies) (reply ∷ [])
+    ∙ ap (λ xs. flat_map fed_reply (take i replies) ++ xs) (append-nil (fed_reply reply)) in
+    put ∙ ap (λ xs. xs ++ fed_reply reply) before ∙ append_assoc old (flat_map fed_reply (take i replies)) (fed_reply reply)
+    ∙ ap (λ xs. old ++ xs) (sym more)
+
+-- ---- Outcomes
+
+pub outcome_put : (old a b c d e : List ℕ) (i : ℕ) (outcome : Told) → a ≡ old ++ codes "script" → b ≡ a ++ fields (i ∷ [])
+    → c ≡ b ++ 10 ∷ [] → d ≡ c ++ flat_map fed_reply outcome.replies
+    → e ≡ d ++ with_feed (ended_line outcome.ended) → e ≡ old ++ outcome_text i outcome
+outcome_put old a b c d e i outcome on_a on_b on_c on_d on_e =
+    let head = with_feed (codes "script" ++ fields (i ∷ [])) in
+    let body = flat_map fed_reply outcome.replies in
+    let tail = with_feed (ended_line outcome.ended) in
+    let first : c ≡ old ++ head
+    = on_c ∙ ap (λ xs. xs ++ 10 ∷ []) (on_b ∙ ap (λ xs. xs ++ fields (i ∷ [])) on_a ∙ append_assoc old (codes "script") (fields (i ∷ [])))
+    ∙ append_assoc old (codes "script" ++ fields (i ∷ [])) (10 ∷ []) in
+    let rest : flat_map with_feed (map reply_line outcome.replies ++ ended_line outcome.ended ∷ []) ≡ body ++ tail
+    = flat_map-append with_feed (map reply_line outcome.replies) (ended_line outcome.ended ∷ [])
+    ∙ ap (λ xs. xs ++ flat_map with_feed (ended_line outcome.ended ∷ [])) (flat_map-map with_feed reply_line outcome.replies)
+    ∙ ap (λ xs. body ++ xs) (append-nil tail) in
+    on_e ∙ ap (λ xs. xs ++ tail) on_d ∙ append_assoc c body tail ∙ ap (λ xs. xs ++ (body ++ tail)) first
+    ∙ append_assoc old head (body ++ tail)
+    ∙ ap (λ xs. old ++ (head ++ xs)) (sym rest)
+
+lines_more : (i : ℕ) (outcomes : List Told) (outcome : Told) → flat_map with_feed (lines_from i (outcomes ++ outcome ∷ []))
+    ≡ flat_map with_feed (lines_from i outcomes) ++ outcome_text (i + length outcomes) outcome
+lines_more i [] outcome =
+    let same : i ≡ i + 0 = omega arith in
+    ap (flat_map with_feed) (append-nil (outcome_lines i outcome)) ∙ ap (λ k. outcome_text k outcome) same
+lines_more i (o ∷ outcomes) outcome =
+    let same : (i + 1) + length outcomes ≡ i + length (o ∷ outcomes) = omega arith in
+    flat_map-append with_feed (outcome_lines i o) (lines_from (i + 1) (outcomes ++ outcome ∷ []))
+    ∙ ap (λ xs. outcome_text i o ++ xs) (lines_more (i + 1) outcomes outcome
+    ∙ ap (λ k. flat_map with_feed (lines_from (i + 1) outcomes) ++ outcome_text k outcome) same)
+    ∙ sym (append_assoc (outcome_text i o) (flat_map with_feed (lines_from (i + 1) outcomes))
+    (outcome_text (i + length (o ∷ outcomes)) outcome))
+    ∙ ap (λ xs. xs ++ outcome_text (i + length (o ∷ outcomes)) outcome)
+    (sym (flat_map-append with_feed (outcome_lines i o) (lines_from (i + 1) outcomes)))
+
+length_front : {A : Type 0} (xs : List A) (i : ℕ) → i < length xs → length (take i xs) ≡ i
+length_front [] i h = absurd (omega arith)
+length_front (x ∷ xs) zero h = refl
+length_front (x ∷ xs) (suc i) h = ap suc (length_front xs i (omega arith))
+
+length_map : {X : Type 0} (f : X → Told) (xs : List X) → length (map f xs) ≡ length xs
+length_map f [] = refl
+length_map f (x ∷ xs) = ap suc (length_map f xs)
+
+-- the lines of one more, of whatever each outcome is told by
+pub outcome_more : {X : Type 0} (f : X → Told) (old mid new : List ℕ) (xs : List X) (i : ℕ) (x : X) → i < length xs → x ≡ get_or xs i x
+    → mid ≡ old ++ flat_map with_feed (lines_from 0 (map f (take i xs))) → new ≡ mid ++ outcome_text i (f x)
+    → new ≡ old ++ flat_map with_feed (lines_from 0 (map f (take (i + 1) xs)))
+outcome_more f old mid new xs i x h is before put =
+    let front = map f (take i xs) in
+    let count : 0 + length front ≡ i = omega (arith, length_map f (take i xs), length_front xs i h) in
+    let more : flat_map with_feed (lines_from 0 (map f (take (i + 1) xs))) ≡ flat_map with_feed (lines_from 0 front) ++ outcome_text i (f x)
+    = ap (λ os. flat_map with_feed (lines_from 0 (map f os))) (take_next xs i x x h is)
+    ∙ ap (λ os. flat_map with_feed (lines_from 0 os)) (map-append f (take i xs) (x ∷ []))
+    ∙ lines_more 0 front (f x) ∙ ap (λ k. flat_map with_feed (lines_from 0 front) ++ outcome_text k (f x)) count in
+    put ∙ ap (λ xs. xs ++ outcome_text i (f x)) before
+    ∙ append_assoc old (flat_map with_feed (lines_from 0 front)) (outcome_text i (f x)) ∙ ap (λ xs. old ++ xs) (sym more)

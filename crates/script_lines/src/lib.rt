@@ -1,0 +1,16 @@
+//! Reads the lines of scripts, and prints what scripts answered.
+//!
+//! Which bytes are scripts, and what the text of outcomes is, is said in `script_rules`.
+#![tactic(auto)]
+
+mod commands;
+pub mod laws;
+mod outcomes;
+mod parse;
+mod replies;
+#[cfg(test)]
+mod tests;
+
+pub use commands::read_command;
+pub use outcomes::{put_outcome, put_outcomes};
+pub use parse::{LinesErr, parse_scripts};

@@ -1,0 +1,2 @@
+pub mod StarvedLemmas
+pub mod AloneLemmas

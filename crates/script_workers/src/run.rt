@@ -1,0 +1,68 @@
+// Many scripts over one pool.
+ghost use Rattle.std.specs.Prelude.{◌≡◌, ◌<◌, ◌≤◌, ◌^◌, length, IfOk};
+ghost use Rattle.std.specs.List.{AllZip};
+ghost use Rattle.script_workers.specs.Serving.{IsServedAlone};
+
+use crate::scripts::Scripts;
+use arena_pool::{AllocatorPool, ChunkMaker, OutOfMemory, PoolName};
+use arena_script::Job;
+use arena_workers::{Gate, run_all};
+use script_rules::{Outcome, Script};
+use std::alloc::Global;
+use std::sync::Wait;
+use std::thread::Threads;
+
+/// What came of a script: its outcome, and what shows that it was starved, exactly where it ended refused.
+pub type Served<C> = arena_workers::Served<Outcome, C>;
+
+/// Why no script was run to an outcome.
+#[derive(Clone, Copy, PartialEq, Eq, Debug, thiserror::Error)]
+pub enum ScriptsErr {
+    /// Memory for the claims, the workers or their outcomes is wanting.
+    #[error("out of memory")]
+    OutOfMemory,
+}
+
+impl From<OutOfMemory> for ScriptsErr {
+    fn from(_: OutOfMemory) -> ScriptsErr {
+        ScriptsErr::OutOfMemory
+    }
+}
+
+/// What came of each script, in order, by so many workers at most, each a thread, and never more than there are scripts. Each
+/// script has an arena of the pool to itself, of which nothing is used, and what comes of it is what comes of it alone:
+/// whatever ran before or beside it, by however many workers.
+///
+/// - It ends `Full` only over a fixed pool, where the arenas have fewer bytes than the script costs up to the next command.
+/// - It ends `Refused` only over a standard pool, and then `starved` has what shows that the arena's source refused, or that
+///   the arena grew large. Such an arena doesn't go back to the pool.
+/// - A script for which there is no memory, be it for an arena or for its outcome, ends `OutOfMemory` with no reply.
+///
+/// The gate is told of each script's begin and end, by the worker that runs it. The call waits at the pool's lock, and without
+/// end over a fixed pool that has no arena, where there are scripts.
+///
+/// # Errors
+///
+/// Memory for the claims, the workers or their outcomes is wanting.
+#[tactic(auto, using(crate::proofs::AloneLemmas::all_alone))]
+pub fn run_scripts<
+    R: Threads + Wait + Sync,
+    K: ChunkMaker + Drop + Send,
+    L: PoolName + Send + Sync,
+    G: Gate + Sync,
+    J: Job<K::Chunks> + Sync,
+>(
+    rt: &R,
+    alloc: Global,
+    pool: &AllocatorPool<K, L>,
+    workers: u32,
+    gate: &G,
+    job: &J,
+    scripts: &[Script],
+) -> Result<Vec<Served<K::Chunks>>, ScriptsErr>
+    requires workers { (0 < workers) × (workers ≤ 64) }
+    requires few { length scripts.now < 2 ^ 32 }
+    ensures { IfOk result (λ all. AllZip (IsServedAlone K.Chunks.source L.kind J.worked) scripts.now all.items) }
+{
+    Ok(run_all(rt, alloc, pool, workers, gate, &Scripts { job }, scripts)?)
+}

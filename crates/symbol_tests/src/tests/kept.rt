@@ -1,0 +1,103 @@
+// An interner and a scoped table, each in an arena of its own. It always stands there.
+ghost use Rattle.arena_symbols.specs.Names.{IsInternerIn};
+ghost use Rattle.arena_symbols.specs.Tables.{entry_item, IsTableIn};
+
+use arena_chunks::{Allocator, ChunkSource};
+use arena_items::{AllocError, Grown};
+use arena_symbols::{Scopes, Symbols};
+use std::marker::Model;
+
+#[derive(Drop)]
+pub(super) struct Texts<C: ChunkSource> {
+    a: Allocator<C>,
+    symbols: Symbols,
+}
+
+impl<C: ChunkSource> Model for Texts<C> {
+    ghost Value = { Unit {0} };
+
+    ghost view = { λ s. tt };
+
+    ghost invariant = { λ s. IsInternerIn s.a.memory s.symbols };
+}
+
+impl<C: ChunkSource> Texts<C> {
+    pub(super) fn new(a: Allocator<C>) -> Texts<C> {
+        Texts {
+            a,
+            symbols: Symbols::new_in(),
+        }
+    }
+
+    // The number of a text that isn't too long.
+    pub(super) fn intern(&mut self, text: &str) -> Grown<u32> {
+        if text.len() >= 1 << 32 {
+            return Err(AllocError::CapacityOverflow);
+        }
+        self.symbols.intern(&mut self.a, text)
+    }
+
+    pub(super) fn find(&self, text: &str) -> Option<u32> {
+        self.symbols.find(&self.a, text)
+    }
+
+    // The text with a number, if there is one.
+    pub(super) fn text(&self, id: u32) -> Option<&str> {
+        if id >= self.symbols.len() {
+            return None;
+        }
+        let text = self.symbols.text(&self.a, id);
+        text.get(&self.a)
+    }
+
+    pub(super) fn len(&self) -> u32 {
+        self.symbols.len()
+    }
+}
+
+#[derive(Drop)]
+pub(super) struct Nest<C: ChunkSource> {
+    a: Allocator<C>,
+    scopes: Scopes,
+}
+
+impl<C: ChunkSource> Model for Nest<C> {
+    ghost Value = { Unit {0} };
+
+    ghost view = { λ s. tt };
+
+    ghost invariant = { λ s. IsTableIn entry_item s.a.memory s.scopes };
+}
+
+impl<C: ChunkSource> Nest<C> {
+    pub(super) fn new(a: Allocator<C>) -> Nest<C> {
+        Nest {
+            a,
+            scopes: Scopes::new_in(),
+        }
+    }
+
+    pub(super) fn enter(&mut self) -> Grown<()> {
+        self.scopes.enter(&mut self.a)
+    }
+
+    pub(super) fn leave(&mut self) -> bool {
+        self.scopes.leave(&mut self.a)
+    }
+
+    pub(super) fn define(&mut self, id: u32, value: u32) -> Grown<bool> {
+        self.scopes.define(&mut self.a, id, value)
+    }
+
+    pub(super) fn lookup(&self, id: u32) -> Option<u32> {
+        self.scopes.lookup(&self.a, id)
+    }
+
+    pub(super) fn in_last(&self, id: u32) -> bool {
+        self.scopes.in_last(&self.a, id)
+    }
+
+    pub(super) fn depth(&self) -> u32 {
+        self.scopes.depth()
+    }
+}

@@ -1,0 +1,238 @@
+-- Runs of bytes, and the numbers that digits spell.
+use Rattle.std.proofs.Common.{◌≡◌, ◌≢◌, ℕ, zero, suc, ◌+◌, ◌-◌, ◌*◌, ◌^◌, ◌<◌, ◌≤◌, Bool, true, false, ◌&&◌, ◌==◌, List, [], ◌∷◌, length, take, drop, get_or, cond, refl, sym, ap, ◌∙◌, subst, arith, codes, add-one}
+use Rattle.std.proofs.Math.Seq.{drop-cons}
+use Rattle.std.proofs.Math.ListN.{drop_of_length-le}
+use Rattle.std.specs.Prelude.{slice_range}
+use Rattle.tree_rules.specs.Tokens.{Token, is_space, is_digit, is_name_start, is_name_byte, run, are_same, value, has_needless_zero, number_token, Number, Front, word_front, number_front, sign_front, front, Placed, placed, tokens_from}
+use Rattle.tree_reader.specs.declared.token.Seen.{Seen}
+use Rattle.tree_reader.specs.Seen.{IsSeen, IsNext, IsFront, tokens_at}
+use Rattle.tree_reader.specs.declared.token.Lexeme.{Lexeme}
+
+pub three : (xs : List ℕ) → length xs ≡ 3 → xs ≡ get_or xs 0 0 ∷ get_or xs 1 0 ∷ get_or xs 2 0 ∷ []
+three [] h = absurd (omega arith)
+three (a ∷ []) h = absurd (omega arith)
+three (a ∷ b ∷ []) h = absurd (omega arith)
+three (a ∷ b ∷ c ∷ []) h = refl
+three (a ∷ b ∷ c ∷ d ∷ xs) h = absurd (omega arith)
+
+and_false : (a : Bool) → (a && false) ≡ false
+and_false true = refl
+and_false false = refl
+
+pub not_three : (xs : List ℕ) → length xs ≢ 3 → are_same xs (codes "let") ≡ false
+not_three [] h = refl
+not_three (a ∷ []) h = and_false (a == 108)
+not_three (a ∷ b ∷ []) h = ap (λ t. (a == 108) && t) (and_false (b == 101)) ∙ and_false (a == 108)
+not_three (a ∷ b ∷ c ∷ []) h = absurd (h refl)
+not_three (a ∷ b ∷ c ∷ d ∷ xs) h =
+    ap (λ t. (a == 108) && ((b == 101) && t)) (and_false (c == 116)) ∙ ap (λ t. (a == 108) && t) (and_false (b == 101))
+    ∙ and_false (a == 108)
+
+value_grows : (n : ℕ) (ds : List ℕ) → n ≤ value n ds
+value_grows n [] = omega arith
+value_grows n (d ∷ ds) = omega (arith, value_grows (n * 10 + (d - 48)) ds)
+
+pub value_over : (n i v : ℕ) (ds : List ℕ) → i < length ds → value n (drop i ds) ≡ v → 2 ^ 64 ≤ n * 10 + (get_or ds i 0 - 48) → 2 ^ 64 ≤ v
+value_over n i v ds h is over =
+    let next = n * 10 + (get_or ds i 0 - 48) in
+    let e : value next (drop (suc i) ds) ≡ v = ap (value n) (sym (drop-cons ds i 0 h)) ∙ is in
+    omega (arith, value_grows next (drop (suc i) ds))
+
+-- ---- Tokens from a byte on
+
+run_within : (passes : ℕ → Bool) (xs : List ℕ) → length (run passes xs) ≤ length xs
+run_within passes [] = omega arith
+run_within passes (x ∷ xs) = by (passes x) (run_within passes xs)
+  where
+    by : (b : Bool) → length (run passes xs) ≤ length xs → length (cond b (x ∷ run passes xs) []) ≤ suc (length xs)
+    by true h = omega (arith, h)
+    by false h = omega arith
+
+pub run_take : (passes : ℕ → Bool) (xs : List ℕ) → take (length (run passes xs)) xs ≡ run passes xs
+run_take passes [] = refl
+run_take passes (x ∷ xs) = by (passes x) (run_take passes xs)
+  where
+    by : (b : Bool) → take (length (run passes xs)) xs ≡ run passes xs
+        → take (length (cond b (x ∷ run passes xs) [])) (x ∷ xs) ≡ cond b (x ∷ run passes xs) []
+    by true h = ap (λ ys. x ∷ ys) h
+    by false h = refl
+
+-- the part of a text that a run takes
+pub run_part : (passes : ℕ → Bool) (xs : List ℕ) (at n : ℕ) → n ≡ length (run passes (drop at xs))
+    → slice_range xs at (at + n) ≡ run passes (drop at xs)
+run_part passes xs at n is =
+    let same : at + n - at ≡ length (run passes (drop at xs)) = omega (arith, is) in
+    ap (λ k. take k (drop at xs)) same ∙ run_take passes (drop at xs)
+
+-- a run that begins has a byte
+pub run_some : (passes : ℕ → Bool) (x : ℕ) (xs : List ℕ) → passes x ≡ true → 0 < length (run passes (x ∷ xs))
+run_some passes x xs h = rw h (omega arith)
+
+tokens_skip : (at skip : ℕ) (bytes : List ℕ) → tokens_from at skip bytes ≡ tokens_from (at + skip) 0 (drop skip bytes)
+unfolding tokens_from
+tokens_skip at zero bytes = let e : at + 0 ≡ at = omega arith in ap (λ k. tokens_from k 0 bytes) (sym e)
+tokens_skip at (suc skip) [] = refl
+tokens_skip at (suc skip) (b ∷ bytes) =
+    let e : suc at + skip ≡ at + suc skip = omega arith in
+    tokens_skip (suc at) skip bytes ∙ ap (λ k. tokens_from k 0 (drop skip bytes)) e
+
+tokens_space : (at b : ℕ) (bytes : List ℕ) → is_space b ≡ true → tokens_from at 0 (b ∷ bytes) ≡ tokens_from (suc at) 0 bytes
+unfolding tokens_from
+tokens_space at b bytes h = by (is_space b) h
+  where
+    by : (s : Bool) → s ≡ true
+        → elim s [
+          | true ↦ tokens_from (suc at) zero bytes
+          | false ↦ placed at (front b bytes) ∷ tokens_from (suc at) ((front b
+              bytes).length - 1) bytes
+        ]
+        ≡ tokens_from (suc at) zero bytes
+    by true h = refl
+    by false h = cc
+
+tokens_front : (at b : ℕ) (bytes : List ℕ) → is_space b ≡ false
+    → tokens_from at 0 (b ∷ bytes) ≡ placed at (front b bytes) ∷ tokens_from (suc at) ((front b bytes).length - 1) bytes
+unfolding tokens_from
+tokens_front at b bytes h = by (is_space b) h
+  where
+    by : (s : Bool) → s ≡ false
+        → elim s [
+          | true ↦ tokens_from (suc at) zero bytes
+          | false ↦ placed at (front b bytes) ∷ tokens_from (suc at) ((front b
+              bytes).length - 1) bytes
+        ]
+        ≡ placed at (front b bytes) ∷ tokens_from (suc at) ((front b bytes).length - 1) bytes
+    by true h = cc
+    by false h = refl
+
+drop_suc : (n k : ℕ) (xs : List ℕ) → drop k (drop n xs) ≡ drop (n + k) xs
+drop_suc zero k xs = let e : 0 + k ≡ k = omega arith in ap (λ m. drop m xs) (sym e)
+drop_suc (suc n) k [] = ends k ∙ sym (ends (suc n + k))
+  where
+    ends : (m : ℕ) → ◌≡◌ {A = List ℕ} (drop m []) []
+    ends zero = refl
+    ends (suc m) = refl
+drop_suc (suc n) k (x ∷ xs) = let e : suc (n + k) ≡ suc n + k = omega arith in drop_suc n k xs ∙ ap (λ m. drop m (x ∷ xs)) e
+
+-- one space further
+pub space_further : (bytes : List ℕ) (at : ℕ) → at < length bytes → is_space (get_or bytes at 0) ≡ true
+    → tokens_at bytes at ≡ tokens_at bytes (at + 1)
+space_further bytes at h space =
+    ap (tokens_from at 0) (drop-cons bytes at 0 h)
+    ∙ tokens_space at (get_or bytes at 0) (drop (suc at) bytes) space
+    ∙ ap (λ k. tokens_from k 0 (drop k bytes)) (sym (add-one at))
+
+-- nothing behind the end
+pub none_behind : (bytes : List ℕ) (at : ℕ) → length bytes ≤ at → tokens_at bytes at ≡ []
+unfolding tokens_from
+none_behind bytes at h = ap (tokens_from at 0) (drop_of_length-le bytes h)
+
+-- a token, and those behind its end
+pub front_next : (bytes : List ℕ) (from at : ℕ) (l : Lexeme) → from ≤ at → at < length bytes → is_space (get_or bytes at 0) ≡ false
+    → tokens_at bytes from ≡ tokens_at bytes at
+    → IsFront bytes at (front (get_or bytes at 0) (drop (suc at) bytes)) l → 0 < (front (get_or bytes at 0) (drop (suc at) bytes)).length
+    → l.end ≤ length bytes → IsNext bytes from l
+front_next bytes from at l le h space same f some within =
+    let b = get_or bytes at 0 in
+    let rest = drop (suc at) bytes in
+    let n = (front b rest).length in
+    let one : suc at + (n - 1) ≡ l.end = omega (arith, f.end_is, some) in
+    let at_is : placed at (front b rest) ≡ record { at = l.at; token = (front b rest).token } = ap (λ k. placed k (front b rest)) (sym
+    f.at_is) in
+    record {
+      behind = omega (arith, f.at_is);
+      some = omega (arith, f.at_is, f.end_is, some);
+      within = within;
+      token = (front b rest).token;
+      seen = subst (λ k. IsSeen l.seen (slice_range bytes k l.end) (front b rest).token) (sym f.at_is) f.seen;
+      tokens_are =
+          same
+          ∙ ap (tokens_from at 0) (drop-cons bytes at 0 h)
+          ∙ tokens_front at b rest space
+          ∙ ap (λ ts. placed at (front b rest) ∷ ts)
+          (tokens_skip (suc at) (n - 1) rest
+          ∙ ap (λ xs. tokens_from (suc at + (n - 1)) 0 xs) (drop_suc (suc at) (n - 1) bytes)
+          ∙ ap (λ k. tokens_from k 0 (drop k bytes)) one)
+          ∙ ap (λ (t : Placed). t ∷ tokens_at bytes l.end) at_is;
+    }
+
+-- ---- The front of a text
+
+front_digits : (b : ℕ) (bytes : List ℕ) → is_digit b ≡ true → front b bytes ≡ number_front (run is_digit (b ∷ bytes))
+unfolding front
+front_digits b bytes h = rw h refl
+
+front_word : (b : ℕ) (bytes : List ℕ) → is_digit b ≡ false → is_name_start b ≡ true → front b bytes ≡ word_front (run is_name_byte (b ∷
+    bytes))
+unfolding front
+front_word b bytes h g = chosen_false (is_digit b) _ _ h ∙ chosen_true (is_name_start b) _ _ g
+  where
+    chosen_true : {X : Type 0} (b : Bool) (x y : X) → b ≡ true → cond b x y ≡ x
+    chosen_true b x y h = rw h refl
+
+    chosen_false : {X : Type 0} (b : Bool) (x y : X) → b ≡ false → cond b x y ≡ y
+    chosen_false b x y h = rw h refl
+
+front_sign : (b : ℕ) (bytes : List ℕ) → is_digit b ≡ false → is_name_start b ≡ false → front b bytes ≡ sign_front b
+unfolding front
+front_sign b bytes h g = chosen_false (is_digit b) _ _ h ∙ chosen_false (is_name_start b) _ _ g
+  where
+    chosen_false : {X : Type 0} (b : Bool) (x y : X) → b ≡ false → cond b x y ≡ y
+    chosen_false b x y h = rw h refl
+
+abbrev pub front_of : List ℕ → ℕ → Front
+front_of src at = front (get_or src at 0) (drop (suc at) src)
+
+pub digits_at : (src : List ℕ) (at : ℕ) → at < length src → is_digit (get_or src at 0) ≡ true
+    → front_of src at ≡ number_front (run is_digit (drop at src))
+digits_at src at h d = front_digits (get_or src at 0) (drop (suc at) src) d ∙ ap (λ xs. number_front (run is_digit xs)) (sym (drop-cons
+    src at 0 h))
+
+pub word_at : (src : List ℕ) (at : ℕ) → at < length src → is_digit (get_or src at 0) ≡ false → is_name_start (get_or src at 0) ≡ true
+    → front_of src at ≡ word_front (run is_name_byte (drop at src))
+word_at src at h d s = front_word (get_or src at 0) (drop (suc at) src) d s ∙ ap (λ xs. word_front (run is_name_byte xs)) (sym (drop-cons
+    src at 0 h))
+
+pub sign_at : (src : List ℕ) (at : ℕ) → is_digit (get_or src at 0) ≡ false → is_name_start (get_or src at 0) ≡ false
+    → front_of src at ≡ sign_front (get_or src at 0)
+sign_at src at d s = front_sign (get_or src at 0) (drop (suc at) src) d s
+
+run_begins : (passes : ℕ → Bool) (src : List ℕ) (at : ℕ) → at < length src → passes (get_or src at 0) ≡ true
+    → 0 < length (run passes (drop at src))
+run_begins passes src at h d =
+    subst (λ xs. 0 < length (run passes xs)) (sym (drop-cons src at 0 h)) (run_some passes (get_or src at 0) (drop (suc at) src) d)
+
+-- the front of a text is no empty token
+pub front_some : (src : List ℕ) (at : ℕ) → at < length src → 0 < (front_of src at).length
+front_some src at h = by (is_digit b) refl (is_name_start b) refl
+  where
+    b : ℕ
+    b = get_or src at 0
+
+    name_byte : is_name_start (get_or src at 0) ≡ true → is_name_byte (get_or src at 0) ≡ true
+    name_byte s = rw s refl
+
+    by : (d : Bool) → is_digit (get_or src at 0) ≡ d → (s : Bool) → is_name_start (get_or src at 0) ≡ s → 0 < (front_of src at).length
+    by true d s start = subst (λ (f : Front). 0 < f.length) (sym (digits_at src at h d)) (run_begins is_digit src at h d)
+    by false d true start = subst (λ (f : Front). 0 < f.length) (sym (word_at src at h d start)) (run_begins is_name_byte src at h
+        (name_byte start))
+    by false d false start = subst (λ (f : Front). 0 < f.length) (sym (sign_at src at d start)) (omega arith)
+
+-- what is seen of a run from a byte on
+pub run_front : (src : List ℕ) (at n : ℕ) (passes : ℕ → Bool) (seen : Seen) (token : List ℕ → Token) → n ≡ length (run passes (drop at src))
+    → IsSeen seen (slice_range src at (at + n)) (token (slice_range src at (at + n)))
+    → IsFront src at (record { token = token (run passes (drop at src)); length = length (run passes (drop at src)) })
+    (record { seen = seen; at = at; end = at + n })
+run_front src at n passes seen token is h = record {
+  at_is = refl;
+  end_is = ap (λ k. at + k) is;
+  seen = subst (λ xs. IsSeen seen (slice_range src at (at + n)) (token xs)) (run_part passes src at n is) h;
+}
+
+pub one_byte : (src : List ℕ) (at : ℕ) → at < length src → slice_range src at (at + 1) ≡ get_or src at 0 ∷ []
+one_byte src at h =
+    let one : at + 1 - at ≡ 1 = omega arith in
+    ap (λ k. take k (drop at src)) one ∙ ap (take 1) (drop-cons src at 0 h)
+
+pub number_read : (digits : List ℕ) → has_needless_zero digits ≡ false → number_token digits ≡ Number (value 0 digits)
+number_read digits h = rw h refl

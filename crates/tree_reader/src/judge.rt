@@ -1,0 +1,223 @@
+// Whether a text is refused, judged token by token.
+ghost use Rattle.std.specs.Prelude.{◌≡◌, ◌≤◌, ◌∷◌, List, length};
+ghost use Rattle.tree_rules.specs.declared.machine.Open.{Open};
+ghost use Rattle.tree_rules.specs.Reading.{state, signs_ended, factor_step, line_step, name_step, equals_step, behind_step, close_paren, close_brace, end_line, step_in, within_limits, ended_in, judged, refusal_of};
+ghost use Rattle.tree_rules.specs.Refusals.{IsReading};
+ghost use Rattle.tree_reader.specs.Steps.{like, Stepped, answer};
+
+use crate::stack::Stack;
+use crate::token::{self, Lexeme, Seen};
+use tree_rules::laws::machine;
+use tree_rules::{Mode, Open, Refused};
+
+// What a step came to.
+#[derive(Clone, Copy)]
+enum Step {
+    To(Mode),
+    Deep,
+    Wrong,
+}
+
+// What may come next, or why a token is refused.
+#[derive(Clone, Copy)]
+enum Judged {
+    To(Mode),
+    Refused(Refused),
+}
+
+// Opens one more.
+fn open(opens: &mut Stack, one: Open, mode: Mode) -> Step
+    ensures { Stepped (Some (state mode (one ∷ opens.old))) result opens.new }
+{
+    opens.known();
+    if opens.is_full() {
+        Step::Deep
+    } else {
+        opens.push(one);
+        Step::To(mode)
+    }
+}
+
+// A factor ends.
+fn end_factor(opens: &mut Stack) -> Step
+    ensures { Stepped (Some (state Mode.BehindFactor (signs_ended opens.old))) result opens.new }
+{
+    opens.end_signs();
+    opens.known();
+    Step::To(Mode::BehindFactor)
+}
+
+fn to(opens: &Stack, mode: Mode) -> Step
+    ensures { Stepped (Some (state mode opens.now)) result opens.now }
+{
+    opens.known();
+    Step::To(mode)
+}
+
+fn factor_step(seen: Seen, opens: &mut Stack) -> Step
+    ensures { Stepped (factor_step (like seen) opens.old) result opens.new }
+{
+    match seen {
+        Seen::Word => end_factor(opens),
+        Seen::Number(_) => end_factor(opens),
+        Seen::TooBig => end_factor(opens),
+        Seen::LeftParen => open(opens, Open::Paren, Mode::AtFactor),
+        Seen::Minus => open(opens, Open::Sign, Mode::AtFactor),
+        _ => Step::Wrong,
+    }
+}
+
+fn close_paren(opens: &mut Stack) -> Step
+    ensures { Stepped (close_paren opens.old) result opens.new }
+{
+    match opens.top() {
+        Some(Open::Paren) => {
+            opens.pop();
+            end_factor(opens)
+        }
+        _ => Step::Wrong,
+    }
+}
+
+fn close_brace(opens: &mut Stack) -> Step
+    ensures { Stepped (close_brace opens.old) result opens.new }
+{
+    match opens.top() {
+        Some(Open::Brace) => {
+            opens.pop();
+            to(opens, Mode::AtLine)
+        }
+        _ => Step::Wrong,
+    }
+}
+
+fn end_line(opens: &Stack) -> Step
+    ensures { Stepped (end_line opens.now) result opens.now }
+{
+    match opens.top() {
+        None => to(opens, Mode::AtLine),
+        Some(Open::Brace) => to(opens, Mode::AtLine),
+        _ => Step::Wrong,
+    }
+}
+
+fn line_step(seen: Seen, opens: &mut Stack) -> Step
+    ensures { Stepped (line_step (like seen) opens.old) result opens.new }
+{
+    match seen {
+        Seen::LetKey => to(opens, Mode::AtName),
+        Seen::LeftBrace => open(opens, Open::Brace, Mode::AtLine),
+        Seen::RightBrace => close_brace(opens),
+        Seen::Word => end_factor(opens),
+        Seen::Number(_) => end_factor(opens),
+        Seen::TooBig => end_factor(opens),
+        Seen::LeftParen => open(opens, Open::Paren, Mode::AtFactor),
+        Seen::Minus => open(opens, Open::Sign, Mode::AtFactor),
+        _ => Step::Wrong,
+    }
+}
+
+fn behind_step(seen: Seen, opens: &mut Stack) -> Step
+    ensures { Stepped (behind_step (like seen) opens.old) result opens.new }
+{
+    match seen {
+        Seen::Plus => to(opens, Mode::AtFactor),
+        Seen::Minus => to(opens, Mode::AtFactor),
+        Seen::Star => to(opens, Mode::AtFactor),
+        Seen::RightParen => close_paren(opens),
+        Seen::Semicolon => end_line(opens),
+        _ => Step::Wrong,
+    }
+}
+
+fn name_step(seen: Seen, opens: &Stack) -> Step
+    ensures { Stepped (name_step (like seen) opens.now) result opens.now }
+{
+    match seen {
+        Seen::Word => to(opens, Mode::AtEquals),
+        _ => Step::Wrong,
+    }
+}
+
+fn equals_step(seen: Seen, opens: &Stack) -> Step
+    ensures { Stepped (equals_step (like seen) opens.now) result opens.now }
+{
+    match seen {
+        Seen::Equals => to(opens, Mode::AtFactor),
+        _ => Step::Wrong,
+    }
+}
+
+fn any_step(mode: Mode, seen: Seen, opens: &mut Stack) -> Step
+    ensures { Stepped (step_in mode opens.old (like seen)) result opens.new }
+{
+    match mode {
+        Mode::AtLine => line_step(seen, opens),
+        Mode::AtName => name_step(seen, opens),
+        Mode::AtEquals => equals_step(seen, opens),
+        Mode::AtFactor => factor_step(seen, opens),
+        Mode::BehindFactor => behind_step(seen, opens),
+    }
+}
+
+fn within_limits(l: Lexeme, mode: Mode) -> Judged
+    ensures { (opens : List Open) → length opens ≤ 64 → within_limits (record { at = l.at; token = like l.seen }) (state mode opens)
+        ≡ answer result opens }
+{
+    if let Seen::TooBig = l.seen {
+        return Judged::Refused(Refused::NumberTooBig { at: l.at as u64 });
+    }
+    Judged::To(mode)
+}
+
+// What a token comes to.
+fn judge(mode: Mode, l: Lexeme, opens: &mut Stack) -> Judged
+    ensures { judged (state mode opens.old) (record { at = l.at; token = like l.seen }) ≡ answer result opens.new }
+{
+    match any_step(mode, l.seen, opens) {
+        Step::To(next) => within_limits(l, next),
+        Step::Deep => Judged::Refused(Refused::TooDeep { at: l.at as u64 }),
+        Step::Wrong => Judged::Refused(Refused::Syntax { at: l.at as u64 }),
+    }
+}
+
+// Why a text that ends here is refused.
+fn ended(end: u64, mode: Mode, opens: &Stack) -> Option<Refused>
+    ensures { result ≡ ended_in end mode opens.now }
+{
+    match mode {
+        Mode::AtLine => {
+            if opens.is_empty() {
+                return None;
+            }
+            Some(Refused::Syntax { at: end })
+        }
+        _ => Some(Refused::Syntax { at: end }),
+    }
+}
+
+// Why the machine refuses a text; none where it doesn't.
+fn judge_all(src: &[u8]) -> Option<Refused>
+    ensures { result ≡ refusal_of src.now }
+{
+    let mut mode = Mode::AtLine;
+    let mut opens = Stack::new();
+    let mut at = 0;
+    while let Some(l) = token::next(src, at) {
+        match judge(mode, l, &mut opens) {
+            Judged::To(next) => mode = next,
+            Judged::Refused(refused) => return Some(refused),
+        }
+        at = l.end;
+    }
+    ended(src.len() as u64, mode, &opens)
+}
+
+/// Why a text is refused, and where: at its first token that is. None where it is a program within the limits. Takes no memory.
+pub fn refusal(src: &[u8]) -> Option<Refused>
+    ensures read { IsReading src.now result }
+    ensures machine { result ≡ refusal_of src.now }
+{
+    machine();
+    judge_all(src)
+}

@@ -1,0 +1,14 @@
+mod Rows
+pub mod StepLemmas
+pub mod Holes
+pub mod ProgramPlaces
+pub mod Places
+mod Readings
+mod FirstTokens
+mod RefusalLemmas
+pub mod TokenLemmas
+mod FitLemmas
+mod RoundTrip
+mod WellFormedLemmas
+mod FoldLemmas
+mod ReportLemmas

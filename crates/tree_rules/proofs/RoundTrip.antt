@@ -1,0 +1,378 @@
+-- The text of a tree is a program, and its tree is that tree.
+use Rattle.std.proofs.Common.{◌≡◌, ℕ, List, [], ◌∷◌, ◌++◌, refl, sym, ap, ◌∙◌, codes, append_assoc}
+use Rattle.tree_rules.specs.Tokens.{Token, LetKey, Word, Plus, Minus, Star, LeftParen, RightParen, LeftBrace, RightBrace, Equals, Semicolon, tokens, without_places}
+use Rattle.tree_rules.specs.Trees.{Expr, Num, Name, Neg, Sum, Prod, Exprs, NoExprs, And, with_expr, Stmt, Let, Show, Block, Stmts, NoStmts, Then, with_stmt, IsName, AreSeveral, IsExpr, AreExprs, IsStmt, AreStmts, AsExpr, AsTerm, AsFactor, expr_text, terms_text, more_terms_text, factors_text, more_factors_text, with_feed, stmt_text, text}
+use Rattle.tree_rules.specs.Grammar.{Factor, ANumber, AName, InParens, Negated, Factors, OneFactor, Times, Terms, OneTerm, Added, Taken, Line, LetLine, ShowLine, BlockLine, Program, Empty, Next, spell_factor, spell_factors, spell_terms, spell_line, spell, factor_tree, factors_tree, factor_trees, terms_tree, term_trees, line_tree, trees_of, nest, IsProgram}
+use Rattle.tree_rules.proofs.TokenLemmas.{lex, lex_is, Stops, lex_name, lex_number, lex_space, lex_feed, lex_plus, lex_minus, lex_star, lex_left_paren, lex_right_paren, lex_left_brace, lex_right_brace, lex_equals, lex_semicolon, lex_let}
+
+-- ---- How a tree's text is read
+
+abbrev mutual
+  pub as_factor : Expr → Factor
+  as_factor (Num n) = ANumber n
+  as_factor (Name bytes) = AName bytes
+  as_factor (Neg e) = Negated (as_factor e)
+  as_factor (Sum kids) = InParens (as_sum kids)
+  as_factor (Prod kids) = InParens (OneTerm (as_product kids))
+
+  pub as_term : Expr → Factors
+  as_term (Num n) = OneFactor (ANumber n)
+  as_term (Name bytes) = OneFactor (AName bytes)
+  as_term (Neg e) = OneFactor (Negated (as_factor e))
+  as_term (Sum kids) = OneFactor (InParens (as_sum kids))
+  as_term (Prod kids) = as_product kids
+
+  pub as_expr : Expr → Terms
+  as_expr (Num n) = OneTerm (OneFactor (ANumber n))
+  as_expr (Name bytes) = OneTerm (OneFactor (AName bytes))
+  as_expr (Neg e) = OneTerm (OneFactor (Negated (as_factor e)))
+  as_expr (Sum kids) = as_sum kids
+  as_expr (Prod kids) = OneTerm (as_product kids)
+
+  pub as_sum : Exprs → Terms
+  as_sum NoExprs = OneTerm (OneFactor (ANumber 0))
+  as_sum (And e rest) = add_terms rest (OneTerm (as_term e))
+
+  pub add_terms : Exprs → Terms → Terms
+  add_terms NoExprs s = s
+  add_terms (And (Neg e) rest) s = add_terms rest (Taken s (as_term e))
+  add_terms (And e rest) s = add_terms rest (Added s (as_term e))
+
+  pub as_product : Exprs → Factors
+  as_product NoExprs = OneFactor (ANumber 0)
+  as_product (And e rest) = add_factors rest (OneFactor (as_factor e))
+
+  pub add_factors : Exprs → Factors → Factors
+  add_factors NoExprs t = t
+  add_factors (And e rest) t = add_factors rest (Times t (as_factor e))
+
+abbrev mutual
+  pub as_line : Stmt → Line
+  as_line (Let name e) = LetLine name (as_expr e)
+  as_line (Show e) = ShowLine (as_expr e)
+  as_line (Block body) = BlockLine (add_lines body Empty)
+
+  pub add_lines : Stmts → Program → Program
+  add_lines NoStmts p = p
+  add_lines (Then s rest) p = add_lines rest (Next p (as_line s))
+
+-- ---- Its tokens
+
+more_terms_stop : (kids : Exprs) (rest : List ℕ) → Stops rest → Stops (more_terms_text kids ++ rest)
+more_terms_stop NoExprs rest stop = stop
+more_terms_stop (And (Num n) kids) rest stop = refl
+more_terms_stop (And (Name bytes) kids) rest stop = refl
+more_terms_stop (And (Neg e) kids) rest stop = refl
+more_terms_stop (And (Sum more) kids) rest stop = refl
+more_terms_stop (And (Prod more) kids) rest stop = refl
+
+more_factors_stop : (kids : Exprs) (rest : List ℕ) → Stops rest → Stops (more_factors_text kids ++ rest)
+more_factors_stop NoExprs rest stop = stop
+more_factors_stop (And e kids) rest stop = refl
+
+-- a text in parentheses
+parens_lex : (inner rest : List ℕ) (spelled : List Token → List Token)
+    → ((more : List ℕ) → Stops more → lex 0 (inner ++ more) ≡ spelled (lex 0 more))
+    → lex 0 ((codes "(" ++ inner ++ codes ")") ++ rest) ≡ LeftParen ∷ spelled (RightParen ∷ lex 0 rest)
+parens_lex inner rest spelled is =
+    lex_left_paren ((inner ++ 41 ∷ []) ++ rest)
+    ∙ ap (λ xs. LeftParen ∷ lex 0 xs) (append_assoc inner (41 ∷ []) rest)
+    ∙ ap (λ ts. LeftParen ∷ ts) (is (41 ∷ rest) refl)
+    ∙ ap (λ ts. LeftParen ∷ spelled ts) (lex_right_paren rest)
+
+-- a sign between spaces
+plus_lex : (one more rest : List ℕ) → lex 0 ((codes " + " ++ one ++ more) ++ rest) ≡ Plus ∷ lex 0 (one ++ (more ++ rest))
+plus_lex one more rest =
+    lex_space (43 ∷ 32 ∷ (one ++ more) ++ rest) ∙ lex_plus (32 ∷ (one ++ more) ++ rest) ∙ ap (λ ts. Plus ∷ ts) (lex_space ((one ++ more)
+    ++ rest))
+    ∙ ap (λ xs. Plus ∷ lex 0 xs) (append_assoc one more rest)
+
+minus_lex : (one more rest : List ℕ) → lex 0 ((codes " - " ++ one ++ more) ++ rest) ≡ Minus ∷ lex 0 (one ++ (more ++ rest))
+minus_lex one more rest =
+    lex_space (45 ∷ 32 ∷ (one ++ more) ++ rest) ∙ lex_minus (32 ∷ (one ++ more) ++ rest) ∙ ap (λ ts. Minus ∷ ts) (lex_space ((one ++
+    more) ++ rest))
+    ∙ ap (λ xs. Minus ∷ lex 0 xs) (append_assoc one more rest)
+
+star_lex : (one more rest : List ℕ) → lex 0 ((codes " * " ++ one ++ more) ++ rest) ≡ Star ∷ lex 0 (one ++ (more ++ rest))
+star_lex one more rest =
+    lex_space (42 ∷ 32 ∷ (one ++ more) ++ rest) ∙ lex_star (32 ∷ (one ++ more) ++ rest) ∙ ap (λ ts. Star ∷ ts) (lex_space ((one ++ more)
+    ++ rest))
+    ∙ ap (λ xs. Star ∷ lex 0 xs) (append_assoc one more rest)
+
+-- one term more, behind a sum
+added_lex : (one more rest : List ℕ) (s : Terms) (t : Factors)
+    → lex 0 (one ++ (more ++ rest)) ≡ spell_factors t (lex 0 (more ++ rest))
+    → spell_terms (Added s t) (lex 0 (more ++ rest)) ≡ spell_terms s (lex 0 ((codes " + " ++ one ++ more) ++ rest))
+added_lex one more rest s t is = ap (spell_terms s) (ap (λ ts. Plus ∷ ts) (sym is) ∙ sym (plus_lex one more rest))
+
+taken_lex : (one more rest : List ℕ) (s : Terms) (t : Factors)
+    → lex 0 (one ++ (more ++ rest)) ≡ spell_factors t (lex 0 (more ++ rest))
+    → spell_terms (Taken s t) (lex 0 (more ++ rest)) ≡ spell_terms s (lex 0 ((codes " - " ++ one ++ more) ++ rest))
+taken_lex one more rest s t is = ap (spell_terms s) (ap (λ ts. Minus ∷ ts) (sym is) ∙ sym (minus_lex one more rest))
+
+times_lex : (one more rest : List ℕ) (t : Factors) (f : Factor)
+    → lex 0 (one ++ (more ++ rest)) ≡ spell_factor f (lex 0 (more ++ rest))
+    → spell_factors (Times t f) (lex 0 (more ++ rest)) ≡ spell_factors t (lex 0 ((codes " * " ++ one ++ more) ++ rest))
+times_lex one more rest t f is = ap (spell_factors t) (ap (λ ts. Star ∷ ts) (sym is) ∙ sym (star_lex one more rest))
+
+negated_lex : (inner rest : List ℕ) (f : Factor) → lex 0 (inner ++ rest) ≡ spell_factor f (lex 0 rest)
+    → lex 0 ((codes "-" ++ inner) ++ rest) ≡ Minus ∷ spell_factor f (lex 0 rest)
+negated_lex inner rest f is = lex_minus (inner ++ rest) ∙ ap (λ ts. Minus ∷ ts) is
+
+mutual
+  factor_lex : (e : Expr) (rest : List ℕ) → IsExpr e → Stops rest → lex 0 (expr_text e AsFactor ++ rest) ≡ spell_factor (as_factor e)
+      (lex 0 rest)
+  factor_lex (Num n) rest h stop = lex_number n rest stop
+  factor_lex (Name bytes) rest h stop = lex_name bytes rest h stop
+  factor_lex (Neg e) rest h stop = negated_lex (expr_text e AsFactor) rest (as_factor e) (factor_lex e rest h stop)
+  factor_lex (Sum kids) rest h stop = parens_lex (terms_text kids) rest (spell_terms (as_sum kids)) (λ more s. sum_lex kids more h.0 h.1 s)
+  factor_lex (Prod kids) rest h stop = parens_lex (factors_text kids) rest (spell_factors (as_product kids)) (λ more s. product_lex kids
+      more h.0 h.1 s)
+
+  term_lex : (e : Expr) (rest : List ℕ) → IsExpr e → Stops rest → lex 0 (expr_text e AsTerm ++ rest) ≡ spell_factors (as_term e) (lex 0
+      rest)
+  term_lex (Num n) rest h stop = lex_number n rest stop
+  term_lex (Name bytes) rest h stop = lex_name bytes rest h stop
+  term_lex (Neg e) rest h stop = negated_lex (expr_text e AsFactor) rest (as_factor e) (factor_lex e rest h stop)
+  term_lex (Sum kids) rest h stop = parens_lex (terms_text kids) rest (spell_terms (as_sum kids)) (λ more s. sum_lex kids more h.0 h.1 s)
+  term_lex (Prod kids) rest h stop = product_lex kids rest h.0 h.1 stop
+
+  expr_lex : (e : Expr) (rest : List ℕ) → IsExpr e → Stops rest → lex 0 (expr_text e AsExpr ++ rest) ≡ spell_terms (as_expr e) (lex 0 rest)
+  expr_lex (Num n) rest h stop = lex_number n rest stop
+  expr_lex (Name bytes) rest h stop = lex_name bytes rest h stop
+  expr_lex (Neg e) rest h stop = negated_lex (expr_text e AsFactor) rest (as_factor e) (factor_lex e rest h stop)
+  expr_lex (Sum kids) rest h stop = sum_lex kids rest h.0 h.1 stop
+  expr_lex (Prod kids) rest h stop = product_lex kids rest h.0 h.1 stop
+
+  sum_lex : (kids : Exprs) (rest : List ℕ) → AreSeveral kids → AreExprs kids → Stops rest
+      → lex 0 (terms_text kids ++ rest) ≡ spell_terms (as_sum kids) (lex 0 rest)
+  sum_lex NoExprs rest several h stop = absurd several
+  sum_lex (And e kids) rest several h stop =
+      ap (lex 0) (append_assoc (expr_text e AsTerm) (more_terms_text kids) rest)
+      ∙ term_lex e (more_terms_text kids ++ rest) h.0 (more_terms_stop kids rest stop)
+      ∙ sym (add_lex kids rest (OneTerm (as_term e)) h.1 stop)
+
+  add_lex : (kids : Exprs) (rest : List ℕ) (s : Terms) → AreExprs kids → Stops rest
+      → spell_terms (add_terms kids s) (lex 0 rest) ≡ spell_terms s (lex 0 (more_terms_text kids ++ rest))
+  add_lex NoExprs rest s h stop = refl
+  add_lex (And (Neg e) kids) rest s h stop =
+      add_lex kids rest (Taken s (as_term e)) h.1 stop
+      ∙ taken_lex (expr_text e AsTerm) (more_terms_text kids) rest s (as_term e) (term_lex e (more_terms_text kids ++ rest) h.0
+      (more_terms_stop kids rest stop))
+  add_lex (And e kids) rest s h stop =
+      add_lex kids rest (Added s (as_term e)) h.1 stop
+      ∙ added_lex (expr_text e AsTerm) (more_terms_text kids) rest s (as_term e) (term_lex e (more_terms_text kids ++ rest) h.0
+      (more_terms_stop kids rest stop))
+
+  product_lex : (kids : Exprs) (rest : List ℕ) → AreSeveral kids → AreExprs kids → Stops rest
+      → lex 0 (factors_text kids ++ rest) ≡ spell_factors (as_product kids) (lex 0 rest)
+  product_lex NoExprs rest several h stop = absurd several
+  product_lex (And e kids) rest several h stop =
+      ap (lex 0) (append_assoc (expr_text e AsFactor) (more_factors_text kids) rest)
+      ∙ factor_lex e (more_factors_text kids ++ rest) h.0 (more_factors_stop kids rest stop)
+      ∙ sym (times_all_lex kids rest (OneFactor (as_factor e)) h.1 stop)
+
+  times_all_lex : (kids : Exprs) (rest : List ℕ) (t : Factors) → AreExprs kids → Stops rest
+      → spell_factors (add_factors kids t) (lex 0 rest) ≡ spell_factors t (lex 0 (more_factors_text kids ++ rest))
+  times_all_lex NoExprs rest t h stop = refl
+  times_all_lex (And e kids) rest t h stop =
+      times_all_lex kids rest (Times t (as_factor e)) h.1 stop
+      ∙ times_lex (expr_text e AsFactor) (more_factors_text kids) rest t (as_factor e) (factor_lex e (more_factors_text kids ++ rest) h.0
+      (more_factors_stop kids rest stop))
+
+-- an expression and the end of its statement
+ended_lex : (e : Expr) (rest : List ℕ) → IsExpr e → lex 0 ((expr_text e AsExpr ++ with_feed (codes ";")) ++ rest) ≡ spell_terms (as_expr
+    e) (Semicolon ∷ lex 0 rest)
+ended_lex e rest h =
+    ap (lex 0) (append_assoc (expr_text e AsExpr) (with_feed (codes ";")) rest)
+    ∙ expr_lex e (59 ∷ 10 ∷ rest) h refl
+    ∙ ap (spell_terms (as_expr e)) (lex_semicolon (10 ∷ rest) ∙ ap (λ ts. Semicolon ∷ ts) (lex_feed rest))
+
+let_lex : (name tail rest : List ℕ) → IsName name
+    → lex 0 (((codes "let " ++ name ++ codes " = ") ++ tail) ++ rest) ≡ LetKey ∷ Word name ∷ Equals ∷ lex 0 (tail ++ rest)
+let_lex name tail rest h =
+    lex_let (((name ++ codes " = ") ++ tail) ++ rest)
+    ∙ ap (λ xs. LetKey ∷ lex 0 xs) (append_assoc (name ++ codes " = ") tail rest ∙ append_assoc name (codes " = ") (tail ++ rest))
+    ∙ ap (λ ts. LetKey ∷ ts) (lex_name name (codes " = " ++ (tail ++ rest)) h refl)
+    ∙ ap (λ ts. LetKey ∷ Word name ∷ ts) (lex_space (61 ∷ 32 ∷ tail ++ rest) ∙ lex_equals (32 ∷ tail ++ rest))
+    ∙ ap (λ ts. LetKey ∷ Word name ∷ Equals ∷ ts) (lex_space (tail ++ rest))
+
+let_text : (name e : List ℕ) → codes "let " ++ name ++ codes " = " ++ e ++ with_feed (codes ";") ≡ (codes "let " ++ name ++ codes " = ")
+    ++ (e ++ with_feed (codes ";"))
+let_text name e = append_assoc (codes "let " ++ name ++ codes " = ") e (with_feed (codes ";"))
+
+braces_lex : (inner rest : List ℕ) (p : Program) → lex 0 (inner ++ (125 ∷ 10 ∷ rest)) ≡ spell p (lex 0 (125 ∷ 10 ∷ rest))
+    → lex 0 ((with_feed (codes "{") ++ inner ++ with_feed (codes "}")) ++ rest) ≡ LeftBrace ∷ spell p (RightBrace ∷ lex 0 rest)
+braces_lex inner rest p is =
+    lex_left_brace (10 ∷ (inner ++ with_feed (codes "}")) ++ rest)
+    ∙ ap (λ ts. LeftBrace ∷ ts) (lex_feed ((inner ++ with_feed (codes "}")) ++ rest))
+    ∙ ap (λ xs. LeftBrace ∷ lex 0 xs) (append_assoc inner (with_feed (codes "}")) rest)
+    ∙ ap (λ ts. LeftBrace ∷ ts) (is ∙ ap (spell p) (lex_right_brace (10 ∷ rest) ∙ ap (λ ts. RightBrace ∷ ts) (lex_feed rest)))
+
+mutual
+  line_lex : (s : Stmt) (rest : List ℕ) → IsStmt s → lex 0 (stmt_text s ++ rest) ≡ spell_line (as_line s) (lex 0 rest)
+  line_lex (Let name e) rest h =
+      ap (λ xs. lex 0 (xs ++ rest)) (let_text name (expr_text e AsExpr))
+      ∙ let_lex name (expr_text e AsExpr ++ with_feed (codes ";")) rest h.0
+      ∙ ap (λ ts. LetKey ∷ Word name ∷ Equals ∷ ts) (ended_lex e rest h.1)
+  line_lex (Show e) rest h = ended_lex e rest h
+  line_lex (Block body) rest h = braces_lex (text body) rest (add_lines body Empty) (sym (lines_lex body (125 ∷ 10 ∷ rest) Empty h))
+
+  lines_lex : (body : Stmts) (rest : List ℕ) (p : Program) → AreStmts body → spell (add_lines body p) (lex 0 rest) ≡ spell p (lex 0 (text
+      body ++ rest))
+  lines_lex NoStmts rest p h = refl
+  lines_lex (Then s body) rest p h =
+      lines_lex body rest (Next p (as_line s)) h.1
+      ∙ ap (spell p) (sym (line_lex s (text body ++ rest) h.0) ∙ ap (lex 0) (sym (append_assoc (stmt_text s) (text body) rest)))
+
+-- ---- Its tree
+
+abbrev joined : Exprs → Exprs → Exprs
+joined NoExprs more = more
+joined (And e rest) more = And e (joined rest more)
+
+with_joined : (es more : Exprs) (e : Expr) → joined (with_expr es e) more ≡ joined es (And e more)
+with_joined NoExprs more e = refl
+with_joined (And f es) more e = ap (λ rest. And f rest) (with_joined es more e)
+
+joined_none : (es : Exprs) → joined es NoExprs ≡ es
+joined_none NoExprs = refl
+joined_none (And e es) = ap (λ rest. And e rest) (joined_none es)
+
+-- terms of which there are several are a sum of them, and so with factors
+abbrev IsLongSum : Terms → Type 0
+IsLongSum (OneTerm t) = ⊥
+IsLongSum (Added s t) = Unit {0}
+IsLongSum (Taken s t) = Unit {0}
+
+long_sum : (s : Terms) → IsLongSum s → terms_tree s ≡ Sum (term_trees s)
+long_sum (OneTerm t) h = absurd h
+long_sum (Added s t) h = refl
+long_sum (Taken s t) h = refl
+
+add_long : (kids : Exprs) (s : Terms) → IsLongSum s → IsLongSum (add_terms kids s)
+add_long NoExprs s h = h
+add_long (And (Num n) kids) s h = add_long kids (Added s (as_term (Num n))) tt
+add_long (And (Name b) kids) s h = add_long kids (Added s (as_term (Name b))) tt
+add_long (And (Neg e) kids) s h = add_long kids (Taken s (as_term e)) tt
+add_long (And (Sum more) kids) s h = add_long kids (Added s (as_term (Sum more))) tt
+add_long (And (Prod more) kids) s h = add_long kids (Added s (as_term (Prod more))) tt
+
+abbrev IsLongProduct : Factors → Type 0
+IsLongProduct (OneFactor f) = ⊥
+IsLongProduct (Times t f) = Unit {0}
+
+long_product : (t : Factors) → IsLongProduct t → factors_tree t ≡ Prod (factor_trees t)
+long_product (OneFactor f) h = absurd h
+long_product (Times t f) h = refl
+
+times_long : (kids : Exprs) (t : Factors) → IsLongProduct t → IsLongProduct (add_factors kids t)
+times_long NoExprs t h = h
+times_long (And e kids) t h = times_long kids (Times t (as_factor e)) tt
+
+first_long : (e f : Expr) (kids : Exprs) → IsLongSum (as_sum (And e (And f kids)))
+first_long e (Num n) kids = add_long kids (Added (OneTerm (as_term e)) (as_term (Num n))) tt
+first_long e (Name b) kids = add_long kids (Added (OneTerm (as_term e)) (as_term (Name b))) tt
+first_long e (Neg f) kids = add_long kids (Taken (OneTerm (as_term e)) (as_term f)) tt
+first_long e (Sum more) kids = add_long kids (Added (OneTerm (as_term e)) (as_term (Sum more))) tt
+first_long e (Prod more) kids = add_long kids (Added (OneTerm (as_term e)) (as_term (Prod more))) tt
+
+sum_long : (kids : Exprs) → AreSeveral kids → IsLongSum (as_sum kids)
+sum_long NoExprs h = absurd h
+sum_long (And e NoExprs) h = absurd h
+sum_long (And e (And f kids)) h = first_long e f kids
+
+product_long : (kids : Exprs) → AreSeveral kids → IsLongProduct (as_product kids)
+product_long NoExprs h = absurd h
+product_long (And e NoExprs) h = absurd h
+product_long (And e (And f kids)) h = times_long kids (Times (OneFactor (as_factor e)) (as_factor f)) tt
+
+mutual
+  factor_back : (e : Expr) → IsExpr e → factor_tree (as_factor e) ≡ e
+  factor_back (Num n) h = refl
+  factor_back (Name bytes) h = refl
+  factor_back (Neg e) h = ap Neg (factor_back e h)
+  factor_back (Sum kids) h = long_sum (as_sum kids) (sum_long kids h.0) ∙ ap Sum (sum_back kids h.0 h.1)
+  factor_back (Prod kids) h = long_product (as_product kids) (product_long kids h.0) ∙ ap Prod (product_back kids h.0 h.1)
+
+  term_back : (e : Expr) → IsExpr e → factors_tree (as_term e) ≡ e
+  term_back (Num n) h = refl
+  term_back (Name bytes) h = refl
+  term_back (Neg e) h = ap Neg (factor_back e h)
+  term_back (Sum kids) h = long_sum (as_sum kids) (sum_long kids h.0) ∙ ap Sum (sum_back kids h.0 h.1)
+  term_back (Prod kids) h = long_product (as_product kids) (product_long kids h.0) ∙ ap Prod (product_back kids h.0 h.1)
+
+  expr_back : (e : Expr) → IsExpr e → terms_tree (as_expr e) ≡ e
+  expr_back (Num n) h = refl
+  expr_back (Name bytes) h = refl
+  expr_back (Neg e) h = ap Neg (factor_back e h)
+  expr_back (Sum kids) h = long_sum (as_sum kids) (sum_long kids h.0) ∙ ap Sum (sum_back kids h.0 h.1)
+  expr_back (Prod kids) h = long_product (as_product kids) (product_long kids h.0) ∙ ap Prod (product_back kids h.0 h.1)
+
+  sum_back : (kids : Exprs) → AreSeveral kids → AreExprs kids → term_trees (as_sum kids) ≡ kids
+  sum_back NoExprs several h = absurd several
+  sum_back (And e kids) several h = add_back kids (OneTerm (as_term e)) h.1 ∙ ap (λ f. And f kids) (term_back e h.0)
+
+  add_back : (kids : Exprs) (s : Terms) → AreExprs kids → term_trees (add_terms kids s) ≡ joined (term_trees s) kids
+  add_back NoExprs s h = sym (joined_none (term_trees s))
+  add_back (And (Neg e) kids) s h =
+      add_back kids (Taken s (as_term e)) h.1 ∙ with_joined (term_trees s) kids (Neg (factors_tree (as_term e)))
+      ∙ ap (λ f. joined (term_trees s) (And (Neg f) kids)) (term_back e h.0)
+  add_back (And e kids) s h =
+      add_back kids (Added s (as_term e)) h.1 ∙ with_joined (term_trees s) kids (factors_tree (as_term e))
+      ∙ ap (λ f. joined (term_trees s) (And f kids)) (term_back e h.0)
+
+  product_back : (kids : Exprs) → AreSeveral kids → AreExprs kids → factor_trees (as_product kids) ≡ kids
+  product_back NoExprs several h = absurd several
+  product_back (And e kids) several h = times_back kids (OneFactor (as_factor e)) h.1 ∙ ap (λ f. And f kids) (factor_back e h.0)
+
+  times_back : (kids : Exprs) (t : Factors) → AreExprs kids → factor_trees (add_factors kids t) ≡ joined (factor_trees t) kids
+  times_back NoExprs t h = sym (joined_none (factor_trees t))
+  times_back (And e kids) t h =
+      times_back kids (Times t (as_factor e)) h.1 ∙ with_joined (factor_trees t) kids (factor_tree (as_factor e))
+      ∙ ap (λ f. joined (factor_trees t) (And f kids)) (factor_back e h.0)
+
+abbrev joined_stmts : Stmts → Stmts → Stmts
+joined_stmts NoStmts more = more
+joined_stmts (Then s rest) more = Then s (joined_stmts rest more)
+
+with_joined_stmts : (ss more : Stmts) (s : Stmt) → joined_stmts (with_stmt ss s) more ≡ joined_stmts ss (Then s more)
+with_joined_stmts NoStmts more s = refl
+with_joined_stmts (Then t ss) more s = ap (λ rest. Then t rest) (with_joined_stmts ss more s)
+
+joined_stmts_none : (ss : Stmts) → joined_stmts ss NoStmts ≡ ss
+joined_stmts_none NoStmts = refl
+joined_stmts_none (Then s ss) = ap (λ rest. Then s rest) (joined_stmts_none ss)
+
+mutual
+  line_back : (s : Stmt) → IsStmt s → line_tree (as_line s) ≡ s
+  line_back (Let name e) h = ap (λ f. Let name f) (expr_back e h.1)
+  line_back (Show e) h = ap (λ f. Show f) (expr_back e h)
+  line_back (Block body) h = ap Block (lines_back body Empty h)
+
+  lines_back : (body : Stmts) (p : Program) → AreStmts body → trees_of (add_lines body p) ≡ joined_stmts (trees_of p) body
+  lines_back NoStmts p h = sym (joined_stmts_none (trees_of p))
+  lines_back (Then s body) p h =
+      lines_back body (Next p (as_line s)) h.1 ∙ with_joined_stmts (trees_of p) body (line_tree (as_line s))
+      ∙ ap (λ t. joined_stmts (trees_of p) (Then t body)) (line_back s h.0)
+
+-- ---- The whole
+
+append_nothing : (xs : List ℕ) → xs ++ [] ≡ xs
+append_nothing [] = refl
+append_nothing (x ∷ xs) = ap (λ more. x ∷ more) (append_nothing xs)
+
+pub text_tokens : (t : Stmts) → AreStmts t → spell (add_lines t Empty) [] ≡ without_places (tokens (text t))
+unfolding lex
+text_tokens t h = lines_lex t [] Empty h ∙ ap (lex 0) (append_nothing (text t)) ∙ sym (lex_is 0 0 (text t))
+
+pub text_program : (t : Stmts) → AreStmts t → (n : ℕ) × IsProgram (without_places (tokens (text t))) t n
+text_program t h = (
+  nest (add_lines t Empty),
+  record {
+    program = add_lines t Empty;
+    tokens_are = text_tokens t h;
+    trees_are = lines_back t Empty h;
+    nest_is = refl;
+  },
+)

@@ -1,0 +1,245 @@
+-- The tokens of pieces of text, one after another.
+use Rattle.std.proofs.Common.{◌≡◌, ℕ, zero, suc, ◌+◌, ◌-◌, ◌*◌, ◌%◌, ◌<◌, Bool, true, false, cond, List, [], ◌∷◌, ◌++◌, length, get_or, length-append, refl, ap, ◌∙◌, arith, codes}
+use Rattle.std.specs.Prelude.{◌&&◌, ◌||◌}
+use Rattle.std.specs.List.{list_all}
+use Rattle.std.proofs.lemmas.Bool.Decides.{nat_tests}
+use Rattle.placement.specs.Grammar.{number}
+use Rattle.placement.proofs.NumberLemmas.{number_by_steps}
+use Rattle.tree_rules.specs.Tokens.{Token, LetKey, Word, Number, Plus, Minus, Star, LeftParen, RightParen, LeftBrace, RightBrace, Equals, Semicolon, Other, is_space, is_digit, is_name_start, is_name_byte, run, are_same, word, value, has_needless_zero, number_token, Front, word_front, number_front, other_front, front, placed, tokens_from, without_places}
+use Rattle.tree_rules.specs.Trees.{IsName}
+
+-- the tokens behind so many bytes
+unfoldable pub lex : ℕ → List ℕ → List Token
+lex skip [] = []
+lex (suc skip) (b ∷ bytes) = lex skip bytes
+lex zero (b ∷ bytes) = elim (is_space b) [ true ↦ lex zero bytes | false ↦ (front b bytes).token ∷ lex ((front b bytes).length - 1) bytes ]
+
+pub lex_is : (at skip : ℕ) (bytes : List ℕ) → without_places (tokens_from at skip bytes) ≡ lex skip bytes
+unfolding lex tokens_from
+lex_is at skip [] = refl
+lex_is at (suc skip) (b ∷ bytes) = lex_is (suc at) skip bytes
+lex_is at zero (b ∷ bytes) = by (is_space b) (lex_is (suc at) zero bytes) (lex_is (suc at) ((front b bytes).length - 1) bytes)
+  where
+    by : (space : Bool)
+        → without_places (tokens_from (suc at) zero bytes) ≡ lex zero bytes
+        → without_places (tokens_from (suc at) ((front b bytes).length - 1) bytes) ≡ lex ((front b bytes).length - 1) bytes
+        → without_places (elim space [
+          | true ↦ tokens_from (suc at) zero bytes
+          | false ↦ placed at (front b bytes) ∷ tokens_from (suc at)
+              ((front b bytes).length - 1) bytes
+        ])
+        ≡ elim space [ true ↦ lex zero bytes | false ↦ (front b bytes).token ∷ lex ((front b bytes).length - 1) bytes ]
+    by true same more = same
+    by false same more = ap (λ ts. (front b bytes).token ∷ ts) more
+
+pub lex_behind : (xs rest : List ℕ) → lex (length xs) (xs ++ rest) ≡ lex 0 rest
+unfolding lex
+lex_behind [] [] = refl
+lex_behind [] (b ∷ rest) = refl
+lex_behind (x ∷ xs) rest = lex_behind xs rest
+
+-- nothing, or a byte that no name or number goes on with
+abbrev pub Stops : List ℕ → Type 0
+Stops [] = Unit {0}
+Stops (b ∷ bytes) = is_name_byte b ≡ false
+
+both_true : (a b : Bool) → (a && b) ≡ true → (a ≡ true) × (b ≡ true)
+both_true true b h = (refl, h)
+both_true false b h = cc
+
+run_stops : (passes : ℕ → Bool) (xs rest : List ℕ) → list_all passes xs ≡ true → run passes rest ≡ [] → run passes (xs ++ rest) ≡ xs
+run_stops passes [] rest all stop = stop
+run_stops passes (x ∷ xs) rest all stop =
+    let parts = both_true (passes x) (list_all passes xs) all in
+    rw parts.0 (ap (λ ys. x ∷ ys) (run_stops passes xs rest parts.1 stop))
+
+name_stops : (rest : List ℕ) → Stops rest → run is_name_byte rest ≡ []
+name_stops [] h = refl
+name_stops (b ∷ bytes) h = rw h refl
+
+digit_stops : (rest : List ℕ) → Stops rest → run is_digit rest ≡ []
+digit_stops [] h = refl
+digit_stops (b ∷ bytes) h =
+    let none : is_digit b ≡ false = no_digit (is_name_start b) (is_digit b) h in
+    rw none refl
+  where
+    no_digit : (a b : Bool) → (a || b) ≡ false → b ≡ false
+    no_digit true b h = cc
+    no_digit false b h = h
+
+-- ---- Names
+
+chosen_true : {X : Type 0} (b : Bool) (x y : X) → b ≡ true → cond b x y ≡ x
+chosen_true b x y h = rw h refl
+
+chosen_false : {X : Type 0} (b : Bool) (x y : X) → b ≡ false → cond b x y ≡ y
+chosen_false b x y h = rw h refl
+
+or_true : (a b : Bool) → a ≡ true → (a || b) ≡ true
+or_true a b h = rw h refl
+
+start_no_digit : (b : ℕ) → is_name_start b ≡ true → is_digit b ≡ false
+start_no_digit b h = grind (arith, nat_tests)
+
+start_no_space : (b : ℕ) → is_name_start b ≡ true → is_space b ≡ false
+start_no_space b h = grind (arith, nat_tests)
+
+digit_no_space : (b : ℕ) → is_digit b ≡ true → is_space b ≡ false
+digit_no_space b h = grind (arith, nat_tests)
+
+-- a token at a byte that is no space, and those behind it
+lex_front : (b : ℕ) (bytes : List ℕ) (f : Front) → is_space b ≡ false → front b bytes ≡ f
+    → lex 0 (b ∷ bytes) ≡ f.token ∷ lex (f.length - 1) bytes
+unfolding lex
+lex_front b bytes f space is = by (is_space b) space ∙ ap (λ (g : Front). g.token ∷ lex (g.length - 1) bytes) is
+  where
+    by : (s : Bool) → s ≡ false
+        → elim s [ true ↦ lex 0 bytes | false ↦ (front b bytes).token ∷ lex ((front b bytes).length - 1) bytes ]
+        ≡ (front b bytes).token ∷ lex ((front b bytes).length - 1) bytes
+    by true h = cc
+    by false h = refl
+
+name_front : (b : ℕ) (bytes rest : List ℕ) → IsName (b ∷ bytes) → Stops rest → front b (bytes ++ rest) ≡ word_front (b ∷ bytes)
+unfolding front
+name_front b bytes rest h stop =
+    let start : is_name_start b ≡ true = h.0 in
+    let all : list_all is_name_byte (b ∷ bytes) ≡ true
+    = rw (or_true (is_name_start b) (is_digit b) start) h.1 in
+    chosen_false (is_digit b) (number_front (run is_digit (b ∷ bytes ++ rest))) (other_front b (bytes ++ rest)) (start_no_digit b start)
+    ∙ chosen_true (is_name_start b) _ _ start
+    ∙ ap word_front (run_stops is_name_byte (b ∷ bytes) rest all (name_stops rest stop))
+
+pub lex_name : (bytes rest : List ℕ) → IsName bytes → Stops rest → lex 0 (bytes ++ rest) ≡ Word bytes ∷ lex 0 rest
+lex_name [] rest h stop = absurd h
+lex_name (b ∷ bytes) rest h stop =
+    let start : is_name_start b ≡ true = h.0 in
+    let is_word : word (b ∷ bytes) ≡ Word (b ∷ bytes) = chosen_false (are_same (b ∷ bytes) (codes "let")) LetKey (Word (b ∷ bytes)) h.2 in
+    let one_less : suc (length bytes) - 1 ≡ length bytes = omega arith in
+    lex_front b (bytes ++ rest) (word_front (b ∷ bytes)) (start_no_space b start) (name_front b bytes rest h stop)
+    ∙ ap (λ t. t ∷ lex (suc (length bytes) - 1) (bytes ++ rest)) is_word
+    ∙ ap (λ n. Word (b ∷ bytes) ∷ lex n (bytes ++ rest)) one_less
+    ∙ ap (λ ts. Word (b ∷ bytes) ∷ ts) (lex_behind bytes rest)
+
+-- ---- Numbers
+
+-- digits of a number, without a needless zero
+record AreDigits (n : ℕ) (ds : List ℕ) : Type 0 where
+  digits : list_all is_digit ds ≡ true
+  value_is : value 0 ds ≡ n
+  some : 0 < length ds
+  first : 0 < n → 48 < get_or ds 0 0
+  needless : has_needless_zero ds ≡ false
+
+value_one_more : (m d : ℕ) (ds : List ℕ) → value m (ds ++ d ∷ []) ≡ value m ds * 10 + (d - 48)
+value_one_more m d [] = refl
+value_one_more m d (e ∷ ds) = value_one_more (m * 10 + (e - 48)) d ds
+
+all_one_more : (ds : List ℕ) (d : ℕ) → list_all is_digit ds ≡ true → is_digit d ≡ true → list_all is_digit (ds ++ d ∷ []) ≡ true
+all_one_more [] d h one = rw one refl
+all_one_more (e ∷ ds) d h one =
+    let parts = both_true (is_digit e) (list_all is_digit ds) h in
+    rw parts.0 (all_one_more ds d parts.1 one)
+
+longer_first : (ds es : List ℕ) → 48 < get_or ds 0 0 → 48 < get_or (ds ++ es) 0 0
+longer_first [] es h = absurd (omega arith)
+longer_first (d ∷ ds) es h = h
+
+longer_needless : (ds : List ℕ) (d : ℕ) → 48 < get_or ds 0 0 → has_needless_zero (ds ++ d ∷ []) ≡ false
+longer_needless [] d h = absurd (omega arith)
+longer_needless (e ∷ []) d h = grind (arith, nat_tests)
+longer_needless (e ∷ f ∷ ds) d h = grind (arith, nat_tests)
+
+number_digits : (n : ℕ) → AreDigits n (number n)
+number_digits = number_by_steps AreDigits
+    (λ n low. record {
+      digits = one_digit n low;
+      value_is = one_value n;
+      some = omega arith;
+      first = λ h. omega arith;
+      needless = refl;
+    })
+    (λ n ds high front. record {
+      digits = all_one_more ds (48 + n % 10) front.digits (digit (n % 10) (omega arith));
+      value_is = value_one_more 0 (48 + n % 10) ds ∙ ap (λ v. v * 10 + (48 + n % 10 - 48)) front.value_is ∙ (omega arith);
+      some = omega (arith, length-append {A = ℕ});
+      first = λ h. longer_first ds ((48 + n % 10) ∷ []) (front.first (omega arith));
+      needless = longer_needless ds (48 + n % 10) (front.first (omega arith));
+    })
+  where
+    digit : (d : ℕ) → d < 10 → is_digit (48 + d) ≡ true
+    digit d low = grind (arith, nat_tests)
+
+    one_digit : (n : ℕ) → n < 10 → list_all is_digit ((48 + n) ∷ []) ≡ true
+    one_digit n low = rw (digit n low) refl
+
+    one_value : (n : ℕ) → value 0 ((48 + n) ∷ []) ≡ n
+    one_value n = omega arith
+
+digits_lex : (n : ℕ) (ds rest : List ℕ) → AreDigits n ds → Stops rest → lex 0 (ds ++ rest) ≡ Number n ∷ lex 0 rest
+unfolding front
+digits_lex n [] rest h stop = absurd (omega (arith, h.some))
+digits_lex n (d ∷ ds) rest h stop =
+    let parts = both_true (is_digit d) (list_all is_digit ds) h.digits in
+    let front_is : front d (ds ++ rest) ≡ number_front (d ∷ ds)
+    = chosen_true (is_digit d) (number_front (run is_digit (d ∷ ds ++ rest))) (other_front d (ds ++ rest)) parts.0
+    ∙ ap number_front (run_stops is_digit (d ∷ ds) rest h.digits (digit_stops rest stop)) in
+    let token_is : number_token (d ∷ ds) ≡ Number n
+    = chosen_false (has_needless_zero (d ∷ ds)) Other (Number (value 0 (d ∷ ds))) h.needless ∙ ap Number h.value_is in
+    let one_less : suc (length ds) - 1 ≡ length ds = omega arith in
+    lex_front d (ds ++ rest) (number_front (d ∷ ds)) (digit_no_space d parts.0) front_is
+    ∙ ap (λ t. t ∷ lex (suc (length ds) - 1) (ds ++ rest)) token_is
+    ∙ ap (λ k. Number n ∷ lex k (ds ++ rest)) one_less
+    ∙ ap (λ ts. Number n ∷ ts) (lex_behind ds rest)
+
+pub lex_number : (n : ℕ) (rest : List ℕ) → Stops rest → lex 0 (number n ++ rest) ≡ Number n ∷ lex 0 rest
+lex_number n rest stop = digits_lex n (number n) rest (number_digits n) stop
+
+-- ---- Spaces and signs
+
+pub lex_space : (rest : List ℕ) → lex 0 (32 ∷ rest) ≡ lex 0 rest
+unfolding lex
+lex_space rest = refl
+
+pub lex_feed : (rest : List ℕ) → lex 0 (10 ∷ rest) ≡ lex 0 rest
+unfolding lex
+lex_feed rest = refl
+
+pub lex_plus : (rest : List ℕ) → lex 0 (43 ∷ rest) ≡ Plus ∷ lex 0 rest
+unfolding lex front
+lex_plus rest = refl
+
+pub lex_minus : (rest : List ℕ) → lex 0 (45 ∷ rest) ≡ Minus ∷ lex 0 rest
+unfolding lex front
+lex_minus rest = refl
+
+pub lex_star : (rest : List ℕ) → lex 0 (42 ∷ rest) ≡ Star ∷ lex 0 rest
+unfolding lex front
+lex_star rest = refl
+
+pub lex_left_paren : (rest : List ℕ) → lex 0 (40 ∷ rest) ≡ LeftParen ∷ lex 0 rest
+unfolding lex front
+lex_left_paren rest = refl
+
+pub lex_right_paren : (rest : List ℕ) → lex 0 (41 ∷ rest) ≡ RightParen ∷ lex 0 rest
+unfolding lex front
+lex_right_paren rest = refl
+
+pub lex_left_brace : (rest : List ℕ) → lex 0 (123 ∷ rest) ≡ LeftBrace ∷ lex 0 rest
+unfolding lex front
+lex_left_brace rest = refl
+
+pub lex_right_brace : (rest : List ℕ) → lex 0 (125 ∷ rest) ≡ RightBrace ∷ lex 0 rest
+unfolding lex front
+lex_right_brace rest = refl
+
+pub lex_equals : (rest : List ℕ) → lex 0 (61 ∷ rest) ≡ Equals ∷ lex 0 rest
+unfolding lex front
+lex_equals rest = refl
+
+pub lex_semicolon : (rest : List ℕ) → lex 0 (59 ∷ rest) ≡ Semicolon ∷ lex 0 rest
+unfolding lex front
+lex_semicolon rest = refl
+
+pub lex_let : (rest : List ℕ) → lex 0 (108 ∷ 101 ∷ 116 ∷ 32 ∷ rest) ≡ LetKey ∷ lex 0 rest
+unfolding lex front
+lex_let rest = refl

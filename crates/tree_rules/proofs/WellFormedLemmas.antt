@@ -1,0 +1,198 @@
+-- The tree of a text is well formed: its names are names, its sums and products have several kids, its numbers fit.
+use Rattle.std.proofs.Common.{◌≡◌, ℕ, zero, suc, ◌-◌, Bool, true, false, cond, List, [], ◌∷◌, refl, subst, sym, codes}
+use Rattle.std.specs.Prelude.{◌||◌, IsFalse}
+use Rattle.std.specs.List.{list_all, AllByRecursion}
+use Rattle.tree_rules.specs.Tokens.{Token, LetKey, Word, Number, Plus, Minus, Star, LeftParen, RightParen, LeftBrace, RightBrace, Equals, Semicolon, Other, is_space, is_digit, is_name_start, is_name_byte, run, are_same, word, look_up, signs, sign, has_needless_zero, number_token, word_front, number_front, sign_front, front, tokens, without_places}
+use Rattle.tree_rules.specs.Trees.{Expr, Neg, Exprs, NoExprs, And, with_expr, Stmt, Stmts, NoStmts, Then, with_stmt, IsName, AreSeveral, IsExpr, AreExprs, IsStmt, AreStmts, HasSmall, HaveSmall, StmtFits, StmtsFit}
+use Rattle.tree_rules.specs.Grammar.{Factor, ANumber, AName, InParens, Negated, Factors, OneFactor, Times, Terms, OneTerm, Added, Taken, Line, LetLine, ShowLine, BlockLine, Program, Empty, Next, spell_factor, spell_factors, spell_terms, spell_line, spell, factor_tree, factors_tree, factor_trees, terms_tree, term_trees, line_tree, trees_of}
+use Rattle.tree_rules.specs.Refusals.{Fits, IsGood}
+use Rattle.tree_rules.proofs.TokenLemmas.{lex, lex_is}
+
+-- ---- The words of a text are names
+
+abbrev IsNamed : Token → Type 0
+IsNamed (Word bytes) = IsName bytes
+IsNamed LetKey = Unit {0}
+IsNamed (Number n) = Unit {0}
+IsNamed Plus = Unit {0}
+IsNamed Minus = Unit {0}
+IsNamed Star = Unit {0}
+IsNamed LeftParen = Unit {0}
+IsNamed RightParen = Unit {0}
+IsNamed LeftBrace = Unit {0}
+IsNamed RightBrace = Unit {0}
+IsNamed Equals = Unit {0}
+IsNamed Semicolon = Unit {0}
+IsNamed Other = Unit {0}
+
+chosen_named : (b c : Bool) (t u : Token) → b ≡ c → (c ≡ true → IsNamed t) → (c ≡ false → IsNamed u) → IsNamed (cond b t u)
+chosen_named b true t u is first other = subst (λ c. IsNamed (cond c t u)) (sym is) (first refl)
+chosen_named b false t u is first other = subst (λ c. IsNamed (cond c t u)) (sym is) (other refl)
+
+word_named : (bytes : List ℕ) → (IsFalse (are_same bytes (codes "let")) → IsName bytes) → IsNamed (word bytes)
+word_named bytes name = chosen_named (are_same bytes (codes "let")) (are_same bytes (codes "let")) LetKey (Word bytes) refl (λ h. tt) name
+
+number_named : (digits : List ℕ) → IsNamed (number_token digits)
+number_named digits =
+    chosen_named (has_needless_zero digits) (has_needless_zero digits) Other _ refl (λ h. tt) (λ h. tt)
+
+run_all : (passes : ℕ → Bool) (bytes : List ℕ) → list_all passes (run passes bytes) ≡ true
+run_all passes [] = refl
+run_all passes (b ∷ bytes) = by (passes b) refl (run_all passes bytes)
+  where
+    by : (p : Bool) → passes b ≡ p → list_all passes (run passes bytes) ≡ true
+        → list_all passes (cond p (b ∷ run passes bytes) []) ≡ true
+    by true is all = rw is all
+    by false is all = refl
+
+-- names that begin at a byte that may begin one
+begun : (b : ℕ) (bytes : List ℕ) → is_name_start b ≡ true → IsNamed (word (run is_name_byte (b ∷ bytes)))
+begun b bytes start =
+    subst (λ s. IsNamed (word (cond (s || is_digit b) (b ∷ run is_name_byte bytes) []))) (sym start)
+    (word_named (b ∷ run is_name_byte bytes) (λ other. (start, run_all is_name_byte bytes, other)))
+
+sign_named : (b : ℕ) → IsNamed (sign b)
+sign_named b = looked signs (tt, (tt, (tt, (tt, (tt, (tt, (tt, (tt, (tt, tt)))))))))
+  where
+    looked : (rows : List (ℕ × Token)) → AllByRecursion (λ (row : ℕ × Token). IsNamed row.1) rows → IsNamed (look_up rows b)
+    looked [] all = tt
+    looked (row ∷ rows) all = chosen_named _ _ row.1 (look_up rows b) refl (λ h. all.0) (λ h. looked rows all.1)
+
+front_named : (b : ℕ) (bytes : List ℕ) → IsNamed (front b bytes).token
+unfolding front
+front_named b bytes = by (is_digit b) (is_name_start b) refl
+  where
+    by : (digit start : Bool) → is_name_start b ≡ start
+        → IsNamed (cond digit (number_front (run is_digit (b ∷ bytes))) (cond start (word_front (run is_name_byte (b ∷ bytes)))
+        (sign_front b))).token
+    by true start is = number_named (run is_digit (b ∷ bytes))
+    by false true is = begun b bytes is
+    by false false is = sign_named b
+
+lex_named : (skip : ℕ) (bytes : List ℕ) → AllByRecursion IsNamed (lex skip bytes)
+unfolding lex
+lex_named skip [] = tt
+lex_named (suc skip) (b ∷ bytes) = lex_named skip bytes
+lex_named zero (b ∷ bytes) = by (is_space b) (lex_named zero bytes) (lex_named ((front b bytes).length - 1) bytes)
+  where
+    by : (space : Bool) → AllByRecursion IsNamed (lex zero bytes) → AllByRecursion IsNamed (lex ((front b bytes).length - 1) bytes)
+        → AllByRecursion IsNamed (elim space [
+          | true ↦ lex zero bytes
+          | false ↦ (front b bytes).token ∷ lex ((front b bytes).length - 1)
+              bytes
+        ])
+    by true none more = none
+    by false none more = (front_named b bytes, more)
+
+tokens_named : (bytes : List ℕ) → AllByRecursion IsNamed (without_places (tokens bytes))
+tokens_named bytes = subst (AllByRecursion IsNamed) (sym (lex_is 0 0 bytes)) (lex_named 0 bytes)
+
+-- ---- Trees
+
+abbrev IsFine : Token → Type 0
+IsFine t = IsNamed t × Fits t
+
+both : (ts : List Token) → AllByRecursion IsNamed ts → AllByRecursion Fits ts → AllByRecursion IsFine ts
+both [] named fit = tt
+both (t ∷ ts) named fit = ((named.0, fit.0), both ts named.1 fit.1)
+
+abbrev Fine : Expr → Type 0
+Fine e = IsExpr e × HasSmall e
+
+abbrev AllFine : Exprs → Type 0
+AllFine es = AreExprs es × HaveSmall es
+
+abbrev AreSome : Exprs → Type 0
+AreSome NoExprs = ⊥
+AreSome (And e rest) = Unit {0}
+
+with_fine : (es : Exprs) (e : Expr) → AllFine es → Fine e → AllFine (with_expr es e)
+with_fine NoExprs e all one = ((one.0, tt), (one.1, tt))
+with_fine (And d es) e all one =
+    let rest = with_fine es e (all.0.1, all.1.1) one in
+    ((all.0.0, rest.0), (all.1.0, rest.1))
+
+several : (es : Exprs) (e : Expr) → AreSome es → AreSeveral (with_expr es e)
+several NoExprs e some = some
+several (And d NoExprs) e some = tt
+several (And d (And f es)) e some = tt
+
+some_with : (es : Exprs) (e : Expr) → AreSome (with_expr es e)
+some_with NoExprs e = tt
+some_with (And d es) e = tt
+
+some_factors : (t : Factors) → AreSome (factor_trees t)
+some_factors (OneFactor f) = tt
+some_factors (Times t f) = some_with (factor_trees t) (factor_tree f)
+
+some_terms : (s : Terms) → AreSome (term_trees s)
+some_terms (OneTerm t) = tt
+some_terms (Added s t) = some_with (term_trees s) (factors_tree t)
+some_terms (Taken s t) = some_with (term_trees s) (Neg (factors_tree t))
+
+abbrev All : List Token → Type 0
+All ts = AllByRecursion IsFine ts
+
+mutual
+  factor_fine : (f : Factor) (more : List Token) → All (spell_factor f more) → Fine (factor_tree f) × All more
+  factor_fine (ANumber n) more all = ((tt, all.0.1), all.1)
+  factor_fine (AName bytes) more all = ((all.0.0, tt), all.1)
+  factor_fine (InParens s) more all = let inner = terms_fine s (RightParen ∷ more) all.1 in (inner.0, inner.2.1)
+  factor_fine (Negated f) more all = factor_fine f more all.1
+
+  -- a product as one, its factors, and what stands behind
+  factors_fine : (t : Factors) (more : List Token) → All (spell_factors t more)
+      → Fine (factors_tree t) × AllFine (factor_trees t) × All more
+  factors_fine (OneFactor f) more all =
+      let one = factor_fine f more all in
+      (one.0, ((one.0.0, tt), (one.0.1, tt)), one.1)
+  factors_fine (Times t f) more all =
+      let first = factors_fine t (Star ∷ spell_factor f more) all in
+      let last = factor_fine f more first.2.1 in
+      let kids = with_fine (factor_trees t) (factor_tree f) first.1 last.0 in
+      (((several (factor_trees t) (factor_tree f) (some_factors t), kids.0), kids.1), kids, last.1)
+
+  terms_fine : (s : Terms) (more : List Token) → All (spell_terms s more) → Fine (terms_tree s) × AllFine (term_trees s) × All more
+  terms_fine (OneTerm t) more all =
+      let one = factors_fine t more all in
+      (one.0, ((one.0.0, tt), (one.0.1, tt)), one.2)
+  terms_fine (Added s t) more all =
+      let first = terms_fine s (Plus ∷ spell_factors t more) all in
+      let last = factors_fine t more first.2.1 in
+      let kids = with_fine (term_trees s) (factors_tree t) first.1 last.0 in
+      (((several (term_trees s) (factors_tree t) (some_terms s), kids.0), kids.1), kids, last.2)
+  terms_fine (Taken s t) more all =
+      let first = terms_fine s (Minus ∷ spell_factors t more) all in
+      let last = factors_fine t more first.2.1 in
+      let kids = with_fine (term_trees s) (Neg (factors_tree t)) first.1 last.0 in
+      (((several (term_trees s) (Neg (factors_tree t)) (some_terms s), kids.0), kids.1), kids, last.2)
+
+abbrev StmtsFine : Stmts → Type 0
+StmtsFine t = AreStmts t × StmtsFit t
+
+with_line : (t : Stmts) (s : Stmt) → StmtsFine t → IsStmt s × StmtFits s → StmtsFine (with_stmt t s)
+with_line NoStmts s all one = ((one.0, tt), (one.1, tt))
+with_line (Then r t) s all one =
+    let rest = with_line t s (all.0.1, all.1.1) one in
+    ((all.0.0, rest.0), (all.1.0, rest.1))
+
+mutual
+  line_fine : (l : Line) (more : List Token) → All (spell_line l more) → (IsStmt (line_tree l) × StmtFits (line_tree l)) × All more
+  line_fine (LetLine name s) more all =
+      let inner = terms_fine s (Semicolon ∷ more) all.1.1.1 in
+      (((all.1.0.0, inner.0.0), inner.0.1), inner.2.1)
+  line_fine (ShowLine s) more all = let inner = terms_fine s (Semicolon ∷ more) all in (inner.0, inner.2.1)
+  line_fine (BlockLine p) more all = let inner = program_fine p (RightBrace ∷ more) all.1 in (inner.0, inner.1.1)
+
+  program_fine : (p : Program) (more : List Token) → All (spell p more) → StmtsFine (trees_of p) × All more
+  program_fine Empty more all = ((tt, tt), all)
+  program_fine (Next p l) more all =
+      let first = program_fine p (spell_line l more) all in
+      let last = line_fine l more first.1 in
+      (with_line (trees_of p) (line_tree l) first.0 last.0, last.1)
+
+pub good_fine : (bytes : List ℕ) (trees : Stmts) → IsGood bytes trees → AreStmts trees × StmtsFit trees
+good_fine bytes trees good =
+    subst StmtsFine good.program.trees_are
+    (program_fine good.program.program []
+    (subst All (sym good.program.tokens_are) (both _ (tokens_named bytes) good.fit))).0

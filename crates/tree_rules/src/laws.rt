@@ -1,0 +1,7 @@
+// What the definitions mean, in words and as facts. Each law is a call that does nothing: made in a body, it
+// gives its facts there.
+mod readings;
+mod trees;
+
+pub use readings::{machine, one_program, one_reading, one_report, some_reading};
+pub use trees::{folding, texts, well_formed};

@@ -1,0 +1,25 @@
+// Trees, their texts and values.
+ghost use Rattle.std.specs.Prelude.{◌≡◌, ◌≤◌, ℕ, ℤ, List, Ok};
+ghost use Rattle.tree_rules.specs.Tokens.{tokens, without_places};
+ghost use Rattle.tree_rules.specs.Trees.{Expr, Stmts, AreStmts, StmtsFit, text, value_of, folded, folded_stmts};
+ghost use Rattle.tree_rules.specs.Grammar.{IsProgram};
+ghost use Rattle.tree_rules.specs.Refusals.{TreeOf, most_nest};
+
+/// The text of a tree is a program, and its tree is that tree. So it is read as that tree, where its numbers
+/// fit and no more is open at once than may be.
+pub fn texts()
+    ensures program { (t : Stmts) → AreStmts t → (n : ℕ) × IsProgram (without_places (tokens (text t))) t n }
+    ensures tree { (t : Stmts) → AreStmts t → StmtsFit t → (n : ℕ)
+        → IsProgram (without_places (tokens (text t))) t n → n ≤ most_nest → TreeOf (text t) (Ok t) }
+{}
+
+/// The tree of a text is well formed, and its numbers fit.
+pub fn well_formed()
+    ensures { (bytes : List ℕ) (t : Stmts) → TreeOf bytes (Ok t) → AreStmts t × StmtsFit t }
+{}
+
+/// A folded expression has the value that it had, whatever names stand for. Folded trees are well formed.
+pub fn folding()
+    ensures value { (e : Expr) (env : List ℕ → ℤ) → value_of (folded e) env ≡ value_of e env }
+    ensures keeps { (t : Stmts) → AreStmts t → StmtsFit t → AreStmts (folded_stmts t) × StmtsFit (folded_stmts t) }
+{}
