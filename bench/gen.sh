@@ -6,10 +6,7 @@
 set -euo pipefail
 here=$(dirname "$(readlink -f "$0")")
 . "$here/measure.sh"
-program=$("$here/../tools/program.sh" arena_run --version)
 [ $# -gt 0 ] || set -- 1000000
-folder=$(mktemp -d)
-trap 'rm -rf "$folder"' EXIT
 input=/dev/null
 
 head_of call

@@ -1,7 +1,11 @@
-# What the scripts share that time a whole program beside the driver over the Rust crate whose program is in NATIVE, if set. They
-# set `program`, a scratch `folder`, and `input`, the file that both read.
+# What the scripts share that time `arena_run` beside the driver over the Rust crate whose program is in NATIVE, if set: the `program`, a
+# scratch `folder`, and `input`, the file that both read.
 export LC_ALL=C
 [ -x /usr/bin/time ] || { echo "peak memory is measured with GNU time, /usr/bin/time" >&2; exit 1; }
+program=$("$(dirname "${BASH_SOURCE[0]}")/../tools/program.sh" arena_run --version)
+folder=$(mktemp -d)
+trap 'rm -rf "$folder"' EXIT
+input=$folder/input
 
 # weigh WHO COMMAND..: notes the peak memory in KiB, and the sum of the text.
 weigh() {

@@ -8,13 +8,9 @@
 set -euo pipefail
 here=$(dirname "$(readlink -f "$0")")
 . "$here/measure.sh"
-program=$("$here/../tools/program.sh" arena_run --version)
 seed=${1:-1}
 [ $# -eq 0 ] || shift
 [ $# -gt 0 ] || set -- 1000
-folder=$(mktemp -d)
-trap 'rm -rf "$folder"' EXIT
-input=$folder/input
 
 # mix COUNT: prints the scripts.
 mix() {

@@ -74,7 +74,7 @@ printf '\xef\xbb\xbfused\n' | refuses "a mark of byte order" 1
 printf '\xff\xfeu\0s\0e\0d\0\n\0' | refuses "two bytes for each sign" 1
 printf 'used\n\xc2\xa0\n' | refuses "a space that isn't one" 2
 printf 'read \xd9\xa1\n' | refuses "a digit of another script" 1
-printf 'read\t1\n' | refuses "a tab" 1
+printf 'read%b1\n' '\t' | refuses "a tab" 1
 printf 'read +1\n' | refuses "a sign" 1
 printf 'read -1\n' | refuses "a number below 0" 1
 printf 'read 0x1\n' | refuses "a number by 16" 1
