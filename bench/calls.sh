@@ -1,6 +1,6 @@
 #!/bin/bash
 # Measures `arena_run calls`, beside the driver over the Rust crate whose program is in NATIVE, if set, as in
-#     NATIVE=/tmp/native-out/target/release/native bench/calls.sh [SEED] [LINES..]
+#     NATIVE=bench/driver/target/release/native bench/calls.sh [SEED] [LINES..]
 # For each number of lines (a million if none is given) it prints the least wall time of ROUNDS runs (5 if not set) by turns,
 # with the start of the process, and the peak memory. Both programs must print the same text.
 # The lines are a seeded mix of the calls that both have, with sizes to 511 and 256 names, and a reset in each 65,536th line. With

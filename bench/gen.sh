@@ -1,6 +1,6 @@
 #!/bin/bash
 # Measures `arena_run gen` beside the driver over the Rust crate whose program is in NATIVE, if set, as in
-#     NATIVE=/tmp/native-out/target/release/native bench/gen.sh [COUNT..]
+#     NATIVE=bench/driver/target/release/native bench/gen.sh [COUNT..]
 # For each count (a million if none is given) it prints the least wall time of ROUNDS runs (5 if not set) by turns, with the
 # start of the process, and the peak memory. Then both programs make calls from fifty starts, and must print the same lines.
 set -euo pipefail

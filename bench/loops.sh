@@ -1,12 +1,39 @@
 #!/bin/bash
 # Times loops, and prints a line for each: the least nanoseconds a call, and beside it those of the driver over the Rust crate
 # whose program is in NATIVE, if that has such a loop, with the ratio of the two, as in
-#     NATIVE=/tmp/native-out/target/release/native bench/loops.sh vec_push "vec_push 1000"
-# Behind a loop's name may stand how many calls it makes, and further words. ROUNDS rounds (5 if not set) run the two programs
-# one after the other, each the best of its own five runs, so that a noisy minute hits both. A loop's number depends on the
-# calls alone: both programs must print the same.
+#     NATIVE=bench/driver/target/release/native bench/loops.sh vec_push "vec_push 1000"
+#     NATIVE=bench/driver/target/release/native bench/loops.sh hash pool
+# A word is a loop, behind whose name may stand how many calls it makes, and further words; or a section: arena, items, vec, text, bits,
+# hash, clone, symbols, pool. Without words all sections are timed. ROUNDS rounds (5 if not set) run the two programs by turns, each
+# the best of its own five runs, so that a noisy minute hits both. A loop's number depends on the calls alone: both programs must print
+# the same.
 set -euo pipefail
 here=$(dirname "$(readlink -f "$0")")
+
+# section WORD: sets `loops` to those of the section, or to this loop.
+section() {
+    case $1 in
+        arena) loops=(alloc_warm grow_at_cursor reset_empty reset_chunks read_older write_older) ;;
+        items) loops=(box_new slice_copy str_copy alloc_fixed) ;;
+        vec) loops=(vec_push vec_push_reserved vec_sum vec_small vec_extend vec_insert_front vec_retain vec_iter) ;;
+        text) loops=(string_push_str string_push_byte string_push_start) ;;
+        bits) loops=(bitset_set bitset_set_ascending bitset_contains bitset_ones bitset_union) ;;
+        hash) loops=(map_small map_get map_remove map_insert map_iter map_walked) ;;
+        clone) loops=(vec_clone map_clone) ;;
+        symbols) loops=(intern_new intern_known scope_define scope_lookup scope_enter) ;;
+        pool) loops=(pool_get pool_get_threads claim claim_threads) ;;
+        *) loops=("$1") ;;
+    esac
+}
+
+[ $# -gt 0 ] || set -- arena items vec text bits hash clone symbols pool
+named=()
+for word; do
+    section "$word"
+    named+=("${loops[@]}")
+done
+set -- "${named[@]}"
+
 program=$("$here/../tools/program.sh" bench_arena check)
 lines=$(mktemp)
 trap 'rm -f "$lines"' EXIT

@@ -1,6 +1,6 @@
 #!/bin/bash
 # Measures `arena_run scripts`, beside the driver over the Rust crate whose program is in NATIVE, if set, as in
-#     NATIVE=/tmp/native-out/target/release/native bench/scripts.sh [SEED] [COUNT..]
+#     NATIVE=bench/driver/target/release/native bench/scripts.sh [SEED] [COUNT..]
 # For each count (1,000 if none is given), and each number of workers in WORKERS ("1 4" if not set), it prints the least wall time of
 # ROUNDS runs (5 if not set) by turns, with the start of the process, and the peak memory. Both programs must print the same text.
 # The input has 1,200 scripts, each of so many commands: a seeded mix on four objects of each kind. With PROFILE=falling, rising or

@@ -2,7 +2,7 @@
 # Makes each allocation of a run fail in turn, and says how many there are and how the program ended each time:
 #     examples/failing_memory.sh [INPUT..]
 # A small library stands before malloc, calloc and realloc, counts these calls, and refuses the one of that number. Without an
-# INPUT the runs are three lists of calls, one of `gen` and one of scripts. Each run must end with want of memory and nothing
+# INPUT the runs are three lists of calls, one of `gen`, one of scripts and one of sources. Each run must end with want of memory and nothing
 # written, or well with all that it has to write: all the same, or with a refusal told; else the script ends with 1.
 set -euo pipefail
 here=$(dirname "$(readlink -f "$0")")
@@ -55,9 +55,10 @@ runs() {
             what="0, all replies"
         else
             what="0, a chunk was refused: $(tr '\n' ';' < "$work/text")"
-            # A summary tells of it by what the arena has then, a script by its ending.
+            # A summary tells of it by what the arena has then, a script by its ending, a source by its report.
             case $1 in
             gen) [ "$(wc -l < "$work/text")" = 8 ] || failed=1 ;;
+            lint) grep -qx 'refused\|out of memory' "$work/text" || failed=1 ;;
             scripts) grep -qx 'ended refused\|ended out of memory' "$work/text" || failed=1 ;;
             *) [ "$(wc -l < "$work/text")" = "$(wc -l < "$work/whole")" ] && grep -q 'refused [1-9]' "$work/text" || failed=1 ;;
             esac
@@ -81,5 +82,6 @@ else
     done
     runs "gen 1 400" /dev/null gen 1 400
     runs "first.txt (scripts)" "$here/scripts/first.txt" scripts 1
+    runs "first.txt (lint)" "$here/lint/first.txt" lint 1
 fi
 exit $failed

@@ -9,8 +9,7 @@ shopt -s lastpipe
 here=$(dirname "$(readlink -f "$0")")
 work=$(mktemp -d)
 trap 'rm -rf "$work"' EXIT
-"$here/../arena_run" --version > /dev/null || exit 1
-program=$here/../crates/arena_run/out/arena_run
+program=$("$here/../tools/program.sh" arena_run --version) || exit 1
 failed=0
 
 # ends NAME STATUS TEXT LINE: compares the run that has just ended. Its status is in `status`, what it wrote in the files `out`
@@ -22,12 +21,12 @@ ends() {
     fi
 }
 
-# Runs calls from this function's standard input, for at most so many seconds of processor time (default 10).
+# Runs `calls`, or other words, over this function's standard input, for at most so many seconds of processor time (default 10).
 calls() {
     status=0
     : > "$work/out"
     : > "$work/err"
-    (ulimit -t "${1:-10}"; exec "$program" calls > "$work/out" 2> "$work/err") || status=$?
+    (ulimit -t "${1:-10}"; exec "$program" ${words:-calls} > "$work/out" 2> "$work/err") || status=$?
 }
 
 # refuses NAME LINE: the calls from standard input have this line as the first that is none.
@@ -129,7 +128,7 @@ ends "replies that memory doesn't hold" 3 "" "out of memory"
 
 [ "${1:-}" = all ] || exit $failed
 
-# Names that hash alike where the hash is one that anyone knows: as many blocks, and as many marks, as an input has room for. A
+# Names that hash alike where the hash is one that anyone knows: as many blocks, marks and objects as an input has room for. A
 # table by this hash would take a step for each pair of names: from nine minutes up. Here they have some seconds.
 cat > "$work/names.c" <<'C'
 #include <stdint.h>
@@ -166,4 +165,8 @@ slow() {
 }
 slow 589824 65536 'alloc & 0 1 0' 'placed 16 refused 0'
 slow 1000000 131072 'mark &' 'done'
+"$work/names" 589824 65536 > "$work/list"
+{ echo script; sed 's/.*/value & 1/' "$work/list"; } | words=scripts\ 1 calls 20
+{ echo "script 0"; yes done | head -589824; echo "ended done"; } > "$work/text"
+cmp -s "$work/out" "$work/text" || { echo "FAIL 589824 objects whose names hash alike: status $status"; failed=1; }
 exit $failed

@@ -58,12 +58,21 @@ run scripts 7 < /dev/null
 ends "0, no scripts" 0 $none
 run scripts 7 < "$work/longest"
 ends "0, scripts, 16,777,216 bytes" 0 $none
+for words in "lint 1" "lint 64"; do
+    # shellcheck disable=SC2086
+    run $words < "$here/lint/first.txt"
+    ends "0, $words" 0 "$here/lint/first.replies"
+done
+run lint 7 < /dev/null
+ends "0, an empty source" 0 "$here/lint/nothing.replies"
+run lint 7 < "$work/longest"
+ends "0, a source of 16,777,216 line feeds" 0 "$here/lint/nothing.replies"
 run --version
 echo "arena_run 0.1.0" > "$work/text"
 ends "0, --version" 0 "$work/text"
 run --help
 cat > "$work/text" <<'T'
-Runs calls on a bump arena, or scripts on arenas of a pool, and prints their replies.
+Runs calls on a bump arena, or scripts on arenas of a pool, and prints their replies; or lints sources.
 
 usage: arena_run calls              reads a call from each line of standard input
        arena_run gen START COUNT    makes so many calls from a number, and prints a summary
@@ -72,6 +81,7 @@ usage: arena_run calls              reads a call from each line of standard inpu
                                     each on one of so many arenas over so many bytes
        arena_run scripts WORKERS keep BYTES
                                     keeps of the arenas those of at most so many bytes
+       arena_run lint WORKERS       reads sources, and reports what 1 to 64 threads find in them
        arena_run --help             prints this text
        arena_run --version          prints the version
 
@@ -95,6 +105,9 @@ a script: script, and then its commands
        bind N KEY V, find N KEY, unbind N KEY
        load N, store N X
        len N, show N, copy N M, drop N
+
+sources: each ends before a line %%, and has a report
+       let NAME = EXPR;  EXPR;  { .. }                            what stands in one
 T
 ends "0, --help" 0 "$work/text"
 
@@ -102,7 +115,8 @@ ends "0, --help" 0 "$work/text"
 for words in "" "call" "calls calls" "calls --help" "--help calls" "--helps" "gen" "gen 1" "gen 1 1 1" "gen 01 1" "gen 1 01" \
     "gen 1 1000001" "gen 18446744073709551616 1" "scripts" "scripts 0" "scripts 65" "scripts 01" "scripts 1 1" "scripts 1 fixed 48" \
     "scripts 1 fixed 32 1" "scripts 1 fixed 56 1" "scripts 1 fixed 16777232 1" "scripts 1 fixed 48 0" "scripts 1 fixed 48 65" \
-    "scripts 1 keep" "scripts 1 keep 18446744073709551616" "scripts 1 keep 0 0"; do
+    "scripts 1 keep" "scripts 1 keep 18446744073709551616" "scripts 1 keep 0 0" "lint" "lint 0" "lint 65" "lint 01" "lint 1 1" \
+    "lint 1 keep 0"; do
     # shellcheck disable=SC2086
     run $words < "$first"
     ends "1, words '$words'" 1 $none
@@ -136,11 +150,17 @@ status=0
 (ulimit -v 16384; exec "$program" scripts 1 < "$work/longest" > "$work/out" 2> "$work/err") || status=$?
 ends "3, scripts, 16 MiB in all" 3 $none
 
+status=0
+(ulimit -v 16384; exec "$program" lint 1 < "$work/longest" > "$work/out" 2> "$work/err") || status=$?
+ends "3, sources, 16 MiB in all" 3 $none
+
 # 4: reading fails.
 run calls < "$work"
 ends "4, the input is a folder" 4 $none
 run scripts 2 < "$work"
 ends "4, scripts, the input is a folder" 4 $none
+run lint 2 < "$work"
+ends "4, sources, the input is a folder" 4 $none
 
 # 5: writing fails.
 status=0
@@ -158,6 +178,10 @@ status=0
 "$program" scripts 2 < "$here/scripts/first.txt" > /dev/full 2> "$work/err" || status=$?
 ends "5, the output for scripts is full" 5 $none
 
+status=0
+"$program" lint 2 < "$here/lint/first.txt" > /dev/full 2> "$work/err" || status=$?
+ends "5, the output for sources is full" 5 $none
+
 # 5: writing fails after a first part. The file may have 1,024 bytes.
 for _ in $(seq 1000); do echo used; done > "$work/input"
 for _ in $(seq 1000); do echo "number 0"; done | head -c 1024 > "$work/text"
@@ -171,5 +195,7 @@ run calls < "$work/longest"
 ends "6, 16,777,217 bytes" 6 $none
 run scripts 2 < "$work/longest"
 ends "6, scripts, 16,777,217 bytes" 6 $none
+run lint 2 < "$work/longest"
+ends "6, sources, 16,777,217 bytes" 6 $none
 
 exit $failed

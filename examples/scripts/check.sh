@@ -32,4 +32,22 @@ done
 # An arena of 96 bytes has room for what the first example costs, and one of no bytes for nothing.
 replies first "$here/first.replies" scripts 1 fixed 144 1
 replies first <(printf '%s\n' 'script 0' 'done' 'ended full') scripts 1 fixed 48 1
+
+# A fixed pool has just as many arenas as the words say: where the address space has a place for 16 regions more, 16 arenas more are made.
+# most_arenas KIB: of how many arenas of 16 MiB a pool can be made in so much address space.
+most_arenas() {
+    local arenas
+    for arenas in $(seq 1 64); do
+        (ulimit -v "$1" && "$program" scripts 1 fixed 16777216 "$arenas" < "$here/first.txt" > /dev/null 2>&1) || break
+    done
+    echo $((arenas - 1))
+}
+
+few=$(most_arenas 200000)
+if [ "$few" -gt 0 ] && [ "$(most_arenas $((200000 + 16 * 16400)))" = $((few + 16)) ]; then
+    echo "ok   as many arenas as the words say"
+else
+    echo "FAIL as many arenas as the words say"
+    failed=1
+fi
 exit $failed

@@ -9,6 +9,8 @@ use oxc_allocator::{
     Vec as ArenaVec,
 };
 
+use crate::symbols;
+
 /// One loop: its name, what an operation is, how many by default, and the work.
 struct Bench {
     name: &'static str,
@@ -18,7 +20,7 @@ struct Bench {
     run: fn(u64) -> (u64, u64),
 }
 
-fn timed<T>(work: impl FnOnce() -> T) -> (u64, T) {
+pub fn timed<T>(work: impl FnOnce() -> T) -> (u64, T) {
     let began = Instant::now();
     let got = work();
     (began.elapsed().as_nanos() as u64, got)
@@ -156,7 +158,7 @@ fn bitset_ones(ops: u64) -> (u64, u64) {
 }
 
 /// Distinct keys below 2^32 in scattered order.
-fn key(i: u64) -> u32 {
+pub fn key(i: u64) -> u32 {
     (i as u32).wrapping_mul(2_654_435_761)
 }
 
@@ -829,6 +831,36 @@ const BENCHES: &[Bench] = &[
         what: "pair of clone_in of a map",
         ops: 1_000_000,
         run: map_clone,
+    },
+    Bench {
+        name: "intern_new",
+        what: "intern of a new text",
+        ops: 1_000_000,
+        run: symbols::intern_new,
+    },
+    Bench {
+        name: "intern_known",
+        what: "intern of a text that has a number",
+        ops: 1_000_000,
+        run: symbols::intern_known,
+    },
+    Bench {
+        name: "scope_define",
+        what: "define in one scope",
+        ops: 1_000_000,
+        run: symbols::scope_define,
+    },
+    Bench {
+        name: "scope_lookup",
+        what: "lookup, half found",
+        ops: 1_000_000,
+        run: symbols::scope_lookup,
+    },
+    Bench {
+        name: "scope_enter",
+        what: "scope begun, four names in it, and ended",
+        ops: 10_000_000,
+        run: symbols::scope_enter,
     },
 ];
 

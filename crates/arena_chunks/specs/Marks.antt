@@ -1,8 +1,9 @@
 -- The marks of a run beside its names, and the log of names that going back to them may end.
-use Rattle.std.specs.Prelude.{◌≡◌, ◌≢◌, ℕ, ◌+◌, ◌-◌, ◌<◌, ◌≤◌, ◌⊎◌, ◌==◌, ◌&&◌, nat_lt, if◌then◌else◌, Bool, true, false, Some, None, IsTrue, List, [], ◌∷◌, ◌++◌, map, take, length, get_or, nat_eq}
+use Rattle.std.specs.Prelude.{◌≡◌, ◌≢◌, ℕ, ◌+◌, ◌-◌, ◌<◌, ◌≤◌, ◌⊎◌, ◌==◌, ◌&&◌, nat_lt, if◌then◌else◌, Bool, true, false, Some, None, IsTrue, List, [], ◌∷◌, ◌++◌, map, take, length, get_or}
 use Rattle.std.specs.Option.{is_some, option_map_or}
 use Rattle.std.specs.List.{AllByRecursion}
-use Rattle.std.specs.HashSet.{HashSet, contains}
+use Rattle.std.specs.Ordering.{nat_cmp}
+use Rattle.std.specs.BTreeSet.{BTreeSet, contains}
 use Rattle.std.specs.FinMap as finite
 use Rattle.placement.specs.State.{State, cursor_of, is_used}
 use Rattle.placement.specs.Back.{back, accepts, is_in_part}
@@ -31,9 +32,9 @@ AreDistinct [] = Unit {0}
 AreDistinct (m ∷ older) = (mark_named (named older) m.name ≡ None) × AreDistinct older
 
 -- the set has the marks' names
-pub record Knows {S : Type 0} (known : HashSet ℕ S) (marks : List Mark) : Type 0 where
+pub record Knows (known : BTreeSet ℕ) (marks : List Mark) : Type 0 where
   pub distinct : AreDistinct marks
-  pub names : (q : ℕ) → contains nat_eq known q ≡ is_some (mark_named (named marks) q)
+  pub names : (q : ℕ) → contains nat_cmp known q ≡ is_some (mark_named (named marks) q)
 
 -- ---- The log
 

@@ -3,4 +3,5 @@ pub mod ProgramLemmas
 pub mod MainLemmas
 pub mod ToldLemmas
 pub mod StatusLemmas
+mod LintStatusLemmas
 pub mod RunLemmas

@@ -1,6 +1,5 @@
 -- Which words ask for what.
-use Rattle.std.proofs.Common.{◌≡◌, ℕ, List, [], ◌∷◌, drop, get_or, refl, sym, ap, ◌∙◌, subst, arith, codes}
-use Rattle.placement.specs.Grammar.{number}
+use Rattle.std.proofs.Common.{◌≡◌, ℕ, List, [], ◌∷◌, drop, get_or, refl, sym, ap, ◌∙◌, subst, arith}
 use Rattle.arena_chunks.specs.Source.{Source}
 use Rattle.script_rules.specs.declared.commands.Command.{Command}
 use Rattle.script_rules.specs.declared.outcome.Outcome.{Outcome}
@@ -8,8 +7,9 @@ use Rattle.line_parts.proofs.ReadingLemmas.{number_same}
 use Rattle.arena_workers.specs.declared.served.Starved.{Starved}
 use Rattle.arena_calls.specs.Ends.{Outside, AsksCalls, AsksGen, EndsBy}
 use Rattle.arena_calls.specs.declared.status.Status.{Status}
-use Rattle.arena_program.specs.Words.{AsksScripts, lender_words}
+use Rattle.arena_program.specs.Words.{AsksScripts, AsksLint, lender_words}
 use Rattle.arena_program.specs.ScriptEnds.{ScriptEnds}
+use Rattle.arena_program.specs.LintEnds.{LintEnds}
 use Rattle.arena_program.specs.MainEnds.{MainEnds}
 use Rattle.arena_program.specs.declared.tasks.Lender.{Lender}
 use Rattle.arena_program.specs.declared.tasks.Lender.TheVariants.{Standard, Keeping, Fixed}
@@ -28,6 +28,19 @@ no_calls words task scripts calls = let first : ◌≡◌ {A = ℕ} 115 99 = ap 
 no_gen : (words : List (List ℕ)) (task : Task) (start count : ℕ) → AsksScripts words task → AsksGen words start count → ⊥
 no_gen words task start count scripts gen =
     let first : ◌≡◌ {A = ℕ} 115 103 = ap letter (sym scripts.all ∙ gen.all) in absurd (omega arith)
+
+no_lint : (words : List (List ℕ)) (task : Task) (workers : ℕ) → AsksScripts words task → AsksLint words workers → ⊥
+no_lint words task workers scripts lint =
+    let first : ◌≡◌ {A = ℕ} 115 108 = ap letter (sym scripts.all ∙ lint.all) in absurd (omega arith)
+
+-- ---- And so do words that ask for sources to be linted
+
+lint_no_calls : (words : List (List ℕ)) (workers : ℕ) → AsksLint words workers → AsksCalls words → ⊥
+lint_no_calls words workers lint calls = let first : ◌≡◌ {A = ℕ} 108 99 = ap letter (sym lint.all ∙ calls) in absurd (omega arith)
+
+lint_no_gen : (words : List (List ℕ)) (workers start count : ℕ) → AsksLint words workers → AsksGen words start count → ⊥
+lint_no_gen words workers start count lint gen =
+    let first : ◌≡◌ {A = ℕ} 108 103 = ap letter (sym lint.all ∙ gen.all) in absurd (omega arith)
 
 -- ---- They name one pool
 
@@ -68,16 +81,29 @@ module _ {C : Type 0} (source : C → Source) (worked : List Command → Outcome
     gen = λ start count gen. absurd (no_gen words task start count asks gen);
     scripts = λ other asked. subst (λ lender. ScriptEnds source worked lender status old new before after)
         (one_lender words task other asks asked) ends;
-    other = λ calls gen scripts. absurd (scripts task asks);
-    unstarved = λ none. absurd (none task asks);
+    lint = λ workers lint. absurd (no_lint words task workers asks lint);
+    other = λ calls gen scripts lint. absurd (scripts task asks);
+    unstarved = λ none lint. absurd (none task asks);
   }
 
-  pub calls_ended : ((task : Task) → AsksScripts words task → ⊥) → EndsBy words status old new → after ≡ before
+  pub lint_ended : (workers : ℕ) → AsksLint words workers → LintEnds source status old new before after
       → MainEnds source worked words status old new before after
-  calls_ended none ends kept = record {
+  lint_ended workers asks ends = record {
+    calls = λ calls. absurd (lint_no_calls words workers asks calls);
+    gen = λ start count gen. absurd (lint_no_gen words workers start count asks gen);
+    scripts = λ task scripts. absurd (no_lint words task workers scripts asks);
+    lint = λ others asked. ends;
+    other = λ calls gen scripts lint. absurd (lint workers asks);
+    unstarved = λ scripts none. absurd (none workers asks);
+  }
+
+  pub calls_ended : ((task : Task) → AsksScripts words task → ⊥) → ((workers : ℕ) → AsksLint words workers → ⊥) → EndsBy words status old new → after ≡ before
+      → MainEnds source worked words status old new before after
+  calls_ended none unlinted ends kept = record {
     calls = ends.calls;
     gen = ends.gen;
     scripts = λ task asks. absurd (none task asks);
-    other = λ calls gen scripts. ends.other calls gen;
-    unstarved = λ n. kept;
+    lint = λ workers asks. absurd (unlinted workers asks);
+    other = λ calls gen scripts lint. ends.other calls gen;
+    unstarved = λ n m. kept;
   }

@@ -1,5 +1,5 @@
 -- An input that was read to its end.
-use Rattle.std.proofs.Common.{◌≡◌, ℕ, ◌≤◌, List, [], length, Option, Some, None, sym, ◌∙◌, subst}
+use Rattle.std.proofs.Common.{ℕ, ◌≤◌, List, [], length, Option, Some, None, sym, ◌∙◌, subst}
 use Rattle.std.proofs.lemmas.List.{append-nil}
 use Rattle.arena_calls.specs.ReadAll.{limit, TakesFront, TakesWhole}
 

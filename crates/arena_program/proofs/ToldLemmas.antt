@@ -2,38 +2,50 @@
 use Rattle.std.proofs.Common.{◌≡◌, ℕ, ◌+◌, List, [], ◌∷◌, ◌++◌, map, refl, sym, ap, ◌∙◌, append_assoc}
 use Rattle.std.specs.List.{flat_map}
 use Rattle.std.proofs.lemmas.Grind.{flat_map-append}
-use Rattle.script_rules.specs.Outcomes.{Told, told, outcome_lines, lines_from, with_feed}
-use Rattle.script_rules.specs.declared.outcome.Outcome.{Outcome}
+use Rattle.script_rules.specs.Outcomes.{told, outcome_lines, lines_from, with_feed}
 use Rattle.arena_workers.specs.declared.served.Served.{Served}
 use Rattle.arena_workers.specs.declared.served.Starved.{Starved}
 use Rattle.script_lines.specs.Room.{outcome_text}
+use Rattle.lint_reports.specs.Reports.{report_text}
+use Rattle.lint_reports.specs.Reports as reports
+use Rattle.lint_reports.proofs.ReportLemmas.{reports_more}
 use Rattle.arena_program.specs.ScriptEnds.{All, shown, starved_of, text_of_served}
+use Rattle.arena_program.specs.Told.{text_from}
+use Rattle.arena_program.specs.LintEnds.{Reported, text_of_linted}
 
--- the text of what came of scripts, the first of which has this number
-abbrev pub text_from : {C : Type 0} → ℕ → All C → List ℕ
-text_from i all = flat_map with_feed (lines_from i (map (λ served. told served.outcome) all))
+-- ---- The texts of all
 
-pub text_whole : {C : Type 0} (all : All C) → text_from 0 all ≡ text_of_served all
-text_whole all = ap (λ outcomes. flat_map with_feed (lines_from 0 outcomes)) (both all)
-  where
-    both : {C : Type 0} (all : All C) → map (λ served. told served.outcome) all ≡ map told (map (λ served. served.outcome) all)
-    both [] = refl
-    both (served ∷ all) = ap (λ xs. told served.outcome ∷ xs) (both all)
+scripts_from : {C : Type 0} (i : ℕ) (all : All C) → text_from (λ j outcome. outcome_text j (told outcome)) i all
+    ≡ flat_map with_feed (lines_from i (map told (map (λ served. served.outcome) all)))
+scripts_from i [] = refl
+scripts_from i (served ∷ all) = ap (λ xs. outcome_text i (told served.outcome) ++ xs) (scripts_from (i + 1) all)
+    ∙ sym (flat_map-append with_feed (outcome_lines i (told served.outcome)) (lines_from (i + 1) (map told (map (λ s. s.outcome) all))))
 
--- the text of the next one was put
-pub text_step : {C : Type 0} (whole old new : List ℕ) (i : ℕ) (served : Served Outcome C) (all rest : All C) → all ≡ served ∷ rest
-    → old ++ text_from i all ≡ whole → new ≡ old ++ outcome_text i (told served.outcome) → new ++ text_from (i + 1) rest ≡ whole
-text_step whole old new i served all rest first before put =
-    let own = outcome_text i (told served.outcome) in
-    ap (λ xs. xs ++ text_from (i + 1) rest) put ∙ append_assoc old own (text_from (i + 1) rest)
-    ∙ ap (λ xs. old ++ xs) (sym (flat_map-append with_feed (outcome_lines i (told served.outcome))
-    (lines_from (i + 1) (map (λ s. told s.outcome) rest))))
-    ∙ ap (λ xs. old ++ text_from i xs) (sym first) ∙ before
+pub scripts_whole : {C : Type 0} (all : All C) → text_from (λ j outcome. outcome_text j (told outcome)) 0 all ≡ text_of_served all
+scripts_whole all = scripts_from 0 all
 
--- what shows that it was starved was put
-pub starved_step : {C : Type 0} (whole old new : List (ℕ × Starved C)) (i : ℕ) (served : Served Outcome C) (all rest : All C)
-    → all ≡ served ∷ rest
-    → old ++ starved_of i all ≡ whole → new ≡ old ++ shown i served.starved → new ++ starved_of (i + 1) rest ≡ whole
-starved_step whole old new i served all rest first before put =
-    ap (λ xs. xs ++ starved_of (i + 1) rest) put ∙ append_assoc old (shown i served.starved) (starved_of (i + 1) rest)
-    ∙ ap (λ xs. old ++ starved_of i xs) (sym first) ∙ before
+reports_from : {C : Type 0} (i : ℕ) (all : Reported C) → text_from report_text i all
+    ≡ flat_map reports.with_feed (reports.lines_from i (map (λ linted. linted.outcome) all))
+reports_from i [] = refl
+reports_from i (linted ∷ all) = ap (λ xs. report_text i linted.outcome ++ xs) (reports_from (i + 1) all)
+    ∙ sym (reports_more i linted.outcome (map (λ l. l.outcome) all))
+
+pub reports_whole : {C : Type 0} (all : Reported C) → text_from report_text 0 all ≡ text_of_linted all
+reports_whole all = reports_from 0 all
+
+-- ---- One after another
+
+module _ {Outcome C : Type 0} (i : ℕ) (served : Served Outcome C) (all rest : List (Served Outcome C)) (first : all ≡ served ∷ rest) where
+  -- the text of the next one was put
+  pub text_step : (text : ℕ → Outcome → List ℕ) (whole old new : List ℕ) → old ++ text_from text i all ≡ whole
+      → new ≡ old ++ text i served.outcome → new ++ text_from text (i + 1) rest ≡ whole
+  text_step text whole old new before put =
+      ap (λ xs. xs ++ text_from text (i + 1) rest) put ∙ append_assoc old (text i served.outcome) (text_from text (i + 1) rest)
+      ∙ ap (λ xs. old ++ text_from text i xs) (sym first) ∙ before
+
+  -- what shows that it was starved was put
+  pub starved_step : (whole old new : List (ℕ × Starved C)) → old ++ starved_of i all ≡ whole
+      → new ≡ old ++ shown i served.starved → new ++ starved_of (i + 1) rest ≡ whole
+  starved_step whole old new before put =
+      ap (λ xs. xs ++ starved_of (i + 1) rest) put ∙ append_assoc old (shown i served.starved) (starved_of (i + 1) rest)
+      ∙ ap (λ xs. old ++ starved_of i xs) (sym first) ∙ before

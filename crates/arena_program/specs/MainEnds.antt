@@ -7,17 +7,19 @@ use Rattle.arena_workers.specs.declared.served.Starved.{Starved}
 use Rattle.arena_calls.specs.Ends.{Outside, Ends, GenEnds, AsksCalls, AsksGen}
 use Rattle.arena_calls.specs.declared.status.Status.{Status}
 use Rattle.arena_calls.specs.declared.status.Status.TheVariants.{Usage}
-use Rattle.arena_program.specs.Words.{AsksScripts}
+use Rattle.arena_program.specs.Words.{AsksScripts, AsksLint}
 use Rattle.arena_program.specs.ScriptEnds.{ScriptEnds}
+use Rattle.arena_program.specs.LintEnds.{LintEnds}
 use Rattle.arena_program.specs.declared.tasks.Task.{Task}
 
--- The run ends as what the words ask for. Other words are none, and nothing is touched. Where no scripts are asked for, nothing is gained
--- of what shows that scripts were starved.
+-- The run ends as what the words ask for. Other words are none, and nothing is touched. Where neither scripts nor
+-- sources are asked for, nothing is gained of what shows that they were starved.
 pub record MainEnds {C : Type 0} (source : C → Source) (worked : List Command → Outcome → Type 0) (words : List (List ℕ))
     (status : Status) (old new : Outside) (before after : List (ℕ × Starved C)) : Type 0 where
   pub calls : AsksCalls words → Ends status old new
   pub gen : (start count : ℕ) → AsksGen words start count → GenEnds start count status old new
   pub scripts : (task : Task) → AsksScripts words task → ScriptEnds source worked task.lender status old new before after
+  pub lint : (workers : ℕ) → AsksLint words workers → LintEnds source status old new before after
   pub other : (AsksCalls words → ⊥) → ((start count : ℕ) → AsksGen words start count → ⊥)
-      → ((task : Task) → AsksScripts words task → ⊥) → (status ≡ Usage) × (new ≡ old)
-  pub unstarved : ((task : Task) → AsksScripts words task → ⊥) → after ≡ before
+      → ((task : Task) → AsksScripts words task → ⊥) → ((workers : ℕ) → AsksLint words workers → ⊥) → (status ≡ Usage) × (new ≡ old)
+  pub unstarved : ((task : Task) → AsksScripts words task → ⊥) → ((workers : ℕ) → AsksLint words workers → ⊥) → after ≡ before

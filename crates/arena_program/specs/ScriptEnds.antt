@@ -29,13 +29,13 @@ kind_of (Fixed bytes arenas) = kind.FixedSize bytes
 abbrev pub All : Type 0 → Type 0
 All C = List (Served Outcome C)
 
--- what shows that the script of this number was starved, if something does
+-- what shows that the piece of work of this number was starved, if something does
 abbrev pub shown : {C : Type 0} → ℕ → Option (Starved C) → List (ℕ × Starved C)
 shown i None = []
 shown i (Some starved) = (i, starved) ∷ []
 
--- the same of each script, the first of which has this number
-abbrev pub starved_of : {C : Type 0} → ℕ → All C → List (ℕ × Starved C)
+-- the same of each, the first of which has this number
+abbrev pub starved_of : {Outcome C : Type 0} → ℕ → List (Served Outcome C) → List (ℕ × Starved C)
 starved_of i [] = []
 starved_of i (served ∷ all) = shown i served.starved ++ starved_of (i + 1) all
 

@@ -1,4 +1,4 @@
--- The words that ask for scripts.
+-- The words that ask for scripts, or for sources to be linted.
 use Rattle.std.specs.Prelude.{◌≡◌, ◌≢◌, ℕ, ◌%◌, ◌^◌, ◌-◌, ◌≤◌, List, [], ◌∷◌, Option, IfSome, MatchOption, Some, codes}
 use Rattle.std.specs.Option.{option_map}
 use Rattle.std.specs.Borrow.{Bor}
@@ -28,6 +28,15 @@ pub record AsksScripts (words : List (List ℕ)) (task : Task) : Type 0 where
   pub all : words ≡ codes "scripts" ∷ number task.workers ∷ lender_words task.lender
   pub some_workers : IsWithin 1 64 task.workers
   pub lends : IsLender task.lender
+
+-- sources that so many workers lint
+pub record AsksLint (words : List (List ℕ)) (workers : ℕ) : Type 0 where
+  pub all : words ≡ codes "lint" ∷ number workers ∷ []
+  pub some_workers : IsWithin 1 64 workers
+
+-- how many workers lint, or that the words ask for no linting
+abbrev pub AsksLinters : List (List ℕ) → Option ℕ → Type 0
+AsksLinters words asked = MatchOption asked ((workers : ℕ) → AsksLint words workers → ⊥) (λ workers. AsksLint words workers)
 
 -- what the words ask for, or that they ask for no scripts
 abbrev pub AsksTask : List (List ℕ) → Option Task → Type 0

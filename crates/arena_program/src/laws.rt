@@ -1,4 +1,4 @@
-// Laws of the statuses of runs of scripts.
+// Laws of the statuses of runs of scripts, and of runs in which sources are linted.
 ghost use Rattle.std.specs.Prelude.{◌≡◌, ◌≢◌, ◌<◌, ◌≤◌, ◌⊎◌, ℕ, List, Some, Result, length};
 ghost use Rattle.script_rules.specs.Grammar.{ScriptsOf};
 ghost use Rattle.script_rules.specs.declared.commands.Command.{Command};
@@ -7,6 +7,7 @@ ghost use Rattle.arena_calls.specs.Ends.{Outside, IsFaultless};
 ghost use Rattle.arena_calls.specs.ReadAll.{limit};
 ghost use Rattle.arena_calls.specs.declared.status.Status.{Status};
 ghost use Rattle.arena_program.specs.ScriptEnds.{ScriptEnds, status_of};
+ghost use Rattle.arena_program.specs.LintEnds.{LintEnds};
 ghost use Rattle.arena_program.specs.declared.tasks.Lender.{Lender};
 
 use arena_chunks::ChunkSource;
@@ -37,4 +38,24 @@ pub fn told_script_faults<C: ChunkSource, J: Job<C>>()
     ensures writes { (lender : Lender) (status : Status) (old new : Outside) (before after : List (ℕ × Starved C))
         → ScriptEnds C.source J.worked lender status old new before after
         → new.write_faults ≢ old.write_faults → status ≡ Status.WriteFault }
+{}
+
+/// Where nothing fails, an input that isn't too long is linted, unless memory is wanting.
+#[tactic(auto, using(crate::proofs::LintStatusLemmas::within, crate::proofs::LintStatusLemmas::over))]
+pub fn one_lint_status<C: ChunkSource>()
+    ensures within { (status : Status) (old new : Outside) (before after : List (ℕ × Starved C)) (bytes : List ℕ)
+        → LintEnds C.source status old new before after → IsFaultless old new → old.left ≡ Some bytes → length bytes ≤ limit
+        → (status ≡ Status.Done) ⊎ (status ≡ Status.OutOfMemory) }
+    ensures over { (status : Status) (old new : Outside) (before after : List (ℕ × Starved C)) (bytes : List ℕ)
+        → LintEnds C.source status old new before after → IsFaultless old new → old.left ≡ Some bytes → limit < length bytes
+        → (status ≡ Status.InputTooLong) ⊎ (status ≡ Status.OutOfMemory) }
+{}
+
+/// A fault is told as such there too.
+#[tactic(auto, using(crate::proofs::LintStatusLemmas::told_reads, crate::proofs::LintStatusLemmas::told_writes))]
+pub fn told_lint_faults<C: ChunkSource>()
+    ensures reads { (status : Status) (old new : Outside) (before after : List (ℕ × Starved C))
+        → LintEnds C.source status old new before after → new.read_faults ≢ old.read_faults → status ≡ Status.ReadFault }
+    ensures writes { (status : Status) (old new : Outside) (before after : List (ℕ × Starved C))
+        → LintEnds C.source status old new before after → new.write_faults ≢ old.write_faults → status ≡ Status.WriteFault }
 {}

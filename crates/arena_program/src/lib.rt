@@ -4,6 +4,7 @@
 mod arguments;
 mod budget;
 pub mod laws;
+mod lint;
 mod messages;
 mod pools;
 mod program;

@@ -18,7 +18,7 @@ pub fn explain<E: Output>(messages: &mut E, status: &Status) -> Result<(), Faile
         Status::Done => Ok(()),
         Status::Usage => write_all(
             messages,
-            b"usage: arena_run calls | gen START COUNT | scripts WORKERS [fixed BYTES ARENAS | keep BYTES]\n",
+            b"usage: arena_run calls | gen START COUNT | scripts WORKERS [fixed BYTES ARENAS | keep BYTES] | lint WORKERS\n",
         ),
         Status::BadLine(n) => explain_line(messages, *n),
         Status::OutOfMemory => write_all(messages, b"out of memory\n"),

@@ -24,7 +24,7 @@ use std::sync::Wait;
 use std::thread::Threads;
 
 const HELP: &str = "\
-Runs calls on a bump arena, or scripts on arenas of a pool, and prints their replies.
+Runs calls on a bump arena, or scripts on arenas of a pool, and prints their replies; or lints sources.
 
 usage: arena_run calls              reads a call from each line of standard input
        arena_run gen START COUNT    makes so many calls from a number, and prints a summary
@@ -33,6 +33,7 @@ usage: arena_run calls              reads a call from each line of standard inpu
                                     each on one of so many arenas over so many bytes
        arena_run scripts WORKERS keep BYTES
                                     keeps of the arenas those of at most so many bytes
+       arena_run lint WORKERS       reads sources, and reports what 1 to 64 threads find in them
        arena_run --help             prints this text
        arena_run --version          prints the version
 
@@ -56,6 +57,9 @@ a script: script, and then its commands
        bind N KEY V, find N KEY, unbind N KEY
        load N, store N X
        len N, show N, copy N M, drop N
+
+sources: each ends before a line %%, and has a report
+       let NAME = EXPR;  EXPR;  { .. }                            what stands in one
 ";
 
 const VERSION: &str = "arena_run 0.1.0\n";
@@ -147,18 +151,12 @@ pub fn run_program<
 {
     let status = match args {
         Ok(args) => match words(alloc, args) {
-            Ok(words) => serve(
-                rt,
-                alloc,
-                words.as_slice(),
-                arena,
-                chunks,
-                input,
-                output,
-                maker,
-                job,
-                starved,
-            ),
+            Ok(words) => {
+                let words = words.as_slice();
+                serve(
+                    rt, alloc, words, arena, chunks, input, output, maker, job, starved,
+                )
+            }
             Err(_) => Status::OutOfMemory,
         },
         Err(error) => without_words(&error),

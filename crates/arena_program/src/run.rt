@@ -6,7 +6,7 @@ ghost use Rattle.arena_program.specs.ScriptEnds.{ScriptEnds};
 
 use crate::pools::run_task;
 use crate::tasks::Task;
-use crate::told::tell;
+use crate::told::report;
 use arena_calls::{Input, Output, ReadErr, Status, read_all, write_all};
 use arena_pool::ChunkMaker;
 use arena_script::Job;
@@ -59,13 +59,10 @@ pub fn run_lines_of_scripts<
     };
     // The scripts are let go before the text is made, which needs much memory.
     drop(scripts);
-    let Ok(mut told) = tell(alloc, all) else {
+    let Ok(text) = report(alloc, all, starved) else {
         return Status::OutOfMemory;
     };
-    let Ok(()) = starved.append(&mut told.starved) else {
-        return Status::OutOfMemory;
-    };
-    match write_all(output, told.text.as_slice()) {
+    match write_all(output, text.as_slice()) {
         Ok(()) => Status::Done,
         Err(_) => Status::WriteFault,
     }

@@ -1,6 +1,6 @@
-// What the program's words ask of scripts.
+// What the program's words ask of scripts and of sources.
 ghost use Rattle.std.specs.Prelude.{ℕ, List, ◌∷◌, ◌≡◌, ◌≢◌, ◌≤◌, MatchOption};
-ghost use Rattle.arena_program.specs.Words.{ReadsWord, NamesLender, AsksTask};
+ghost use Rattle.arena_program.specs.Words.{ReadsWord, NamesLender, AsksTask, AsksLinters};
 
 use arena_chunks::Bytes;
 use line_parts::whole_number;
@@ -90,4 +90,16 @@ pub fn task_of(words: &[Bytes]) -> Option<Task>
         workers: workers as u32,
         lender,
     })
+}
+
+/// How many workers the words ask for to lint sources, if they ask for that.
+pub fn linters_of(words: &[Bytes]) -> Option<u32>
+    ensures { AsksLinters words.now result }
+{
+    let rest = behind_word(words, b"lint")?;
+    let (workers, rest) = word_number(rest, 1, 64)?;
+    if !rest.is_empty() {
+        return None;
+    }
+    Some(workers as u32)
 }

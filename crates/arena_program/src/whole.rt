@@ -3,8 +3,9 @@ ghost use Rattle.arena_chunks.specs.Source.{view};
 ghost use Rattle.arena_calls.specs.Ends.{outside};
 ghost use Rattle.arena_program.specs.MainEnds.{MainEnds};
 
+use crate::lint::run_sources;
 use crate::run::run_lines_of_scripts;
-use crate::tasks::task_of;
+use crate::tasks::{linters_of, task_of};
 use arena_calls::{Input, Output, Status, arena_calls};
 use arena_chunks::{Arena, Bytes, ChunkSource};
 use arena_pool::ChunkMaker;
@@ -14,11 +15,11 @@ use std::alloc::Global;
 use std::sync::Wait;
 use std::thread::Threads;
 
-/// Does what the words ask for: runs calls on the arena, as `arena_calls`, or runs scripts by `job`, each on an arena of a
-/// pool with a source of `maker`, and writes what they answered. Nothing is written before all was run. With scripts it
-/// waits at the pool's lock, and `starved` gains the number of each script that ended refused, with what shows that it was
-/// starved.
-#[tactic(auto, using(crate::proofs::MainLemmas::scripts_ended, crate::proofs::MainLemmas::calls_ended))]
+/// Does what the words ask for: runs calls on the arena, as `arena_calls`, or runs scripts by `job` or lints sources, each on
+/// an arena of a pool with a source of `maker`, and writes what they answered. Nothing is written before all was run. With
+/// scripts and sources it waits at the pool's lock, and `starved` gains the number of each that ended refused, with what shows
+/// that it was starved.
+#[tactic(auto, using(crate::proofs::MainLemmas::scripts_ended, crate::proofs::MainLemmas::lint_ended, crate::proofs::MainLemmas::calls_ended))]
 pub fn arena_main<
     C: ChunkSource,
     I: Input,
@@ -47,6 +48,9 @@ pub fn arena_main<
 {
     match task_of(words) {
         Some(task) => run_lines_of_scripts(rt, alloc, task, input, output, maker, job, starved),
-        None => arena_calls(alloc, words, arena, chunks, input, output),
+        None => match linters_of(words) {
+            Some(workers) => run_sources(rt, alloc, workers, input, output, maker, starved),
+            None => arena_calls(alloc, words, arena, chunks, input, output),
+        },
     }
 }

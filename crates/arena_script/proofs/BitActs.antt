@@ -30,7 +30,7 @@ use Rattle.arena_script.specs.Wants.{takes_room}
 use Rattle.arena_script.specs.Acts.{GivesThing, GivesNothing}
 use Rattle.arena_script.specs.declared.thing.Thing.TheVariants as thing
 use Rattle.arena_script.proofs.CostFacts.{still, same_used, nothing_given, block_given, block_refused}
-use Rattle.arena_script.proofs.GivingLemmas.{exchanged, made, not_made}
+use Rattle.arena_script.proofs.GivingLemmas.{exchanged, made, kept}
 use Rattle.arena_script.proofs.ThingLemmas.{Holds, other_name}
 use Rattle.arena_script.proofs.BitFacts.{has_below, bits_with, bits_without, bits_joined, bits_none}
 
@@ -115,7 +115,7 @@ module _ {command : Command} {things : Things} {old new : View} {name capacity :
       places.placed.1.outcome.of_layout.of_size,
     );
     costs = block_given old new new (words_for capacity * 8) 8 (8 * words_for capacity + 7) 0 0 one (set_layout capacity small) (omega arith)
-        (omega (arith, small)) (still new) s.words.block (omega arith) places.placed;
+        (omega (arith, small)) (omega arith) (still new) s.words.block places.placed;
     frame = places.frame;
   })
     where
@@ -124,9 +124,9 @@ module _ {command : Command} {things : Things} {old new : View} {name capacity :
           ∙ ap (λ c. ASet c (bits_below (bits_end c) set)) places.capacity
 
   pub made_gives_nothing : {e : AllocError} → PlacesSet old new capacity set (Err e) → GivesNothing command things old new e
-  made_gives_nothing {e} places = not_made none taken given
+  made_gives_nothing {e} places = kept none taken given
       (block_refused old new new (words_for capacity * 8) 8 (8 * words_for capacity + 7) 0 0 one (set_layout capacity small) (omega arith)
-      (omega (arith, small)) (still new) (λ (s : BitSet). s.words.block) e (omega arith) places.placed)
+      (omega (arith, small)) (omega arith) (still new) (λ (s : BitSet). s.words.block) e places.placed)
 
 -- ---- Two sets
 

@@ -5,6 +5,8 @@ use Rattle.placement.specs.Rounding.{is_layout}
 use Rattle.placement.specs.State.{State, used_bytes, allocated_bytes}
 use Rattle.placement.specs.Asking.{IsStarved as IsStateStarved}
 use Rattle.placement.proofs.AskingLemmas.{asks_more, asks_then}
+use Rattle.placement.proofs.GrownLemmas.{alloc_failed}
+use Rattle.placement.proofs.RoundingLemmas.{layout_power}
 use Rattle.arena_chunks.specs.Source.{View}
 use Rattle.arena_chunks.specs.Answers.{Answer}
 use Rattle.arena_chunks.specs.Answers.Answer.{Placed, Wanting, Refused}
@@ -12,15 +14,16 @@ use Rattle.arena_chunks.specs.BlockCalls.{PlacesBlock}
 use Rattle.arena_chunks.specs.declared.block.Block.{Block}
 use Rattle.arena_chunks.proofs.Layers.{asks_same}
 use Rattle.arena_items.specs.Costs.{Costs, farthest}
-use Rattle.arena_items.specs.Room.{MakesRoom, TakesRoom, RoomAnswer, SamePlaces}
+use Rattle.arena_items.specs.Room.{MakesRoom, TakesRoom, RoomAnswer, SamePlaces, capacity_after}
 use Rattle.arena_items.specs.Values.{IsHeld}
-use Rattle.arena_items.specs.declared.room.Growth.TheVariants.{GrowsTo}
+use Rattle.arena_items.specs.declared.room.Growth.{Growth}
+use Rattle.arena_items.specs.declared.room.Growth.TheVariants.{Stays, GrowsTo, Overflows}
 use Rattle.arena_items.specs.declared.room.AllocError.{AllocError}
 use Rattle.arena_items.specs.declared.room.AllocError.TheVariants.{AllocErr, CapacityOverflow, OutOfMemory}
-use Rattle.arena_items.proofs.Layers.{costs_nothing, room_costs, costs_weaken}
+use Rattle.arena_items.proofs.Layers.{costs_nothing, room_brings, room_costs, taken_refused, costs_weaken}
 use Rattle.script_rules.specs.declared.commands.Command.{Command}
 use Rattle.arena_script.specs.Things.{Things}
-use Rattle.arena_script.specs.Acts.{used, far, CostsGiven, CostsRefused, GivesNothing, Acts}
+use Rattle.arena_script.specs.Acts.{used, far, CostsGiven, CostsRefused, HasNoPlace, GivesNothing, Acts}
 use Rattle.arena_script.specs.declared.act.Act.{Act}
 
 pub still : (a : View) → SamePlaces a a
@@ -70,6 +73,7 @@ costs_from near cost before after old start new result written costs =
 pub record IsRefused (cost before : ℕ) (old new : View) (e : AllocError) : Type 0 where
   pub fits : e ≢ CapacityOverflow
   pub costs : CostsRefused cost before before old new e
+  pub denied : (k : ℕ) → e ≡ AllocErr k → HasNoPlace (used old + (cost + before)) new
   pub same : new.memory.state ≡ old.memory.state
 
 -- What was refused is handed on.
@@ -78,60 +82,86 @@ pub not_given : {command : Command} {things : Things} {old new : View} {e : Allo
 not_given (Ok act) is gives = absurd is
 not_given {command} {things} {old} {new} (Err x) is gives = inl (subst (λ y. GivesNothing command things old new y) (sym is) gives)
 
--- ---- Room that grows
+-- ---- Room by a growth
 
-module _ (old new : View) (block : Block) (size align cap more : ℕ) (cost before after : ℕ) (one : old.memory.state.min_align ≡ 1)
-    (held : IsHeld (cap * size) align old.memory.state block) (greater : cap ≤ more) (layout : IsTrue (is_layout (more * size) align))
-    (small : align ≤ 16) (bounded : more * size ≤ 2 ^ 60) where
-  pub room_given : (b : Block) → more * size + (align - 1) + after ≤ cost + before
-      → MakesRoom {X = Unit {0}} size align old new block cap (GrowsTo more) (λ _. b) (Ok tt) → CostsGiven cost before after old new
-  room_given b paid made =
+-- What a growth asks for, if anything, is paid by the cost and the credit, and so is the credit afterwards.
+abbrev pub IsPaid : (size align cap : ℕ) → Growth → (cost before after : ℕ) → Type 0
+IsPaid size align cap Stays cost before after = after ≤ cost + before
+IsPaid size align cap (GrowsTo more) cost before after = (cap ≤ more) × IsTrue (is_layout (more * size) align)
+    × (more * size ≤ 2 ^ 60) × (more * size + (align - 1) + after ≤ cost + before)
+IsPaid size align cap Overflows cost before after = ⊥
+
+module _ {X : Type 0} (old new : View) (block : Block) (size align cap : ℕ) (f : X → Block) (cost before after : ℕ)
+    (one : old.memory.state.min_align ≡ 1) (held : IsHeld (cap * size) align old.memory.state block) (small : align ≤ 16) where
+  pub grown_least : (growth : Growth) (x : X) → IsPaid size align cap growth cost before after
+      → (f x).size ≡ capacity_after growth cap * size → MakesRoom size align old new block cap growth f (Ok x)
+      → used old + (f x).size ≤ used new + block.size
+  grown_least Stays x paid sized made = rw made.0 (omega (arith, same_used old new made.1))
+  grown_least (GrowsTo more) x (greater, layout, bounded, paid) sized made =
+      omega (arith, (room_brings old new block size align cap f more one held layout x greater made).least, sized)
+  grown_least Overflows x paid sized made = absurd paid
+
+  pub grown_costs : (growth : Growth) (x : X) → IsPaid size align cap growth cost before after
+      → MakesRoom size align old new block cap growth f (Ok x) → CostsGiven cost before after old new
+  grown_costs Stays x paid made = nothing_given cost before after old new made.1 paid
+  grown_costs (GrowsTo more) x (greater, layout, bounded, paid) made =
       costs_weaken far farthest cost cost before after old new (Ok tt) (omega arith) (omega arith)
-      (room_costs old new block size align cap more (λ _. b) cost before after one held (Ok tt) greater (record {
+      (room_costs old new block size align cap more (λ (u : Unit {0}). f x) cost before after one held (Ok tt) greater (record {
         layout = layout;
         small = small;
         bounded = bounded;
         within = omega (arith, paid);
         ok = paid;
         err = tt;
-      }) made)
+      }) (record { between = made.between; took = made.took; places = made.places }))
+  grown_costs Overflows x paid made = absurd paid
 
-  pub room_refused : {X : Type 0} (f : X → Block) (e : AllocError) → more * size + (align - 1) ≤ cost + before
-      → new.memory.state ≡ old.memory.state → MakesRoom size align old new block cap (GrowsTo more) f (Err e) → IsRefused cost before old
-      new e
-  room_refused {X} f e paid same made = by e (no_overflow e made) (as_unit e made)
+  pub grown_refused : (growth : Growth) (e : AllocError) → IsPaid size align cap growth cost before after
+      → new.memory.state ≡ old.memory.state → MakesRoom size align old new block cap growth f (Err e) → IsRefused cost before old new e
+  grown_refused Stays e paid same made = absurd made.0
+  grown_refused Overflows e paid same made = absurd paid
+  grown_refused (GrowsTo more) e (greater, layout, bounded, paid) same made = let is = as_unit e made in record {
+    fits = is.0;
+    costs = costs_weaken far farthest cost cost before before old new (Err e) (omega arith) (omega arith)
+        (room_costs old new block size align cap more (λ (u : Unit {0}). block) cost before before one held (Err e) greater (record {
+          layout = layout;
+          small = small;
+          bounded = bounded;
+          within = omega (arith, paid);
+          ok = tt;
+          err = omega arith;
+        }) is.1);
+    denied = is.2;
+    same = same;
+  }
     where
-      no_overflow : (e : AllocError) → MakesRoom size align old new block cap (GrowsTo more) f (Err e) → e ≢ CapacityOverflow
-      no_overflow (AllocErr k) made is = cc
-      no_overflow OutOfMemory made is = cc
-      no_overflow CapacityOverflow made is = made.took
-
-      as_unit : (e : AllocError) → MakesRoom size align old new block cap (GrowsTo more) f (Err e)
-          → MakesRoom {X = Unit {0}} size align old new block cap (GrowsTo more) (λ _. block) (Err e)
-      as_unit (AllocErr k) made = record { between = made.between; took = made.took; places = made.places }
-      as_unit OutOfMemory made = record { between = made.between; took = made.took; places = made.places }
-      as_unit CapacityOverflow made = absurd made.took
-
-      by : (e : AllocError) → e ≢ CapacityOverflow
-          → MakesRoom {X = Unit {0}} size align old new block cap (GrowsTo more) (λ _. block) (Err e) → IsRefused cost before old new e
-      by e fits made = record {
-        fits = fits;
-        costs = costs_weaken far farthest cost cost before before old new (Err e) (omega arith) (omega arith)
-            (room_costs old new block size align cap more (λ _. block) cost before before one held (Err e) greater (record {
+      as_unit : (e : AllocError) → MakesRoom size align old new block cap (GrowsTo more) f (Err e) → (e ≢ CapacityOverflow)
+          × MakesRoom {X = Unit {0}} size align old new block cap (GrowsTo more) (λ _. block) (Err e)
+          × ((k : ℕ) → e ≡ AllocErr k → HasNoPlace (used old + (cost + before)) new)
+      as_unit (AllocErr k) made =
+          let places : PlacesBlock old made.between (more * size) align (Refused k) =
+          taken_refused old made.between block cap (more * size) align one layout held.of_align f (AllocErr k) made.took in
+          let failed = alloc_failed old.memory.state old.memory.state (more * size) align places.0 places.1.valid.entry
+          (layout_power (more * size) align layout) places.1.outcome.1.step in (
+            (λ is. cc),
+            record { between = made.between; took = made.took; places = made.places },
+            (λ j is. record {
+              size = more * size;
+              align = align;
               layout = layout;
-              small = small;
-              bounded = bounded;
-              within = paid;
-              ok = tt;
-              err = omega arith;
-            }) made);
-        same = same;
-      }
+              within = omega (arith, paid, ap (λ (s : State). used_bytes s) same);
+              none = rw same failed.none;
+            }),
+          )
+      as_unit OutOfMemory made =
+          ((λ is. cc), record { between = made.between; took = made.took; places = made.places }, (λ j is. absurd (cc)))
+      as_unit CapacityOverflow made = absurd made.took
 
 -- ---- A new block: room that is taken where there was none
 
 module _ (old between new : View) (size align : ℕ) (cost before after : ℕ) (one : old.memory.state.min_align ≡ 1)
-    (layout : IsTrue (is_layout size align)) (small : align ≤ 16) (bounded : size ≤ 2 ^ 60) (same : SamePlaces between new) where
+    (layout : IsTrue (is_layout size align)) (small : align ≤ 16) (bounded : size ≤ 2 ^ 60)
+    (paid : size + (align - 1) + after ≤ cost + before) (same : SamePlaces between new) where
   abbrev nowhere : Block
   nowhere = record { generation = 0; addr = align; size = 0; align = align }
 
@@ -147,25 +177,19 @@ module _ (old between new : View) (size align : ℕ) (cost before after : ℕ) (
     grown = λ some. absurd (omega (arith, some));
   }
 
-  one_layout : IsTrue (is_layout (1 * size) align)
-  one_layout = subst (λ n. IsTrue (is_layout n align)) whole layout
+  one_paid : IsPaid size align 0 (GrowsTo 1) cost before after
+  one_paid = (omega arith, subst (λ n. IsTrue (is_layout n align)) whole layout, omega (arith, bounded), omega (arith, paid))
 
-  pub block_given : (b : Block) → size + (align - 1) + after ≤ cost + before → PlacesBlock old between size align (Placed b)
-      → CostsGiven cost before after old new
-  block_given b paid places =
-      room_given old new nowhere size align 0 1 cost before after one nowhere_held (omega arith) one_layout small (omega (arith, bounded)) b
-      (omega (arith, paid)) (record { between = between; took = taken (Placed b) places; places = same })
+  pub block_given : (b : Block) → PlacesBlock old between size align (Placed b) → CostsGiven cost before after old new
+  block_given b places = grown_costs old new nowhere size align 0 (λ (x : Block). x) cost before after one nowhere_held small
+      (GrowsTo 1) b one_paid (record { between = between; took = taken (Placed b) places; places = same })
 
-  pub block_refused : {X : Type 0} (f : X → Block) (e : AllocError) → size + (align - 1) ≤ cost + before
-      → RoomAnswer f (Err e) (PlacesBlock old between size align) → IsRefused cost before old new e
-  block_refused f (AllocErr k) paid places =
-      room_refused old new nowhere size align 0 1 cost before after one nowhere_held (omega arith) one_layout small
-      (omega (arith, bounded)) f
-      (AllocErr k) (omega (arith, paid)) (same.state ∙ ap (λ m. m.state) places.1.outcome.1.memory)
+  pub block_refused : {X : Type 0} (f : X → Block) (e : AllocError) → RoomAnswer f (Err e) (PlacesBlock old between size align)
+      → IsRefused cost before old new e
+  block_refused f (AllocErr k) places = grown_refused old new nowhere size align 0 f cost before after one nowhere_held small
+      (GrowsTo 1) (AllocErr k) one_paid (same.state ∙ ap (λ m. m.state) places.1.outcome.1.memory)
       (record { between = between; took = taken (Refused k) places; places = same })
-  block_refused f OutOfMemory paid places =
-      room_refused old new nowhere size align 0 1 cost before after one nowhere_held (omega arith) one_layout small
-      (omega (arith, bounded)) f
-      OutOfMemory (omega (arith, paid)) (same.state ∙ ap (λ (v : View). v.memory.state) places.1.outcome.same)
+  block_refused f OutOfMemory places = grown_refused old new nowhere size align 0 f cost before after one nowhere_held small
+      (GrowsTo 1) OutOfMemory one_paid (same.state ∙ ap (λ (v : View). v.memory.state) places.1.outcome.same)
       (record { between = between; took = taken Wanting places; places = same })
-  block_refused f CapacityOverflow paid places = absurd places
+  block_refused f CapacityOverflow places = absurd places

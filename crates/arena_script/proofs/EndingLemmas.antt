@@ -6,7 +6,8 @@ use Rattle.std.proofs.lemmas.Option.{slice_get-get_or}
 use Rattle.placement.proofs.AskingLemmas.{asks_more}
 use Rattle.arena_chunks.specs.Memory.{Memory}
 use Rattle.arena_chunks.specs.Source.{View}
-use Rattle.arena_chunks.specs.Asking.{IsFull}
+use Rattle.arena_chunks.specs.Asking.{AsksWithin, IsFull}
+use Rattle.arena_chunks.proofs.Layers.{asks_same}
 use Rattle.arena_hash.specs.Maps.{IsMapIn}
 use Rattle.arena_hash.specs.declared.map.HashMap.{HashMap}
 use Rattle.arena_hash.specs.declared.hasher.FxHasher.{FxHasher}
@@ -23,11 +24,12 @@ use Rattle.script_rules.specs.declared.outcome.Outcome.{Outcome}
 use Rattle.script_rules.proofs.RunLemmas.{first_cost, first_replies, reply_count, cost_rises}
 use Rattle.arena_script.specs.Kinds.{pairs}
 use Rattle.arena_script.specs.Things.{Things}
-use Rattle.arena_script.specs.Acts.{used}
+use Rattle.arena_script.specs.Acts.{used, HasNoPlace}
 use Rattle.arena_script.specs.Serves.{IsAfter, Stops}
 use Rattle.arena_script.specs.Wants.{takes_memory}
 use Rattle.arena_script.specs.Running.{IsRun, IsStoppedAt, cost_with_next}
-use Rattle.arena_script.proofs.RunningLemmas.{stopped_costs, stopped_kind}
+use Rattle.arena_script.proofs.RunningLemmas.{cost_more, stopped_costs, stopped_kind}
+use Rattle.arena_script.proofs.ServeLemmas.{no_place_within}
 use Rattle.arena_script.proofs.NeedLemmas.{needed}
 
 -- what came, once the replies, the ending and the bytes are known
@@ -47,7 +49,7 @@ is_at script i c inside same = record {
   more = rw add-one (take-suc script i c inside ∙ ap (λ x. take i script ++ x ∷ []) (sym same));
 }
 
-module _ (script : List Command) (start : View) (replies : List ScriptReply) (i : ℕ) (inside : i ≤ length script)
+module _ (script : List Command) (start : View) {replies : List ScriptReply} {i : ℕ} (inside : i ≤ length script)
     (are : replies ≡ (run (take i script)).replies) where
   counted : length replies ≡ i
   counted = ap length are ∙ reply_count [] (take i script) ∙ omega (arith, length-take i script)
@@ -61,26 +63,22 @@ module _ (script : List Command) (start : View) (replies : List ScriptReply) (i 
   -- ---- Every command was served.
 
   module _ (maps : (m : Memory) (h : HashMap ℕ ℕ FxHasher) → IsMapIn pairs m h → (4 + 4) * h.len ≤ h.table.block.size)
-      (now : View) (things : Things) (unused : used start ≡ 0) (after : IsAfter script start now things i) (all : i ≡ length script)
-      (bytes : ℕ) (is : bytes ≡ used now) where
+      {now : View} {things : Things} (unused : used start ≡ 0) (after : IsAfter script start now things i) (all : i ≡ length script)
+      {bytes : ℕ} (is : bytes ≡ used now) where
     whole : take i script ≡ script
     whole = ap (λ n. take n script) all ∙ take-length script
+
+    rises : cost_of (take i script) ≤ cost_of (take (i + 1) script)
+    rises = omega (arith, cost_rises i (i + 1) script (omega arith), first_cost i script, first_cost (i + 1) script)
 
     pub run_done : IsRun script start now (came replies Done bytes)
     run_done = record {
       replies = record { first = first; all = λ e. are ∙ ap (λ s. (run s).replies) whole };
       holds = λ e. record { things = things; are = after.are; mean = after.objects ∙ ap (λ s. (run s).objects) whole };
+      asks = asks_more _ _ start.memory.state now.memory.state start.source now.source
+          (omega (arith, next_cost Done bytes, rises)) after.costs.asks;
       used = is;
-      most = omega (
-        arith,
-        next_cost Done bytes,
-        after.costs.takes,
-        unused,
-        is,
-        cost_rises i (i + 1) script (omega arith),
-        first_cost i script,
-        first_cost (i + 1) script,
-      );
+      most = omega (arith, next_cost Done bytes, after.costs.takes, unused, is, rises);
       least = λ e. omega (
         arith,
         ap (λ s. need (run s).objects) whole,
@@ -91,64 +89,65 @@ module _ (script : List Command) (start : View) (replies : List ScriptReply) (i 
       );
       full = λ e. absurd (cc);
       refused = λ e. absurd (cc);
+      denied = λ other _. absurd (other refl);
       stopped = λ other. absurd (other refl);
       kind = after.kind;
     }
 
   -- ---- A command wasn't served.
 
-  module _ (now next : View) (things : Things) (c : Command) (at : IsAt script i c) (unused : used start ≡ 0)
-      (after : IsAfter script start now things i) (e : AllocError) (stops : Stops c now next things e) (bytes : ℕ)
+  module _ {now next : View} {things : Things} {c : Command} (at : IsAt script i c) (unused : used start ≡ 0)
+      (after : IsAfter script start now things i) {e : AllocError} (stops : Stops c now next things e) {bytes : ℕ}
       (is : bytes ≡ used next) where
-    abbrev cost : ℕ
-    cost = cost_of (take (i + 1) script)
-
-    most_used : (ended : Ended) → bytes ≤ cost_with_next script (came replies ended bytes)
-    most_used ended =
-        omega (arith, next_cost ended bytes, is, unused, (stopped_costs script start now next things i c at.more after e stops).takes)
-
     stopped_at : (ended : Ended) → IsStoppedAt script (came replies ended bytes)
     stopped_at ended = subst (λ n. IsSomeAnd (slice_get script n) (λ c. IsTrue (takes_memory c))) (sym counted)
         (subst (λ o. IsSomeAnd o (λ c. IsTrue (takes_memory c))) (sym at.is) stops.taken)
+
+    asks_for : (ended : Ended) → AsksWithin (used start + cost_with_next script (came replies ended bytes)) start next
+    asks_for ended = asks_more _ _ start.memory.state next.memory.state start.source next.source
+        (omega (arith, next_cost ended bytes)) (stopped_costs c at.more after stops).asks
 
     -- It ended otherwise than done.
     run_stopped : (ended : Ended) → ended ≢ Done → (ended ≡ Full → IsFull (cost_with_next script (came replies ended bytes)) start)
         → (ended ≡ Refused → IsStarvedWithin (cost_with_next script (came replies ended bytes)) start.memory.state next.memory.state
         start.source next.source)
+        → (ended ≢ OutOfMemory → HasNoPlace (cost_with_next script (came replies ended bytes)) next)
         → IsRun script start next (came replies ended bytes)
-    run_stopped ended other full refused = record {
+    run_stopped ended other full refused denied = record {
       replies = record { first = first; all = λ e. absurd (other e) };
       holds = λ e. absurd (other e);
+      asks = asks_for ended;
       used = is;
-      most = most_used ended;
+      most = omega (arith, next_cost ended bytes, is, unused, (stopped_costs c at.more after stops).takes);
       least = λ e. absurd (other e);
       full = full;
       refused = refused;
+      denied = λ _. denied;
       stopped = λ _. inr (stopped_at ended);
-      kind = stopped_kind script start now next things i c at.more after e stops;
+      kind = stopped_kind c at.more after stops;
     }
 
     -- Memory was wanting.
     pub run_wanting : IsRun script start next (came replies OutOfMemory bytes)
-    run_wanting = run_stopped OutOfMemory (λ e. cc) (λ e. absurd (cc)) (λ e. absurd (cc))
+    run_wanting = run_stopped OutOfMemory (λ e. cc) (λ e. absurd (cc)) (λ e. absurd (cc)) (λ other. absurd (other refl))
+
+    no_place : (k : ℕ) → e ≡ AllocErr k → (ended : Ended) → HasNoPlace (cost_with_next script (came replies ended bytes)) next
+    no_place k refused ended = no_place_within
+        (omega (arith, next_cost ended bytes, cost_more c at.more after, after.costs.takes, unused)) (stops.denied k refused)
 
     -- The arena refused a block.
-    pub run_refused : (k : ℕ) → e ≡ AllocErr k → (grows : Bool) → next.memory.state.is_growing ≡ grows
+    pub run_refused : {k : ℕ} → e ≡ AllocErr k → (grows : Bool) → next.memory.state.is_growing ≡ grows
         → IsRun script start next (came replies (if grows then Refused else Full) bytes)
-    run_refused k refused true grows =
-        let costs = stopped_costs script start now next things i c at.more after e stops in
-        let kind = stopped_kind script start now next things i c at.more after e stops in
+    run_refused {k} refused true grows = let costs = stopped_costs c at.more after stops in
         run_stopped Refused (λ e. cc) (λ e. absurd (cc)) (λ _. record {
-          asks = asks_more _ _ start.memory.state next.memory.state start.source next.source
-              (omega (arith, next_cost Refused bytes)) costs.asks;
-          starved = costs.starved (sym kind.is_growing ∙ grows) k (ap Err refused);
-        })
-    run_refused k refused false stays =
-        let costs = stopped_costs script start now next things i c at.more after e stops in
-        let kind = stopped_kind script start now next things i c at.more after e stops in
-        let short = costs.full (sym kind.is_growing ∙ stays) k (ap Err refused) in
+          asks = asks_for Refused;
+          starved = costs.starved (sym (stopped_kind c at.more after stops).is_growing ∙ grows) k (ap Err refused);
+        }) (λ _. no_place k refused Refused)
+    run_refused {k} refused false stays =
+        let short = (stopped_costs c at.more after stops).full (sym (stopped_kind c at.more after stops).is_growing ∙ stays) k (ap Err refused) in
         run_stopped Full (λ e. cc)
         (λ _. record { still = short.still; short = omega (arith, short.short, unused, next_cost Full bytes) }) (λ e. absurd (cc))
+        (λ _. no_place k refused Full)
 
 -- No command was served, since there was no memory for the replies.
 pub run_unbegun : (script : List Command) (start : View) → used start ≡ 0 → (bytes : ℕ) → bytes ≡ used start
@@ -157,11 +156,13 @@ unfolding run_from
 run_unbegun script start unused bytes is = record {
   replies = record { first = refl; all = λ e. absurd (cc) };
   holds = λ e. absurd (cc);
+  asks = asks_same _ start start refl refl;
   used = is;
   most = omega (arith, is, unused);
   least = λ e. absurd (cc);
   full = λ e. absurd (cc);
   refused = λ e. absurd (cc);
+  denied = λ _ other. absurd (other refl);
   stopped = λ other. inl (record { wanting = refl; none = refl; same = refl });
   kind = record { is_growing = refl; allocated = λ stays. refl };
 }

@@ -10,7 +10,7 @@ use Rattle.script_rules.proofs.EntryLemmas.{rising_bind, rising_unbind}
 use Rattle.script_rules.proofs.LookupLemmas.{same_by_get, get_bind, get_unbind}
 use Rattle.arena_script.specs.Things.{entry_then, entries_from, entries_below}
 
-tied : (x : ℕ) → eq_by_cmp nat_cmp x x ≡ true
+pub tied : (x : ℕ) → eq_by_cmp nat_cmp x x ≡ true
 tied x = grind (arith, nat_tests)
 
 untied : (x y : ℕ) → x < y → eq_by_cmp nat_cmp y x ≡ false
@@ -22,31 +22,28 @@ untied_below x y l = grind (arith, nat_tests)
 later : (x y : ℕ) → x < y → is_lt (nat_cmp x y) ≡ true
 later x y l = grind (arith, nat_tests)
 
+-- an entry is passed by who looks for another key
+passed : {X : Type 0} (o : Option X) (k q : ℕ) (rest : Entries X) → eq_by_cmp nat_cmp q k ≡ false
+    → get (entry_then k o rest) q ≡ get rest q
+passed None k q rest other = refl
+passed (Some x) k q rest other = ap (λ b. cond b (Some x) (get rest q)) other
+
 module _ {X : Type 0} (f : ℕ → Option X) where
   -- below the first key there is none
   get_low : (n from q : ℕ) → q < from → get (entries_from n from f) q ≡ None
   unfolding entries_from
   get_low zero from q h = refl
-  get_low (suc n) from q h = by (f from) (get_low n (from + 1) q (omega arith))
-    where
-      by : (o : Option X) → get (entries_from n (from + 1) f) q ≡ None → get (entry_then from o (entries_from n (from + 1) f)) q ≡ None
-      by None rest = rest
-      by (Some x) rest = ap (λ b. cond b (Some x) (get (entries_from n (from + 1) f) q)) (untied_below q from h) ∙ rest
+  get_low (suc n) from q h = passed (f from) from q _ (untied_below q from h) ∙ get_low n (from + 1) q (omega arith)
 
   -- Among the keys there is what the function gives,
   pub get_at : (n from q : ℕ) → from ≤ q → q < from + n → get (entries_from n from f) q ≡ f q
   unfolding entries_from
   get_at zero from q low high = absurd (omega arith)
   get_at (suc n) from q low high = elim (cases_lt from q) [
-    | inl more ↦ further (f from) more (get_at n (from + 1) q (omega arith) (omega arith))
+    | inl more ↦ passed (f from) from q _ (untied from q more) ∙ get_at n (from + 1) q (omega arith) (omega arith)
     | inr less ↦ here (f from) refl (omega arith) (get_low n (from + 1) q (omega arith))
   ]
     where
-      further : (o : Option X) → from < q → get (entries_from n (from + 1) f) q ≡ f q → get
-          (entry_then from o (entries_from n (from + 1) f)) q ≡ f q
-      further None more rest = rest
-      further (Some x) more rest = ap (λ b. cond b (Some x) (get (entries_from n (from + 1) f) q)) (untied from q more) ∙ rest
-
       here : (o : Option X) → f from ≡ o → q ≡ from → get (entries_from n (from + 1) f) q ≡ None
           → get (entry_then from o (entries_from n (from + 1) f)) q ≡ f q
       here None is same rest = rest ∙ sym is ∙ ap f (sym same)
@@ -58,12 +55,8 @@ module _ {X : Type 0} (f : ℕ → Option X) where
   pub get_past : (n from q : ℕ) → from + n ≤ q → get (entries_from n from f) q ≡ None
   unfolding entries_from
   get_past zero from q h = refl
-  get_past (suc n) from q h = by (f from) (omega arith) (get_past n (from + 1) q (omega arith))
-    where
-      by : (o : Option X) → from < q → get (entries_from n (from + 1) f) q ≡ None → get (entry_then from o (entries_from n (from + 1) f))
-          q ≡ None
-      by None more rest = rest
-      by (Some x) more rest = ap (λ b. cond b (Some x) (get (entries_from n (from + 1) f) q)) (untied from q more) ∙ rest
+  get_past (suc n) from q h =
+      passed (f from) from q _ (untied from q (omega arith)) ∙ get_past n (from + 1) q (omega arith)
 
   -- The keys rise.
   below_from : (n from k : ℕ) → k < from → below_all nat_cmp k (entries_from n from f) ≡ true

@@ -1,5 +1,5 @@
 -- How a command gives a name a thing, and what it leaves where it doesn't.
-use Rattle.std.proofs.Common.{◌≡◌, ℕ, ◌+◌, ◌≤◌, arith, IsTrue, None, [], ◌∷◌}
+use Rattle.std.proofs.Common.{◌≡◌, ℕ, ◌+◌, ◌≤◌, sym, ◌∙◌, IsTrue, Option, Some, None, [], ◌∷◌}
 use Rattle.arena_chunks.specs.Frame.{Frame}
 use Rattle.arena_chunks.specs.Source.{View}
 use Rattle.arena_items.specs.declared.room.AllocError.{AllocError}
@@ -8,83 +8,57 @@ use Rattle.script_rules.specs.Effects.{Gives, effect}
 use Rattle.script_rules.specs.declared.commands.Command.{Command}
 use Rattle.script_rules.specs.declared.commands.ScriptReply.{ScriptReply}
 use Rattle.arena_script.specs.Acts.{used, CostsGiven, GivesThing, GivesNothing}
-use Rattle.arena_script.specs.Things.{Things, IsThingIn, object_in, seen, block_of, size_of, credit_of}
+use Rattle.arena_script.specs.Things.{Things, IsThingIn, object_in, seen, block_of, blocks_of, size_of, size_held, credit_of, credit_held}
 use Rattle.arena_script.specs.Wants.{takes_room}
 use Rattle.arena_script.specs.declared.thing.Thing.{Thing}
 use Rattle.arena_script.proofs.CostFacts.{IsRefused}
 use Rattle.arena_script.proofs.ThingLemmas.{Holds}
 
--- ---- A name that holds a thing
-
--- Its block is exchanged for that of another, at a cost and with its credit.
-pub record IsExchanged (cost : ℕ) (old new : View) (t w : Thing) : Type 0 where
+-- A thing takes the place of what there was, if anything, at a cost and with its credit.
+pub record IsGiven (cost : ℕ) (old new : View) (o : Option Thing) (w : Thing) : Type 0 where
   pub held : IsThingIn new.memory w
-  pub least : used old + size_of w ≤ used new + size_of t
-  pub costs : CostsGiven cost (credit_of t) (credit_of w) old new
-  pub frame : Frame old.memory new.memory (block_of t ∷ []) (block_of w ∷ [])
+  pub least : used old + size_of w ≤ used new + size_held o
+  pub costs : CostsGiven cost (credit_held o) (credit_of w) old new
+  pub frame : Frame old.memory new.memory (blocks_of o) (block_of w ∷ [])
 
-module _ {command : Command} {things : Things} {old new : View} {name cost : ℕ} {reply : ScriptReply} {t : Thing}
-    (h : Holds things old.memory name t) where
-  pub exchanged : {w : Thing} → effect command (seen old.memory things) ≡ Gives name (object_in new.memory w) reply cost
-      → IsExchanged cost old new t w → GivesThing command things old new name w reply
-  exchanged given is = record {
+module _ {command : Command} {things : Things} {old new : View} {name cost : ℕ} {reply : ScriptReply} where
+  given : {o : Option Thing} {w : Thing} → get things name ≡ o → (o ≡ None → IsTrue (takes_room command))
+      → effect command (seen old.memory things) ≡ Gives name (object_in new.memory w) reply cost → IsGiven cost old new o w
+      → GivesThing command things old new name w reply
+  given at taken effect_is is = record {
     cost = cost;
-    effect_is = given;
-    taken = λ none. absurd (let no = h.found in cc);
+    effect_is = effect_is;
+    taken = λ none. taken (sym at ∙ none);
     held = is.held;
-    least = rw h.found is.least;
-    costs = rw h.found is.costs;
-    frame = rw h.found is.frame;
+    least = rw at is.least;
+    costs = rw at is.costs;
+    frame = rw at is.frame;
   }
 
-  pub kept : {object : Object} {e : AllocError} → IsTrue (takes_room command)
-      → effect command (seen old.memory things) ≡ Gives name object reply cost → IsRefused cost (credit_of t) old new e
+  -- a name that holds a thing, and one that holds none
+  pub exchanged : {t w : Thing} → Holds things old.memory name t
+      → effect command (seen old.memory things) ≡ Gives name (object_in new.memory w) reply cost → IsGiven cost old new (Some t) w
+      → GivesThing command things old new name w reply
+  exchanged h effect_is is = given h.found (λ no. absurd (cc)) effect_is is
+
+  pub made : {w : Thing} → get things name ≡ None → IsTrue (takes_room command)
+      → effect command (seen old.memory things) ≡ Gives name (object_in new.memory w) reply cost → IsGiven cost old new None w
+      → GivesThing command things old new name w reply
+  made none taken effect_is is = given none (λ _. taken) effect_is is
+
+  -- Nothing is given.
+  pub kept : {o : Option Thing} {object : Object} {e : AllocError} → get things name ≡ o → IsTrue (takes_room command)
+      → effect command (seen old.memory things) ≡ Gives name object reply cost → IsRefused cost (credit_held o) old new e
       → GivesNothing command things old new e
-  kept {object} taken given refused = record {
+  kept {o} {object} at taken effect_is refused = record {
     name = name;
     object = object;
     reply = reply;
     cost = cost;
-    effect_is = given;
+    effect_is = effect_is;
     taken = taken;
     fits = refused.fits;
-    costs = rw h.found refused.costs;
-    same = refused.same;
-  }
-
--- ---- A name that holds none
-
--- A thing is made in a new block, at a cost.
-pub record IsMade (cost : ℕ) (old new : View) (w : Thing) : Type 0 where
-  pub held : IsThingIn new.memory w
-  pub least : used old + size_of w ≤ used new
-  pub costs : CostsGiven cost 0 (credit_of w) old new
-  pub frame : Frame old.memory new.memory [] (block_of w ∷ [])
-
-module _ {command : Command} {things : Things} {old new : View} {name cost : ℕ} {reply : ScriptReply} (none : get things name ≡ None)
-    (taken : IsTrue (takes_room command)) where
-  pub made : {w : Thing} → effect command (seen old.memory things) ≡ Gives name (object_in new.memory w) reply cost
-      → IsMade cost old new w → GivesThing command things old new name w reply
-  made given is = record {
-    cost = cost;
-    effect_is = given;
-    taken = λ _. taken;
-    held = is.held;
-    least = rw none (omega (arith, is.least));
-    costs = rw none is.costs;
-    frame = rw none is.frame;
-  }
-
-  pub not_made : {object : Object} {e : AllocError} → effect command (seen old.memory things) ≡ Gives name object reply cost
-      → IsRefused cost 0 old new e → GivesNothing command things old new e
-  not_made {object} given refused = record {
-    name = name;
-    object = object;
-    reply = reply;
-    cost = cost;
-    effect_is = given;
-    taken = taken;
-    fits = refused.fits;
-    costs = rw none refused.costs;
+    costs = rw at refused.costs;
+    denied = rw at refused.denied;
     same = refused.same;
   }

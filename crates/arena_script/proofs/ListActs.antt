@@ -1,5 +1,5 @@
 -- What commands on lists do.
-use Rattle.std.proofs.Common.{◌≡◌, refl, IsTrue, ℕ, ◌+◌, ◌-◌, ◌<◌, ◌≤◌, arith, true, false, Ok, Err, Option, Some, List, [], ◌∷◌, ◌++◌, length, take, set, length-append, length-take, length-set, slice_get}
+use Rattle.std.proofs.Common.{◌≡◌, refl, ap, ◌∙◌, IsTrue, ℕ, ◌+◌, ◌-◌, ◌*◌, ◌<◌, ◌≤◌, arith, true, false, Ok, Err, Option, Some, List, [], ◌∷◌, ◌++◌, length, take, set, length-append, length-take, length-set, slice_get}
 use Rattle.std.specs.Prelude.{nat_lt, nat_le}
 use Rattle.std.specs.List.{insert, remove}
 use Rattle.std.proofs.lemmas.Bool.Decides.{nat_tests}
@@ -7,9 +7,12 @@ use Rattle.std.proofs.lemmas.Option.{slice_get_past, slice_get-get_or}
 use Rattle.std.proofs.lemmas.List.Edits.{length-insert, length-remove}
 use Rattle.arena_chunks.specs.Memory.{Memory}
 use Rattle.arena_chunks.specs.Source.{View}
+use Rattle.arena_items.specs.Room.{capacity_after}
 use Rattle.arena_items.specs.declared.room.AllocError.{AllocError}
+use Rattle.arena_items.specs.declared.room.Growth.{Growth}
 use Rattle.arena_items.proofs.Layers.{length-elements}
 use Rattle.arena_vec.specs.Changes.{Grows, Becomes}
+use Rattle.arena_vec.specs.Credit as vectors
 use Rattle.arena_vec.specs.Growth.{amortised_growth}
 use Rattle.arena_vec.specs.Vecs.{vec_list}
 use Rattle.arena_vec.specs.declared.vec.Vec.{Vec}
@@ -24,9 +27,9 @@ use Rattle.arena_script.specs.Things.{Things, seen, credit_of}
 use Rattle.arena_script.specs.Wants.{takes_room}
 use Rattle.arena_script.specs.Acts.{GivesThing, GivesNothing}
 use Rattle.arena_script.specs.declared.thing.Thing.TheVariants as thing
-use Rattle.arena_script.proofs.CostFacts.{same_used, nothing_given}
+use Rattle.arena_script.proofs.CostFacts.{IsPaid, same_used, nothing_given, grown_least, grown_costs, grown_refused}
 use Rattle.arena_script.proofs.GivingLemmas.{exchanged, kept}
-use Rattle.arena_script.proofs.ListLemmas.{Paid, Fits, list_grew, list_refused}
+use Rattle.arena_script.proofs.ListLemmas.{GrowthRule, Paid, one_paid}
 use Rattle.arena_script.proofs.ThingLemmas.{Holds}
 
 module _ {things : Things} {m : Memory} {name : ℕ} {v : Vec ℕ} (h : Holds things m name (thing.List v)) where
@@ -40,15 +43,11 @@ module _ {things : Things} {m : Memory} {name : ℕ} {v : Vec ℕ} (h : Holds th
 
   pub push_full : (value : ℕ) → most_items ≤ v.raw.len → effect (Push name value) (seen m things) ≡ Tells CapacityOverflow
   unfolding effect
-  push_full value full =
-      let test : nat_le most_items (length items) ≡ true = grind (arith, nat_tests, counted) in
-      rw (h.found, test) refl
+  push_full value full = let test : nat_le most_items (length items) ≡ true = grind (arith, nat_tests, counted) in rw (h.found, test) refl
 
   pub insert_past : (at value : ℕ) → v.raw.len < at → effect (Insert name at value) (seen m things) ≡ Tells OutOfRange
   unfolding effect
-  insert_past at value past =
-      let test : nat_lt (length items) at ≡ true = grind (arith, nat_tests, counted) in
-      rw (h.found, test) refl
+  insert_past at value past = let test : nat_lt (length items) at ≡ true = grind (arith, nat_tests, counted) in rw (h.found, test) refl
 
   inside_told : (at : ℕ) → at ≤ v.raw.len → nat_lt (length items) at ≡ false
   inside_told at inside = grind (arith, nat_tests, counted)
@@ -56,9 +55,7 @@ module _ {things : Things} {m : Memory} {name : ℕ} {v : Vec ℕ} (h : Holds th
   pub insert_full : (at value : ℕ) → at ≤ v.raw.len → most_items ≤ v.raw.len
       → effect (Insert name at value) (seen m things) ≡ Tells CapacityOverflow
   unfolding effect
-  insert_full at value inside full =
-      let test : nat_le most_items (length items) ≡ true = grind (arith, nat_tests, counted) in
-      rw (h.found, inside_told at inside, test) refl
+  insert_full at value inside full = let test : nat_le most_items (length items) ≡ true = grind (arith, nat_tests, counted) in rw (h.found, inside_told at inside, test) refl
 
   pub remove_past : (at : ℕ) → v.raw.len ≤ at → effect (Remove name at) (seen m things) ≡ Tells OutOfRange
   unfolding effect
@@ -101,20 +98,33 @@ module _ {things : Things} {m : Memory} {name : ℕ} {v : Vec ℕ} (h : Holds th
   }
 
 -- What the arena does then.
-module _ (paid : Paid) (fits : Fits) {things : Things} {old new : View} {name : ℕ} {v w : Vec ℕ}
+module _ (rule : GrowthRule) (paid : Paid) (old new : View) (w : Vec ℕ) {things : Things} {name : ℕ} {v : Vec ℕ}
     (h : Holds things old.memory name (thing.List v)) (one : old.memory.state.min_align ≡ 1) {command : Command} {list : List ℕ}
     (to : GrowsTo h command list) where
-  pub list_gives : Grows {X = Unit {0}} short old new v (amortised_growth 4 v.raw.cap (v.raw.len + 1)) list w (Ok tt)
-      → GivesThing command things old new name (thing.List w) Done
-  list_gives grows = let grew = list_grew paid fits old new v w list one h.held to.few to.longer grows in
-      exchanged h (rw grows.list_is to.given)
-      (record { held = grows.held; least = grew.least; costs = grew.costs; frame = grows.frame })
+  abbrev growth : Growth
+  growth = amortised_growth 4 v.raw.cap (v.raw.len + 1)
 
-  pub list_gives_nothing : {e : AllocError}
-      → Grows {X = Unit {0}} short old new v (amortised_growth 4 v.raw.cap (v.raw.len + 1)) list w (Err e)
+  abbrev later : ℕ
+  later = vectors.credit_of 4 (v.raw.len + 1) (capacity_after growth v.raw.cap)
+
+  afforded : IsPaid 4 4 v.raw.cap growth 24 (credit_of (thing.List v)) later
+  afforded = one_paid rule paid v.raw.len v.raw.cap h.held.within to.few
+
+  pub list_gives : Grows {X = Unit {0}} short old new v growth list w (Ok tt) → GivesThing command things old new name (thing.List w) Done
+  list_gives grows = exchanged {cost = 24} h (rw grows.list_is to.given) (record {
+    held = grows.held;
+    least = grown_least old new v.raw.block 4 4 v.raw.cap (λ (u : Unit {0}). w.raw.block) 24 (credit_of (thing.List v)) later one
+        h.held.place (omega arith) growth tt afforded (grows.held.place.of_size ∙ ap (λ n. n * 4) grows.cap) grows.made;
+    costs = rw (grows.cap, grows.len, to.longer) (grown_costs old new v.raw.block 4 4 v.raw.cap (λ (u : Unit {0}). w.raw.block) 24
+        (credit_of (thing.List v)) later one h.held.place (omega arith) growth tt afforded grows.made);
+    frame = grows.frame;
+  })
+
+  pub list_gives_nothing : {e : AllocError} → Grows {X = Unit {0}} short old new v growth list w (Err e)
       → GivesNothing command things old new e
-  list_gives_nothing {e} grows =
-      kept h to.taken to.given (list_refused paid fits old new v w list one h.held to.few to.longer e grows)
+  list_gives_nothing {e} grows = kept h.found to.taken to.given (grown_refused old new v.raw.block 4 4 v.raw.cap
+      (λ (u : Unit {0}). w.raw.block) 24 (credit_of (thing.List v)) later one h.held.place (omega arith) growth e afforded
+      (ap (λ m. m.state) grows.err.1) grows.made)
 
 -- ---- A list that doesn't grow
 

@@ -129,112 +129,98 @@ slots_layout size bounded =
 
 -- ---- A pair more
 
-module _ (things : Things) (old : View) (name : ℕ) (h : HashMap ℕ ℕ FxHasher) (holds : Holds things old.memory name (thing.Map h)) where
+module _ (old new : View) (w : HashMap ℕ ℕ FxHasher) (value : ℕ) {things : Things} {name : ℕ} {h : HashMap ℕ ℕ FxHasher} {key : ℕ}
+    (holds : Holds things old.memory name (thing.Map h)) (small : key < 2 ^ 32)
+    (room : has (is holds) (content key) ≡ false → h.len < most_pairs) (one : old.memory.state.min_align ≡ 1) where
   few : h.len < 2 ^ 32
   few = omega (arith, holds.is.0, holds.held.count)
 
-  abbrev is_old : Finite ℕ ℕ
-  is_old = map_in pairs old.memory h
-
   abbrev es_old : Entries ℕ
-  es_old = pairs_of is_old
+  es_old = es holds
 
-  module _ (new : View) (w : HashMap ℕ ℕ FxHasher) (key value : ℕ) (small : key < 2 ^ 32)
-      (room : has is_old (content key) ≡ false → h.len < most_pairs) (one : old.memory.state.min_align ≡ 1) where
-    abbrev there : Bool
-    there = has is_old (content key)
+  abbrev there : Bool
+  there = has (is holds) (content key)
 
-    abbrev paid : Bool → ℕ
-    paid b = if b then 0 else 256
+  abbrev credit : ℕ
+  credit = credit_of (thing.Map h)
 
-    abbrev credit : ℕ
-    credit = credit_of (thing.Map h)
+  credit_small : credit ≤ 2 ^ 40
+  credit_small = omega (arith, few)
 
-    credit_small : credit ≤ 2 ^ 40
-    credit_small = omega (arith, few)
+  -- ---- The pair is put.
 
-    -- ---- The pair is put.
+  module _ {old_value : Option ℕ} (puts : Puts pairs old new h key value is_value w (Ok old_value)) where
+    same_pairs : pairs_of (map_in pairs new.memory w) ≡ bind es_old key value
+    same_pairs = ap pairs_of puts.map_is ∙ pairs_with (is holds) key value small
 
-    module _ (old_value : Option ℕ) (puts : Puts pairs old new h key value is_value w (Ok old_value)) where
-      same_pairs : pairs_of (map_in pairs new.memory w) ≡ bind es_old key value
-      same_pairs = ap pairs_of puts.map_is ∙ pairs_with is_old key value small
+    put_held : IsPairsIn new.memory w
+    put_held = record {
+      held = puts.held;
+      count = puts.len ∙ counts there (has_pair (is holds) key small) ∙ sym (ap (λ (fs : Entries ℕ). length fs) same_pairs);
+    }
+      where
+        counts : (b : Bool) → is_some (get es_old key) ≡ b → (if b then h.len else h.len + 1) ≡ length (bind es_old key value)
+        counts b test = rw holds.held.count
+            (sym (length_bind es_old key value (rising (is holds)) ∙ ap (λ b. cond b (length es_old) (length es_old + 1)) test))
 
-      put_held : IsPairsIn new.memory w
-      put_held = record {
-        held = puts.held;
-        count = puts.len ∙ counts there (has_pair is_old key small) ∙ sym (ap (λ (fs : Entries ℕ). length fs) same_pairs);
-      }
-        where
-          counts : (b : Bool) → is_some (get es_old key) ≡ b → (if b then h.len else h.len + 1) ≡ length (bind es_old key value)
-          counts true test = holds.held.count ∙ sym (length_bind es_old key value (rising is_old) ∙ ap (λ b. cond b (length es_old) (length es_old + 1)) test)
-          counts false test = ap (λ n. n + 1) holds.held.count ∙ sym
-              (length_bind es_old key value (rising is_old) ∙ ap (λ b. cond b (length es_old) (length es_old + 1)) test)
+    -- the table stays
+    table_stays : growth_for there h.table.slots h.len ≡ Stays → (w.table.block ≡ h.table.block) × SamePlaces old new
+    table_stays stays = rw stays at puts.made
 
-      -- the table stays
-      table_stays : growth_for there h.table.slots h.len ≡ Stays → (w.table.block ≡ h.table.block) × SamePlaces old new
-      table_stays stays = rw stays at puts.made
+    record IsPut (cost : ℕ) : Type 0 where
+      least : used old + w.table.block.size ≤ used new + h.table.block.size
+      costs : CostsGiven cost credit (credit_of (thing.Map w)) old new
 
-      pub record IsPut : Type 0 where
-        pub least : used old + w.table.block.size ≤ used new + h.table.block.size
-        pub costs : CostsGiven (paid there) credit (credit_of (thing.Map w)) old new
+    kept_table : (cost : ℕ) → credit_of (thing.Map w) ≤ cost + credit → (w.table.block ≡ h.table.block) × SamePlaces old new → IsPut cost
+    kept_table cost paid table = record {
+      least = omega (arith, same_used old new table.1, ap (λ (b : Block). b.size) table.0);
+      costs = nothing_given cost credit (credit_of (thing.Map w)) old new table.1 paid;
+    }
 
-      by_there : (b : Bool) → there ≡ b → IsPut
-      by_there true is_there =
-          let costs = (puts.costs.there is_there).1 in
-          let table = table_stays (rw is_there refl) in record {
-            least = omega (arith, costs.bytes, ap (λ (b : Block). b.size) table.0);
-            costs = nothing_given (paid there) credit (credit_of (thing.Map w)) old new table.1 (omega (arith, costs.credit));
-          }
-      by_there false none = elim (cases_lt 0 (spare_of h)) [
-        | inl spare ↦ (
-            let costs = (puts.costs.room none spare).1 in
-            let less : nat_lt h.len (limit h.table.slots) ≡ true = grind (arith, nat_tests) in
-            let table = table_stays (rw (none, less) refl) in record {
-              least = omega (arith, costs.bytes, ap (λ (b : Block). b.size) table.0);
-              costs = nothing_given (paid there) credit (credit_of (thing.Map w)) old new table.1
-                  (rw none (omega (arith, costs.credit)));
-            })
-        | inr spent ↦ (
-            let asks = puts.costs.asks none (omega arith) (omega (arith, room none, few)) in
-            let layout = slots_layout asks.size asks.bounded in
-            let places = asks.took.took in
-            let base = block_given old asks.took.between new asks.size 8 256 credit 0 one layout (omega arith)
-            (omega (arith, asks.within, credit_small)) asks.took.places w.table.block (omega (arith, asks.within)) places in
-            let costs : CostsGiven 256 credit (credit_of (thing.Map w)) old new = record {
+    by_there : (b : Bool) → there ≡ b → IsPut (cost_by holds b)
+    by_there true is_there = kept_table 0 (omega (arith, (puts.costs.there is_there).1.credit)) (table_stays (rw is_there refl))
+    by_there false none = elim (cases_lt 0 (spare_of h)) [
+      | inl spare ↦ (
+          let less : nat_lt h.len (limit h.table.slots) ≡ true = grind (arith, nat_tests) in
+          kept_table 256 (omega (arith, (puts.costs.room none spare).1.credit)) (table_stays (rw (none, less) refl)))
+      | inr spent ↦ (
+          let asks = puts.costs.asks none (omega arith) (omega (arith, room none, few)) in
+          let layout = slots_layout asks.size asks.bounded in
+          let places = asks.took.took in
+          let base = block_given old asks.took.between new asks.size 8 256 credit 0 one layout (omega arith)
+          (omega (arith, asks.within, credit_small)) (omega (arith, asks.within)) asks.took.places w.table.block places in record {
+            least = omega (
+              arith,
+              placed_least old asks.took.between asks.size 8 w.table.block layout places,
+              same_used asks.took.between new asks.took.places,
+              places.1.outcome.of_layout.of_size,
+            );
+            costs = record {
               takes = omega (arith, puts.costs.grows none (omega arith));
               asks = base.asks;
               starved = base.starved;
               full = base.full;
-            } in record {
-              least = omega (
-                arith,
-                placed_least old asks.took.between asks.size 8 w.table.block layout places,
-                same_used asks.took.between new asks.took.places,
-                places.1.outcome.of_layout.of_size,
-              );
-              costs = rw none costs;
-            })
+            };
+          })
+    ]
+
+    pub bind_gives : GivesThing (Bind name key value) things old new name (thing.Map w) (number_or_nothing old_value)
+    bind_gives = let put = by_there there refl in exchanged holds (rw (same_pairs, puts.says) (bind_given holds key value small room))
+        (record { held = put_held; least = put.least; costs = put.costs; frame = puts.frame })
+
+  -- ---- It isn't.
+
+  pub bind_gives_nothing : {e : AllocError} → Puts {X = Option ℕ} pairs old new h key value is_value w (Err e)
+      → GivesNothing (Bind name key value) things old new e
+  bind_gives_nothing {e} puts = kept holds.found refl (bind_given holds key value small room) (by there refl)
+    where
+      by : (b : Bool) → there ≡ b → IsRefused (cost_by holds b) credit old new e
+      by true is_there = absurd (false≢true (puts.costs.there is_there).0)
+      by false none = elim (cases_lt 0 (spare_of h)) [
+        | inl spare ↦ absurd (false≢true (puts.costs.room none spare).0)
+        | inr spent ↦ (
+            let asks = puts.costs.asks none (omega arith) (omega (arith, room none, few)) in
+            block_refused old asks.took.between new asks.size 8 256 credit 0 one (slots_layout asks.size asks.bounded) (omega arith)
+            (omega (arith, asks.within, credit_small)) (omega (arith, asks.within)) asks.took.places (λ (x : Option ℕ). w.table.block) e
+            asks.took.took)
       ]
-
-      pub bind_gives : GivesThing (Bind name key value) things old new name (thing.Map w) (number_or_nothing old_value)
-      bind_gives = let put = by_there there refl in
-          exchanged holds (rw (same_pairs, puts.says) (bind_given holds key value small room))
-          (record { held = put_held; least = put.least; costs = put.costs; frame = puts.frame })
-
-    -- ---- It isn't.
-
-    pub bind_gives_nothing : (e : AllocError) → Puts {X = Option ℕ} pairs old new h key value is_value w (Err e)
-        → GivesNothing (Bind name key value) things old new e
-    bind_gives_nothing e puts = kept holds refl (bind_given holds key value small room) (by there refl)
-      where
-        by : (b : Bool) → there ≡ b → IsRefused (paid there) credit old new e
-        by true is_there = absurd (false≢true (puts.costs.there is_there).0)
-        by false none = elim (cases_lt 0 (spare_of h)) [
-          | inl spare ↦ absurd (false≢true (puts.costs.room none spare).0)
-          | inr spent ↦ (
-              let asks = puts.costs.asks none (omega arith) (omega (arith, room none, few)) in
-              rw none (block_refused old asks.took.between new asks.size 8 256 credit 0 one (slots_layout asks.size asks.bounded)
-              (omega arith)
-              (omega (arith, asks.within, credit_small)) asks.took.places (λ (x : Option ℕ). w.table.block) e (omega (arith, asks.within))
-              asks.took.took))
-        ]

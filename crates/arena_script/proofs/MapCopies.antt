@@ -26,7 +26,7 @@ use Rattle.arena_script.specs.Things.{Things, content, pairs_of, entries_below, 
 use Rattle.arena_script.specs.Acts.{GivesThing, GivesNothing}
 use Rattle.arena_script.specs.declared.thing.Thing.TheVariants as thing
 use Rattle.arena_script.proofs.CopyActs.{copy_gives, copy_gives_nothing}
-use Rattle.arena_script.proofs.GivingLemmas.{IsMade}
+use Rattle.arena_script.proofs.GivingLemmas.{IsGiven}
 use Rattle.arena_script.proofs.CostFacts.{IsRefused, same_used, nothing_given}
 use Rattle.arena_script.proofs.MapActs.{slots_layout}
 use Rattle.arena_script.proofs.PairFacts.{value_some}
@@ -64,13 +64,16 @@ abbrev SameLength : Type 0
 SameLength = (a c : Memory) (m w : Map) → IsMapIn pairs a m → IsMapIn pairs c w
     → ((q : List ℕ) → has (map_in pairs a m) q ≡ has (map_in pairs c w) q) → m.len ≡ w.len
 
-module _ (old new : View) (h : Map) (one : old.memory.state.min_align ≡ 1) (held : IsPairsIn old.memory h) (few : h.len < 2 ^ 32)
-    (bound : IsTableBound) (lengths : SameLength) where
+module _ (old new : View) (other : ℕ) {things : Things} {name : ℕ} {h : Map} (holds : Holds things old.memory name (thing.Map h))
+    (none : get things other ≡ None) (one : old.memory.state.min_align ≡ 1) (bound : IsTableBound) (lengths : SameLength) where
   abbrev Cloned : Result Map AllocError → Type 0
   Cloned result = Copies map_kind With old.memory old new h result
 
   abbrev cost : ℕ
   cost = 256 * h.len
+
+  few : h.len < 2 ^ 32
+  few = omega (arith, holds.is.0, holds.held.count)
 
   -- only the table is asked for
   table_asked : (blocks : List Block) (end : Option AllocError) → AsksFor (map_kind.asks old.memory h) old new blocks end
@@ -79,7 +82,7 @@ module _ (old new : View) (h : Map) (one : old.memory.state.min_align ≡ 1) (he
       (none_in_all (λ (p : ℕ × ℕ). (pair_of (plain {T = ℕ}) (plain {T = ℕ})).asks old.memory p) (λ p. refl) (pairs_in pairs old.memory h))
       asked
 
-  module _ (copy : Map) (copies : Cloned (Ok copy)) where
+  module _ {copy : Map} (copies : Cloned (Ok copy)) where
     same_value : (q : List ℕ) → value_of (map_in pairs new.memory copy q) ≡ value_of (map_in pairs old.memory h q)
     same_value q =
         sym (value_is (map_in pairs new.memory copy q)) ∙ ap (λ (w : FxHasher × (List ℕ → Option ℕ)). w.1 q) copies.made.means
@@ -91,16 +94,13 @@ module _ (old new : View) (h : Map) (one : old.memory.state.min_align ≡ 1) (he
     same_pairs : pairs_of (map_in pairs new.memory copy) ≡ pairs_of (map_in pairs old.memory h)
     same_pairs = ap (entries_below (2 ^ 32)) (fun_ext (λ key. same_value (content key)))
 
-    in_new : IsMapIn pairs new.memory copy
-    in_new = copies.made.held.0
-
     same_len : copy.len ≡ h.len
-    same_len = lengths new.memory old.memory copy h in_new held.held same_has
+    same_len = lengths new.memory old.memory copy h copies.made.held.0 holds.held.held same_has
 
     map_held : IsPairsIn new.memory copy
     map_held = record {
-      held = in_new;
-      count = same_len ∙ held.count ∙ sym (ap (λ (es : Entries ℕ). length es) same_pairs);
+      held = copies.made.held.0;
+      count = same_len ∙ holds.held.count ∙ sym (ap (λ (es : Entries ℕ). length es) same_pairs);
     }
 
     -- Its block is the one that was placed.
@@ -115,7 +115,8 @@ module _ (old new : View) (h : Map) (one : old.memory.state.min_align ≡ 1) (he
     map_frame : (b : Block) → copies.blocks ≡ b ∷ [] → Frame old.memory new.memory [] (copy.table.block ∷ [])
     map_frame b is = subst (λ bs. Frame old.memory new.memory [] bs) (is ∙ ap (λ (b : Block). b ∷ []) (sym (own b is))) copies.placed.frame
 
-    by_len : (n : ℕ) → h.len ≡ n → AsksFor (table_ask pairs n ∷ []) old new copies.blocks None → IsMade cost old new (thing.Map copy)
+    by_len : (n : ℕ) → h.len ≡ n → AsksFor (table_ask pairs n ∷ []) old new copies.blocks None
+        → IsGiven cost old new None (thing.Map copy)
     by_len zero none (b, rest, empty, is, (last, empties, same)) =
         let whole = is ∙ ap (λ (bs : List Block). b ∷ bs) empties in record {
           held = map_held;
@@ -125,18 +126,18 @@ module _ (old new : View) (h : Map) (one : old.memory.state.min_align ≡ 1) (he
         }
     by_len (suc n) some (slots, are, takes) =
         let within = bound (suc n) slots (omega arith) are in
-        let layout = slots_layout (slots * 9) (omega (arith, within, some)) in
-        let is = taken old new (slots * 9) 8 copies.blocks cost one layout (omega arith) (omega (arith, within, some))
-        (credit_of (thing.Map copy))
-        (omega (arith, within, some, same_len)) takes in record {
+        let layout = slots_layout (slots * 9) (omega (arith, within, some, few)) in
+        let is = taken old new (slots * 9) 8 copies.blocks cost one layout (omega arith) (omega (arith, within, some, few))
+        (credit_of (thing.Map copy)) (omega (arith, within, some, same_len)) takes in record {
           held = map_held;
           least = omega (arith, is.least, is.of_size, ap (λ (b : Block). b.size) (own is.block is.is));
           costs = is.costs;
           frame = map_frame is.block is.is;
         }
 
-    map_copied : IsMade cost old new (thing.Map copy)
-    map_copied = by_len h.len refl (table_asked copies.blocks None copies.placed.asked)
+    pub map_copy_gives : GivesThing (CopyTo name other) things old new other (thing.Map copy) Done
+    map_copy_gives = copy_gives holds none (ap (λ k. 256 * k) (sym holds.held.count)) (thing.Map copy) (ap AMap same_pairs)
+        (by_len h.len refl (table_asked copies.blocks None copies.placed.asked))
 
   -- Why there is no copy.
   map_denied : (blocks : List Block) (e : AllocError) (n : ℕ) → h.len ≡ n → AsksFor (table_ask pairs n ∷ []) old new blocks (Some e)
@@ -144,23 +145,10 @@ module _ (old new : View) (h : Map) (one : old.memory.state.min_align ≡ 1) (he
   map_denied blocks e zero none (b, rest, empty, is, (last, empties, same)) = absurd (let no = last in cc)
   map_denied blocks e (suc n) some (slots, are, takes) =
       let within = bound (suc n) slots (omega arith) are in
-      let layout = slots_layout (slots * 9) (omega (arith, within, some)) in
-      not_taken old new (slots * 9) 8 blocks cost one layout (omega arith) (omega (arith, within, some)) e (omega (arith, within, some))
-      takes
+      let layout = slots_layout (slots * 9) (omega (arith, within, some, few)) in
+      not_taken old new (slots * 9) 8 blocks cost one layout (omega arith) (omega (arith, within, some, few)) e
+      (omega (arith, within, some)) takes
 
-map_few : {things : Things} {m : Memory} {name : ℕ} {h : Map} → Holds things m name (thing.Map h) → h.len < 2 ^ 32
-map_few holds = omega (arith, holds.is.0, holds.held.count)
-
-module _ {things : Things} {old new : View} {name other : ℕ} {h : Map} (holds : Holds things old.memory name (thing.Map h))
-    (none : get things other ≡ None) (one : old.memory.state.min_align ≡ 1) (bound : IsTableBound) (lengths : SameLength) where
-  pub map_copy_gives : {copy : Map} → Copies map_kind With old.memory old new h (Ok copy)
-      → GivesThing (CopyTo name other) things old new other (thing.Map copy) Done
-  map_copy_gives {copy} copies = copy_gives holds none (ap (λ k. 256 * k) (sym holds.held.count)) (thing.Map copy)
-      (ap AMap (same_pairs old new h one holds.held (map_few holds) bound lengths copy copies))
-      (map_copied old new h one holds.held (map_few holds) bound lengths copy copies)
-
-  pub map_copy_gives_nothing : {e : AllocError} → Copies map_kind With old.memory old new h (Err e)
-      → GivesNothing (CopyTo name other) things old new e
+  pub map_copy_gives_nothing : {e : AllocError} → Cloned (Err e) → GivesNothing (CopyTo name other) things old new e
   map_copy_gives_nothing {e} copies = copy_gives_nothing holds none (ap (λ k. 256 * k) (sym holds.held.count))
-      (map_denied old new h one holds.held (map_few holds) bound lengths copies.blocks e h.len refl
-      (table_asked old new h one holds.held (map_few holds) bound lengths copies.blocks (Some e) copies.placed.asked))
+      (map_denied copies.blocks e h.len refl (table_asked copies.blocks (Some e) copies.placed.asked))

@@ -19,9 +19,7 @@ use Rattle.arena_script.specs.Things.{Things, IsThingIn, object_in, objects_in, 
 use Rattle.arena_script.specs.Serves.{sizes_of}
 use Rattle.arena_script.specs.declared.thing.Thing.{Thing}
 use Rattle.arena_script.specs.declared.thing.Thing.TheVariants as thing
-
-tied : (x : ℕ) → eq_by_cmp nat_cmp x x ≡ true
-tied x = grind (arith, nat_tests)
+use Rattle.arena_script.proofs.EntryFacts.{tied}
 
 tied_same : (x y : ℕ) → eq_by_cmp nat_cmp x y ≡ true → x ≡ y
 tied_same x y t = grind (arith, nat_tests)

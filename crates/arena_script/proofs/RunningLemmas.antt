@@ -61,7 +61,7 @@ kind_then old mid new one two = record {
 abbrev pub run_far : ℕ
 run_far = 2 ^ 62
 
-module _ (script : List Command) (start now next : View) (things : Things) (i : ℕ) (c : Command)
+module _ {script : List Command} {start now : View} {things : Things} {i : ℕ} (c : Command)
     (at : take (i + 1) script ≡ take i script ++ c ∷ []) (after : IsAfter script start now things i) where
   -- the plain machine's step from here
   abbrev cost : ℕ
@@ -70,12 +70,12 @@ module _ (script : List Command) (start now next : View) (things : Things) (i : 
   more : GoesOn script i c
   more = one_more script i c at
 
-  cost_more : cost_of (take i script) + cost ≡ cost_of (take (i + 1) script)
+  pub cost_more : cost_of (take i script) + cost ≡ cost_of (take (i + 1) script)
   cost_more = ap (λ o. cost_of (take i script) + (step c o).cost) after.objects ∙ sym more.cost
 
   -- After one more command that was served.
-  pub after_more : (later : Things) (reply : ScriptReply) → Serves c now next things later reply → IsAfter script start next later (i + 1)
-  after_more later reply serves = record {
+  pub after_more : {next : View} {later : Things} {reply : ScriptReply} → Serves c now next things later reply → IsAfter script start next later (i + 1)
+  after_more {next} {later} serves = record {
     are = serves.are;
     objects = serves.objects ∙ ap (λ o. (step c o).objects) after.objects ∙ sym more.objects;
     least = omega (arith, serves.least, after.least);
@@ -86,13 +86,13 @@ module _ (script : List Command) (start now next : View) (things : Things) (i : 
     kind = kind_then start now next after.kind serves.kind;
   }
 
-  pub reply_more : (later : Things) (reply : ScriptReply) (replies : List ScriptReply) → replies ≡ (run (take i script)).replies
+  pub reply_more : {next : View} {later : Things} {reply : ScriptReply} {replies : List ScriptReply} → replies ≡ (run (take i script)).replies
       → Serves c now next things later reply → replies ++ reply ∷ [] ≡ (run (take (i + 1) script)).replies
-  reply_more later reply replies are serves =
+  reply_more are serves =
       (λ p. are p ++ (serves.reply_is ∙ ap (λ o. (step c o).reply) after.objects) p ∷ []) ∙ sym more.replies
 
   -- A command that wasn't served costs what it would have with those before it.
-  module _ (e : AllocError) (stops : Stops c now next things e) where
+  module _ {next : View} {e : AllocError} (stops : Stops c now next things e) where
     pub stopped_costs : Costs {X = Unit {0}} run_far (cost_of (take (i + 1) script)) 0 0 start next (Err e)
     stopped_costs = subst (λ n. Costs {X = Unit {0}} run_far n 0 0 start next (Err e)) cost_more
         (costs_then run_far (cost_of (take i script)) cost 0 (credits_of things) 0 start now next (Ok (tt {0})) (Err e)

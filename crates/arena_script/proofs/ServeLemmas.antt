@@ -19,7 +19,7 @@ use Rattle.script_rules.proofs.LookupLemmas.{get_bind, get_unbind, same_by_get}
 use Rattle.script_rules.proofs.RunLemmas.{step_keeps}
 use Rattle.arena_script.specs.Things.{Things, IsThingIn, object_in, objects_in, block_of, blocks_of, seen, AreHeldApart, AreThings, size_of, credit_of, credit_held}
 use Rattle.arena_script.specs.Wants.{tells_much, takes_room}
-use Rattle.arena_script.specs.Acts.{far, GivesThing, GivesNothing, Acts, CostsGiven, CostsRefused}
+use Rattle.arena_script.specs.Acts.{used, far, GivesThing, GivesNothing, HasNoPlace, Acts, CostsGiven, CostsRefused}
 use Rattle.arena_script.specs.Serves.{Serves, Stops, ServesOrStops, Settles, credits_of, KeepsKind}
 use Rattle.arena_script.specs.declared.act.Act.{Act}
 use Rattle.arena_script.specs.declared.act.Act.TheVariants.{Tells, Gives, LetsGo}
@@ -33,6 +33,15 @@ or_right false b h = h
 
 same_kind : (a : View) → KeepsKind a.memory a.memory
 same_kind a = record { is_growing = refl; allocated = λ stays. refl }
+
+pub no_place_within : {few many : ℕ} {a : View} → few ≤ many → HasNoPlace few a → HasNoPlace many a
+no_place_within le denied = record {
+  size = denied.size;
+  align = denied.align;
+  layout = denied.layout;
+  within = omega (arith, denied.within, le);
+  none = denied.none;
+}
 
 -- What was given costs as much where memory is wanting then.
 costs_wanting : {cost before after : ℕ} {old new : View} → CostsGiven cost before after old new
@@ -109,7 +118,7 @@ module _ {things later : Things} {old new : Memory} {name : ℕ} {o : Option Thi
 
 -- ---- A name gets a thing
 
-module _ (command : Command) (things : Things) (old new : View) (name : ℕ) (t : Thing) (reply : ScriptReply)
+module _ {command : Command} {things : Things} {old new : View} {name : ℕ} {t : Thing} {reply : ScriptReply}
     (are : AreThings old.memory things) (gives : GivesThing command things old new name t reply) where
   abbrev before : Objects
   before = objects_in old.memory things
@@ -167,18 +176,19 @@ module _ (command : Command) (things : Things) (old new : View) (name : ℕ) (t 
         taken = or_right (tells_much command) (takes_room command) (gives.taken none);
         costs = subst (λ n. CostsRefused n (credits_of things) 0 old new OutOfMemory) (sym (ap (λ (a : Answer). a.cost) answer_is))
             (costs_wanting costs);
+        denied = λ k no. absurd (cc);
         kind = kind_stays;
       }
 
 -- ---- Nothing changes, or a name is let go
 
-module _ (command : Command) (things : Things) (a : View) (are : AreThings a.memory things) where
+module _ (command : Command) (a : View) {things : Things} (are : AreThings a.memory things) where
   abbrev here : Objects
   here = objects_in a.memory things
 
-  pub told_serves : (reply : ScriptReply) → effect command (seen a.memory things) ≡ effects.Tells reply
+  pub told_serves : {reply : ScriptReply} → effect command (seen a.memory things) ≡ effects.Tells reply
       → Serves command a a things things reply
-  told_serves reply is =
+  told_serves {reply} is =
       let answer : step command here ≡ record { reply = reply; cost = 0; objects = here } =
       ap (settle here) (effect_seen command a.memory things ∙ is) in record {
         reply_is = sym (ap (λ (x : Answer). x.reply) answer);
@@ -189,7 +199,7 @@ module _ (command : Command) (things : Things) (a : View) (are : AreThings a.mem
         kind = same_kind a;
       }
 
-  module _ (name : ℕ) (is : effect command (seen a.memory things) ≡ effects.LetsGo name) where
+  module _ {name : ℕ} (is : effect command (seen a.memory things) ≡ effects.LetsGo name) where
     gone : step command here ≡ record { reply = Done; cost = 0; objects = unbind here name }
     gone = ap (settle here) (effect_seen command a.memory things ∙ is)
 
@@ -222,29 +232,31 @@ module _ (command : Command) (things : Things) (a : View) (are : AreThings a.mem
 
 -- ---- Nothing is given
 
-module _ (command : Command) (things : Things) (old new : View) (e : AllocError) (gives : GivesNothing command things old new e) where
-  nothing_is : step command (objects_in old.memory things)
-      ≡ record { reply = gives.reply; cost = gives.cost; objects = bind (objects_in old.memory things) gives.name gives.object }
-  nothing_is = ap (settle (objects_in old.memory things)) (effect_seen command old.memory things ∙ gives.effect_is)
-
-  pub nothing_stops : Stops command old new things e
-  nothing_stops = record {
-    fits = gives.fits;
-    taken = or_right (tells_much command) (takes_room command) gives.taken;
-    costs = subst (λ n. CostsRefused n (credits_of things) 0 old new e) (sym (ap (λ (a : Answer). a.cost) nothing_is))
-        (costs_beside far gives.cost (credit_held (get things gives.name)) (credit_held (get things gives.name)) (credits_of things) 0
-        (credits_of things - credit_held (get things gives.name)) old new (Err e)
-        (omega (arith, total_get credit_of things gives.name)) (omega arith) gives.costs);
-    kind = rw gives.same (record { is_growing = refl; allocated = λ stays. refl });
-  }
+nothing_stops : {command : Command} {things : Things} {old new : View} {e : AllocError} → GivesNothing command things old new e
+    → Stops command old new things e
+nothing_stops {command} {things} {old} {new} {e} gives =
+    let before = objects_in old.memory things in
+    let answer : step command before ≡ settle before (effects.Gives gives.name gives.object gives.reply gives.cost) =
+    ap (settle before) (effect_seen command old.memory things ∙ gives.effect_is) in record {
+      fits = gives.fits;
+      taken = or_right (tells_much command) (takes_room command) gives.taken;
+      costs = subst (λ n. CostsRefused n (credits_of things) 0 old new e) (sym (ap (λ (a : Answer). a.cost) answer))
+          (costs_beside far gives.cost (credit_held (get things gives.name)) (credit_held (get things gives.name)) (credits_of things) 0
+          (credits_of things - credit_held (get things gives.name)) old new (Err e)
+          (omega (arith, total_get credit_of things gives.name)) (omega arith) gives.costs);
+      denied = λ k is. no_place_within
+          (omega (arith, ap (λ (a : Answer). a.cost) answer, total_get credit_of things gives.name)) (gives.denied k is);
+      kind = rw gives.same (record { is_growing = refl; allocated = λ stays. refl });
+    }
 
 -- Where memory was wanting for what was to be told, nothing changed.
-untold_stops : (command : Command) (things : Things) (old : View) → IsTrue (tells_much command) → Stops command old old things OutOfMemory
-untold_stops command things old much = record {
+untold_stops : {command : Command} {things : Things} {old : View} → IsTrue (tells_much command) → Stops command old old things OutOfMemory
+untold_stops {command} {things} {old} much = record {
   fits = λ no. cc;
   taken = ap (λ b. b || takes_room command) much;
   costs = costs_wanting (nothing_given (step command (objects_in old.memory things)).cost (credits_of things) 0 old old (still old)
       (omega arith));
+  denied = λ k no. absurd (cc);
   kind = same_kind old;
 }
 
@@ -254,22 +266,13 @@ pub acted_settled : (command : Command) (things after : Things) (old new : View)
     → AreThings old.memory things → Acts command things old new (Ok act) → Settles act things after result
     → ServesOrStops command old new things after result
 acted_settled command things after old new (Tells reply) result are acts settles =
-    subst (λ r. ServesOrStops command old new things after r) (sym settles.0)
-    (subst (λ t. Serves command old new things t reply) (sym settles.1)
-    (subst (λ v. Serves command old v things things reply) (sym acts.1) (told_serves command things old are reply acts.0)))
-acted_settled command things after old new (Gives name thing reply) (Ok told) are acts settles =
-    subst (λ r. Serves command old new things after r) (sym settles.0)
-    (subst (λ t. Serves command old new things t reply) (sym settles.1) (given_serves command things old new name thing reply are acts))
-acted_settled command things after old new (Gives name thing reply) (Err e) are acts settles =
-    subst (λ x. Stops command old new things x) (sym settles.0)
-    (given_stops command things old new name thing reply are acts settles.1)
+    rw (settles.0, settles.1, acts.1) (told_serves command old are acts.0)
+acted_settled command things after old new (Gives name thing reply) (Ok told) are acts settles = rw (settles.0, settles.1) (given_serves are acts)
+acted_settled command things after old new (Gives name thing reply) (Err e) are acts settles = rw settles.0 (given_stops are acts settles.1)
 acted_settled command things after old new (LetsGo name) result are acts settles =
-    subst (λ r. ServesOrStops command old new things after r) (sym settles.0)
-    (subst (λ t. Serves command old new things t Done) (sym settles.1)
-    (subst (λ v. Serves command old v things (unbind things name) Done) (sym acts.1) (let_go_serves command things old are name acts.0)))
+    rw (settles.0, settles.1, acts.1) (let_go_serves command old are acts.0)
 
-pub acted_not : (command : Command) (things : Things) (old new : View) (e : AllocError)
-    → Acts command things old new (Err e) → Stops command old new things e
-acted_not command things old new e (inl gives) = nothing_stops command things old new e gives
-acted_not command things old new e (inr untold) = subst (λ v. Stops command old v things e) (sym untold.same)
-    (subst (λ x. Stops command old old things x) (sym untold.wanting) (untold_stops command things old untold.much))
+pub acted_not : (command : Command) (things : Things) (old new : View) (e : AllocError) → Acts command things old new (Err e)
+    → Stops command old new things e
+acted_not command things old new e (inl gives) = nothing_stops gives
+acted_not command things old new e (inr untold) = rw (untold.same, untold.wanting) (untold_stops untold.much)

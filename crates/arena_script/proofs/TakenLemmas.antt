@@ -1,6 +1,6 @@
 -- Copies that ask the arena for one block: what they cost.
-use Rattle.std.proofs.Common.{IsPermutation, ◌≡◌, ℕ, ◌+◌, ◌-◌, ◌^◌, ◌≤◌, refl, sym, ap, ◌∙◌, subst, arith, IsTrue, Some, None, List, [], ◌∷◌}
-use Rattle.std.proofs.lemmas.Option.{same_Some}
+use Rattle.std.proofs.Common.{IsPermutation, ◌≡◌, ℕ, ◌+◌, ◌-◌, ◌^◌, ◌≤◌, refl, sym, ap, ◌∙◌, subst, arith, IsTrue, Err, Some, None, List, [], ◌∷◌}
+use Rattle.std.proofs.lemmas.Option.{none-some, same_Some}
 use Rattle.std.proofs.lemmas.List.Elements.{recursion_from_All, All-from_recursion}
 use Rattle.std.proofs.lemmas.List.Sorted.{All-permutation}
 use Rattle.placement.specs.Rounding.{is_layout}
@@ -11,18 +11,12 @@ use Rattle.arena_chunks.specs.Answers.Answer.{Placed, Wanting, Refused}
 use Rattle.arena_chunks.specs.BlockCalls.{PlacesBlock}
 use Rattle.arena_chunks.specs.declared.block.Block.{Block}
 use Rattle.arena_chunks.proofs.Layers.{placed_least}
-use Rattle.arena_items.specs.Room.{SamePlaces}
+use Rattle.arena_items.specs.Room.{RoomAnswer, SamePlaces}
 use Rattle.arena_items.specs.declared.room.AllocError.{AllocError}
 use Rattle.arena_items.specs.declared.room.AllocError.TheVariants.{AllocErr, OutOfMemory}
 use Rattle.arena_clone.specs.Asks.{Takes, Follows, AsksFor}
-use Rattle.arena_script.specs.Acts.{used, far, CostsGiven}
+use Rattle.arena_script.specs.Acts.{used, far, CostsGiven, HasNoPlace}
 use Rattle.arena_script.proofs.CostFacts.{IsRefused, still, same_used, costs_from, block_given, block_refused}
-
-some_none : (e : AllocError) → Some e ≡ None → ⊥
-some_none e same = cc
-
-none_some : (e : AllocError) → None ≡ Some e → ⊥
-none_some e same = cc
 
 -- One block is one block, in whatever order.
 pub one_block : (b c : Block) → IsPermutation (b ∷ []) (c ∷ []) → c ≡ b
@@ -66,34 +60,29 @@ module _ (old new : View) (size align : ℕ) (blocks : List Block) (cost : ℕ) 
         );
         costs = costs_from far cost 0 after old takes.start new _ takes.written
             (block_given takes.start takes.between new size align cost 0 after (least_align takes.start takes.written) layout small
-            bounded same
-            b paid places);
+            bounded paid same b places);
       }
-      by (Refused k) places (is, none, same) = absurd (none_some (AllocErr k) is)
-      by Wanting places (is, none, same) = absurd (none_some OutOfMemory is)
-
-  refused_from : (start : View) (e : AllocError) → SamePlaces old start → IsRefused cost 0 start new e → IsRefused cost 0 old new e
-  refused_from start e written refused = record {
-    fits = refused.fits;
-    costs = costs_from far cost 0 0 old start new _ written refused.costs;
-    same = refused.same ∙ written.state;
-  }
+      by (Refused k) places (is, none, same) = absurd (none-some (AllocErr k) is)
+      by Wanting places (is, none, same) = absurd (none-some OutOfMemory is)
 
   pub not_taken : (e : AllocError) → size + (align - 1) ≤ cost + 0
       → Takes size align old new blocks (Some e) (λ between rest. AsksFor [] between new rest (Some e)) → IsRefused cost 0 old new e
   not_taken e paid takes = by takes.answer takes.places takes.then
     where
-      refused : (f : AllocError) → SamePlaces takes.between new → Some e ≡ Some f
-          → IsRefused cost 0 takes.start new f → IsRefused cost 0 old new e
-      refused f same is why = subst (λ x. IsRefused cost 0 old new x) (sym (same_Some e f is))
-          (refused_from takes.start f takes.written why)
+      refused : (f : AllocError) → RoomAnswer (λ (b : Block). b) (Err f) (PlacesBlock takes.start takes.between size align)
+          → new ≡ takes.between → Some e ≡ Some f → IsRefused cost 0 old new e
+      refused f places same is =
+          let why = block_refused takes.start takes.between new size align cost 0 0 (least_align takes.start takes.written) layout small
+          bounded (omega (arith, paid)) (same_as takes.between new same) (λ (b : Block). b) f places in
+          subst (λ x. IsRefused cost 0 old new x) (sym (same_Some e f is)) (record {
+            fits = why.fits;
+            costs = costs_from far cost 0 0 old takes.start new _ takes.written why.costs;
+            denied = λ k is. subst (λ n. HasNoPlace (n + (cost + 0)) new) (same_used old takes.start takes.written) (why.denied k is);
+            same = why.same ∙ takes.written.state;
+          })
 
       by : (a : Answer) → PlacesBlock takes.start takes.between size align a
           → Follows a takes.between new blocks (Some e) (λ rest. AsksFor [] takes.between new rest (Some e)) → IsRefused cost 0 old new e
-      by (Placed b) places (rest, is, (last, empties, same)) = absurd (some_none e last)
-      by (Refused k) places (is, none, same) = let kept = same_as takes.between new same in
-          refused (AllocErr k) kept is (block_refused takes.start takes.between new size align cost 0 0
-          (least_align takes.start takes.written) layout small bounded kept (λ (b : Block). b) (AllocErr k) paid places)
-      by Wanting places (is, none, same) = let kept = same_as takes.between new same in
-          refused OutOfMemory kept is (block_refused takes.start takes.between new size align cost 0 0
-          (least_align takes.start takes.written) layout small bounded kept (λ (b : Block). b) OutOfMemory paid places)
+      by (Placed b) places (rest, is, (last, empties, same)) = absurd (none-some e (sym last))
+      by (Refused k) places (is, none, same) = refused (AllocErr k) places same is
+      by Wanting places (is, none, same) = refused OutOfMemory places same is

@@ -1,32 +1,34 @@
 -- What commands on texts do.
-use Rattle.std.proofs.Common.{IsTrue, Result, inl, inr, ◌≡◌, ℕ, ◌+◌, ◌*◌, ◌<◌, ◌≤◌, refl, ap, ◌∙◌, arith, true, false, Ok, Err, None, List, [], ◌∷◌, ◌++◌, length, length-append}
+use Rattle.std.proofs.Common.{IsTrue, Result, inl, inr, ◌≡◌, ℕ, ◌+◌, ◌*◌, ◌^◌, ◌<◌, ◌≤◌, refl, ap, ◌∙◌, arith, true, false, Ok, Err, None, List, [], ◌∷◌, ◌++◌, length, length-append}
 use Rattle.std.specs.Prelude.{nat_lt}
 use Rattle.std.specs.List.{list_any}
 use Rattle.std.proofs.lemmas.Bool.Decides.{nat_tests}
 use Rattle.arena_chunks.specs.Memory.{Memory}
 use Rattle.arena_chunks.specs.Source.{View}
+use Rattle.arena_items.specs.Room.{capacity_after}
 use Rattle.arena_items.specs.declared.room.AllocError.{AllocError}
+use Rattle.arena_items.specs.declared.room.Growth.{Growth}
 use Rattle.arena_text.specs.Builders.{IsBuilderIn, builder_bytes, no_block}
 use Rattle.arena_chunks.specs.declared.block.Block.{Block}
 use Rattle.arena_chunks.proofs.Layers.{empty_after, frame_reflexive}
 use Rattle.arena_text.specs.Changes.{Grows}
-use Rattle.arena_text.specs.Growth.{amortised_growth}
+use Rattle.arena_text.specs.Growth.{amortised_growth, IsRoomFor}
 use Rattle.arena_text.specs.declared.text.StringBuilder.{StringBuilder}
 use Rattle.script_rules.specs.Objects.{get, AText, most_bytes}
 use Rattle.script_rules.specs.Effects.{Effect, Tells, Gives, joins, not_ascii, effect}
 use Rattle.script_rules.specs.declared.commands.Command.{Command}
 use Rattle.script_rules.specs.declared.commands.Command.TheVariants.{MakeText, Byte, Front, Append}
 use Rattle.script_rules.specs.declared.commands.ScriptReply.TheVariants.{Done, CapacityOverflow}
-use Rattle.arena_script.specs.Things.{Things, seen}
+use Rattle.arena_script.specs.Things.{Things, seen, credit_of}
 use Rattle.arena_script.specs.Wants.{takes_room}
 use Rattle.arena_script.specs.Acts.{Acts, GivesThing, GivesNothing}
 use Rattle.arena_script.specs.declared.act.Act.{Act}
 use Rattle.arena_script.specs.declared.act.Act.TheVariants as act
 use Rattle.arena_script.specs.declared.thing.Thing.TheVariants as thing
-use Rattle.arena_script.proofs.CostFacts.{still, nothing_given}
+use Rattle.arena_script.proofs.CostFacts.{IsPaid, still, nothing_given, grown_least, grown_costs, grown_refused}
 use Rattle.arena_script.proofs.GivingLemmas.{exchanged, kept, made}
 use Rattle.arena_script.proofs.ThingLemmas.{Holds}
-use Rattle.arena_script.proofs.TextLemmas.{GrowthRule, text_grew, text_refused}
+use Rattle.arena_script.proofs.TextLemmas.{GrowthRule, later, text_paid, text_place}
 
 -- ---- What the plain machine does with more bytes
 
@@ -67,22 +69,42 @@ module _ {things : Things} {m : Memory} {name : ℕ} {t : StringBuilder} (h : Ho
 
 -- ---- What the arena does
 
-module _ (rule : GrowthRule) {things : Things} {old new : View} {name : ℕ} {t u : StringBuilder}
+module _ (rule : GrowthRule) (old new : View) (u : StringBuilder) {things : Things} {name : ℕ} {t : StringBuilder}
     (h : Holds things old.memory name (thing.Text t)) (one : old.memory.state.min_align ≡ 1) {command : Command} {more list : List ℕ}
     (puts : Puts h command more list) (low : list_any not_ascii more ≡ false)
     (counted : t.len ≡ length (builder_bytes old.memory t)) (fits : t.len + length more ≤ most_bytes) where
-  pub put_gives : Grows old new t (amortised_growth t.cap t.len (length more)) list u (Ok tt)
-      → GivesThing command things old new name (thing.Text u) Done
-  put_gives grows =
-      let grew = text_grew rule old new t u list (length more) one h.held (omega (arith, fits)) (omega (arith, puts.longer, counted)) grows in
-      exchanged h (rw grows.bytes_are (put_given h puts low counted fits))
-      (record { held = grew.now_held; least = grew.least; costs = grew.costs; frame = grows.frame })
+  abbrev n : ℕ
+  n = length more
 
-  pub put_gives_nothing : {e : AllocError} → Grows old new t (amortised_growth t.cap t.len (length more)) list u (Err e)
-      → GivesNothing command things old new e
-  put_gives_nothing {e} grows =
-      kept h puts.taken (put_given h puts low counted fits)
-      (text_refused rule old new t u list (length more) one h.held (omega (arith, fits)) (omega (arith, puts.longer, counted)) e grows)
+  abbrev change : Growth
+  change = amortised_growth t.cap t.len n
+
+  small : t.len + n < 2 ^ 32
+  small = omega (arith, fits)
+
+  abbrev credit : ℕ
+  credit = later rule t n h.held small
+
+  paid : IsPaid 1 1 t.cap change (4 * n) (credit_of (thing.Text t)) credit × IsRoomFor (t.len + n) (capacity_after change t.cap)
+  paid = text_paid rule t n h.held small
+
+  pub put_gives : Grows old new t change list u (Ok tt) → GivesThing command things old new name (thing.Text u) Done
+  put_gives grows =
+      let place = text_place rule t n h.held small in
+      let longer : length list ≡ t.len + n = omega (arith, puts.longer, counted) in
+      exchanged {cost = 4 * n} h (rw grows.bytes_are (put_given h puts low counted fits)) (record {
+        held = record { held = grows.held; room = rw (grows.cap, grows.len, longer) paid.1 };
+        least = grown_least old new t.block 1 1 t.cap (λ (x : Unit {0}). u.block) (4 * n) (credit_of (thing.Text t)) credit one place
+            (omega arith) change tt paid.0 (omega (arith, grows.held.place.of_size, grows.cap)) grows.made;
+        costs = rw (grows.cap, grows.len, longer) (grown_costs old new t.block 1 1 t.cap (λ (x : Unit {0}). u.block) (4 * n)
+            (credit_of (thing.Text t)) credit one place (omega arith) change tt paid.0 grows.made);
+        frame = grows.frame;
+      })
+
+  pub put_gives_nothing : {e : AllocError} → Grows old new t change list u (Err e) → GivesNothing command things old new e
+  put_gives_nothing {e} grows = kept h.found puts.taken (put_given h puts low counted fits) (grown_refused old new t.block 1 1 t.cap
+      (λ (x : Unit {0}). u.block) (4 * n) (credit_of (thing.Text t)) credit one (text_place rule t n h.held small) (omega arith) change e
+      paid.0 (ap (λ m. m.state) grows.err.1) grows.made)
 
 -- ---- One byte
 
@@ -110,6 +132,7 @@ byte_acts name byte things old new (Err e) (inl acts) = inl (record {
   taken = acts.taken;
   fits = acts.fits;
   costs = acts.costs;
+  denied = acts.denied;
   same = acts.same;
 })
 byte_acts name byte things old new (Err e) (inr untold) = absurd (let no = untold.much in cc)

@@ -1,5 +1,5 @@
 -- What copies of texts do.
-use Rattle.std.proofs.Common.{IsPermutation, ◌≡◌, ℕ, ◌+◌, ◌*◌, ◌^◌, ◌<◌, sym, ap, ◌∙◌, subst, arith, IsTrue, Ok, Err, None, Result, List, [], ◌∷◌, length, take}
+use Rattle.std.proofs.Common.{IsPermutation, ◌≡◌, ℕ, ◌+◌, ◌*◌, ◌^◌, ◌≤◌, sym, ap, ◌∙◌, subst, arith, IsTrue, Ok, Err, None, Result, List, [], ◌∷◌, length, take}
 use Rattle.std.proofs.lemmas.List.{take_all}
 use Rattle.placement.specs.Rounding.{is_layout}
 use Rattle.arena_chunks.specs.Memory.{Memory}
@@ -21,13 +21,12 @@ use Rattle.arena_script.specs.Things.{Things, object_in, credit_of, IsWordsIn}
 use Rattle.arena_script.specs.Acts.{GivesThing, GivesNothing}
 use Rattle.arena_script.specs.declared.thing.Thing.TheVariants as thing
 use Rattle.arena_script.proofs.CopyActs.{copy_gives, copy_gives_nothing}
-use Rattle.arena_script.proofs.GivingLemmas.{IsMade}
-use Rattle.arena_script.proofs.CostFacts.{IsRefused}
 use Rattle.arena_script.proofs.ThingLemmas.{Holds}
 use Rattle.arena_script.proofs.TakenLemmas.{IsTaken, taken, not_taken, one_block}
 use Rattle.arena_script.proofs.TextLemmas.{bytes_layout}
 
-module _ (old new : View) (t : StringBuilder) (s : Str) (one : old.memory.state.min_align ≡ 1) (few : t.len < 2 ^ 32)
+module _ (old new : View) (other : ℕ) {things : Things} {name : ℕ} {t : StringBuilder} (h : Holds things old.memory name (thing.Text t))
+    (none : get things other ≡ None) (s : Str) (one : old.memory.state.min_align ≡ 1)
     (count : t.len ≡ length (builder_bytes old.memory t)) (bytes_are : text_bytes old.memory s ≡ builder_bytes old.memory t)
     (size : s.block.size ≡ t.len) where
   abbrev Cloned : Result Str AllocError → Type 0
@@ -36,25 +35,24 @@ module _ (old new : View) (t : StringBuilder) (s : Str) (one : old.memory.state.
   abbrev cost : ℕ
   cost = 32 + 4 * t.len
 
+  few : s.block.size ≤ 2 ^ 60
+  few = omega (arith, h.is.1, count, size)
+
   layout : IsTrue (is_layout s.block.size 1)
-  layout = bytes_layout s.block.size (omega (arith, size))
+  layout = bytes_layout s.block.size (omega (arith, few))
 
   -- a text of as many bytes
   abbrev now : Str → StringBuilder
   now copy = record { block = copy.block; len = t.len; cap = t.len }
 
-  text_denied : (e : AllocError) → Cloned (Err e) → IsRefused cost 0 old new e
-  text_denied e copies =
-      not_taken old new s.block.size 1 copies.blocks cost one layout (omega arith) (omega (arith, size)) e (omega (arith, size))
-      copies.placed.asked
+  pub text_copy_gives_nothing : {e : AllocError} → Cloned (Err e) → GivesNothing (CopyTo name other) things old new e
+  text_copy_gives_nothing {e} copies = copy_gives_nothing h none (ap (λ k. 32 + 4 * k) (sym count))
+      (not_taken old new s.block.size 1 copies.blocks cost one layout (omega arith) few e (omega (arith, size)) copies.placed.asked)
 
-  module _ (copy : Str) (copies : Cloned (Ok copy)) where
-    abbrev after : ℕ
-    after = credit_of (thing.Text (now copy))
-
-    is_taken : IsTaken old new s.block.size 1 copies.blocks cost one layout (omega arith) (omega (arith, size)) after
-    is_taken = taken old new s.block.size 1 copies.blocks cost one layout (omega arith) (omega (arith, size)) after (omega (arith, size))
-        copies.placed.asked
+  module _ {copy : Str} (copies : Cloned (Ok copy)) where
+    is_taken : IsTaken old new s.block.size 1 copies.blocks cost one layout (omega arith) few (credit_of (thing.Text (now copy)))
+    is_taken = taken old new s.block.size 1 copies.blocks cost one layout (omega arith) few (credit_of (thing.Text (now copy)))
+        (omega (arith, size)) copies.placed.asked
 
     own : copy.block ≡ is_taken.block
     own = sym (one_block copy.block is_taken.block (subst (λ bs. IsPermutation (copy.block ∷ []) bs) is_taken.is copies.made.deep))
@@ -76,28 +74,10 @@ module _ (old new : View) (t : StringBuilder) (s : Str) (one : old.memory.state.
     text_is = ap (λ (bs : List ℕ). AText (take t.len bs)) (copies.made.means ∙ bytes_are)
         ∙ ap AText (take_all t.len (builder_bytes old.memory t) (omega (arith, count)))
 
-    text_copied : IsMade cost old new (thing.Text (now copy))
-    text_copied = record {
+    pub text_copy_gives : GivesThing (CopyTo name other) things old new other (thing.Text (now copy)) Done
+    text_copy_gives = copy_gives h none (ap (λ k. 32 + 4 * k) (sym count)) (thing.Text (now copy)) text_is (record {
       held = text_held;
       least = omega (arith, is_taken.least, is_taken.of_size, ap (λ (b : Block). b.size) own);
       costs = is_taken.costs;
       frame = subst (λ bs. Frame old.memory new.memory [] bs) (is_taken.is ∙ ap (λ (b : Block). b ∷ []) (sym own)) copies.placed.frame;
-    }
-
-text_few : {things : Things} {m : Memory} {name : ℕ} {t : StringBuilder} → Holds things m name (thing.Text t)
-    → t.len ≡ length (builder_bytes m t) → t.len < 2 ^ 32
-text_few h count = omega (arith, h.is.1, count)
-
-module _ {things : Things} {old new : View} {name other : ℕ} {t : StringBuilder} (h : Holds things old.memory name (thing.Text t))
-    (none : get things other ≡ None) (s : Str) (one : old.memory.state.min_align ≡ 1)
-    (count : t.len ≡ length (builder_bytes old.memory t)) (bytes_are : text_bytes old.memory s ≡ builder_bytes old.memory t)
-    (size : s.block.size ≡ t.len) where
-  pub text_copy_gives : {copy : Str} → Copies text With old.memory old new s (Ok copy)
-      → GivesThing (CopyTo name other) things old new other (thing.Text (record { block = copy.block; len = t.len; cap = t.len })) Done
-  text_copy_gives {copy} copies = copy_gives h none (ap (λ k. 32 + 4 * k) (sym count)) _
-      (text_is old new t s one (text_few h count) count bytes_are size copy copies) (text_copied old new t s one (text_few h count) count bytes_are size copy copies)
-
-  pub text_copy_gives_nothing : {e : AllocError} → Copies text With old.memory old new s (Err e)
-      → GivesNothing (CopyTo name other) things old new e
-  text_copy_gives_nothing {e} copies = copy_gives_nothing h none (ap (λ k. 32 + 4 * k) (sym count))
-      (text_denied old new t s one (text_few h count) count bytes_are size e copies)
+    })

@@ -23,7 +23,7 @@ use Rattle.arena_script.specs.Wants.{takes_room}
 use Rattle.arena_script.specs.Acts.{GivesThing, GivesNothing}
 use Rattle.arena_script.specs.declared.thing.Thing.TheVariants as thing
 use Rattle.arena_script.proofs.CostFacts.{still, same_used, nothing_given, block_given, block_refused}
-use Rattle.arena_script.proofs.GivingLemmas.{exchanged, made, not_made}
+use Rattle.arena_script.proofs.GivingLemmas.{exchanged, made, kept}
 use Rattle.arena_script.proofs.ThingLemmas.{Holds}
 
 pub is_none : {X : Type 0} (o : Option X) → is_some o ≡ false → o ≡ None
@@ -64,11 +64,11 @@ module _ {command : Command} {things : Things} {old new : View} {name value : �
   made_gives {b} boxes = made none taken (rw boxes.value given) (record {
     held = boxes.held;
     least = omega (arith, placed_least old new 8 8 b.block layout boxes.placed, boxes.held.of_size);
-    costs = block_given old new new 8 8 15 0 0 one layout (omega arith) (omega arith) (still new) b.block (omega arith) boxes.placed;
+    costs = block_given old new new 8 8 15 0 0 one layout (omega arith) (omega arith) (omega arith) (still new) b.block boxes.placed;
     frame = boxes.placed.1.outcome.frame;
   })
 
   pub made_gives_nothing : {e : AllocError} → Boxes long old new value (Err e) → GivesNothing command things old new e
-  made_gives_nothing {e} boxes = not_made none taken given
-      (block_refused old new new 8 8 15 0 0 one layout (omega arith) (omega arith) (still new) (λ (b : Box ℕ). b.block) e (omega arith)
+  made_gives_nothing {e} boxes = kept none taken given
+      (block_refused old new new 8 8 15 0 0 one layout (omega arith) (omega arith) (omega arith) (still new) (λ (b : Box ℕ). b.block) e
       boxes.placed)

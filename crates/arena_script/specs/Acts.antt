@@ -1,10 +1,12 @@
 -- What calls on commands do to things in an arena.
-use Rattle.std.specs.Prelude.{◌≡◌, ◌≢◌, ℕ, ◌+◌, ◌^◌, ◌≤◌, ◌⊎◌, Result, Ok, Err, None, [], ◌∷◌, IsTrue}
+use Rattle.std.specs.Prelude.{◌≡◌, ◌≢◌, ℕ, ◌+◌, ◌-◌, ◌^◌, ◌≤◌, ◌⊎◌, Result, Ok, Err, None, [], ◌∷◌, IsTrue}
+use Rattle.placement.specs.Rounding.{is_layout}
+use Rattle.placement.specs.Search.{place}
 use Rattle.arena_chunks.specs.Source.{View}
 use Rattle.arena_chunks.specs.Frame.{Frame}
 use Rattle.arena_items.specs.Costs.{Costs, used as used_in}
 use Rattle.arena_items.specs.declared.room.AllocError.{AllocError}
-use Rattle.arena_items.specs.declared.room.AllocError.TheVariants.{CapacityOverflow, OutOfMemory}
+use Rattle.arena_items.specs.declared.room.AllocError.TheVariants.{AllocErr, CapacityOverflow, OutOfMemory}
 use Rattle.script_rules.specs.Objects.{get, Object}
 use Rattle.script_rules.specs.Effects.{effect}
 use Rattle.script_rules.specs.Effects as effects
@@ -22,6 +24,14 @@ used a = used_in a
 -- a command's calls are starved only where the newest data end lay this far up, or for their source
 abbrev pub far : ℕ
 far = 2 ^ 62 + 2 ^ 61
+
+-- A block within so many bytes has no place: it, its padding and what is in use are no more.
+pub record HasNoPlace (bytes : ℕ) (a : View) : Type 0 where
+  pub size : ℕ
+  pub align : ℕ
+  pub layout : IsTrue (is_layout size align)
+  pub within : used a + size + (align - 1) ≤ bytes
+  pub none : place a.memory.state size align ≡ None
 
 -- what a call on a command costs, where it gives something, and where it is refused
 abbrev pub CostsGiven : (cost before after : ℕ) (old new : View) → Type 0
@@ -52,6 +62,7 @@ pub record GivesNothing (command : Command) (things : Things) (old new : View) (
   pub taken : IsTrue (takes_room command)
   pub fits : e ≢ CapacityOverflow
   pub costs : CostsRefused cost (credit_held (get things name)) (credit_held (get things name)) old new e
+  pub denied : (k : ℕ) → e ≡ AllocErr k → HasNoPlace (used old + (cost + credit_held (get things name))) new
   pub same : new.memory.state ≡ old.memory.state
 
 -- Memory was wanting for what a command was to tell. Nothing changed.

@@ -2,7 +2,7 @@
 use Rattle.std.specs.Prelude.{◌≡◌, ◌≢◌, ℕ, ◌+◌, ◌≤◌, ◌⊎◌, List, [], length, take, slice_get, IsSomeAnd, IsTrue}
 use Rattle.arena_chunks.specs.Memory.{Memory}
 use Rattle.arena_chunks.specs.Source.{View}
-use Rattle.arena_chunks.specs.Asking.{IsFull}
+use Rattle.arena_chunks.specs.Asking.{AsksWithin, IsFull}
 use Rattle.script_rules.specs.Objects.{Objects, need}
 use Rattle.script_rules.specs.Machine.{run, cost_of_first}
 use Rattle.script_rules.specs.Starved.{IsStarvedWithin}
@@ -10,7 +10,7 @@ use Rattle.script_rules.specs.declared.commands.Command.{Command}
 use Rattle.script_rules.specs.declared.commands.Ended.TheVariants as ended
 use Rattle.script_rules.specs.declared.outcome.Outcome.{Outcome}
 use Rattle.arena_script.specs.Things.{Things, AreThings, objects_in}
-use Rattle.arena_script.specs.Acts.{used}
+use Rattle.arena_script.specs.Acts.{used, HasNoPlace}
 use Rattle.arena_script.specs.Serves.{KeepsKind}
 use Rattle.arena_script.specs.Wants.{takes_memory}
 
@@ -42,11 +42,13 @@ IsStoppedAt script outcome = IsSomeAnd (slice_get script (length outcome.replies
 pub record IsRun (script : List Command) (old new : View) (outcome : Outcome) : Type 0 where
   pub replies : Replies script outcome
   pub holds : outcome.ended ≡ ended.Done → HoldsObjects new.memory (run script).objects
+  pub asks : AsksWithin (used old + cost_with_next script outcome) old new
   pub used : outcome.used ≡ used new
   pub most : outcome.used ≤ cost_with_next script outcome
   pub least : outcome.ended ≡ ended.Done → need (run script).objects ≤ outcome.used
   pub full : outcome.ended ≡ ended.Full → IsFull (cost_with_next script outcome) old
   pub refused : outcome.ended ≡ ended.Refused
       → IsStarvedWithin (cost_with_next script outcome) old.memory.state new.memory.state old.source new.source
+  pub denied : outcome.ended ≢ ended.Done → outcome.ended ≢ ended.OutOfMemory → HasNoPlace (cost_with_next script outcome) new
   pub stopped : outcome.ended ≢ ended.Done → IsUnbegun old new outcome ⊎ IsStoppedAt script outcome
   pub kind : KeepsKind old.memory new.memory

@@ -4,14 +4,14 @@ use Rattle.placement.specs.State.{allocated_bytes}
 use Rattle.arena_chunks.specs.Memory.{Memory}
 use Rattle.arena_chunks.specs.Source.{View}
 use Rattle.arena_items.specs.declared.room.AllocError.{AllocError}
-use Rattle.arena_items.specs.declared.room.AllocError.TheVariants.{CapacityOverflow, OutOfMemory}
+use Rattle.arena_items.specs.declared.room.AllocError.TheVariants.{AllocErr, CapacityOverflow, OutOfMemory}
 use Rattle.script_rules.specs.Objects.{get, total, bind, unbind}
 use Rattle.script_rules.specs.Machine.{step, run, cost_of}
 use Rattle.script_rules.specs.declared.commands.Command.{Command}
 use Rattle.script_rules.specs.declared.commands.ScriptReply.{ScriptReply}
 use Rattle.script_rules.specs.declared.commands.ScriptReply.TheVariants.{Done}
 use Rattle.arena_script.specs.Things.{Things, AreThings, objects_in, size_of, credit_of}
-use Rattle.arena_script.specs.Acts.{used, CostsGiven, CostsRefused}
+use Rattle.arena_script.specs.Acts.{used, CostsGiven, CostsRefused, HasNoPlace}
 use Rattle.arena_script.specs.Wants.{takes_memory}
 use Rattle.arena_script.specs.declared.act.Act.{Act}
 use Rattle.arena_script.specs.declared.act.Act.TheVariants.{Tells, Gives, LetsGo}
@@ -45,6 +45,8 @@ pub record Stops (command : Command) (old new : View) (things : Things) (e : All
   pub fits : e ≢ CapacityOverflow
   pub taken : IsTrue (takes_memory command)
   pub costs : CostsRefused (step command (objects_in old.memory things)).cost (credits_of things) 0 old new e
+  pub denied : (k : ℕ) → e ≡ AllocErr k
+      → HasNoPlace (used old + ((step command (objects_in old.memory things)).cost + credits_of things)) new
   pub kind : KeepsKind old.memory new.memory
 
 abbrev pub ServesOrStops : Command → View → View → Things → Things → Result ScriptReply AllocError → Type 0

@@ -14,7 +14,7 @@ use crate::thing::Thing;
 use arena_chunks::{Allocator, ChunkSource};
 use arena_items::{AllocError, Grown};
 use arena_vec::Vec;
-use arena_vec::laws::{growth_costs, vector_costs};
+use arena_vec::laws::{growth_costs, growth_rule};
 use script_rules::{Command, Names, Numbers, ScriptReply};
 use std::alloc::Global;
 
@@ -49,8 +49,8 @@ pub(crate) fn push<C: ChunkSource>(
     requires { AreThings a.old.memory things.now }
     ensures { Acts (Command.Push name value) things.now a.old a.new result }
 {
+    growth_rule();
     growth_costs();
-    vector_costs::<u32, ()>();
     // So the least alignment is known to be 1.
     let _ = a.min_align();
     let mut list = match list_of(things, name) {
@@ -79,8 +79,8 @@ pub(crate) fn insert<C: ChunkSource>(
     requires { AreThings a.old.memory things.now }
     ensures { Acts (Command.Insert name at value) things.now a.old a.new result }
 {
+    growth_rule();
     growth_costs();
-    vector_costs::<u32, ()>();
     let _ = a.min_align();
     let mut list = match list_of(things, name) {
         Ok(list) => list,
@@ -244,6 +244,7 @@ pub(crate) fn copied<C: ChunkSource>(
     requires none { get things.now other ≡ None }
     ensures { Acts (Command.CopyTo name other) things.now a.old a.new result }
 {
+    growth_rule();
     let _ = a.min_align();
     let mut source = list;
     let copy = source.split_off(a, 0)?;

@@ -12,3 +12,5 @@ pub mod DefineLemmas
 pub mod UndoLemmas
 pub mod LeaveLemmas
 pub mod NamedLemmas
+pub mod CallLemmas
+pub mod Layers

@@ -63,10 +63,12 @@ newest_append i (p ∷ ps) newer id =
     ∙ seen_seen (newest_from (i + length (p ∷ ps)) newer id) (newest_from (i + 1) ps id) (if p.0 == id then Some i else None)
 
 -- A pair at the end is the newest of its id.
-pub newest_push : (pairs : List (ℕ × ℕ)) (id value q : ℕ) → newest (pairs ++ (id, value) ∷ []) q ≡ (if id == q then Some (length pairs) else newest pairs q)
+pub newest_push : (pairs : List (ℕ × ℕ)) (id value q : ℕ)
+    → newest (pairs ++ (id, value) ∷ []) q ≡ (if id == q then Some (length pairs) else newest pairs q)
 newest_push pairs id value q = newest_append 0 pairs ((id, value) ∷ []) q ∙ last (id == q)
   where
-    last : (here : Bool) → seen (seen None (if here then Some (0 + length pairs) else None)) (newest pairs q) ≡ (if here then Some (length pairs) else newest pairs q)
+    last : (here : Bool) → seen (seen None (if here then Some (0 + length pairs) else None)) (newest pairs q)
+        ≡ (if here then Some (length pairs) else newest pairs q)
     last true = ap Some (omega arith)
     last false = refl
 
@@ -75,7 +77,8 @@ pub newest_none : (i : ℕ) (pairs : List (ℕ × ℕ)) (id : ℕ) → newest_fr
 newest_none i [] id none = refl
 newest_none i (p ∷ ps) id none = go (newest_from (i + 1) ps id) (newest_none (i + 1) ps id) none
   where
-    go : (o : Option ℕ) → (o ≡ None → value_in ps id ≡ None) → seen o (if p.0 == id then Some i else None) ≡ None → value_in (p ∷ ps) id ≡ None
+    go : (o : Option ℕ) → (o ≡ None → value_in ps id ≡ None) → seen o (if p.0 == id then Some i else None) ≡ None
+        → value_in (p ∷ ps) id ≡ None
     go (Some j) later is = absurd (none-some j (sym is))
     go None later is = elim (cases_Bool (p.0 == id)) [
       | inl here ↦ absurd (none-some i (sym is ∙ ap (λ (b : Bool). seen None (if b then Some i else None)) here))
@@ -95,7 +98,8 @@ pub newest_stands : (i : ℕ) (pairs : List (ℕ × ℕ)) (id at : ℕ) → newe
 newest_stands i [] id at is = absurd (none-some at is)
 newest_stands i (p ∷ ps) id at is = go (newest_from (i + 1) ps id) refl (newest_stands (i + 1) ps id at) is
   where
-    go : (o : Option ℕ) → newest_from (i + 1) ps id ≡ o → (newest_from (i + 1) ps id ≡ Some at → IsNewest (i + 1) ps id at) → seen o (if p.0 == id then Some i else None) ≡ Some at → IsNewest i (p ∷ ps) id at
+    go : (o : Option ℕ) → newest_from (i + 1) ps id ≡ o → (newest_from (i + 1) ps id ≡ Some at → IsNewest (i + 1) ps id at)
+        → seen o (if p.0 == id then Some i else None) ≡ Some at → IsNewest i (p ∷ ps) id at
     go (Some j) later on is =
         let same : j ≡ at = same_Some j at is in
         let rest = on (later ∙ is) in
@@ -172,13 +176,16 @@ is_in_last_is pairs starts id begins =
     k : ℕ
     k = start_in starts
 
-    go : (inner outer : Option ℕ) → newest_from (start_in starts) (drop (start_in starts) pairs) id ≡ inner → newest (take (start_in starts) pairs) id ≡ outer
+    go : (inner outer : Option ℕ) → newest_from (start_in starts) (drop (start_in starts) pairs) id ≡ inner
+        → newest (take (start_in starts) pairs) id ≡ outer
         → is_some (value_in (drop (start_in starts) pairs) id)
-        ≡ stands_from (seen (newest_from (start_in starts) (drop (start_in starts) pairs) id) (newest (take (start_in starts) pairs) id)) (start_in starts)
+        ≡ stands_from (seen (newest_from (start_in starts) (drop (start_in starts) pairs) id) (newest (take (start_in starts) pairs) id))
+        (start_in starts)
     go (Some j) outer is also =
         let found = newest_stands (start_in starts) (drop (start_in starts) pairs) id j is in
         let test : nat_le (start_in starts) j ≡ true = grind (arith, nat_tests, found.low) in
-        ap is_some found.value_is ∙ sym test ∙ ap (λ (o : Option ℕ). stands_from (seen o (newest (take (start_in starts) pairs) id)) (start_in starts)) (sym is)
+        ap is_some found.value_is ∙ sym test ∙ ap
+        (λ (o : Option ℕ). stands_from (seen o (newest (take (start_in starts) pairs) id)) (start_in starts)) (sym is)
     go None None is also =
         ap is_some (newest_none (start_in starts) (drop (start_in starts) pairs) id is)
         ∙ (λ i. stands_from (seen (sym is i) (sym also i)) (start_in starts))
@@ -215,7 +222,8 @@ start_none (x ∷ xs) none = absurd (omega (arith, none))
 
 -- ---- Maps begun, and ended
 
-pub scopes_enter : (pairs : List (ℕ × ℕ)) (starts : List ℕ) (n : ℕ) → n ≡ length pairs → scopes_of pairs (n ∷ starts) ≡ [] ∷ scopes_of pairs starts
+pub scopes_enter : (pairs : List (ℕ × ℕ)) (starts : List ℕ) (n : ℕ) → n ≡ length pairs
+    → scopes_of pairs (n ∷ starts) ≡ [] ∷ scopes_of pairs starts
 scopes_enter pairs starts n is =
     (λ i. drop (is i) pairs ∷ scopes_of (take (is i) pairs) starts) ∙ (λ i. drop_all i ∷ scopes_of (take-length pairs i) starts)
   where
@@ -244,7 +252,8 @@ pub more_starts : (n m : ℕ) (starts : List ℕ) → n ≤ m → AreStarts n st
 more_starts n m [] le begins = tt
 more_starts n m (k ∷ ks) le begins = (omega (arith, begins.0), begins.1)
 
-pub first_push : (entries : List Entry) (e : Entry) → first_count (entries ++ e ∷ []) ≡ first_count entries + (if is_some e.1.1 then 0 else 1)
+pub first_push : (entries : List Entry) (e : Entry)
+    → first_count (entries ++ e ∷ []) ≡ first_count entries + (if is_some e.1.1 then 0 else 1)
 first_push [] e = omega arith
 first_push (x ∷ xs) e = omega (arith, first_push xs e)
 
@@ -268,7 +277,8 @@ get_push (y ∷ ys) e (suc i) x is = elim (get_push ys e i x is) [
 ]
 
 -- Entries tell what they hide with one more that does.
-pub hidden_push : (entries : List Entry) (e : Entry) → TellHidden entries → e.1.1 ≡ newest (pairs_of entries) e.0 → TellHidden (entries ++ e ∷ [])
+pub hidden_push : (entries : List Entry) (e : Entry) → TellHidden entries → e.1.1 ≡ newest (pairs_of entries) e.0
+    → TellHidden (entries ++ e ∷ [])
 hidden_push entries e tell is i x there = elim (get_push entries e i x there) [
   | inl before ↦
       tell i x before.1
@@ -279,7 +289,8 @@ hidden_push entries e tell is i x there = elim (get_push entries e i x there) [
 ]
   where
     whole : i ≡ length entries → take i (pairs_of (entries ++ e ∷ [])) ≡ pairs_of entries
-    whole at = (λ j. take ((at ∙ sym (length_pairs entries)) j) (pairs_push entries e j)) ∙ take-append_seam (pairs_of entries) ((e.0, e.1.0) ∷ [])
+    whole at = (λ j. take ((at ∙ sym (length_pairs entries)) j) (pairs_push entries e j))
+        ∙ take-append_seam (pairs_of entries) ((e.0, e.1.0) ∷ [])
 
 -- Two ids have one byte form exactly where they are equal.
 pub ids_equal : (q id : ℕ) → q < 2 ^ 32 → id < 2 ^ 32 → bytes_eq (to_le_bytes w32 q) (to_le_bytes w32 id) ≡ (id == q)

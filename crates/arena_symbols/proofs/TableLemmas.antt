@@ -1,11 +1,13 @@
 -- Scoped tables in an arena.
-use Rattle.std.proofs.Common.{◌≡◌, ℕ, ◌-◌, ◌<◌, length, sym, ap, subst, ◌∙◌, arith, Some, None, Option}
+use Rattle.std.proofs.Common.{◌≡◌, ℕ, ◌-◌, ◌^◌, ◌<◌, ◌≤◌, length, sym, ap, subst, ◌∙◌, arith, Some, None, Option}
 use Rattle.std.specs.Prelude.{slice_get}
+use Rattle.placement.specs.Rounding.{up}
 use Rattle.arena_chunks.specs.Memory.{Memory}
+use Rattle.arena_items.specs.Layout.{pair_size, second_at, option_size}
 use Rattle.arena_items.specs.declared.item.Item.{Ghosts}
 use Rattle.arena_items.proofs.Layers.{length-elements}
 use Rattle.arena_symbols.specs.Scoping.{lookup, newest, start_in, is_in_last, AreStarts, stands_from}
-use Rattle.arena_symbols.specs.Tables.{Entry, pairs_of, entries_in, starts_in, scopes_in, IsTableIn}
+use Rattle.arena_symbols.specs.Tables.{Entry, entry_item, pairs_of, entries_in, starts_in, scopes_in, IsTableIn}
 use Rattle.arena_symbols.specs.declared.scopes.Scopes.{Scopes}
 use Rattle.arena_symbols.proofs.ScopeLemmas.{lookup_whole, newest_none, newest_stands, length_pairs, pair_at, is_in_last_is}
 
@@ -42,3 +44,8 @@ module _ (item : Ghosts Entry) (memory : Memory) (s : Scopes) (held : IsTableIn 
       ≡ stands_from (newest (pairs_of (entries_in item memory s)) id) (start_in (starts_in memory s))
   in_last_is id = is_in_last_is (pairs_of (entries_in item memory s)) (starts_in memory s) id
       (subst (λ (n : ℕ). AreStarts n (starts_in memory s)) (sym length_entries) held.begins)
+
+-- An entry is small.
+pub entry_small : entry_item.SIZE ≤ 2 ^ 24
+unfolding up pair_size second_at option_size
+entry_small = omega arith

@@ -56,7 +56,8 @@ module _ (old new : View) (m w : HashMap ℕ ℕ FxHasher) (id : ℕ) (held : Is
   is_ok e ok = cc
 
   -- A key that is there was put again.
-  pub unhide_some : (at : ℕ) (result : Result (Option ℕ) AllocError) → Puts id_kind old new m id at is_value w result → Unhides old new m id (Some at) w
+  pub unhide_some : (at : ℕ) (result : Result (Option ℕ) AllocError) → Puts id_kind old new m id at is_value w result
+      → Unhides old new m id (Some at) w
   unhide_some at (Ok before) puts =
       let free = (puts.costs.there there).1 in
       let made = rw there at puts.made in
@@ -72,7 +73,8 @@ module _ (old new : View) (m w : HashMap ℕ ℕ FxHasher) (id : ℕ) (held : Is
       }
   unhide_some at (Err error) puts = absurd (is_ok error (puts.costs.there there).0)
 
-  none_put : {K V : Type 0} (here : Bool) (found : Option (K × V)) → value_of (if here then None else found) ≡ (if here then None else value_of found)
+  none_put : {K V : Type 0} (here : Bool) (found : Option (K × V))
+      → value_of (if here then None else found) ≡ (if here then None else value_of found)
   none_put true found = refl
   none_put false found = refl
 
@@ -81,7 +83,8 @@ module _ (old new : View) (m w : HashMap ℕ ℕ FxHasher) (id : ℕ) (held : Is
   some_pairs = go (pairs_in id_kind old.memory m) refl
     where
       go : (ps : List (ℕ × ℕ)) → pairs_in id_kind old.memory m ≡ ps → 0 < m.len
-      go [] is = absurd (let no : false ≡ true = ap (λ (ps : List (ℕ × ℕ)). is_some (first_of (content_in id_kind.key old.memory) ps (to_le_bytes w32 id))) (sym is) ∙ there in cc)
+      go [] is = absurd (let no : false ≡ true =
+          ap (λ (ps : List (ℕ × ℕ)). is_some (first_of (content_in id_kind.key old.memory) ps (to_le_bytes w32 id))) (sym is) ∙ there in cc)
       go (p ∷ ps) is = omega (arith, held.count, ap (λ (ps : List (ℕ × ℕ)). length ps) is)
 
   -- One that hid none was removed.
@@ -95,10 +98,12 @@ module _ (old new : View) (m w : HashMap ℕ ℕ FxHasher) (id : ℕ) (held : Is
         len = omega (arith, len, some_pairs);
         places = takes.becomes.places;
         credit = takes.becomes.costs.credit;
-        frame = subst (λ (b : Block). Frame old.memory new.memory (m.table.block ∷ []) (b ∷ [])) (ap (λ t. t.block) (sym takes.becomes.table)) takes.becomes.frame;
+        frame = subst (λ (b : Block). Frame old.memory new.memory (m.table.block ∷ []) (b ∷ []))
+            (ap (λ t. t.block) (sym takes.becomes.table)) takes.becomes.frame;
       }
 
-module _ (item : Ghosts Entry) (old : View) (s : Scopes) (n : ℕ) (e : Entry) (held : IsTableIn item old.memory s) (last : s.pairs.raw.len ≡ n + 1)
+module _ (item : Ghosts Entry) (old : View) (s : Scopes) (n : ℕ) (e : Entry) (held : IsTableIn item old.memory s)
+    (last : s.pairs.raw.len ≡ n + 1)
     (there : slice_get (entries_in item old.memory s) n ≡ Some e) (fits : e.0 < 2 ^ 32) where
   abbrev entries : List Entry
   entries = entries_in item old.memory s
@@ -125,17 +130,20 @@ module _ (item : Ghosts Entry) (old : View) (s : Scopes) (n : ℕ) (e : Entry) (
       ∙ ap (λ (m : ℕ). if e.0 == q then Some m else newest (pairs_of front) q) length_front
 
   pub is_there : has (map_in id_kind old.memory s.newest) (to_le_bytes w32 e.0) ≡ true
-  is_there = sym (some_value (map_in id_kind old.memory s.newest (to_le_bytes w32 e.0))) ∙ ap is_some (known e.0 fits) ∙ test (e.0 == e.0) (eq-eqb e.0 e.0 refl)
+  is_there = sym (some_value (map_in id_kind old.memory s.newest (to_le_bytes w32 e.0))) ∙ ap is_some (known e.0 fits)
+      ∙ test (e.0 == e.0) (eq-eqb e.0 e.0 refl)
     where
       test : (b : Bool) → b ≡ true → is_some (if b then Some n else newest (pairs_of front) e.0) ≡ true
       test b is = rw is refl
 
   -- Then the list's end is cut off.
-  pub undone : (new : View) (w : HashMap ℕ ℕ FxHasher) (u : Vec Entry) → start_in (starts_in old.memory s) < s.pairs.raw.len → Unhides old new s.newest e.0 e.1.1 w
+  pub undone : (new : View) (w : HashMap ℕ ℕ FxHasher) (u : Vec Entry) → start_in (starts_in old.memory s) < s.pairs.raw.len
+      → Unhides old new s.newest e.0 e.1.1 w
       → (IsVecIn item new.memory s.pairs → Becomes item new new s.pairs (take n (vec_list item new.memory s.pairs)) u)
       → Undoes item old new s (record s { newest = w; pairs = u })
   undone new w u inner shown cut =
-      let vec = vec_beside old.memory new.memory _ _ shown.frame item s.pairs held.pairs (blocks_turned s.newest.table.block s.pairs.raw.block held.apart.0.0, tt) in
+      let vec = vec_beside old.memory new.memory _ _ shown.frame item s.pairs held.pairs
+      (blocks_turned s.newest.table.block s.pairs.raw.block held.apart.0.0, tt) in
       let starts = vec_beside old.memory new.memory _ _ shown.frame place_item s.starts held.starts
       (blocks_turned s.newest.table.block s.starts.raw.block held.apart.0.1.0, tt) in
       let is = cut vec.held in
@@ -149,8 +157,13 @@ module _ (item : Ghosts Entry) (old : View) (s : Scopes) (n : ℕ) (e : Entry) (
           ids = shown.held;
           pairs = is.held;
           starts = starts.held;
-          apart = subst (λ (b : Block). ArePairwiseApart (w.table.block ∷ b ∷ s.starts.raw.block ∷ [])) (sym block)
-              ((blocks_turned s.pairs.raw.block w.table.block vec.apart.0, (blocks_turned s.starts.raw.block w.table.block starts.apart.0, tt)), held.apart.1);
+          apart = subst (λ (b : Block). ArePairwiseApart (w.table.block ∷ b ∷ s.starts.raw.block ∷ [])) (sym block) (
+            (
+              blocks_turned s.pairs.raw.block w.table.block vec.apart.0,
+              (blocks_turned s.starts.raw.block w.table.block starts.apart.0, tt),
+            ),
+            held.apart.1,
+          );
           places = λ q low. shown.values q low
               ∙ (λ i. cond (ids_equal q e.0 low fits i) e.1.1 (known q low i))
               ∙ hides (e.0 == q) q (λ same. eqb-true e.0 q same)
@@ -165,9 +178,16 @@ module _ (item : Ghosts Entry) (old : View) (s : Scopes) (n : ℕ) (e : Entry) (
         len = omega (arith, len, last);
         starts = starts_are;
         places = shown.places;
-        credit = omega (arith, shown.credit, credit_less 16 u.raw.len s.pairs.raw.len s.pairs.raw.cap u.raw.cap (omega (arith, len, last)) (omega (arith, cap)));
-        frame = subst (λ (b : Block). Frame old.memory new.memory (table_blocks s) (w.table.block ∷ b ∷ s.starts.raw.block ∷ [])) (sym block)
-            (frame_beside old.memory new.memory (s.newest.table.block ∷ []) (w.table.block ∷ []) (s.pairs.raw.block ∷ s.starts.raw.block ∷ []) shown.frame);
+        credit = omega (
+          arith,
+          shown.credit,
+          credit_less 16 u.raw.len s.pairs.raw.len s.pairs.raw.cap u.raw.cap (omega (arith, len, last))
+              (omega (arith, cap)),
+        );
+        frame = subst (λ (b : Block). Frame old.memory new.memory (table_blocks s) (w.table.block ∷ b ∷ s.starts.raw.block ∷ []))
+            (sym block)
+            (frame_beside old.memory new.memory (s.newest.table.block ∷ []) (w.table.block ∷ [])
+            (s.pairs.raw.block ∷ s.starts.raw.block ∷ []) shown.frame);
       }
     where
       counted : w.len ≡ first_count front

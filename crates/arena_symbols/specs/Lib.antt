@@ -8,3 +8,5 @@ pub mod TableCalls
 pub mod NameLaws
 pub mod TableLaws
 pub mod Named
+pub mod Calls
+pub mod Serving

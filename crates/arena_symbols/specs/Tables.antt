@@ -32,7 +32,9 @@ abbrev pub entry_item : Ghosts Entry
 entry_item = pair_item place_item (pair_item place_item (option_item place_item))
 
 abbrev pub id_kind : Kind ℕ ℕ FxHasher
-id_kind = kind place_item (whole_key place_item) place_item Rattle.arena_hash.specs.contracts.hasher.FxHasherKeyHasher.TheImpl.ghosts.hash_of
+id_kind =
+    kind place_item (whole_key place_item) place_item
+    Rattle.arena_hash.specs.contracts.hasher.FxHasherKeyHasher.TheImpl.ghosts.hash_of
 
 -- the entries of a table, oldest first; where its maps begin, innermost first; and the maps
 abbrev pub entries_in : Ghosts Entry → Memory → Scopes → List Entry

@@ -1,12 +1,14 @@
 //! Texts with numbers, and scopes of names, in an arena.
 #![tactic(auto)]
 
+mod calls;
 mod laws;
 mod scopes;
 mod symbols;
 mod uses;
 mod values;
 
+pub use calls::{Call, Reply};
 pub use laws::{numbers_law, scopes_law};
 pub use scopes::{Entry, MOST_PAIRS, MOST_SCOPES, Scopes};
 pub use symbols::{MOST_TEXTS, Symbols};

@@ -34,7 +34,6 @@ pub struct Scopes {
     pub starts: Vec<u32>,
 }
 
-#[tactic(auto, unfolding(placement::specs::Rounding::up, arena_items::specs::Layout::pair_size, arena_items::specs::Layout::second_at, arena_items::specs::Layout::option_size))]
 impl Scopes {
     /// One empty map. It places nothing.
     pub fn new_in() -> Scopes

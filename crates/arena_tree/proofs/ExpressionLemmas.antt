@@ -1,27 +1,21 @@
 -- Expressions: what is placed, and what comes of what is seen.
-use Rattle.std.proofs.Common.{◌≡◌, ℕ, ◌^◌, ◌≤◌, Bool, true, false, cond, Option, Some, None, Ok, Err, List, [], ◌∷◌, length, refl, sym, ap, ◌∙◌, subst, arith}
-use Rattle.std.specs.Prelude.{Result, nat_lt, nat_le, slice_range}
-use Rattle.std.proofs.lemmas.Bool.Decides.{nat_tests}
+use Rattle.std.proofs.Common.{◌≡◌, ℕ, Bool, true, false, List, ◌∷◌, refl, sym, ap, ◌∙◌, subst, arith}
+use Rattle.std.specs.Prelude.{slice_range}
 use Rattle.arena_chunks.specs.Memory.{Memory}
 use Rattle.arena_vec.specs.declared.vec.Vec.{Vec}
-use Rattle.tree_rules.specs.Tokens.{Token, LetKey, Word, Number, Plus, Minus, Star, LeftParen, RightParen, LeftBrace, RightBrace, Equals, Semicolon, Other, Placed, without_places}
-use Rattle.tree_rules.specs.Trees.{Num, Name, Neg, Sum, Prod, NoExprs, And, with_expr}
-use Rattle.tree_rules.specs.Grammar.{ANumber, AName, InParens, Negated, Factors, OneFactor, Times, Terms, OneTerm, Added, Taken, spell_factor, spell_factors, spell_terms, factor_tree, factors_tree, factor_trees, terms_tree, term_trees}
-use Rattle.tree_rules.specs.Refusals.{most_nest}
-use Rattle.tree_rules.specs.Reading.{State, state, signs_ended, step, is_too_big, or_refused, refusal_from}
+use Rattle.tree_rules.specs.Tokens.{Token, LetKey, Word, Number, Plus, Minus, Star, LeftParen, RightParen, LeftBrace, RightBrace, Equals, Semicolon, Other}
+use Rattle.tree_rules.specs.Trees.{Sum, NoExprs, And, with_expr}
+use Rattle.tree_rules.specs.Grammar.{Factors, Terms, OneTerm, Added, Taken, spell_factors, spell_terms, factors_tree, terms_tree, term_trees}
+use Rattle.tree_rules.specs.Reading.{state, signs_ended}
 use Rattle.tree_rules.specs.declared.machine.Open.{Open}
-use Rattle.tree_rules.specs.declared.machine.Open.TheVariants.{Paren, Sign}
 use Rattle.tree_rules.specs.declared.machine.Mode.TheVariants.{AtFactor, BehindFactor}
-use Rattle.tree_rules.specs.declared.refused.Refused.{Refused}
-use Rattle.tree_rules.specs.declared.refused.Refused.TheVariants.{TooDeep, NumberTooBig}
-use Rattle.tree_rules.proofs.StepLemmas.{ended_twice}
 use Rattle.tree_reader.specs.Seen.{IsSeen, IsNext, tokens_at}
 use Rattle.tree_reader.specs.declared.token.Lexeme.{Lexeme}
 use Rattle.tree_reader.specs.declared.token.Seen.{Seen}
 use Rattle.tree_reader.specs.declared.token.Seen.TheVariants as seen
 use Rattle.arena_tree.specs.declared.node.Node.{Node}
 use Rattle.arena_tree.specs.TreesAt.{IsPlaced, IsBuilt}
-use Rattle.arena_tree.specs.Parts.{IsPassed, IsFactorPlace, spelled_at, IsTokenAt, NoStar, NoSign, NoClose, sign_of, signed_tree, TermsStop, IsFactor, IsTerm, IsTerms, AreFactors, AreTerms, MustClose}
+use Rattle.arena_tree.specs.Parts.{IsPassed, IsFactorPlace, spelled_at, IsTokenAt, NoSign, sign_of, signed_tree, IsTerm, IsTerms, AreTerms, MustClose}
 use Rattle.arena_tree.proofs.PartLemmas.{next_token, passed_to, spelled_token, StartsFactor, no_other_close, more_passes}
 
 -- ---- Expressions

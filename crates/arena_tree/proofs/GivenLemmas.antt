@@ -17,13 +17,16 @@ use Rattle.arena_tree.proofs.PartsLemmas.{First, parts_pairwise, stmts_parts}
 low_enough : (nodes used : ℕ) → 88 * nodes ≤ used → nodes < used / 88 + 1
 low_enough nodes used h = omega (arith, h)
 
+pub given_low : (m : Memory) (t : Tree) (h : IsTreeIn m t) → stmt_nodes h.trees < used_bytes m.state / 88 + 1
+given_low m t h = low_enough (stmt_nodes h.trees) (used_bytes m.state) (nodes_used h.trees m t.stmts h.held h.means h.lists)
+
 -- a walk over it ends
 pub given_room : (m : Memory) (t : Tree) → IsTreeIn m t → LinesHaveRoom m t.stmts (used_bytes m.state / 88 + 1)
 given_room m t h = record {
   trees = h.trees;
   held = h.held;
   stand = h.means;
-  low = low_enough (stmt_nodes h.trees) (used_bytes m.state) (nodes_used h.trees m t.stmts h.held h.means h.lists);
+  low = given_low m t h;
 }
 
 -- what was built is such a tree

@@ -12,4 +12,21 @@ pub mod WalkLemmas
 pub mod PrintLemmas
 pub mod SpendingLemmas
 pub mod NodeCostLemmas
+pub mod PartCostLemmas
+pub mod AnySizeLemmas
+pub mod BlockCostLemmas
+pub mod CloneCostLemmas
+pub mod CloneListLemmas
+pub mod CloneLemmas
+pub mod OneTreeLemmas
+pub mod FoldBlockLemmas
+pub mod FoldSlotLemmas
+pub mod FoldRowLemmas
+pub mod FoldKindLemmas
+pub mod FoldNodeLemmas
+pub mod FoldLineLemmas
+pub mod FoldLinesLemmas
+pub mod FoldTreeLemmas
+pub mod TotalLemmas
 mod ParseLemmas
+pub mod Layers

@@ -1,14 +1,13 @@
 -- Statements, put together.
-use Rattle.std.proofs.Common.{◌≡◌, ℕ, ◌≤◌, Option, Some, None, Ok, Err, List, [], ◌∷◌, length, refl, sym, ap, ◌∙◌, subst, arith}
+use Rattle.std.proofs.Common.{◌≡◌, ℕ, Option, Some, None, Ok, Err, List, [], ◌∷◌, length, refl, sym, ap, ◌∙◌, subst, arith}
 use Rattle.std.specs.Prelude.{Result}
 use Rattle.tree_rules.specs.Refusals.{TreeOf}
 use Rattle.arena_chunks.specs.Memory.{Memory}
 use Rattle.arena_vec.specs.declared.vec.Vec.{Vec}
 use Rattle.tree_rules.specs.Tokens.{Token, LetKey, Word, Number, Plus, Minus, Star, LeftParen, RightParen, LeftBrace, RightBrace, Equals, Semicolon, Other, Placed, without_places, tokens}
-use Rattle.tree_rules.specs.Trees.{Expr, Let, Show, Stmt, Stmts, NoStmts, Then, with_stmt}
-use Rattle.tree_rules.specs.Trees as tree
-use Rattle.tree_rules.specs.Grammar.{LetLine, ShowLine, BlockLine, Empty, Next, spell_terms, spell, terms_tree, line_tree, trees_of, nest, IsProgram}
-use Rattle.tree_rules.specs.Reading.{State, state, signs_ended, step, or_refused, refusal_from, refusal_of, refused_by}
+use Rattle.tree_rules.specs.Trees.{Stmts}
+use Rattle.tree_rules.specs.Grammar.{spell, trees_of, nest, IsProgram}
+use Rattle.tree_rules.specs.Reading.{State, state, step, or_refused, refusal_from, refusal_of, refused_by}
 use Rattle.tree_rules.specs.declared.machine.Open.{Open}
 use Rattle.tree_rules.specs.declared.machine.Open.TheVariants.{Paren, Brace, Sign}
 use Rattle.tree_rules.specs.declared.machine.Mode.TheVariants.{AtLine, AtName, AtEquals, AtFactor, BehindFactor}
@@ -18,9 +17,9 @@ use Rattle.tree_reader.specs.declared.token.Lexeme.{Lexeme}
 use Rattle.tree_reader.specs.declared.token.Seen.{Seen}
 use Rattle.tree_reader.specs.declared.token.Seen.TheVariants as seen
 use Rattle.arena_tree.specs.declared.node.Node.{Node}
-use Rattle.arena_tree.specs.Parts.{IsPassed, IsFactorPlace, IsTokenAt, TermsStop, IsTerms}
-use Rattle.arena_tree.specs.StmtsAt.{IsStmtPlaced, AreBuilt}
-use Rattle.arena_tree.specs.LineParts.{AreBraces, IsLinesPlace, GoesOn, LinesStop, IsLine, AreLines, IsLet, MustEnd, MustCloseBlock}
+use Rattle.arena_tree.specs.Parts.{IsPassed, IsFactorPlace, IsTokenAt, TermsStop}
+use Rattle.arena_tree.specs.StmtsAt.{AreBuilt}
+use Rattle.arena_tree.specs.LineParts.{AreBraces, IsLinesPlace, LinesStop, AreLines, IsLet, MustEnd, MustCloseBlock}
 use Rattle.arena_tree.proofs.PartLemmas.{next_token, passed_token, passed_to, spelled_token, first_step}
 use Rattle.arena_tree.proofs.ExpressionLemmas.{seen_token, seen_as}
 

@@ -1,22 +1,18 @@
--- What it costs to put a node at the end of a list, and to place a text.
-use Rattle.std.proofs.Common.{◌≡◌, ℕ, ◌+◌, ◌-◌, ◌*◌, ◌^◌, ◌<◌, ◌≤◌, refl, sym, ap, ◌∙◌, subst, arith, IsTrue, Ok, Err, List, [], ◌∷◌, ◌++◌, length, length-append, ◌⊎◌, inl, inr, Some, None}
+-- What it costs to put a node at the end of a list.
+use Rattle.std.proofs.Common.{◌≡◌, ℕ, ◌+◌, ◌-◌, ◌*◌, ◌^◌, ◌<◌, ◌≤◌, refl, sym, ap, ◌∙◌, subst, arith, IsTrue, Ok, Err, List, [], ◌∷◌, ◌++◌, length, length-append, ◌⊎◌, inl, inr}
 use Rattle.std.proofs.lemmas.Bool.{cases_lt}
 use Rattle.std.specs.Prelude.{Result, Option, min}
 use Rattle.placement.specs.Rounding.{is_layout}
 use Rattle.placement.specs.Causes.{counted}
-use Rattle.placement.specs.State.{State, allocated_bytes}
 use Rattle.arena_chunks.specs.Source.{View}
-use Rattle.arena_chunks.specs.Answers.{Answer}
-use Rattle.arena_chunks.specs.Answers.Answer.{Placed, Refused, Wanting}
+use Rattle.arena_chunks.specs.Answers.Answer.{Refused}
 use Rattle.arena_chunks.specs.BlockCalls.{PlacesBlock}
 use Rattle.arena_chunks.specs.Frame.{Frame}
-use Rattle.arena_chunks.specs.declared.block.Block.{Block}
 use Rattle.arena_chunks.proofs.Layers.{frame_reflexive}
-use Rattle.arena_items.specs.Costs.{Costs, Covers, farthest}
-use Rattle.arena_items.specs.Room.{MakesRoom, TakesRoom, RoomAnswer, SamePlaces, capacity_after}
-use Rattle.arena_items.specs.Values.{IsHeld}
+use Rattle.arena_items.specs.Costs.{Costs, farthest}
+use Rattle.arena_items.specs.Room.{capacity_after}
 use Rattle.arena_items.specs.declared.room.AllocError.{AllocError}
-use Rattle.arena_items.specs.declared.room.AllocError.TheVariants.{AllocErr, CapacityOverflow, OutOfMemory}
+use Rattle.arena_items.specs.declared.room.AllocError.TheVariants.{AllocErr, CapacityOverflow}
 use Rattle.arena_items.specs.declared.room.Growth.{Growth}
 use Rattle.arena_items.specs.declared.room.Growth.TheVariants.{Stays, GrowsTo, Overflows}
 use Rattle.arena_items.proofs.Layers.{row_is_layout, room_costs, room_refused_as, costs_nothing}
@@ -27,7 +23,7 @@ use Rattle.arena_vec.specs.Vecs.{IsVecIn}
 use Rattle.arena_vec.specs.declared.vec.Vec.{Vec}
 use Rattle.arena_tree.specs.NodeForms.{plain_88_8}
 use Rattle.arena_tree.specs.TreesAt.{node_item}
-use Rattle.arena_tree.specs.Spending.{KeepsKind, IsCounted, Spends, error_of}
+use Rattle.arena_tree.specs.Spending.{IsCounted, Spends, error_of}
 use Rattle.arena_tree.specs.declared.node.Node.{Node}
 use Rattle.arena_tree.proofs.SpendingLemmas.{spends_costs, spends_less}
 
@@ -164,100 +160,3 @@ first_node old new v later error none spends =
   where
     no_credit : (cap len : ℕ) → len ≡ 0 → credit_of 88 len cap ≡ 0
     no_credit cap len is = omega (arith, is)
-
--- ---- Texts
-
-pub as_text : (old new : View) (s a n : ℕ) (answer : Answer) → s ≡ n → a ≡ 1 → PlacesBlock old new s a answer
-    → PlacesBlock old new n 1 answer
-as_text old new s a n answer size align h =
-    subst (λ k. PlacesBlock old new k 1 answer) size (subst (λ k. PlacesBlock old new s k answer) align h)
-
-module _ (old between new : View) (size : ℕ) (one : old.memory.state.min_align ≡ 1) (layout : IsTrue (is_layout size 1))
-    (bounded : size ≤ 2 ^ 60) (same : SamePlaces between new) where
-  abbrev nowhere : Block
-  nowhere = record { generation = 0; addr = 1; size = 0; align = 1 }
-
-  nowhere_held : IsHeld (0 * 1) 1 old.memory.state nowhere
-  nowhere_held = record { readable = refl; of_size = refl; of_align = refl }
-
-  whole : size ≡ size * 1
-  whole = omega arith
-
-  taken : (answer : Answer) → PlacesBlock old between size 1 answer → TakesRoom old between nowhere 0 (size * 1) 1 answer
-  taken answer places = record {
-    placed = λ none. subst (λ n. PlacesBlock old between n 1 answer) whole places;
-    grown = λ some. absurd (omega (arith, some));
-  }
-
-  covers : (result : Result Block AllocError) → Covers size 0 0 (size * 1) 1 result
-  covers (Ok b) = record {
-    layout = subst (λ n. IsTrue (is_layout n 1)) whole layout;
-    small = omega arith;
-    bounded = omega (arith, bounded);
-    within = omega arith;
-    ok = omega arith;
-    err = tt;
-  }
-  covers (Err e) = record {
-    layout = subst (λ n. IsTrue (is_layout n 1)) whole layout;
-    small = omega arith;
-    bounded = omega (arith, bounded);
-    within = omega arith;
-    ok = tt;
-    err = omega arith;
-  }
-
-  makes : (result : Result Block AllocError) → RoomAnswer (λ b. b) result (PlacesBlock old between size 1)
-      → MakesRoom 1 1 old new nowhere 0 (GrowsTo size) (λ b. b) result
-  makes (Ok b) places = record { between = between; took = taken (Placed b) places; places = same }
-  makes (Err (AllocErr k)) places = record { between = between; took = taken (Refused k) places; places = same }
-  makes (Err OutOfMemory) places = record { between = between; took = taken Wanting places; places = same }
-  makes (Err CapacityOverflow) places = absurd places
-
-  costs : (result : Result Block AllocError) → RoomAnswer (λ b. b) result (PlacesBlock old between size 1)
-      → Costs farthest size 0 0 old new result
-  costs result places = room_costs old new nowhere 1 1 0 size (λ b. b) size 0 0 one nowhere_held result (omega arith) (covers result)
-      (makes result places)
-
-  -- A text costs its bytes.
-  pub text_placed : (b : Block) → PlacesBlock old between size 1 (Placed b) → Spends size 0 0 old new None
-  text_placed b places =
-      let frame = places.1.outcome.frame in
-      spends_costs size 0 0 old new (Ok b) (costs (Ok b) places) (record {
-        is_growing = ap (λ (s : State). s.is_growing) same.state ∙ frame.is_growing;
-        allocated = λ still. ap (λ (s : State). allocated_bytes s) same.state ∙ frame.allocated still;
-      }) (λ e no. absurd (ok_err no)) ok_err (λ k no. absurd (ok_err no))
-    where
-      ok_err : {e : AllocError} → ◌≡◌ {A = Result Block AllocError} (Ok b) (Err e) → ⊥
-      ok_err h = cc
-
--- What is refused leaves all as it was.
-module _ (old new : View) (size : ℕ) (one : old.memory.state.min_align ≡ 1) (layout : IsTrue (is_layout size 1)) (bounded : size ≤ 2 ^
-    60) where
-  still : SamePlaces new new
-  still = record { state = refl; statistics = refl; source = refl }
-
-  err_costs : (e : AllocError) → RoomAnswer {X = Block} (λ b. b) (Err e) (PlacesBlock old new size 1)
-      → Costs {X = Block} farthest size 0 0 old new (Err e)
-  err_costs e places = costs old new new size one layout bounded still (Err e) places
-
-  kept : (e : AllocError) → new.memory ≡ old.memory → KeepsKind old.memory new.memory × Frame old.memory new.memory [] []
-  kept e is = (
-    subst (λ m. KeepsKind old.memory m) (sym is) (record { is_growing = refl; allocated = λ still. refl }),
-    subst (λ m. Frame old.memory m [] []) (sym is) (frame_reflexive old.memory []),
-  )
-
-  pub text_refused : (k : ℕ) → PlacesBlock old new size 1 (Refused k) → Spends size 0 0 old new (Some (AllocErr k))
-  text_refused k places =
-      let same = kept (AllocErr k) places.1.outcome.1.memory in
-      spends_costs size 0 0 old new (Err (AllocErr k)) (err_costs (AllocErr k) places) same.0 (λ e is. same.1) (λ no. cc)
-      (λ j is. subst (λ n. IsCounted n old new) (same_count j is) (told old new size 1 k places))
-    where
-      same_count : (j : ℕ) → ◌≡◌ {A = Result Block AllocError} (Err (AllocErr k)) (Err (AllocErr j)) → k ≡ j
-      same_count j is = cc
-
-  pub text_wanting : PlacesBlock old new size 1 Wanting → Spends size 0 0 old new (Some OutOfMemory)
-  text_wanting places =
-      let same = kept OutOfMemory (ap (λ (v : View). v.memory) places.1.outcome.same) in
-      spends_costs size 0 0 old new (Err OutOfMemory) (err_costs OutOfMemory places) same.0 (λ e is. same.1) (λ no. cc) (λ j no. absurd
-      (cc))

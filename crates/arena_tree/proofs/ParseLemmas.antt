@@ -1,29 +1,28 @@
--- What parsing answers and takes, by what its parts spend.
-use Rattle.std.proofs.Common.{◌≡◌, ℕ, ◌+◌, ◌-◌, ◌*◌, ◌^◌, ◌<◌, ◌≤◌, ◌⊎◌, inl, inr, refl, sym, subst, arith, true, false, Ok, Err, Some, None, List, [], length}
+-- What calls on whole trees answer and take, by what their parts spend.
+use Rattle.std.proofs.Common.{◌≡◌, ℕ, ◌^◌, ◌<◌, ◌≤◌, ◌⊎◌, inl, inr, refl, arith, true, Err, Some, List, []}
 use Rattle.std.specs.Prelude.{Option}
 use Rattle.std.proofs.lemmas.Bool.{cases_lt}
 use Rattle.placement.specs.State.{allocated_bytes, top_of}
 use Rattle.placement.proofs.AskingLemmas.{asks_more}
 use Rattle.arena_chunks.specs.Source.{View}
 use Rattle.arena_chunks.specs.Frame.{Frame}
-use Rattle.arena_chunks.specs.Asking.{IsStarved, IsFull, IsRefusedBySource}
-use Rattle.arena_items.specs.Costs.{used, farthest}
+use Rattle.arena_chunks.specs.Asking.{IsStarved, IsRefusedBySource}
 use Rattle.arena_items.specs.declared.room.AllocError.{AllocError}
 use Rattle.arena_items.specs.declared.room.AllocError.TheVariants as alloc
-use Rattle.tree_rules.specs.Refusals.{TreeOf, IsReading}
+use Rattle.tree_rules.specs.Refusals.{TreeOf}
 use Rattle.tree_rules.specs.declared.refused.Refused.{Refused}
 use Rattle.tree_rules.specs.declared.refused.Refused.TheVariants.{Syntax, TooDeep, NumberTooBig}
-use Rattle.arena_tree.specs.Spending.{Spends, Stops, IsRefused, IsStarvedBehind, most_for}
-use Rattle.arena_tree.specs.Parsing.{Parses, TakesAtMost, IsShortOf, IsProgram, parse_bytes, refusal_of}
+use Rattle.arena_tree.specs.Spending.{Spends, IsStarvedBehind}
+use Rattle.arena_tree.specs.Parsing.{Parses, TakesAtMost, IsShortOf, refusal_of}
 
 pub refused_parses : (bytes : List ℕ) (a : View) (why : Refused) → TreeOf bytes (Err why) → Parses bytes a a (Err (refusal_of why))
 refused_parses bytes a (Syntax at) h = (h, refl)
 refused_parses bytes a (TooDeep at) h = (h, refl)
 refused_parses bytes a (NumberTooBig at) h = (h, refl)
 
-pub spends_takes : {few left : ℕ} {old new : View} {error : Option AllocError} (length : ℕ) → Spends few 0 left old new error
-    → few ≤ parse_bytes length → TakesAtMost (parse_bytes length) old new
-spends_takes {few} {left} {old} {new} length spends less = record {
+pub spends_takes : {few left : ℕ} {old new : View} {error : Option AllocError} (most : ℕ) → Spends few 0 left old new error
+    → few ≤ most → TakesAtMost most old new
+spends_takes {few} {left} {old} {new} most spends less = record {
   takes = omega (arith, spends.takes, less);
   asks = asks_more _ _ old.memory.state new.memory.state old.source new.source (omega (arith, less)) spends.asks;
   kind = spends.kind;
@@ -39,12 +38,10 @@ starved old new growing (inr (inr up)) = record { growing = growing; cause = by 
     by (inl few) = inl (omega (arith, up, few))
     by (inr much) = inr (inl much)
 
-pub short : {few : ℕ} {old new : View} (bytes : List ℕ) (k : ℕ) → Spends few 0 0 old new (Some (alloc.AllocErr k))
-    → few ≤ parse_bytes (length bytes) → IsProgram bytes
-    → IsProgram bytes × IsShortOf (parse_bytes (length bytes)) k old new × Frame old.memory new.memory [] []
-short {few} {old} {new} bytes k spends less program =
+pub short : {few : ℕ} {old new : View} (most k : ℕ) → Spends few 0 0 old new (Some (alloc.AllocErr k)) → few ≤ most
+    → IsShortOf most k old new × Frame old.memory new.memory [] []
+short {few} {old} {new} most k spends less =
     let why = spends.stops.0 in (
-      program,
       record {
         counted = why.counted;
         starved = λ growing. starved old new growing (why.starved growing);

@@ -1,12 +1,12 @@
 -- Parts of texts, put together.
 use Rattle.std.proofs.Common.{◌≡◌, ℕ, ◌^◌, ◌≤◌, Bool, true, false, cond, Option, Some, None, Ok, Err, List, [], ◌∷◌, length, refl, sym, ap, ◌∙◌, subst, arith}
-use Rattle.std.specs.Prelude.{Result, nat_lt, nat_le, slice_range}
+use Rattle.std.specs.Prelude.{Result, nat_lt, nat_le}
 use Rattle.std.proofs.lemmas.Bool.Decides.{nat_tests}
 use Rattle.arena_chunks.specs.Memory.{Memory}
 use Rattle.arena_vec.specs.declared.vec.Vec.{Vec}
 use Rattle.tree_rules.specs.Tokens.{Token, LetKey, Word, Number, Plus, Minus, Star, LeftParen, RightParen, LeftBrace, RightBrace, Equals, Semicolon, Other, Placed, without_places}
-use Rattle.tree_rules.specs.Trees.{Num, Name, Neg, Sum, Prod, NoExprs, And, with_expr}
-use Rattle.tree_rules.specs.Grammar.{ANumber, AName, InParens, Negated, Factors, OneFactor, Times, Terms, OneTerm, Added, Taken, spell_factor, spell_factors, spell_terms, factor_tree, factors_tree, factor_trees, terms_tree, term_trees}
+use Rattle.tree_rules.specs.Trees.{Num, Name, Neg, Prod, NoExprs, And, with_expr}
+use Rattle.tree_rules.specs.Grammar.{ANumber, AName, InParens, Negated, OneFactor, Times, spell_factor, spell_factors, spell_terms, factor_tree, factor_trees}
 use Rattle.tree_rules.specs.Refusals.{most_nest}
 use Rattle.tree_rules.specs.Reading.{State, state, signs_ended, step, is_too_big, or_refused, refusal_from}
 use Rattle.tree_rules.specs.declared.machine.Open.{Open}
@@ -21,7 +21,7 @@ use Rattle.tree_reader.specs.declared.token.Seen.{Seen}
 use Rattle.tree_reader.specs.declared.token.Seen.TheVariants as seen
 use Rattle.arena_tree.specs.declared.node.Node.{Node}
 use Rattle.arena_tree.specs.TreesAt.{IsPlaced, IsBuilt}
-use Rattle.arena_tree.specs.Parts.{IsPassed, IsFactorPlace, spelled_at, IsTokenAt, NoStar, NoSign, NoClose, sign_of, signed_tree, TermsStop, IsFactor, IsTerm, IsTerms, AreFactors, AreTerms, MustClose}
+use Rattle.arena_tree.specs.Parts.{IsPassed, IsFactorPlace, spelled_at, IsTokenAt, NoStar, NoClose, TermsStop, IsFactor, IsTerm, IsTerms, AreFactors, MustClose}
 
 -- ---- One token
 

@@ -31,7 +31,7 @@ parts_readable m bs ls ts None r = (tt, tt)
 parts_readable m bs ls ts (First b bs' ls' ts' p) r = let rest = parts_readable m bs' ls' ts' p r.1 in ((r.0, rest.0), rest.1)
 parts_readable m bs ls ts (Second b bs' ls' ts' p) r = let rest = parts_readable m bs' ls' ts' p r.1 in (rest.0, (r.0, rest.1))
 
-parts_apart : (addr n : ℕ) (bs ls ts : List Block) → Parts bs ls ts → IsApart addr n bs → IsApart addr n ls × IsApart addr n ts
+pub parts_apart : (addr n : ℕ) (bs ls ts : List Block) → Parts bs ls ts → IsApart addr n bs → IsApart addr n ls × IsApart addr n ts
 parts_apart addr n bs ls ts None h = (tt, tt)
 parts_apart addr n bs ls ts (First b bs' ls' ts' p) h = let rest = parts_apart addr n bs' ls' ts' p h.1 in ((h.0, rest.0), rest.1)
 parts_apart addr n bs ls ts (Second b bs' ls' ts' p) h = let rest = parts_apart addr n bs' ls' ts' p h.1 in (rest.0, (h.0, rest.1))

@@ -1,19 +1,18 @@
 -- What calls cost that are made one after another.
-use Rattle.std.proofs.Common.{◌≡◌, ℕ, ◌+◌, ◌-◌, ◌*◌, ◌^◌, ◌<◌, ◌≤◌, ◌⊎◌, inl, inr, refl, sym, ap, subst, ◌∙◌, arith, true, false, Ok, Err, Option, Some, None, List, [], IsTrue, length, take, drop, length-take}
+use Rattle.std.proofs.Common.{◌≡◌, ℕ, ◌+◌, ◌-◌, ◌^◌, ◌<◌, ◌≤◌, ◌⊎◌, inl, inr, refl, sym, subst, ◌∙◌, arith, false, Ok, Err, Option, Some, None, List, [], length, drop, length-take}
 use Rattle.std.specs.Prelude.{Result, IsErr, IsErrAnd, slice_range}
-use Rattle.placement.specs.State.{State, allocated_bytes, top_of}
-use Rattle.placement.specs.Asking.{HasGrown as HasStateGrown}
+use Rattle.placement.specs.State.{allocated_bytes, top_of}
 use Rattle.placement.proofs.AskingLemmas.{asks_more, asks_then, refused_after}
 use Rattle.arena_chunks.specs.Memory.{Memory}
 use Rattle.arena_chunks.specs.Source.{View}
 use Rattle.arena_chunks.specs.Frame.{Frame}
 use Rattle.arena_chunks.specs.declared.block.Block.{Block}
-use Rattle.arena_chunks.specs.Asking.{HasGrown, AsksWithin, IsRefusedBySource, IsFull}
+use Rattle.arena_chunks.specs.Asking.{AsksWithin, IsRefusedBySource, IsFull}
 use Rattle.arena_chunks.proofs.Layers.{asks_same, frame_then, frame_forget}
 use Rattle.arena_items.specs.Costs.{Costs, used, farthest}
 use Rattle.arena_items.specs.declared.room.AllocError.{AllocError}
 use Rattle.arena_items.specs.declared.room.AllocError.TheVariants.{AllocErr, CapacityOverflow, OutOfMemory}
-use Rattle.arena_tree.specs.Spending.{KeepsKind, IsCounted, IsStarvedBehind, IsRefused, Stops, Spends, error_of, most_for, SpendsUpTo, SpendsAll, SpendsOrNot}
+use Rattle.arena_tree.specs.Spending.{KeepsKind, IsCounted, IsStarvedBehind, Stops, Spends, error_of, most_for, SpendsUpTo, SpendsAll, SpendsOrNot}
 
 pub frame_kind : (old new : Memory) → Frame old new [] [] → KeepsKind old new
 frame_kind old new frame = record { is_growing = frame.is_growing; allocated = frame.allocated }

@@ -5,7 +5,7 @@ use Rattle.arena_chunks.specs.Memory.{Memory}
 use Rattle.arena_chunks.specs.Source.{View}
 use Rattle.arena_chunks.specs.Frame.{Frame}
 use Rattle.arena_chunks.specs.Asking.{AsksWithin, IsRefusedBySource, IsFull}
-use Rattle.arena_items.specs.Costs.{used, farthest}
+use Rattle.arena_items.specs.Costs.{used}
 use Rattle.arena_vec.specs.Credit.{credit_of}
 use Rattle.arena_vec.specs.declared.vec.Vec.{Vec}
 use Rattle.arena_tree.specs.declared.node.Node.{Node}
@@ -21,12 +21,16 @@ pub record KeepsKind (old new : Memory) : Type 0 where
 abbrev pub IsCounted : ℕ → View → View → Type 0
 IsCounted refused old new = (old.source.refusals + refused ≤ new.source.refusals) ⊎ (new.source.refusals ≡ 2 ^ 64 - 1)
 
+-- the newest data end up to which there is a place for a block of any size that an arena may hold
+abbrev pub far_end : ℕ
+far_end = 2 ^ 62 + 2 ^ 61
+
 -- An arena that grows had no place for a block: the source refused, or much is held, or the newest data end lay far up. Chunks that were
 -- made since the start put it up by at most twice their bytes.
 abbrev pub IsStarvedBehind : View → View → Type 0
 IsStarvedBehind old new =
     IsRefusedBySource old new ⊎ (2 ^ 60 ≤ allocated_bytes new.memory.state)
-    ⊎ (farthest + 2 * allocated_bytes old.memory.state < top_of old.memory.state.chunks + 2 * allocated_bytes new.memory.state)
+    ⊎ (far_end + 2 * allocated_bytes old.memory.state < top_of old.memory.state.chunks + 2 * allocated_bytes new.memory.state)
 
 -- A block was refused in calls that may bring so many bytes into use.
 pub record IsRefused (bytes refused : ℕ) (old new : View) : Type 0 where

@@ -5,6 +5,7 @@ ghost use Rattle.arena_vec.specs.Vecs.{IsVecIn};
 ghost use Rattle.tree_rules.specs.Trees.{Expr, Exprs, NoExprs, And, Neg, with_expr, Stmt, Stmts, with_stmt};
 ghost use Rattle.arena_tree.specs.StmtsAt.{IsStmtPlaced, AreBuilt};
 ghost use Rattle.arena_tree.specs.TreesAt.{node_item, kids_of, IsPlaced, IsBuilt};
+ghost use Rattle.arena_tree.specs.NodeForms.{number_node};
 ghost use Rattle.arena_tree.specs.Parts.{signed_tree};
 ghost use Rattle.arena_tree.specs.Spending.{Spends, error_of, node_cost, credit};
 
@@ -17,6 +18,7 @@ use arena_vec::laws::{growth_costs, vector_costs};
 pub(crate) fn number(n: u64) -> Node
     ensures kind { result.kind ≡ Kind.Num }
     ensures number { result.number ≡ n }
+    ensures node { result ≡ number_node n }
 {
     Node {
         kind: Kind::Num,

@@ -2,8 +2,14 @@
 #![tactic(auto)]
 
 mod begin;
+mod block;
 mod build;
+mod clone;
+mod clone_list;
+mod dummy;
 mod exprs;
+mod fold;
+mod fold_stmts;
 mod look;
 mod name;
 mod node;

@@ -1,36 +1,30 @@
 // Names in an arena.
-ghost use Rattle.std.specs.Prelude.{◌≡◌, ◌^◌, ◌≤◌, [], ◌∷◌, length, IfOk, IsTrue};
+ghost use Rattle.std.specs.Prelude.{◌≡◌, ◌+◌, ◌^◌, ◌≤◌, [], ◌∷◌, length, IfOk, IsTrue};
 ghost use Rattle.placement.specs.Rounding.{is_layout};
 ghost use Rattle.arena_chunks.specs.Frame.{Frame};
 ghost use Rattle.arena_items.specs.Values.{IsTextIn, text_bytes};
 ghost use Rattle.arena_tree.specs.Spending.{Spends, error_of};
 
-use arena_chunks::{Allocator, ArenaErr, ChunkSource, Str};
-use arena_items::{AllocError, Grown};
+use crate::block::place_block;
+use arena_chunks::{Allocator, ChunkSource, Str};
+use arena_items::Grown;
 use arena_place::Layout;
 
 // Places bytes.
 fn place_text<C: ChunkSource>(a: &mut Allocator<C>, bytes: &[u8]) -> Grown<Str>
     requires layout { IsTrue (is_layout (length bytes.now) 1) }
-    requires small { length bytes.now ≤ 2 ^ 60 }
+    requires small { length bytes.now + 64 ≤ 2 ^ 63 }
     ensures held { IfOk result (IsTextIn a.new.memory) }
     ensures text { IfOk result (λ s. text_bytes a.new.memory s ≡ bytes.now) }
     ensures frame { IfOk result (λ s. Frame a.old.memory a.new.memory [] (s.block ∷ [])) }
     ensures spends { Spends (length bytes.now) 0 0 a.old a.new (error_of result) }
 {
-    // So the least alignment is known to be 1.
-    let _ = a.min_align();
     let Some(layout) = Layout::new(bytes.len() as u64, 1) else {
         unreachable!();
     };
-    match a.alloc_layout(layout) {
-        Ok(block) => {
-            a.write(block, 0, bytes);
-            Ok(Str { block })
-        }
-        Err(ArenaErr::AllocErr { refused }) => Err(AllocError::AllocErr { refused }),
-        Err(ArenaErr::OutOfMemory) => Err(AllocError::OutOfMemory),
-    }
+    let block = place_block(a, layout)?;
+    a.write(block, 0, bytes);
+    Ok(Str { block })
 }
 
 // Places a name.
@@ -42,4 +36,21 @@ pub(crate) fn place_name<C: ChunkSource>(a: &mut Allocator<C>, name: &[u8]) -> G
     ensures spends { Spends (length name.now) 0 0 a.old a.new (error_of result) }
 {
     place_text(a, name)
+}
+
+// A copy of a text in another arena.
+pub(crate) fn clone_text<C: ChunkSource, D: ChunkSource>(
+    from: &Allocator<C>,
+    to: &mut Allocator<D>,
+    text: Str,
+) -> Grown<Str>
+    requires { IsTextIn from.now.memory text }
+    ensures held { IfOk result (IsTextIn to.new.memory) }
+    ensures text { IfOk result (λ s. text_bytes to.new.memory s ≡ text_bytes from.now.memory text) }
+    ensures frame { IfOk result (λ s. Frame to.old.memory to.new.memory [] (s.block ∷ [])) }
+    ensures spends { Spends (length (text_bytes from.now.memory text)) 0 0 to.old to.new (error_of result) }
+{
+    // So the state is known to be valid, and the text to have a layout.
+    let _ = from.min_align();
+    place_text(to, from.read(text.block))
 }

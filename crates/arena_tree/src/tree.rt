@@ -1,9 +1,13 @@
 // Trees.
-ghost use Rattle.std.specs.Prelude.{◌≡◌, ◌^◌, ◌≤◌, length, IfOk};
-ghost use Rattle.tree_rules.specs.Trees.{Stmts, text};
+ghost use Rattle.std.specs.Prelude.{◌≡◌, ℕ, ℤ, List, ◌^◌, ◌≤◌, length, IfOk};
+ghost use Rattle.tree_rules.specs.Trees.{Expr, Stmts, folded, text, value_of};
+ghost use Rattle.arena_tree.specs.Cloning.{Clones, clone_bytes};
 ghost use Rattle.arena_tree.specs.Given.{IsTreeIn, Means};
+ghost use Rattle.arena_tree.specs.Folding.{Folds};
 ghost use Rattle.arena_tree.specs.Parsing.{Parses, TakesAtMost, parse_bytes, refusal_of};
 
+use crate::clone::clone_lines;
+use crate::fold_stmts::fold_lines;
 use crate::node::Node;
 use crate::print::put_lines;
 use crate::program::lines;
@@ -14,7 +18,7 @@ use placement::{Bytes, OutOfMemory};
 use std::alloc::Global;
 use tree_reader::refusal;
 use tree_rules::Refused;
-use tree_rules::laws::{machine, one_program, some_reading, well_formed};
+use tree_rules::laws::{folding, machine, one_program, some_reading, well_formed};
 
 /// The handle of a tree in an arena: the list of its statements.
 #[derive(Clone, Copy)]
@@ -95,5 +99,46 @@ impl Tree {
         let room = a.used_bytes() / 88 + 1;
         put_lines(&mut out, a, self.stmts, room)?;
         Ok(out)
+    }
+
+    /// A tree in another arena that means the same, on blocks that were free. It takes at most 128 bytes of that arena for
+    /// each node, and one for each byte of the names.
+    ///
+    /// # Errors
+    ///
+    /// `AllocErr` where the other arena has no place for a block: it grows and was starved, or it doesn't and has fewer bytes
+    /// than those. `OutOfMemory` where memory is wanting beside. What was placed is dead then.
+    pub fn clone_in<C: ChunkSource, D: ChunkSource>(
+        &self,
+        from: &Allocator<C>,
+        to: &mut Allocator<D>,
+    ) -> Result<Tree, TreeErr>
+        requires { IsTreeIn from.now.memory self.now }
+        ensures clones { (trees : Stmts) → Means from.now.memory self.now trees → Clones trees to.old to.new result }
+        ensures tree { IfOk result (IsTreeIn to.new.memory) }
+        ensures bytes { (trees : Stmts) → Means from.now.memory self.now trees
+            → TakesAtMost (clone_bytes trees) to.old to.new }
+    {
+        let room = from.used_bytes() / 88 + 1;
+        match clone_lines(from, to, self.stmts, room) {
+            Ok(stmts) => Ok(Tree { stmts }),
+            Err(AllocError::AllocErr { refused }) => Err(TreeErr::AllocErr { refused }),
+            Err(AllocError::OutOfMemory) => Err(TreeErr::OutOfMemory),
+            Err(AllocError::CapacityOverflow) => unreachable!(),
+        }
+    }
+
+    /// Folds each expression where it stands, kids first: a negation of a negation becomes what that negates, and a sum or
+    /// a product of numbers alone becomes their total, where it fits 64 bits. Answers to how many nodes one of these two
+    /// rules was applied. Takes no memory, and only bytes of the tree's lists of nodes change.
+    pub fn fold<C: ChunkSource>(&mut self, a: &mut Allocator<C>) -> u64
+        requires { IsTreeIn a.old.memory self.old }
+        ensures folded { (trees : Stmts) → Means a.old.memory self.old trees → Folds trees a.old a.new self.old self.new result }
+        ensures tree { IsTreeIn a.new.memory self.new }
+        ensures values { (e : Expr) (env : List ℕ → ℤ) → value_of (folded e) env ≡ value_of e env }
+    {
+        folding();
+        let room = a.used_bytes() / 88 + 1;
+        fold_lines(a, self.stmts, room)
     }
 }

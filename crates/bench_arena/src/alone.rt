@@ -3,10 +3,11 @@ ghost use Rattle.std.specs.Prelude.{◌<◌};
 
 use crate::loops::{
     Failed, Timed, alloc_and_reset, alloc_fixed, alloc_warm, bitset_contains, bitset_ones,
-    bitset_set, bitset_set_ascending, bitset_union, box_new, claim, grow_at_cursor, map_clone,
-    map_get, map_insert, map_iter, map_remove, map_small, map_walked, reset_chunks, slice_copy,
-    str_copy, string_push_byte, string_push_start, string_push_str, vec_clone, vec_extend,
-    vec_insert_front, vec_iter, vec_push, vec_push_reserved, vec_retain, vec_small, vec_sum,
+    bitset_set, bitset_set_ascending, bitset_union, box_new, claim, grow_at_cursor, intern_known,
+    intern_new, map_clone, map_get, map_insert, map_iter, map_remove, map_small, map_walked,
+    reset_chunks, scope_define, scope_enter, scope_lookup, slice_copy, str_copy, string_push_byte,
+    string_push_start, string_push_str, vec_clone, vec_extend, vec_insert_front, vec_iter,
+    vec_push, vec_push_reserved, vec_retain, vec_small, vec_sum,
 };
 
 /// A loop that needs to know only how many calls it makes.
@@ -45,6 +46,11 @@ pub enum Alone {
     MapWalked,
     VecClone,
     MapClone,
+    InternNew,
+    InternKnown,
+    ScopeDefine,
+    ScopeLookup,
+    ScopeEnter,
 }
 
 impl Alone {
@@ -84,6 +90,11 @@ impl Alone {
             Alone::MapWalked => "map_walked",
             Alone::VecClone => "vec_clone",
             Alone::MapClone => "map_clone",
+            Alone::InternNew => "intern_new",
+            Alone::InternKnown => "intern_known",
+            Alone::ScopeDefine => "scope_define",
+            Alone::ScopeLookup => "scope_lookup",
+            Alone::ScopeEnter => "scope_enter",
         }
     }
 
@@ -100,7 +111,11 @@ impl Alone {
             | Alone::MapRemove
             | Alone::MapIter
             | Alone::MapWalked
-            | Alone::MapClone => 1_000_000,
+            | Alone::MapClone
+            | Alone::InternNew
+            | Alone::InternKnown
+            | Alone::ScopeDefine
+            | Alone::ScopeLookup => 1_000_000,
             _ => 10_000_000,
         }
     }
@@ -141,6 +156,11 @@ impl Alone {
             Alone::MapWalked => map_walked(rt, calls),
             Alone::VecClone => vec_clone(rt, calls),
             Alone::MapClone => map_clone(rt, calls),
+            Alone::InternNew => intern_new(rt, calls),
+            Alone::InternKnown => intern_known(rt, calls),
+            Alone::ScopeDefine => scope_define(rt, calls),
+            Alone::ScopeLookup => scope_lookup(rt, calls),
+            Alone::ScopeEnter => scope_enter(rt, calls),
         }
     }
 }

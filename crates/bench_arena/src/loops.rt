@@ -7,6 +7,7 @@ mod items;
 mod maps;
 mod older;
 mod pool;
+mod symbols;
 mod texts;
 mod vec;
 
@@ -22,6 +23,7 @@ pub use older::{read_older, write_older};
 pub use pool::{claim, claim_threads, pool_get, pool_get_threads};
 use std::io;
 use std::time::Duration;
+pub use symbols::{intern_known, intern_new, scope_define, scope_enter, scope_lookup};
 pub use texts::{string_push_byte, string_push_start, string_push_str};
 pub use vec::{
     vec_extend, vec_insert_front, vec_iter, vec_push, vec_push_reserved, vec_retain, vec_small,

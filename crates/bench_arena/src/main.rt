@@ -35,7 +35,7 @@ enum Loop {
 }
 
 impl Loop {
-    const ALL: [Loop; 38] = [
+    const ALL: [Loop; 43] = [
         Loop::Alone(Alone::AllocWarm),
         Loop::Alone(Alone::GrowAtCursor),
         Loop::Alone(Alone::AllocAndReset),
@@ -74,6 +74,11 @@ impl Loop {
         Loop::Alone(Alone::MapWalked),
         Loop::Alone(Alone::VecClone),
         Loop::Alone(Alone::MapClone),
+        Loop::Alone(Alone::InternNew),
+        Loop::Alone(Alone::InternKnown),
+        Loop::Alone(Alone::ScopeDefine),
+        Loop::Alone(Alone::ScopeLookup),
+        Loop::Alone(Alone::ScopeEnter),
     ];
 
     fn name(self) -> &'static str {

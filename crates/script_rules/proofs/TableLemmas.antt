@@ -1,15 +1,12 @@
--- Tables of names, by hash and by order, as entries.
+-- Trees of names as entries.
 use Rattle.std.proofs.Common.{◌≡◌, ℕ, refl, sym, ap, ◌∙◌, arith, List, [], ◌∷◌, Bool, cond, Option, Some, None, length, IsTrue, nat_cmp}
 use Rattle.std.specs.Prelude.{nat_eq, ◌==◌}
 use Rattle.std.specs.Ordering.{eq_by_cmp}
-use Rattle.std.specs.Cmp.{unsigned_tied, nat_cmp_total}
+use Rattle.std.specs.Cmp.{unsigned_tied}
 use Rattle.std.specs.FinMap as map
-use Rattle.std.specs.FinMap.{find, get-entries, get-from_entries, len-empty, len-entries}
-use Rattle.std.specs.Map.{lookup}
+use Rattle.std.specs.FinMap.{get-entries, len-empty, len-entries}
 use Rattle.std.specs.BTreeMap as tree
 use Rattle.std.specs.BTreeMap.{BTreeMap}
-use Rattle.std.specs.HashMap as hash
-use Rattle.std.specs.HashMap.{HashMap}
 use Rattle.std.proofs.lemmas.Bool.Decides.{nat_tests}
 use Rattle.placement.proofs.MapLemmas.{tree_get as entries_tree_get}
 use Rattle.script_rules.specs.Objects.{Entries, get, bind, unbind, are_rising}
@@ -53,8 +50,6 @@ module _ {X : Type 0} where
         (rising_unbind (entries_of before) k (rising before))
         (λ q. other q ∙ updates q ∙ ap (λ (o : Option X). cond (q == k) None o) (sym (one q)) ∙ sym (get_unbind (entries_of before) k q))
 
-  -- ---- By order
-
   pub tree_get : (m : BTreeMap ℕ X) (q : ℕ) → get (entries_of m.entries) q ≡ tree.get nat_cmp m q
   tree_get m q = sym (get-entries (map.from_entries {R = nat_cmp} m.entries) q) ∙ entries_tree_get m q
 
@@ -66,25 +61,3 @@ module _ {X : Type 0} where
   pub tree_unbind : (m n : BTreeMap ℕ X) (k : ℕ) → tree.Updates nat_cmp m n k None → entries_of n.entries ≡ unbind (entries_of m.entries) k
   tree_unbind m n k updates = without_key m.entries n.entries k (tree.get nat_cmp m) (tree.get nat_cmp n) (tree_get m) (tree_get n)
       (λ q. updates.0 q ∙ ap (λ (b : Bool). cond b None (tree.get nat_cmp m q)) (tied k q))
-
-  -- ---- By hash
-
-  found : (q : ℕ) (es : List (ℕ × X)) → find nat_cmp q es ≡ lookup (nat_eq q) es
-  found q [] = refl
-  found q (e ∷ es) =
-      ap (λ (b : Bool). cond b (Some e.1) (find nat_cmp q es)) (unsigned_tied q e.0)
-      ∙ ap (λ (o : Option X). cond (nat_eq q e.0) (Some e.1) o) (found q es)
-
-module _ {X S : Type 0} where
-  pub table_get : (m : HashMap ℕ X S) (q : ℕ) → get (entries_of m.entries) q ≡ hash.get nat_eq m q
-  table_get m q =
-      sym (get-entries (map.from_entries {R = nat_cmp} m.entries) q) ∙ get-from_entries nat_cmp_total m.entries q ∙ found q m.entries
-
-  pub table_bind : (m n : HashMap ℕ X S) (k : ℕ) (v : X) → hash.Updates nat_eq m n k (Some v)
-      → entries_of n.entries ≡ bind (entries_of m.entries) k v
-  table_bind m n k v updates = with_key m.entries n.entries k (hash.get nat_eq m) (hash.get nat_eq n) (table_get m) (table_get n) v
-      (λ q. updates.0 q ∙ ap (λ (b : Bool). cond b (Some v) (hash.get nat_eq m q)) (same_test k q))
-
-  pub table_unbind : (m n : HashMap ℕ X S) (k : ℕ) → hash.Updates nat_eq m n k None → entries_of n.entries ≡ unbind (entries_of m.entries) k
-  table_unbind m n k updates = without_key m.entries n.entries k (hash.get nat_eq m) (hash.get nat_eq n) (table_get m) (table_get n)
-      (λ q. updates.0 q ∙ ap (λ (b : Bool). cond b None (hash.get nat_eq m q)) (same_test k q))

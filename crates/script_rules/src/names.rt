@@ -4,15 +4,15 @@ ghost use Rattle.script_rules.specs.Objects.{get, bind, unbind};
 
 use placement::OutOfMemory;
 use std::alloc::Global;
-use std::collections::HashMap;
+use std::collections::BTreeMap;
 use std::marker::Model;
 
-/// A table of what names hold, which contracts see as its entries by rising names. It is a hash table of the standard
-/// library on the host's memory, whose hash has one fixed seed: each call takes time that doesn't grow with the names,
-/// but for names that were chosen so that their hashes meet.
+/// A table of what names hold, which contracts see as its entries by rising names. It is a tree on the host's memory: each
+/// call takes time in the logarithm of the names, whichever they are. A hash of names that anyone may choose could be made
+/// slow by who chooses them.
 #[derive(Drop)]
 pub struct Names<V> {
-    values: HashMap<u32, V>,
+    values: BTreeMap<u32, V>,
 }
 
 impl<V> Model for Names<V> {
@@ -34,7 +34,7 @@ impl<V: Drop> Names<V> {
         ensures { result ≡ [] }
     {
         Names {
-            values: HashMap::new(alloc),
+            values: BTreeMap::new(alloc),
         }
     }
 

@@ -1,2 +1,1 @@
-pub mod StarvedLemmas
 pub mod AloneLemmas

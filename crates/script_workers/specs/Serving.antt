@@ -1,10 +1,8 @@
 -- What comes of a script that a worker runs on an arena of a pool.
-use Rattle.std.specs.Prelude.{◌≡◌, ◌≢◌, ℕ, ◌-◌, ◌<◌, ◌≤◌, ◌^◌, ◌⊎◌, Bool, true, false, List, [], ◌∷◌, ◌++◌, None, IfSome, IsSomeAnd, ⊤}
-use Rattle.placement.specs.State.{allocated_bytes}
-use Rattle.placement.specs.Asking.{IsRequestWithin, most_asked}
+use Rattle.std.specs.Prelude.{◌≡◌, ◌≢◌, ℕ, ◌≤◌, ◌⊎◌, Bool, true, false, List, [], None, IsSomeAnd, ⊤}
 use Rattle.arena_chunks.specs.Source.{Source, View}
 use Rattle.arena_pool.specs.declared.kind.PoolKind.{PoolKind}
-use Rattle.arena_pool.specs.declared.kind.PoolKind.TheVariants.{Standard, FixedSize}
+use Rattle.arena_pool.specs.declared.kind.PoolKind.TheVariants.{Standard}
 use Rattle.script_rules.specs.Objects.{need}
 use Rattle.script_rules.specs.Machine.{run, cost_of}
 use Rattle.script_rules.specs.declared.commands.Command.{Command}
@@ -13,9 +11,8 @@ use Rattle.script_rules.specs.declared.commands.Ended.TheVariants as ended
 use Rattle.script_rules.specs.declared.outcome.Outcome.{Outcome}
 use Rattle.arena_script.specs.Running.{Replies, IsRun, IsStoppedAt, cost_with_next}
 use Rattle.arena_workers.specs.Working.{Terms}
+use Rattle.arena_workers.specs.Starving.{IsTooSmall, ShowsStarved}
 use Rattle.arena_workers.specs.declared.served.Served.{Served}
-use Rattle.arena_workers.specs.declared.served.Starved.{Starved}
-use Rattle.arena_workers.specs.declared.served.Starved.TheVariants.{Refused, Grown}
 
 -- ---- What is promised of each script
 
@@ -24,24 +21,6 @@ pub record IsUnserved (outcome : Outcome) : Type 0 where
   pub replies : outcome.replies ≡ []
   pub ended : outcome.ended ≡ ended.OutOfMemory
   pub used : outcome.used ≡ 0
-
--- The pool is a fixed one whose arenas have fewer bytes than these.
-pub record IsTooSmall (kind : PoolKind) (bytes : ℕ) : Type 0 where
-  pub region : ℕ
-  pub fixed : kind ≡ FixedSize region
-  pub short : region - 48 < bytes
-
--- the last of the requests is at alignment 16 and for at most so many bytes
-pub record EndsWithin (most : ℕ) (requests : List (ℕ × ℕ)) : Type 0 where
-  pub before : List (ℕ × ℕ)
-  pub last : ℕ × ℕ
-  pub all : requests ≡ before ++ last ∷ []
-  pub within : IsRequestWithin most last
-
--- A source that has refused; and where it tells its requests, the last is small beside these bytes. Or an arena that is large.
-abbrev pub ShowsStarved : {C : Type 0} → (C → Source) → ℕ → Starved C → Type 0
-ShowsStarved source bytes (Refused c) = (0 < (source c).refusals) × IfSome (source c).asked (EndsWithin (most_asked bytes))
-ShowsStarved source bytes (Grown a) = 2 ^ 60 ≤ allocated_bytes a.memory.state
 
 -- What comes of a script alone, over a pool of this kind: the first replies of the plain machine, bytes within what it needs and
 -- costs, and the causes of its ending. Unless no memory was there for it, it has the job's relation.

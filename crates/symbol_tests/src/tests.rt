@@ -5,6 +5,7 @@ mod kept;
 mod many;
 mod mixes;
 mod rows;
+mod runs;
 
 use arena_chunks::{Allocator, MemoryChunks};
 use std::alloc::Global;

@@ -1,4 +1,8 @@
 // Which texts are programs, and where and why the others are refused. The answers follow from the grammar.
+mod changes;
+mod copied_trees;
+mod folds;
+mod plain;
 mod trees;
 
 use std::alloc::Global;
@@ -91,9 +95,23 @@ fn depths(rt: HostRuntime) {
     }
     let mixed = nested(&rt, rt.alloc(), b"-(", b")", 32);
     assert_eq!(rt; refusal(mixed.as_slice()), None);
+    let deeper = nested(&rt, rt.alloc(), b"-(", b")", 33);
+    assert_eq!(rt;
+        refusal(deeper.as_slice()),
+        Some(Refused::TooDeep { at: 64 })
+    );
     let mut blocks = Vec::new(rt.alloc());
     copies(&rt, &mut blocks, b"{", 64);
     assert_eq!(rt; refusal(blocks.as_slice()), syntax(64));
+    copies(&rt, &mut blocks, b"{", 1);
+    assert_eq!(rt;
+        refusal(blocks.as_slice()),
+        Some(Refused::TooDeep { at: 64 })
+    );
+    blocks.truncate(64);
+    copies(&rt, &mut blocks, b"}", 64);
+    assert_eq!(rt; refusal(blocks.as_slice()), None);
+    blocks.truncate(64);
     copies(&rt, &mut blocks, b"a;(", 1);
     assert_eq!(rt;
         refusal(blocks.as_slice()),

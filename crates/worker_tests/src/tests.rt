@@ -1,6 +1,7 @@
 // What tests of workers share: scripts by their numbers, and what comes of each.
 mod crowds;
 mod gates;
+mod limits;
 mod starved;
 
 use arena_chunks::ChunkSource;

@@ -1,5 +1,6 @@
 // Makes the calls.
 ghost use Rattle.std.specs.Prelude.{◌≡◌, ◌∷◌, [], IfOk, length};
+ghost use Rattle.placement.specs.declared.calls.Call.{Call};
 ghost use Rattle.placement.specs.Generator.{next_seed, drawn, size_in, align_in, fill_in, call_at, seed_behind};
 ghost use Rattle.arena_calls.specs.Draws.{HasByte};
 
@@ -18,6 +19,14 @@ struct Wanted {
     fill: u8,
 }
 
+// The seed behind this one.
+fn after(seed: u64) -> u64
+    ensures { result ≡ next_seed seed }
+{
+    seed.wrapping_mul(6_364_136_223_846_793_005)
+        .wrapping_add(1_442_695_040_888_963_407)
+}
+
 fn block_from(q: u64) -> Wanted
     ensures { result ≡ record { size = size_in q; align = align_in q; fill = fill_in q } }
 {
@@ -29,12 +38,14 @@ fn block_from(q: u64) -> Wanted
 }
 
 /// Draws numbers, one after another, and makes calls of them. The one byte that a call may write is lent to the call, so that
-/// no call takes memory.
+/// no call takes memory. The next seed is there before it is asked for: the machine would wait for it.
 #[derive(Drop)]
 pub struct Draws {
     alloc: Global,
     seed: u64,
+    next: u64,
     spare: Vec<u8>,
+    ghost ahead: { next ≡ next_seed seed },
 }
 
 impl Draws {
@@ -48,7 +59,12 @@ impl Draws {
         ensures byte { IfOk result (λ draws. length draws.spare.items ≡ 1) }
     {
         match Vec::from_slice(alloc, &[0]) {
-            Ok(spare) => Ok(Draws { alloc, seed, spare }),
+            Ok(spare) => Ok(Draws {
+                alloc,
+                seed,
+                next: after(seed),
+                spare,
+            }),
             Err(_) => Err(OutOfMemory),
         }
     }
@@ -75,16 +91,33 @@ impl Draws {
         }
     }
 
-    fn draw(&mut self) -> u64
+    // Draws a number, where the seed two further is this.
+    fn draw_before(&mut self, second: u64) -> u64
+        requires { second ≡ next_seed (next_seed self.old.seed) }
         ensures spare { self.new.spare ≡ self.old.spare }
         ensures seed { self.new.seed ≡ next_seed self.old.seed }
         ensures value { result ≡ drawn self.old.seed }
     {
-        self.seed = self
-            .seed
-            .wrapping_mul(6_364_136_223_846_793_005)
-            .wrapping_add(1_442_695_040_888_963_407);
+        self.seed = self.next;
+        self.next = second;
         self.seed >> 33
+    }
+
+    // A call that places a block.
+    fn alloc(&mut self, name: u32, second: u64) -> Call
+        requires { second ≡ next_seed (next_seed self.old.seed) }
+        ensures spare { self.new.spare ≡ self.old.spare }
+        ensures seed { self.new.seed ≡ next_seed self.old.seed }
+        ensures call { result ≡ Call.Alloc name (size_in (drawn self.old.seed)) (align_in (drawn self.old.seed))
+            (fill_in (drawn self.old.seed)) }
+    {
+        let Wanted { size, align, fill } = block_from(self.draw_before(second));
+        Call::Alloc {
+            name,
+            size,
+            align,
+            fill,
+        }
     }
 
     /// The call with this index, where that before it was taken back.
@@ -98,20 +131,17 @@ impl Draws {
         if i % TURN == TURN - 1 {
             return Call::Reset;
         }
-        let r = self.draw();
+        let r = self.draw_before(after(self.next));
+        // This is known before the kind is, too, though two kinds draw no second number.
+        let second = after(self.next);
         let name = (r / 8 % 256) as u32;
         match r % 8 {
-            0..=2 => {
-                let Wanted { size, align, fill } = block_from(self.draw());
-                Call::Alloc {
-                    name,
-                    size,
-                    align,
-                    fill,
-                }
-            }
+            // No jump to a kind can be foreseen. With an arm for each number there is but one: the compiler makes a table of all.
+            0 => self.alloc(name, second),
+            1 => self.alloc(name, second),
+            2 => self.alloc(name, second),
             3 => {
-                let Wanted { size, align, fill } = block_from(self.draw());
+                let Wanted { size, align, fill } = block_from(self.draw_before(second));
                 Call::Grow {
                     name,
                     size,
@@ -120,12 +150,12 @@ impl Draws {
                 }
             }
             4 => {
-                let Wanted { size, align, .. } = block_from(self.draw());
+                let Wanted { size, align, .. } = block_from(self.draw_before(second));
                 Call::Shrink { name, size, align }
             }
             5 => Call::Dealloc { name },
             6 => {
-                let q = self.draw();
+                let q = self.draw_before(second);
                 let bytes = self.one_byte((q / 512 % 256) as u8);
                 Call::Write {
                     name,

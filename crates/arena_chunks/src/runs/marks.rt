@@ -8,7 +8,7 @@ use crate::arena::{Arena, Checkpoint};
 use crate::runs::names::Names;
 use placement::OutOfMemory;
 use std::alloc::Global;
-use std::collections::HashSet;
+use std::collections::BTreeSet;
 use std::marker::Model;
 
 /// A mark: its name, and the arena's checkpoint.
@@ -25,7 +25,8 @@ pub(crate) struct Mark {
 pub(crate) struct Marks {
     // Oldest first.
     list: Vec<Mark>,
-    known: HashSet<u32>,
+    // By order: a hash of names that anyone may choose could be made slow by who chooses them.
+    known: BTreeSet<u32>,
     log: Vec<u32>,
 }
 
@@ -46,7 +47,7 @@ impl Marks {
     {
         Marks {
             list: Vec::new(alloc),
-            known: HashSet::new(alloc),
+            known: BTreeSet::new(alloc),
             log: Vec::new(alloc),
         }
     }

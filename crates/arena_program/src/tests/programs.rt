@@ -64,7 +64,7 @@ fn args(alloc: Global, words: &[&str]) -> Result<Args, Fail> {
 }
 
 const USAGE: &str =
-    "usage: arena_run calls | gen START COUNT | scripts WORKERS [fixed BYTES ARENAS | keep BYTES]\n";
+    "usage: arena_run calls | gen START COUNT | scripts WORKERS [fixed BYTES ARENAS | keep BYTES] | lint WORKERS\n";
 
 // The words, the input, the write that fails, of the output and of messages, of which each takes 7 bytes, the exit status,
 // and what is written to the output and to messages.
@@ -144,7 +144,7 @@ const CALLS: [Row; 18] = [
     (&["arena_run", "--version"], "used\n", &[1], 5, "", ""),
     (&["arena_run", "call"], "used\n", &[1], 1, "", ""),
     (&["arena_run", "call"], "used\n", &[2], 1, "", "usage: "),
-    (&["arena_run", "call"], "used\n", &[15], 1, "", USAGE),
+    (&["arena_run", "call"], "used\n", &[17], 1, "", USAGE),
 ];
 
 const SCRIPTS: [Row; 14] = [

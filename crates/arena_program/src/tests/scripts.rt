@@ -23,6 +23,17 @@ struct Ended {
     allocated: u64,
 }
 
+fn words(alloc: Global) -> Result<Vec<Bytes>, Fail> {
+    let mut words = Vec::new(alloc);
+    for word in ["scripts", "2"] {
+        let Ok(word) = Bytes::of(alloc, word.as_bytes()) else {
+            return Err(Fail::from(AllocError));
+        };
+        words.push(word)?;
+    }
+    Ok(words)
+}
+
 // Runs scripts on two workers over arenas with a budget of bytes. Reads give so many bytes and writes take 7, and the listed
 // ones fail.
 fn run<R: Threads + Wait + Sync>(
@@ -35,13 +46,7 @@ fn run<R: Threads + Wait + Sync>(
 ) -> Result<Ended, Fail>
     requires { 0 < step }
 {
-    let mut words = Vec::new(alloc);
-    for word in ["scripts", "2"] {
-        let Ok(word) = Bytes::of(alloc, word.as_bytes()) else {
-            return Err(Fail::from(AllocError));
-        };
-        words.push(word)?;
-    }
+    let words = words(alloc)?;
     let mut arena = Arena::<1>::new(alloc);
     let mut chunks = MemoryChunks::new(alloc, 1 << 30);
     let mut input = MemoryInput::new(alloc, text, step, faults.0.to_vec(alloc)?);

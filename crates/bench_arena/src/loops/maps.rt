@@ -19,7 +19,7 @@ fn new_allocator(rt: &HostRuntime) -> Allocator<MemoryChunks> {
 
 // The numbers below 2^32 in scattered order.
 #[inline]
-fn key(i: u32) -> u32 {
+pub(super) fn key(i: u32) -> u32 {
     i.wrapping_mul(2_654_435_761)
 }
 

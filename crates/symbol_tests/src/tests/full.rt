@@ -17,11 +17,11 @@ fn fixed(rt: &impl Abort, alloc: Global, bytes: usize) -> Allocator<MemoryChunks
     }
 }
 
-// An allocator whose source refuses the first requests.
-fn refusing(alloc: Global) -> Result<Allocator<RefusingChunks>, Fail> {
+// An allocator whose source refuses thirty requests from this one on: all sizes that a call may try.
+fn refusing(alloc: Global, first: u64) -> Result<Allocator<RefusingChunks>, Fail> {
     let mut refuse = Vec::new(alloc);
-    for n in 1..30u64 {
-        refuse.push(n)?;
+    for n in 0..30u64 {
+        refuse.push(first.saturating_add(n))?;
     }
     Ok(Allocator::new(alloc, RefusingChunks::new(alloc, refuse)))
 }
@@ -132,27 +132,40 @@ fn scopes_in_a_full_arena(rt: HostRuntime) {
     }
 }
 
-// The source refuses all requests up to the thirtieth. What was refused succeeds when it is tried again.
+// The source refuses each request in turn, and those behind it. What was refused succeeds when it is tried again.
 #[test]
-fn refused_chunks(rt: HostRuntime) -> Result<(), Fail> {
-    let mut nest = Nest::new(refusing(rt.alloc())?);
-    assert!(rt; fill(&rt, &mut nest, 40) > 0 && nest.depth() == 9);
-    empty(&rt, &mut nest);
-    let mut texts = Texts::new(refusing(rt.alloc())?);
-    for (n, name) in (0..12u32).zip(NAMES) {
-        for _ in 0..40u32 {
-            match texts.intern(name) {
-                Ok(number) => {
-                    same_at(&rt, name, number, n);
-                    break;
-                }
-                Err(e) => {
-                    assert!(rt; matches!(e, AllocError::AllocErr { .. }));
-                    has_first(&rt, &texts, n);
+fn scopes_refused_chunks(rt: HostRuntime) -> Result<(), Fail> {
+    for first in 1..8u64 {
+        let mut nest = Nest::new(refusing(rt.alloc(), first)?);
+        let refusals = fill(&rt, &mut nest, 40);
+        assert!(rt; nest.depth() == 9 && (refusals > 0 || first > 1));
+        empty(&rt, &mut nest);
+    }
+    Ok(())
+}
+
+#[test]
+fn texts_refused_chunks(rt: HostRuntime) -> Result<(), Fail> {
+    for first in 1..8u64 {
+        let mut texts = Texts::new(refusing(rt.alloc(), first)?);
+        let mut refusals = 0u32;
+        for (n, name) in (0..12u32).zip(NAMES) {
+            for _ in 0..40u32 {
+                match texts.intern(name) {
+                    Ok(number) => {
+                        same_at(&rt, name, number, n);
+                        break;
+                    }
+                    Err(e) => {
+                        assert!(rt; matches!(e, AllocError::AllocErr { .. }));
+                        has_first(&rt, &texts, n);
+                        refusals = refusals.saturating_add(1);
+                    }
                 }
             }
         }
+        has_first(&rt, &texts, 12);
+        assert!(rt; refusals > 0 || first > 1);
     }
-    has_first(&rt, &texts, 12);
     Ok(())
 }

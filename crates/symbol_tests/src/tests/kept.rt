@@ -1,10 +1,12 @@
-// An interner and a scoped table, each in an arena of its own. It always stands there.
+// An interner, a scoped table, and both side by side, each in an arena of its own. It always stands there.
+ghost use Rattle.arena_symbols.specs.Named.{AreNames};
 ghost use Rattle.arena_symbols.specs.Names.{IsInternerIn};
 ghost use Rattle.arena_symbols.specs.Tables.{entry_item, IsTableIn};
 
 use arena_chunks::{Allocator, ChunkSource};
 use arena_items::{AllocError, Grown};
-use arena_symbols::{Scopes, Symbols};
+use arena_symbols::{Call, Names, Reply, Scopes, Symbols};
+use std::alloc::Global;
 use std::marker::Model;
 
 #[derive(Drop)]
@@ -99,5 +101,37 @@ impl<C: ChunkSource> Nest<C> {
 
     pub(super) fn depth(&self) -> u32 {
         self.scopes.depth()
+    }
+}
+
+#[derive(Drop)]
+pub(super) struct Both<C: ChunkSource> {
+    a: Allocator<C>,
+    names: Names,
+}
+
+impl<C: ChunkSource> Model for Both<C> {
+    ghost Value = { Unit {0} };
+
+    ghost view = { λ s. tt };
+
+    ghost invariant = { λ s. AreNames s.a.memory s.names };
+}
+
+impl<C: ChunkSource> Both<C> {
+    pub(super) fn new(a: Allocator<C>) -> Both<C> {
+        Both {
+            a,
+            names: Names::new_in(),
+        }
+    }
+
+    pub(super) fn run(
+        &mut self,
+        alloc: Global,
+        calls: &[Call],
+        replies: &mut Vec<Reply>,
+    ) -> Grown<()> {
+        self.names.run(alloc, &mut self.a, calls, replies)
     }
 }

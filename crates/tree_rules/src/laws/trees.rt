@@ -18,8 +18,10 @@ pub fn well_formed()
     ensures { (bytes : List ℕ) (t : Stmts) → TreeOf bytes (Ok t) → AreStmts t × StmtsFit t }
 {}
 
-/// A folded expression has the value that it had, whatever names stand for. Folded trees are well formed.
+/// A folded expression has the value that it had, whatever names stand for. Folded trees are well formed, and their
+/// numbers fit where they did.
 pub fn folding()
     ensures value { (e : Expr) (env : List ℕ → ℤ) → value_of (folded e) env ≡ value_of e env }
-    ensures keeps { (t : Stmts) → AreStmts t → StmtsFit t → AreStmts (folded_stmts t) × StmtsFit (folded_stmts t) }
+    ensures keeps { (t : Stmts) → AreStmts t → AreStmts (folded_stmts t) }
+    ensures fits { (t : Stmts) → StmtsFit t → StmtsFit (folded_stmts t) }
 {}

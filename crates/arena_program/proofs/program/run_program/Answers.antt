@@ -9,7 +9,7 @@ returns g c = (
   c.from.ensures ∙ c.code.ensures,
   elim c.match-args.branch [
     | in-Ok+in-Ok-words w ↦ rw (w.in-Ok.is, w.status-is, w.arena-is, w.chunks-is, w.input-is, w.output-is, w.starved-is)
-        (inl (rw (w.as_slice.ensures.value, w.in-Ok-words.ensures) at w.serve.ensures))
+        (inl (rw (w.as_slice-words.ensures.value, w.in-Ok-words.ensures) at w.serve.ensures))
     | in-Ok+in-Err-words w ↦ rw (w.in-Ok.is, w.status-is, w.arena-is, w.chunks-is, w.input-is, w.output-is, w.starved-is)
         (inr (refl, refl, refl))
     | in-Err w ↦ rw (w.in-Err.is, w.status-is, w.arena-is, w.chunks-is, w.input-is, w.output-is, w.starved-is)

@@ -1,12 +1,12 @@
 use Rattle.std.proofs.Common.{◌≡◌, ◌+◌, ◌++◌, length}
 use Rattle.std.specs.Vec.Iter.{into_iter_items}
-use Rattle.arena_program.specs.ScriptEnds.{starved_of, text_of_served}
-use Rattle.arena_program.proofs.ToldLemmas.{text_from}
+use Rattle.arena_program.specs.ScriptEnds.{starved_of}
+use Rattle.arena_program.specs.Told.{text_from}
 use Rattle.arena_program.proofs.told.tell.Given as goal
 
 abbrev pub invariant-loop-served : goal.invariant-loop-served
 invariant-loop-served g l = record {
-  text : l.text.items ++ text_from l.i (into_iter_items l.served-iterator) ≡ text_of_served l.fn.all.items;
+  text : l.text.items ++ text_from g.T.Tells.text l.i (into_iter_items l.served-iterator) ≡ text_from g.T.Tells.text 0 l.fn.all.items;
   starved : l.starved.items ++ starved_of l.i (into_iter_items l.served-iterator) ≡ starved_of 0 l.fn.all.items;
   count : l.i + length (into_iter_items l.served-iterator) ≡ length l.fn.all.items;
 }

@@ -10,8 +10,8 @@ returns-then-at-len g c = (insert_past (holds c.requires c.args.name (thing.List
 
 pub returns-then-len-ge-MOST_ITEMS : goal.returns-then-len-ge-MOST_ITEMS
 returns-then-len-ge-MOST_ITEMS g c = (
-  insert_full (holds c.requires c.args.name (thing.List c.in-Ok.list) c.in-Ok.ensures) c.args.at c.args.value (omega (arith, c.len.ensures))
-      (omega (arith, c.len-2.ensures)),
+  insert_full (holds c.requires c.args.name (thing.List c.in-Ok.list) c.in-Ok.ensures) c.args.at
+      c.args.value (omega (arith, c.len.ensures)) (omega (arith, c.len-2.ensures)),
   refl,
 )
 
@@ -19,13 +19,13 @@ pub returns-in_err-insert : goal.returns-in_err-insert
 returns-in_err-insert g c =
     let h = holds c.requires c.args.name (thing.List c.in-Ok.list) c.in-Ok.ensures in
     not_given c.from_residual.result c.from_residual.ensures.1
-    (list_gives_nothing (record { keeps = c.growth_costs.ensures.keeps; asks = c.growth_costs.ensures.asks })
-    c.vector_costs.ensures.fits h c.min_align.ensures.state
+    (list_gives_nothing (record { stays = c.growth_rule.ensures.stays; grows = c.growth_rule.ensures.grows })
+    (record { keeps = c.growth_costs.ensures.keeps; asks = c.growth_costs.ensures.asks }) _ _ _ h c.min_align.ensures.state
     (insert_grows h c.args.at c.args.value (omega (arith, c.len.ensures)) (omega (arith, c.len-2.ensures))) c.in_err-insert.ensures)
 
 pub returns : goal.returns
 returns g c =
     let h = holds c.requires c.args.name (thing.List c.in-Ok.list) c.in-Ok.ensures in
-    list_gives (record { keeps = c.growth_costs.ensures.keeps; asks = c.growth_costs.ensures.asks })
-    c.vector_costs.ensures.fits h c.min_align.ensures.state
+    list_gives (record { stays = c.growth_rule.ensures.stays; grows = c.growth_rule.ensures.grows })
+    (record { keeps = c.growth_costs.ensures.keeps; asks = c.growth_costs.ensures.asks }) _ _ _ h c.min_align.ensures.state
     (insert_grows h c.args.at c.args.value (omega (arith, c.len.ensures)) (omega (arith, c.len-2.ensures))) c.in_ok-insert.ensures

@@ -15,32 +15,24 @@ loop-command-init g c = record {
 pub returns-in-Err-AllocErr : goal.returns-in-Err-AllocErr
 returns-in-Err-AllocErr g c = λ bytes is.
     let l = c.loop-command in
-    let script = c.args.commands.now in
-    let at = is_at script l.command-index c.command-item.result c.loop-command-test.true c.command-item.is in
-    subst (λ ended. IsRun script c.args.a.now c.serve.new.a (came l.replies.items ended bytes)) (sym c.refused.ensures)
-    (run_refused script c.args.a.now l.replies.items l.command-index (omega (arith, c.loop-command-test.true)) l.invariant.replies
-    l.a c.serve.new.a l.things c.command-item.result at c.requires.unused l.invariant.after c.in-Err-AllocErr.field-0
-    c.in-Err-AllocErr.ensures
-    bytes is c.in-Err-AllocErr.field-0-0 c.in-Err-AllocErr.field-0-is c.serve.new.a.memory.state.is_growing refl)
+    let at = is_at c.args.commands.now l.command-index c.command-item.result c.loop-command-test.true c.command-item.is in
+    subst (λ ended. IsRun c.args.commands.now c.args.a.now c.serve.new.a (came l.replies.items ended bytes)) (sym c.refused.ensures)
+    (run_refused _ _ (omega (arith, c.loop-command-test.true)) l.invariant.replies at c.requires.unused l.invariant.after
+    c.in-Err-AllocErr.ensures is c.in-Err-AllocErr.field-0-is c.serve.new.a.memory.state.is_growing refl)
 
 pub returns-in-Err : goal.returns-in-Err
 returns-in-Err g c = λ bytes is.
     let l = c.loop-command in
-    let script = c.args.commands.now in
-    let at = is_at script l.command-index c.command-item.result c.loop-command-test.true c.command-item.is in
-    run_wanting script c.args.a.now l.replies.items l.command-index (omega (arith, c.loop-command-test.true)) l.invariant.replies
-    l.a c.serve.new.a l.things c.command-item.result at c.requires.unused l.invariant.after c.in-Err.field-0 c.in-Err.ensures bytes is
+    let at = is_at c.args.commands.now l.command-index c.command-item.result c.loop-command-test.true c.command-item.is in
+    run_wanting _ _ (omega (arith, c.loop-command-test.true)) l.invariant.replies at c.requires.unused l.invariant.after c.in-Err.ensures is
 
 pub loop-command-preserved : goal.loop-command-preserved
 loop-command-preserved g c =
     let l = c.loop-command in
-    let script = c.args.commands.now in
-    let at = is_at script l.command-index c.command-item.result c.loop-command-test.true c.command-item.is in
+    let at = is_at c.args.commands.now l.command-index c.command-item.result c.loop-command-test.true c.command-item.is in
     let pushed : c.push.new.self.items ≡ l.replies.items ++ c.in-Ok.reply ∷ [] = c.in-Ok-push.ensures.items in record {
-      after = after_more script c.args.a.now l.a c.serve.new.a l.things l.command-index c.command-item.result at.more l.invariant.after
-          c.serve.new.things c.in-Ok.reply c.in-Ok.ensures;
-      replies = pushed ∙ reply_more script c.args.a.now l.a c.serve.new.a l.things l.command-index c.command-item.result at.more
-          l.invariant.after c.serve.new.things c.in-Ok.reply l.replies.items l.invariant.replies c.in-Ok.ensures;
+      after = after_more _ at.more l.invariant.after c.in-Ok.ensures;
+      replies = pushed ∙ reply_more _ at.more l.invariant.after l.invariant.replies c.in-Ok.ensures;
       count = ap length pushed ∙ length-append l.replies.items (c.in-Ok.reply ∷ []) ∙ ap (λ n. n + 1) l.invariant.count;
       room = omega (arith, l.invariant.room, c.push.ensures.capacity);
     }
@@ -48,6 +40,5 @@ loop-command-preserved g c =
 pub returns : goal.returns
 returns g c = λ bytes is.
     let l = c.loop-command in
-    run_done c.args.commands.now c.args.a.now l.replies.items l.command-index (omega (arith, l.auto.command-index-end)) l.invariant.replies
-    c.bytes_law.ensures.pairs l.a l.things c.requires.unused l.invariant.after
-    (omega (arith, l.auto.command-index-end, c.loop-command-test.false)) bytes is
+    run_done _ _ (omega (arith, l.auto.command-index-end)) l.invariant.replies c.bytes_law.ensures.pairs c.requires.unused l.invariant.after
+    (omega (arith, l.auto.command-index-end, c.loop-command-test.false)) is

@@ -1,4 +1,4 @@
-use Rattle.std.proofs.Common.{ap, arith, None}
+use Rattle.std.proofs.Common.{ap, None}
 use Rattle.arena_chunks.specs.declared.block.Block.{Block}
 use Rattle.tree_rules.specs.Trees.{NoExprs}
 use Rattle.arena_tree.proofs.BuildLemmas.{built_none, neg_placed}

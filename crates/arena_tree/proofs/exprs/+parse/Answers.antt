@@ -1,6 +1,6 @@
-use Rattle.std.proofs.Common.{length, ap, arith, ◌+◌, ◌-◌}
-use Rattle.arena_tree.specs.Spending.{most_for, credit}
+use Rattle.std.proofs.Common.{length, ap, arith}
 use Rattle.arena_tree.proofs.SpendingLemmas.{spends_nothing, spends_then, spends_more, frees, frees_then, range_length, err_up_to}
+use Rattle.arena_tree.proofs.PartCostLemmas.{less_than, first_put, first_refused, kid_read, kid_refused, kid_negated, negation_refused, kid_put, last_put, put_refused}
 use Rattle.std.specs.Prelude.{slice_range}
 use Rattle.arena_chunks.specs.declared.block.Block.{Block}
 use Rattle.tree_rules.specs.Trees.{NoExprs, with_expr}
@@ -65,17 +65,8 @@ term-loop-kid-init g t c = record {
   );
   spends =
       let k = c.in_ok-first.ensures in
-      spends_then (k.spends) (c.in_ok-push_node.ensures.spends) (frees k.tree.placed.frame) (omega (
-        arith,
-        c.new_in-list.ensures.len,
-        k.tree.later,
-        c.in-Some.ensures.some.later,
-      )) (omega (
-        arith,
-        c.new_in-list.ensures.len,
-        k.tree.later,
-        c.in-Some.ensures.some.later,
-      )) (omega (arith, c.new_in-list.ensures.len, k.tree.later, c.in-Some.ensures.some.later));
+      first_put k.tree.later k.spends (omega (arith, c.new_in-list.ensures.len)) (frees k.tree.placed.frame) c.in-Some.ensures.some.later
+      c.in_ok-push_node.ensures.spends;
   read =
       let k = c.in_ok-first.ensures.tree in
       let old = c.args.a.now.memory in
@@ -99,20 +90,10 @@ term-loop-kid-preserved g t c = record {
   spends =
       let i = c.loop-kid.invariant in
       let k = c.in_ok-kid.ensures in
-      let read = spends_then {all = most_for (c.in_ok-kid.end - c.args.at)} {rest = 1536 + credit c.loop-kid.list} i.spends k.spends
-      (frees i.read.built.frame) (omega (arith, i.read.later, k.tree.later)) (omega (arith, i.read.later, k.tree.later)) (omega
-      (arith, i.read.later, k.tree.later)) in
-      spends_then (read) (c.in_ok-push_node-2.ensures.spends) (frees_then i.read.built.frame k.tree.placed.frame) (omega (
-        arith,
-        i.read.later,
-        k.tree.later,
-        c.in-Some-star_at.ensures.some.later,
-      )) (omega (
-        arith,
-        i.read.later,
-        k.tree.later,
-        c.in-Some-star_at.ensures.some.later,
-      )) (omega (arith, i.read.later, k.tree.later, c.in-Some-star_at.ensures.some.later));
+      let read = kid_read _ i.read.later k.tree.later i.spends k.spends (frees i.read.built.frame) in
+      let some = less_than i.read.later k.tree.later in
+      kid_put 1536 (omega arith) some read (frees_then i.read.built.frame k.tree.placed.frame)
+      c.in-Some-star_at.ensures.some.later c.in_ok-push_node-2.ensures.spends;
   read =
       let ks = c.loop-kid.invariant.read in
       let k = c.in_ok-kid.ensures.tree in
@@ -156,17 +137,8 @@ expr-loop-kid-init g t c = record {
   );
   spends =
       let k = c.in_ok-first.ensures in
-      spends_then (k.spends) (c.in_ok-push_node.ensures.spends) (frees k.tree.placed.frame) (omega (
-        arith,
-        c.new_in-list.ensures.len,
-        k.tree.later,
-        c.in-Some.ensures.some.later,
-      )) (omega (
-        arith,
-        c.new_in-list.ensures.len,
-        k.tree.later,
-        c.in-Some.ensures.some.later,
-      )) (omega (arith, c.new_in-list.ensures.len, k.tree.later, c.in-Some.ensures.some.later));
+      first_put k.tree.later k.spends (omega (arith, c.new_in-list.ensures.len)) (frees k.tree.placed.frame) c.in-Some.ensures.some.later
+      c.in_ok-push_node.ensures.spends;
   read =
       let k = c.in_ok-first.ensures.tree in
       let old = c.args.a.now.memory in
@@ -199,23 +171,12 @@ expr-loop-kid-preserved g t c = record {
   spends =
       let i = c.loop-kid.invariant in
       let k = c.in_ok-kid.ensures in
-      let read = spends_then {all = most_for (c.in_ok-kid.end - c.args.at)} {rest = 1536 + credit c.loop-kid.list} i.spends k.spends
-      (frees i.read.built.frame) (omega (arith, i.read.later, k.tree.later)) (omega (arith, i.read.later, k.tree.later)) (omega
-      (arith, i.read.later, k.tree.later)) in
+      let read = kid_read _ i.read.later k.tree.later i.spends k.spends (frees i.read.built.frame) in
+      let some = less_than i.read.later k.tree.later in
       let placed = c.in_ok-kid-2.ensures.tree (factors_tree k.tree.part) c.loop-kid.a.memory k.tree.placed in
-      let signed = spends_then {all = most_for (c.in_ok-kid.end - c.args.at)} {rest = 1177 + credit c.loop-kid.list} read
-      c.in_ok-kid-2.ensures.spends (frees_then i.read.built.frame k.tree.placed.frame) (omega arith) (omega arith) (omega arith) in
-      spends_then (signed) (c.in_ok-push_node-2.ensures.spends) (frees_then i.read.built.frame placed.frame) (omega (
-        arith,
-        i.read.later,
-        k.tree.later,
-        c.in-Some-sign_at.ensures.some.later,
-      )) (omega (
-        arith,
-        i.read.later,
-        k.tree.later,
-        c.in-Some-sign_at.ensures.some.later,
-      )) (omega (arith, i.read.later, k.tree.later, c.in-Some-sign_at.ensures.some.later));
+      let negated = kid_negated _ read c.in_ok-kid-2.ensures.spends (frees_then i.read.built.frame k.tree.placed.frame) in
+      kid_put 1177 (omega arith) some negated (frees_then i.read.built.frame placed.frame)
+      c.in-Some-sign_at.ensures.some.later c.in_ok-push_node-2.ensures.spends;
   read =
       let ks = c.loop-kid.invariant.read in
       let k = c.in_ok-kid.ensures.tree in
@@ -337,66 +298,33 @@ pub term-returns-in_err-push_node-clause-spends : goal.term-returns-in_err-push_
 term-returns-in_err-push_node-clause-spends g t c =
     let k = c.in_ok-first.ensures in
     err_up_to c.args.at (length c.args.src.now) c.from_residual-in_err-push_node.result _ c.from_residual-in_err-push_node.ensures
-    (spends_then (k.spends) (c.in_err-push_node.ensures.spends) (frees k.tree.placed.frame) (omega (
-      arith,
-      c.new_in-list.ensures.len,
-      k.tree.later,
-      k.tree.within,
-    )) (omega (arith, c.new_in-list.ensures.len, k.tree.later, k.tree.within)) (omega (
-      arith,
-      c.new_in-list.ensures.len,
-      k.tree.later,
-      k.tree.within,
-    )))
+    (first_refused k.tree.later k.spends (omega (arith, c.new_in-list.ensures.len)) (frees k.tree.placed.frame) k.tree.within
+    c.in_err-push_node.ensures.spends)
 
 pub term-returns-in_err-kid-clause-spends : goal.term-returns-in_err-kid-clause-spends
 term-returns-in_err-kid-clause-spends g t c =
     let i = c.loop-kid.invariant in
-    err_up_to c.args.at (length c.args.src.now) c.from_residual-in_err-kid.result _ c.from_residual-in_err-kid.ensures (spends_then
-    (i.spends) (c.in_err-kid.ensures.spends) (frees i.read.built.frame) (omega (arith, i.read.later, i.read.within)) (omega (
-      arith,
-      i.read.later,
-      i.read.within,
-    )) (omega (arith, i.read.later, i.read.within)))
+    err_up_to c.args.at (length c.args.src.now) c.from_residual-in_err-kid.result _ c.from_residual-in_err-kid.ensures
+    (kid_refused _ i.read.later i.read.within i.spends c.in_err-kid.ensures.spends (frees i.read.built.frame))
 
 pub term-returns-in_err-push_node-2-clause-spends : goal.term-returns-in_err-push_node-2-clause-spends
 term-returns-in_err-push_node-2-clause-spends g t c =
     let i = c.loop-kid.invariant in
     let k = c.in_ok-kid.ensures in
-    let read = spends_then {all = most_for (c.in_ok-kid.end - c.args.at)} {rest = 1536 + credit c.loop-kid.list} i.spends k.spends (frees
-    i.read.built.frame) (omega (arith, i.read.later, k.tree.later)) (omega (arith, i.read.later, k.tree.later)) (omega (
-      arith,
-      i.read.later,
-      k.tree.later,
-    )) in
+    let read = kid_read _ i.read.later k.tree.later i.spends k.spends (frees i.read.built.frame) in
+    let some = less_than i.read.later k.tree.later in
     err_up_to c.args.at (length c.args.src.now) c.from_residual-in_err-push_node-2.result _ c.from_residual-in_err-push_node-2.ensures
-    (spends_then (read) (c.in_err-push_node-2.ensures.spends) (frees_then i.read.built.frame k.tree.placed.frame) (omega (
-      arith,
-      i.read.later,
-      k.tree.later,
-      k.tree.within,
-    )) (omega (arith, i.read.later, k.tree.later, k.tree.within)) (omega (
-      arith,
-      i.read.later,
-      k.tree.later,
-      k.tree.within,
-    )))
+    (put_refused 1536 (omega arith) some read (frees_then i.read.built.frame k.tree.placed.frame) k.tree.within
+    c.in_err-push_node-2.ensures.spends)
 
 pub term-returns-in-None-clause-spends : goal.term-returns-in-None-clause-spends
 term-returns-in-None-clause-spends g t c =
     let i = c.loop-kid.invariant in
     let k = c.in_ok-kid.ensures in
-    let read = spends_then {all = most_for (c.in_ok-kid.end - c.args.at)} {rest = 1536 + credit c.loop-kid.list} i.spends k.spends (frees
-    i.read.built.frame) (omega (arith, i.read.later, k.tree.later)) (omega (arith, i.read.later, k.tree.later)) (omega (
-      arith,
-      i.read.later,
-      k.tree.later,
-    )) in
-    spends_then (read) (c.in_ok-push_node-2.ensures.spends) (frees_then i.read.built.frame k.tree.placed.frame) (omega (
-      arith,
-      i.read.later,
-      k.tree.later,
-    )) (omega (arith, i.read.later, k.tree.later)) (omega (arith, i.read.later, k.tree.later))
+    let read = kid_read _ i.read.later k.tree.later i.spends k.spends (frees i.read.built.frame) in
+    let some = less_than i.read.later k.tree.later in
+    last_put 1536 (omega arith) some read (frees_then i.read.built.frame k.tree.placed.frame)
+    c.in_ok-push_node-2.ensures.spends
 
 pub term-push_node-requires-in-loop-kid-clause-few : goal.term-push_node-requires-in-loop-kid-clause-few
 term-push_node-requires-in-loop-kid-clause-few g t c =
@@ -410,95 +338,46 @@ pub expr-returns-in_err-push_node-clause-spends : goal.expr-returns-in_err-push_
 expr-returns-in_err-push_node-clause-spends g t c =
     let k = c.in_ok-first.ensures in
     err_up_to c.args.at (length c.args.src.now) c.from_residual-in_err-push_node.result _ c.from_residual-in_err-push_node.ensures
-    (spends_then (k.spends) (c.in_err-push_node.ensures.spends) (frees k.tree.placed.frame) (omega (
-      arith,
-      c.new_in-list.ensures.len,
-      k.tree.later,
-      k.tree.within,
-    )) (omega (arith, c.new_in-list.ensures.len, k.tree.later, k.tree.within)) (omega (
-      arith,
-      c.new_in-list.ensures.len,
-      k.tree.later,
-      k.tree.within,
-    )))
+    (first_refused k.tree.later k.spends (omega (arith, c.new_in-list.ensures.len)) (frees k.tree.placed.frame) k.tree.within
+    c.in_err-push_node.ensures.spends)
 
 pub expr-returns-in_err-kid-clause-spends : goal.expr-returns-in_err-kid-clause-spends
 expr-returns-in_err-kid-clause-spends g t c =
     let i = c.loop-kid.invariant in
-    err_up_to c.args.at (length c.args.src.now) c.from_residual-in_err-kid.result _ c.from_residual-in_err-kid.ensures (spends_then
-    (i.spends) (c.in_err-kid.ensures.spends) (frees i.read.built.frame) (omega (arith, i.read.later, i.read.within)) (omega (
-      arith,
-      i.read.later,
-      i.read.within,
-    )) (omega (arith, i.read.later, i.read.within)))
+    err_up_to c.args.at (length c.args.src.now) c.from_residual-in_err-kid.result _ c.from_residual-in_err-kid.ensures
+    (kid_refused _ i.read.later i.read.within i.spends c.in_err-kid.ensures.spends (frees i.read.built.frame))
 
 pub expr-returns-in_err-kid-2-clause-spends : goal.expr-returns-in_err-kid-2-clause-spends
 expr-returns-in_err-kid-2-clause-spends g t c =
     let i = c.loop-kid.invariant in
     let k = c.in_ok-kid.ensures in
-    let read = spends_then {all = most_for (c.in_ok-kid.end - c.args.at)} {rest = 1536 + credit c.loop-kid.list} i.spends k.spends (frees
-    i.read.built.frame) (omega (arith, i.read.later, k.tree.later)) (omega (arith, i.read.later, k.tree.later)) (omega (
-      arith,
-      i.read.later,
-      k.tree.later,
-    )) in
-    err_up_to c.args.at (length c.args.src.now) c.from_residual-in_err-kid-2.result _ c.from_residual-in_err-kid-2.ensures (spends_then
-    (read) (c.in_err-kid-2.ensures.spends) (frees_then i.read.built.frame k.tree.placed.frame) (omega (
-      arith,
-      i.read.later,
-      k.tree.later,
-      k.tree.within,
-    )) (omega (arith, i.read.later, k.tree.later, k.tree.within)) (omega (
-      arith,
-      i.read.later,
-      k.tree.later,
-      k.tree.within,
-    )))
+    let read = kid_read _ i.read.later k.tree.later i.spends k.spends (frees i.read.built.frame) in
+    err_up_to c.args.at (length c.args.src.now) c.from_residual-in_err-kid-2.result _ c.from_residual-in_err-kid-2.ensures
+    (negation_refused _ (less_than i.read.later k.tree.later) read (frees_then i.read.built.frame k.tree.placed.frame) k.tree.within
+    c.in_err-kid-2.ensures.spends)
 
 pub expr-returns-in_err-push_node-2-clause-spends : goal.expr-returns-in_err-push_node-2-clause-spends
 expr-returns-in_err-push_node-2-clause-spends g t c =
     let i = c.loop-kid.invariant in
     let k = c.in_ok-kid.ensures in
-    let read = spends_then {all = most_for (c.in_ok-kid.end - c.args.at)} {rest = 1536 + credit c.loop-kid.list} i.spends k.spends (frees
-    i.read.built.frame) (omega (arith, i.read.later, k.tree.later)) (omega (arith, i.read.later, k.tree.later)) (omega (
-      arith,
-      i.read.later,
-      k.tree.later,
-    )) in
+    let read = kid_read _ i.read.later k.tree.later i.spends k.spends (frees i.read.built.frame) in
+    let some = less_than i.read.later k.tree.later in
     let placed = c.in_ok-kid-2.ensures.tree (factors_tree k.tree.part) c.loop-kid.a.memory k.tree.placed in
-    let signed = spends_then {all = most_for (c.in_ok-kid.end - c.args.at)} {rest = 1177 + credit c.loop-kid.list} read
-    c.in_ok-kid-2.ensures.spends (frees_then i.read.built.frame k.tree.placed.frame) (omega arith) (omega arith) (omega arith) in
+    let negated = kid_negated _ read c.in_ok-kid-2.ensures.spends (frees_then i.read.built.frame k.tree.placed.frame) in
     err_up_to c.args.at (length c.args.src.now) c.from_residual-in_err-push_node-2.result _ c.from_residual-in_err-push_node-2.ensures
-    (spends_then (signed) (c.in_err-push_node-2.ensures.spends) (frees_then i.read.built.frame placed.frame) (omega (
-      arith,
-      i.read.later,
-      k.tree.later,
-      k.tree.within,
-    )) (omega (arith, i.read.later, k.tree.later, k.tree.within)) (omega (
-      arith,
-      i.read.later,
-      k.tree.later,
-      k.tree.within,
-    )))
+    (put_refused 1177 (omega arith) some negated (frees_then i.read.built.frame placed.frame) k.tree.within
+    c.in_err-push_node-2.ensures.spends)
 
 pub expr-returns-in-None-clause-spends : goal.expr-returns-in-None-clause-spends
 expr-returns-in-None-clause-spends g t c =
     let i = c.loop-kid.invariant in
     let k = c.in_ok-kid.ensures in
-    let read = spends_then {all = most_for (c.in_ok-kid.end - c.args.at)} {rest = 1536 + credit c.loop-kid.list} i.spends k.spends (frees
-    i.read.built.frame) (omega (arith, i.read.later, k.tree.later)) (omega (arith, i.read.later, k.tree.later)) (omega (
-      arith,
-      i.read.later,
-      k.tree.later,
-    )) in
+    let read = kid_read _ i.read.later k.tree.later i.spends k.spends (frees i.read.built.frame) in
+    let some = less_than i.read.later k.tree.later in
     let placed = c.in_ok-kid-2.ensures.tree (factors_tree k.tree.part) c.loop-kid.a.memory k.tree.placed in
-    let signed = spends_then {all = most_for (c.in_ok-kid.end - c.args.at)} {rest = 1177 + credit c.loop-kid.list} read
-    c.in_ok-kid-2.ensures.spends (frees_then i.read.built.frame k.tree.placed.frame) (omega arith) (omega arith) (omega arith) in
-    spends_then (signed) (c.in_ok-push_node-2.ensures.spends) (frees_then i.read.built.frame placed.frame) (omega (
-      arith,
-      i.read.later,
-      k.tree.later,
-    )) (omega (arith, i.read.later, k.tree.later)) (omega (arith, i.read.later, k.tree.later))
+    let negated = kid_negated _ read c.in_ok-kid-2.ensures.spends (frees_then i.read.built.frame k.tree.placed.frame) in
+    last_put 1177 (omega arith) some negated (frees_then i.read.built.frame placed.frame)
+    c.in_ok-push_node-2.ensures.spends
 
 pub expr-push_node-requires-in-loop-kid-clause-few : goal.expr-push_node-requires-in-loop-kid-clause-few
 expr-push_node-requires-in-loop-kid-clause-few g t c =

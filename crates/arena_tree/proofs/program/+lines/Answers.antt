@@ -1,6 +1,6 @@
 use Rattle.std.proofs.Common.{length, ap, arith, ◌+◌, ◌-◌}
 use Rattle.arena_tree.specs.Spending.{most_for, credit}
-use Rattle.arena_tree.proofs.SpendingLemmas.{spends_nothing, spends_then, spends_more, frees, frees_then, err_up_to, err_all, err_or_not}
+use Rattle.arena_tree.proofs.SpendingLemmas.{spends_nothing, spends_then, spends_more, frees, frees_then, err_all, err_or_not}
 use Rattle.arena_chunks.specs.declared.block.Block.{Block}
 use Rattle.tree_rules.specs.Grammar.{line_tree, trees_of}
 use Rattle.arena_tree.proofs.LinesLemmas.{lines_none, block_placed}

@@ -1,6 +1,6 @@
 use Rattle.std.proofs.Common.{length, arith, ◌-◌}
 use Rattle.arena_tree.specs.Spending.{most_for}
-use Rattle.arena_tree.proofs.SpendingLemmas.{spends_nothing, spends_then, spends_more, frees, frees_then, range_length, err_up_to, err_all, err_or_not}
+use Rattle.arena_tree.proofs.SpendingLemmas.{spends_then, spends_more, frees, frees_then, range_length, err_up_to}
 use Rattle.std.specs.Prelude.{slice_range}
 use Rattle.tree_rules.specs.Grammar.{terms_tree}
 use Rattle.arena_tree.proofs.LinesLemmas.{let_node_placed}

@@ -1,6 +1,5 @@
-use Rattle.std.proofs.Common.{length, arith, ◌-◌}
-use Rattle.arena_tree.specs.Spending.{most_for}
-use Rattle.arena_tree.proofs.SpendingLemmas.{spends_nothing, spends_then, spends_more, frees, frees_then, range_length, err_up_to, err_all, err_or_not}
+use Rattle.std.proofs.Common.{length, arith}
+use Rattle.arena_tree.proofs.SpendingLemmas.{spends_then, frees, err_up_to}
 use Rattle.tree_rules.specs.Grammar.{terms_tree}
 use Rattle.arena_tree.proofs.LinesLemmas.{show_placed}
 use Rattle.arena_tree.proofs.StatementLemmas.{must_end, show_line}

@@ -4,10 +4,12 @@ use Rattle.placement.specs.Rounding.{up}
 use Rattle.arena_items.specs.Layout.{pair_size, second_at, option_size}
 use Rattle.arena_symbols.proofs.PayLemmas.{Paid}
 use Rattle.arena_symbols.proofs.PutPairLemmas.{put_pair, not_put, unlisted, listed}
+use Rattle.arena_symbols.proofs.TableLemmas.{entry_small}
 use Rattle.arena_symbols.proofs.scopes.Scopes.put.Goals as goal
 
 pub insert-requires-clause-held : goal.insert-requires-clause-held
-insert-requires-clause-held g c = (listed _ c.args.a.now c.push.new.a c.args.self.now c.push.new.self c.requires.held c.in_ok-push.ensures.frame).ids.held
+insert-requires-clause-held g c = (listed _ c.args.a.now c.push.new.a c.args.self.now c.push.new.self c.requires.held
+    c.in_ok-push.ensures.frame).ids.held
 
 pub returns-in_err-push : goal.returns-in_err-push
 unfolding up pair_size second_at option_size
@@ -43,4 +45,8 @@ returns-in-Err g c =
     c.truncate.new.self c.in-Err.e
     (c.insert_law.ensures.map c.push.new.a c.insert.new.a c.args.self.now.newest c.insert.new.self c.args.id c.len-n.result _
     (c.in_ok-push.ensures.frame.min_align ∙ c.min_align.ensures.state) (omega arith) (omega arith) list.ids.held
-    c.in-Err.ensures) (c.vector_costs.ensures.keeps _ _ _ _ _ _ _ c.in_ok-push.ensures) (rw c.len-n.ensures at c.in-Err.ensures) cut.held cut.list_is cut.block cut.cap cut.len
+    c.in-Err.ensures) (c.vector_costs.ensures.keeps _ _ _ _ _ _ _ c.in_ok-push.ensures)
+    (rw c.len-n.ensures at c.in-Err.ensures) cut.held cut.list_is cut.block cut.cap cut.len
+
+pub push-requires-clause-small : goal.push-requires-clause-small
+push-requires-clause-small g c = entry_small

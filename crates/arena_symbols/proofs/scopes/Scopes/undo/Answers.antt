@@ -1,6 +1,7 @@
 use Rattle.std.proofs.Common.{◌-◌, ap, arith}
 use Rattle.arena_symbols.specs.declared.scopes.Scopes.{Scopes}
 use Rattle.arena_symbols.proofs.UndoLemmas.{is_there, undone}
+use Rattle.arena_symbols.proofs.TableLemmas.{entry_small}
 use Rattle.arena_symbols.proofs.scopes.Scopes.undo.Goals as goal
 
 pub unhide-requires-clause-there : goal.unhide-requires-clause-there
@@ -19,3 +20,6 @@ returns g c =
     c.get-entry.ensures c.known.ensures.0 c.unhide.new.a c.unhide.new.self.newest c.truncate.new.self c.requires.inner
     c.unhide.ensures.unhides
     (λ vec. cut.becomes c.unhide.new.a vec))
+
+pub get-entry-requires-clause-small : goal.get-entry-requires-clause-small
+get-entry-requires-clause-small g c = entry_small

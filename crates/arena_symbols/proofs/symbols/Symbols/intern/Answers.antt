@@ -20,32 +20,21 @@ returns-in_err-placed g c =
     rw (p.1, p.2) (interns_unplaced c.args.a.now c.args.self.now c.args.text.now c.requires.held (sym c.find.ensures ∙ c.in_default.is) few
     c.min_align.ensures.state c.requires.length c.place_text.new.a c.in_err-placed.field-0.0 c.in_err-placed.ensures.placed)
 
-pub append-requires-clause-held : goal.append-requires-clause-held
-append-requires-clause-held g c =
+pub append-requires : goal.append-requires
+append-requires g c =
     let few : c.args.self.now.texts.raw.len < most_texts = omega (arith, c.len.ensures, c.if-len-ge-MOST_TEXTS.false) in
-    (stays c.args.a.now c.args.self.now c.args.text.now c.requires.held (sym c.find.ensures ∙ c.in_default.is) few
-    c.min_align.ensures.state c.requires.length c.place_text.new.a c.in_ok-placed.placed c.in_ok-placed.ensures.placed
-    c.in_ok-placed.ensures.text).held
-
-pub append-requires-clause-text : goal.append-requires-clause-text
-append-requires-clause-text g c = c.in_ok-placed.ensures.placed.1.outcome.of_layout.readable
-
-pub append-requires-clause-apart : goal.append-requires-clause-apart
-append-requires-clause-apart g c =
-    let few : c.args.self.now.texts.raw.len < most_texts = omega (arith, c.len.ensures, c.if-len-ge-MOST_TEXTS.false) in
-    (fresh c.args.a.now c.args.self.now c.args.text.now c.requires.held (sym c.find.ensures ∙ c.in_default.is) few
-    c.min_align.ensures.state c.requires.length c.place_text.new.a c.in_ok-placed.placed c.in_ok-placed.ensures.placed
-    c.in_ok-placed.ensures.text).apart
-
-pub append-requires-clause-new : goal.append-requires-clause-new
-append-requires-clause-new g c =
-    let few : c.args.self.now.texts.raw.len < most_texts = omega (arith, c.len.ensures, c.if-len-ge-MOST_TEXTS.false) in
-    (fresh c.args.a.now c.args.self.now c.args.text.now c.requires.held (sym c.find.ensures ∙ c.in_default.is) few
-    c.min_align.ensures.state c.requires.length c.place_text.new.a c.in_ok-placed.placed c.in_ok-placed.ensures.placed
-    c.in_ok-placed.ensures.text).new
-
-pub append-requires-clause-few : goal.append-requires-clause-few
-append-requires-clause-few g c = omega (arith, c.len.ensures, c.if-len-ge-MOST_TEXTS.false)
+    let none = sym c.find.ensures ∙ c.in_default.is in
+    let placed = c.in_ok-placed.ensures in
+    let text = fresh c.args.a.now c.args.self.now c.args.text.now c.requires.held none few c.min_align.ensures.state c.requires.length
+    c.place_text.new.a c.in_ok-placed.placed placed.placed placed.text in
+    record {
+      held = (stays c.args.a.now c.args.self.now c.args.text.now c.requires.held none few c.min_align.ensures.state c.requires.length
+          c.place_text.new.a c.in_ok-placed.placed placed.placed placed.text).held;
+      text = text.readable;
+      apart = text.apart;
+      new = text.new;
+      few = few;
+    }
 
 pub returns : goal.returns
 returns g c =

@@ -1,6 +1,5 @@
-use Rattle.std.proofs.Common.{sym, ◌∙◌, arith, length, subst, Err, Ok}
-use Rattle.tree_rules.specs.Refusals.{IsReading}
-use Rattle.arena_tree.specs.Parsing.{Parses}
+use Rattle.std.proofs.Common.{sym, ◌∙◌, arith, length, subst, Err}
+use Rattle.arena_tree.specs.Parsing.{Parses, parse_bytes}
 use Rattle.arena_tree.proofs.GivenLemmas.{built_given}
 use Rattle.arena_tree.proofs.LineLemmas.{all_read}
 use Rattle.arena_tree.proofs.SpendingLemmas.{spends_nothing}
@@ -13,7 +12,7 @@ returns-in-Some-clause-parses g c = subst (λ e. Parses c.args.src.now c.args.a.
 
 pub returns-in-Some-clause-bytes : goal.returns-in-Some-clause-bytes
 returns-in-Some-clause-bytes g c =
-    spends_takes (length c.args.src.now) (spends_nothing 0 0 0 c.args.a.now (omega arith)) (omega arith)
+    spends_takes (parse_bytes (length c.args.src.now)) (spends_nothing 0 0 0 c.args.a.now (omega arith)) (omega arith)
 
 pub returns-in-Ok-clause-parses : goal.returns-in-Ok-clause-parses
 returns-in-Ok-clause-parses g c =
@@ -35,16 +34,18 @@ returns-in-Ok-clause-tree g c =
     read.2
 
 pub returns-in-Ok-clause-bytes : goal.returns-in-Ok-clause-bytes
-returns-in-Ok-clause-bytes g c = spends_takes (length c.args.src.now) c.in-Ok.ensures.spends (omega (arith, c.in-Ok.ensures.trees.0.within))
+returns-in-Ok-clause-bytes g c =
+    spends_takes (parse_bytes (length c.args.src.now)) c.in-Ok.ensures.spends (omega (arith, c.in-Ok.ensures.trees.0.within))
 
 pub returns-in-Err-AllocErr-clause-parses : goal.returns-in-Err-AllocErr-clause-parses
 returns-in-Err-AllocErr-clause-parses g c =
-    short c.args.src.now c.in-Err-AllocErr.refused (rw c.in-Err-AllocErr.field-0-is at c.in-Err-AllocErr.ensures.spends) (omega arith)
-    (rw c.in_default.is at c.refusal.ensures.read)
+    let why = short (parse_bytes (length c.args.src.now)) c.in-Err-AllocErr.refused
+    (rw c.in-Err-AllocErr.field-0-is at c.in-Err-AllocErr.ensures.spends) (omega arith) in
+    (rw c.in_default.is at c.refusal.ensures.read, why.0, why.1)
 
 pub returns-in-Err-AllocErr-clause-bytes : goal.returns-in-Err-AllocErr-clause-bytes
 returns-in-Err-AllocErr-clause-bytes g c =
-    spends_takes (length c.args.src.now) (rw c.in-Err-AllocErr.field-0-is at c.in-Err-AllocErr.ensures.spends) (omega arith)
+    spends_takes (parse_bytes (length c.args.src.now)) (rw c.in-Err-AllocErr.field-0-is at c.in-Err-AllocErr.ensures.spends) (omega arith)
 
 pub returns-in-Err-OutOfMemory-clause-parses : goal.returns-in-Err-OutOfMemory-clause-parses
 returns-in-Err-OutOfMemory-clause-parses g c =
@@ -53,7 +54,7 @@ returns-in-Err-OutOfMemory-clause-parses g c =
 
 pub returns-in-Err-OutOfMemory-clause-bytes : goal.returns-in-Err-OutOfMemory-clause-bytes
 returns-in-Err-OutOfMemory-clause-bytes g c =
-    spends_takes (length c.args.src.now) (rw c.in-Err-OutOfMemory.field-0-is at c.in-Err-OutOfMemory.ensures.spends) (omega arith)
+    spends_takes (parse_bytes (length c.args.src.now)) (rw c.in-Err-OutOfMemory.field-0-is at c.in-Err-OutOfMemory.ensures.spends) (omega arith)
 
 pub unreachable-requires : goal.unreachable-requires
 unreachable-requires g c =

@@ -1,0 +1,53 @@
+#!/bin/bash
+# Measures `arena_run lint`, beside the driver over the Rust crate whose program is in NATIVE, if set, as in
+#     NATIVE=/tmp/native-out/target/release/native bench/lint.sh [SEED] [BYTES..]
+# For each size (16,000,000 if none is given), and each number of workers in WORKERS ("1 4" if not set), it prints the least wall time
+# of ROUNDS runs (5 if not set) by turns, with the start of the process, and the peak memory. Both programs must print the same text.
+# The input has sources of 700 lines: seeded definitions and uses of 400 names, in blocks one in another. It is cut after so many bytes.
+set -euo pipefail
+here=$(dirname "$(readlink -f "$0")")
+. "$here/measure.sh"
+seed=${1:-1}
+[ $# -eq 0 ] || shift
+[ $# -gt 0 ] || set -- 16000000
+
+# sources BYTES: prints sources, at least so many bytes.
+sources() {
+    awk -v x="$seed" -v bytes="$1" '
+        function draw(n) { x = (x * 16807) % 2147483647; return int(x / 7) % n }
+        function name() { return "v" draw(400) }
+        function factor(d,  k) {
+            k = draw(10)
+            if (d > 4 || k < 5) return draw(3) ? name() : draw(100000) ""
+            return k < 6 ? "-" factor(d + 1) : "(" expr(d + 1) ")"
+        }
+        function term(d,  t) { t = factor(d); while (draw(3) == 0) t = t " * " factor(d + 1); return t }
+        function expr(d,  t) { t = term(d); while (draw(5) < 2) t = t (draw(2) ? " + " : " - ") term(d + 1); return t }
+        function put(line) { print line; printed += length(line) + 1 }
+        BEGIN {
+            while (printed < bytes) {
+                if (printed) put("%%")
+                depth = 0
+                for (i = 0; i < 700; i++) {
+                    k = draw(12)
+                    if (k < 6) put("let " name() " = " expr(0) ";")
+                    else if (k < 10) put(expr(0) ";")
+                    else if (k == 10 && depth < 20) { put("{"); depth++ }
+                    else if (depth > 0) { put("}"); depth-- }
+                }
+                while (depth > 0) { put("}"); depth-- }
+            }
+        }'
+}
+
+read -ra numbers <<< "${WORKERS:-1 4}"
+for bytes; do
+    [ "$bytes" -le 16777216 ] || { echo "$bytes bytes are past the limit" >&2; exit 1; }
+    sources "$bytes" > "$folder/sources"
+    head -c "$bytes" "$folder/sources" > "$input"
+    for workers in "${numbers[@]}"; do
+        echo "workers: $workers"
+        head_of byte
+        measure "$bytes" lint "$workers"
+    done
+done

@@ -1,0 +1,12 @@
+pub mod KnowLemmas
+pub mod NameLemmas
+pub mod OneLemmas
+pub mod DefineLemmas
+pub mod KnownLemmas
+pub mod SpendingLemmas
+pub mod TakingLemmas
+pub mod StatementLemmas
+pub mod WalkLemmas
+pub mod WeightLemmas
+pub mod LintLemmas
+pub mod AllLemmas

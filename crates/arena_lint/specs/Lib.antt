@@ -1,0 +1,7 @@
+pub mod Knowing
+pub mod Weights
+pub mod Rooms
+pub mod Spending
+pub mod Steps
+pub mod Linting
+pub mod All

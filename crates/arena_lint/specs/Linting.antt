@@ -1,0 +1,48 @@
+-- What the report of a text is, and what it takes.
+use Rattle.std.specs.Prelude.{◌≡◌, ℕ, ◌+◌, ◌*◌, ◌≤◌, Bool, true, false, List, length, IfNone}
+use Rattle.arena_chunks.specs.Source.{View}
+use Rattle.arena_chunks.specs.Asking.{AsksWithin, IsFull}
+use Rattle.arena_items.specs.Costs.{used}
+use Rattle.arena_items.specs.declared.room.AllocError.{AllocError}
+use Rattle.arena_items.specs.declared.room.AllocError.TheVariants as alloc
+use Rattle.script_rules.specs.Starved.{IsStarvedWithin}
+use Rattle.arena_tree.specs.Parsing.{IsProgram}
+use Rattle.arena_tree.specs.Spending.{KeepsKind}
+use Rattle.arena_tree.specs.declared.tree.TreeErr.{TreeErr}
+use Rattle.arena_tree.specs.declared.tree.TreeErr.TheVariants as tree
+use Rattle.lint_reports.specs.Reports.{Reports, said}
+use Rattle.lint_reports.specs.declared.report.FileReport.{FileReport}
+use Rattle.lint_reports.specs.declared.report.FileReport.TheVariants.{Syntax, TooDeep, NumberTooBig, Full, Refused, OutOfMemory}
+
+-- the bytes of the arena that the report of a text takes at most
+abbrev pub lint_bytes : ℕ → ℕ
+lint_bytes length = 4096 * (length + 1)
+
+-- A text has its own report, on an arena of which nothing was used. Only a program is not read to its end: where the arena doesn't grow
+-- and has fewer bytes than that may take, where it grows and was starved, or where memory is wanting.
+pub record Lints (bytes : List ℕ) (old new : View) (report : FileReport) : Type 0 where
+  pub reports : Reports bytes report
+  pub stopped : IfNone (said report) (IsProgram bytes)
+  pub most : used new ≤ lint_bytes (length bytes)
+  pub asks : AsksWithin (used old + lint_bytes (length bytes)) old new
+  pub full : report ≡ Full → IsFull (lint_bytes (length bytes)) old
+  pub refused : report ≡ Refused
+      → IsStarvedWithin (lint_bytes (length bytes)) old.memory.state new.memory.state old.source new.source
+  pub kind : KeepsKind old.memory new.memory
+
+-- what is said where a block had no place, by whether the arena grows, and where memory is wanting
+abbrev pub no_place : Bool → FileReport
+no_place true = Refused
+no_place false = Full
+
+abbrev pub stopped_by : Bool → AllocError → FileReport
+stopped_by growing (alloc.AllocErr refused) = no_place growing
+stopped_by growing alloc.CapacityOverflow = OutOfMemory
+stopped_by growing alloc.OutOfMemory = OutOfMemory
+
+abbrev pub unparsed_by : Bool → TreeErr → FileReport
+unparsed_by growing (tree.Syntax at) = Syntax at
+unparsed_by growing (tree.TooDeep at) = TooDeep at
+unparsed_by growing (tree.NumberTooBig at) = NumberTooBig at
+unparsed_by growing (tree.AllocErr refused) = no_place growing
+unparsed_by growing tree.OutOfMemory = OutOfMemory

@@ -1,0 +1,14 @@
+//! A linter of small programs, over trees and names in a lent arena.
+#![tactic(auto)]
+
+mod all;
+mod lint;
+mod names;
+mod two;
+mod walk;
+
+pub use all::{LintErr, Linted, lint_all};
+pub use arena_workers::{Gate, NoGate, Starved};
+pub use lint::lint_one;
+pub use lint_reports::{FileReport, FindKind, Finding, Findings};
+pub use two::lint_two;

@@ -1,0 +1,101 @@
+// The report of one text.
+ghost use Rattle.std.specs.Prelude.{◌≡◌, ◌^◌, ◌≤◌, length, IfOk};
+ghost use Rattle.arena_items.specs.Costs.{used};
+ghost use Rattle.arena_tree.specs.Given.{Means};
+ghost use Rattle.arena_tree.specs.Spending.{error_of};
+ghost use Rattle.tree_rules.specs.Report.{findings_of};
+ghost use Rattle.tree_rules.specs.Trees.{Stmts};
+ghost use Rattle.arena_lint.specs.Knowing.{IsNothing};
+ghost use Rattle.arena_lint.specs.Linting.{Lints, no_place, stopped_by, unparsed_by};
+ghost use Rattle.arena_lint.specs.Rooms.{IsLight};
+ghost use Rattle.arena_lint.specs.Spending.{Spends};
+ghost use Rattle.arena_lint.specs.Weights.{weights, walk_bytes};
+
+use crate::names::Known;
+use crate::walk::walk;
+use arena_chunks::{Allocator, ChunkSource};
+use arena_items::{AllocError, Grown};
+use arena_symbols::{Scopes, Symbols};
+use arena_tree::{Tree, TreeErr};
+use lint_reports::{FileReport, Findings};
+use std::alloc::Global;
+
+// A block had no place.
+fn no_place<C: ChunkSource>(a: &Allocator<C>) -> FileReport
+    ensures { result ≡ no_place a.now.memory.state.is_growing }
+{
+    if a.is_growing() {
+        FileReport::Refused
+    } else {
+        FileReport::Full
+    }
+}
+
+// A walk was stopped. It never passes what may have numbers.
+fn stopped<C: ChunkSource>(a: &Allocator<C>, why: AllocError) -> FileReport
+    ensures { result ≡ stopped_by a.now.memory.state.is_growing why }
+{
+    match why {
+        AllocError::AllocErr { .. } => no_place(a),
+        AllocError::CapacityOverflow | AllocError::OutOfMemory => FileReport::OutOfMemory,
+    }
+}
+
+// A text has no tree.
+fn unparsed<C: ChunkSource>(a: &Allocator<C>, why: TreeErr) -> FileReport
+    ensures { result ≡ unparsed_by a.now.memory.state.is_growing why }
+{
+    match why {
+        TreeErr::Syntax { at } => FileReport::Syntax { at },
+        TreeErr::TooDeep { at } => FileReport::TooDeep { at },
+        TreeErr::NumberTooBig { at } => FileReport::NumberTooBig { at },
+        TreeErr::AllocErr { .. } => no_place(a),
+        TreeErr::OutOfMemory => FileReport::OutOfMemory,
+    }
+}
+
+// No names, in one scope.
+fn nothing() -> Known
+    ensures { IsNothing result }
+{
+    Known {
+        names: Symbols::new_in(),
+        scopes: Scopes::new_in(),
+    }
+}
+
+// The findings in a tree.
+fn findings<C: ChunkSource>(alloc: Global, a: &mut Allocator<C>, tree: Tree) -> Grown<Findings>
+    requires { IsLight a.old.memory tree }
+    ensures found { (trees : Stmts) → Means a.old.memory tree trees → IfOk result (λ found. found ≡ findings_of trees) }
+    ensures spends { (trees : Stmts) → Means a.old.memory tree trees
+        → Spends (walk_bytes (weights trees)) 0 0 a.old a.new (error_of result) }
+{
+    let room = a.used_bytes();
+    let mut known = nothing();
+    let mut found = Findings::new(alloc);
+    walk(alloc, a, &mut known, tree.stmts, room, &mut found)?;
+    Ok(found)
+}
+
+/// What is found in a text of at most 16,777,216 bytes. Its tree, its names and their scopes are placed in the arena, of which
+/// nothing is used yet; they take at most 4096 bytes for each byte of the text, and 4096 more.
+///
+/// # Errors
+///
+/// `Syntax`, `TooDeep` or `NumberTooBig` at the first token for which the text is no program. A program is `Full` where the
+/// arena doesn't grow and has fewer bytes than those, `Refused` where it grows and was starved, and `OutOfMemory` where
+/// memory is wanting.
+pub fn lint_one<C: ChunkSource>(alloc: Global, a: &mut Allocator<C>, src: &[u8]) -> FileReport
+    requires unused { used a.old ≡ 0 }
+    requires small { length src.now ≤ 2 ^ 24 }
+    ensures { Lints src.now a.old a.new result }
+{
+    match Tree::parse(a, src) {
+        Ok(tree) => match findings(alloc, a, tree) {
+            Ok(found) => FileReport::Checked(found),
+            Err(why) => stopped(a, why),
+        },
+        Err(why) => unparsed(a, why),
+    }
+}

@@ -1,0 +1,38 @@
+// A caller of the linter.
+ghost use Rattle.std.specs.Prelude.{◌≡◌, ◌≢◌, ◌^◌, ◌≤◌, length, false};
+ghost use Rattle.placement.specs.State.{allocated_bytes};
+ghost use Rattle.arena_items.specs.Costs.{used};
+ghost use Rattle.lint_reports.specs.Reports.{Reports};
+ghost use Rattle.arena_lint.specs.Linting.{lint_bytes};
+
+use crate::lint::lint_one;
+use arena_chunks::laws::used_by_giving_back;
+use arena_chunks::{Allocator, ChunkSource};
+use lint_reports::FileReport;
+use std::alloc::Global;
+
+/// Lints two texts one after another on an arena that doesn't grow, with a reset between them. Each has its own report, whatever
+/// the other defines; and whatever the first took, the second has all bytes of the arena.
+pub fn lint_two<C: ChunkSource>(
+    alloc: Global,
+    a: &mut Allocator<C>,
+    first: &[u8],
+    second: &[u8],
+) -> (FileReport, FileReport)
+    requires unused { used a.old ≡ 0 }
+    requires still { a.old.memory.state.is_growing ≡ false }
+    requires small { length first.now ≤ 2 ^ 24 }
+    requires small_too { length second.now ≤ 2 ^ 24 }
+    ensures first { Reports first.now result.0 }
+    ensures second { Reports second.now result.1 }
+    ensures full { lint_bytes (length second.now) ≤ allocated_bytes a.old.memory.state → result.1 ≢ FileReport.Full }
+    ensures never { result.1 ≢ FileReport.Refused }
+{
+    used_by_giving_back();
+    let one = lint_one(alloc, a, first);
+    // So the arena is known to be valid, and a reset keeps its bytes.
+    let _ = a.min_align();
+    a.reset();
+    let two = lint_one(alloc, a, second);
+    (one, two)
+}

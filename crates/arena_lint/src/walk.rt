@@ -1,0 +1,259 @@
+// Statements, one after another.
+ghost use Rattle.std.specs.Prelude.{◌≡◌, ◌≢◌, ◌+◌, ◌-◌, ◌^◌, ◌<◌, ◌≤◌, ◌∷◌, ◌++◌, length, List, Some, None, Ok, IfOk, OnOk, slice_get, if◌then◌else◌};
+ghost use Rattle.std.specs.Str.{IsUtf8};
+ghost use Rattle.arena_items.specs.Values.{IsTextIn, text_bytes};
+ghost use Rattle.arena_vec.specs.Vecs.{IsVecIn, vec_list};
+ghost use Rattle.arena_tree.specs.TreesAt.{node_item};
+ghost use Rattle.arena_tree.specs.Spending.{error_of};
+ghost use Rattle.arena_tree.specs.StmtsAt.{StmtAt, StmtsAt};
+ghost use Rattle.tree_rules.specs.Report.{Names, undefined, defined, walk_stmt, walk};
+ghost use Rattle.tree_rules.specs.Trees.{Stmt, Stmts};
+ghost use Rattle.arena_lint.specs.Knowing.{IsKnownIn, Knows, Defines, known_blocks, found_of};
+ghost use Rattle.arena_lint.specs.Rooms.{HaveExprs, AreNamed, HasStmt, HaveStmts, stmt_names};
+ghost use Rattle.arena_lint.specs.Spending.{Takes, IsWanting};
+ghost use Rattle.arena_lint.specs.Weights.{weight, weights};
+ghost use Rattle.arena_lint.specs.Steps.{Moves, Finds, Enters, IsNotEmpty};
+
+use crate::names::{Known, all_names, kids};
+use arena_chunks::{Allocator, ChunkSource, Str};
+use arena_items::{AllocError, Grown};
+use arena_tree::{Kind, Node};
+use arena_vec::Vec;
+use lint_reports::{FindKind, Findings};
+use placement::{Bytes, OutOfMemory};
+use std::alloc::Global;
+use std::str;
+
+// Want of memory outside the arena.
+fn wanting(r: Result<(), OutOfMemory>) -> Grown<()>
+    ensures same { IfOk result (λ x. r ≡ Ok x) }
+    ensures wanting { IsWanting (error_of result) }
+{
+    match r {
+        Ok(x) => Ok(x),
+        Err(_) => Err(AllocError::OutOfMemory),
+    }
+}
+
+// A name is defined. What is found of it, if anything.
+fn define_name<C: ChunkSource>(
+    a: &mut Allocator<C>,
+    known: &mut Known,
+    name: &str,
+) -> Grown<Option<FindKind>>
+    requires known { IsKnownIn a.old.memory known.old }
+    requires length { length name.now < 2 ^ 32 }
+    ensures means { Defines a.old.memory a.new.memory known.old known.new name.now result }
+    ensures takes { Takes (1 + length name.now) a.old a.new known.old known.new (error_of result) }
+{
+    let id = known.names.intern(a, name)?;
+    let is_seen = known.scopes.lookup(a, id).is_some();
+    let is_new = known.scopes.define(a, id, 0)?;
+    Ok(finding(is_new, is_seen))
+}
+
+// What is found of a definition, by whether it is new in its block, and whether a block around has it.
+fn finding(is_new: bool, is_seen: bool) -> Option<FindKind>
+    ensures { result ≡ (if is_new then (if is_seen then Some FindKind.Shadowed else None) else Some FindKind.Redefined) }
+{
+    if !is_new {
+        return Some(FindKind::Redefined);
+    }
+    if is_seen {
+        Some(FindKind::Shadowed)
+    } else {
+        None
+    }
+}
+
+// A finding, if there is one.
+fn add(found: &mut Findings, kind: Option<FindKind>, name: Bytes) -> Grown<()>
+    ensures added { OnOk result (found.new ≡ found.old ++ found_of kind name) }
+    ensures wanting { IsWanting (error_of result) }
+{
+    match kind {
+        Some(kind) => wanting(found.push(kind, name)),
+        None => Ok(()),
+    }
+}
+
+// A definition in the tree.
+fn define<C: ChunkSource>(
+    alloc: Global,
+    a: &mut Allocator<C>,
+    known: &mut Known,
+    text: Str,
+    found: &mut Findings,
+) -> Grown<()>
+    requires known { IsKnownIn a.old.memory known.old }
+    requires held { IsTextIn a.old.memory text }
+    requires utf8 { IsUtf8 (text_bytes a.old.memory text) }
+    requires short { length (text_bytes a.old.memory text) < 2 ^ 32 }
+    ensures moves { Moves a.old.memory a.new.memory known.old known.new }
+    ensures finds { Finds a.old.memory a.new.memory known.old known.new found.old found.new result
+        (defined (text_bytes a.old.memory text)) }
+    ensures takes { Takes (1 + length (text_bytes a.old.memory text)) a.old a.new known.old known.new (error_of result) }
+{
+    let name = match Bytes::of(alloc, a.read(text.block)) {
+        Ok(name) => name,
+        Err(_) => return Err(AllocError::OutOfMemory),
+    };
+    let Ok(spelled) = str::from_utf8(name.as_slice()) else {
+        unreachable!();
+    };
+    let kind = define_name(a, known, spelled)?;
+    add(found, kind, name)
+}
+
+// The names that a statement uses, which is no block.
+fn use_names<C: ChunkSource>(
+    alloc: Global,
+    a: &Allocator<C>,
+    known: &Known,
+    node: Node,
+    room: u64,
+    found: &mut Findings,
+) -> Grown<()>
+    requires known { IsKnownIn a.now.memory known.now }
+    requires tree { HasStmt a.now.memory node room (known_blocks known.now) }
+    requires kind { node.kind ≢ Kind.Block }
+    ensures finds { (s : Stmt) (sets : List Names) → StmtAt s a.now.memory node → Knows a.now.memory known.now sets
+        → OnOk result (found.new ≡ found.old ++ undefined sets (stmt_names s)) }
+    ensures wanting { IsWanting (error_of result) }
+{
+    let list = stmt_kids(a, known, node, room);
+    wanting(all_names(alloc, a, known, list, room, found))
+}
+
+// The list of the expression of a statement that is no block.
+fn stmt_kids<C: ChunkSource>(_a: &Allocator<C>, _known: &Known, node: Node, _room: u64) -> Vec<Node>
+    requires tree { HasStmt _a.now.memory node _room (known_blocks _known.now) }
+    requires kind { node.kind ≢ Kind.Block }
+    ensures held { IsVecIn node_item _a.now.memory result }
+    ensures trees { HaveExprs _a.now.memory (vec_list node_item _a.now.memory result) _room }
+    ensures names { (s : Stmt) → StmtAt s _a.now.memory node
+        → AreNamed _a.now.memory (vec_list node_item _a.now.memory result) (stmt_names s) }
+{
+    kids(node)
+}
+
+fn let_line<C: ChunkSource>(
+    alloc: Global,
+    a: &mut Allocator<C>,
+    known: &mut Known,
+    node: Node,
+    room: u64,
+    found: &mut Findings,
+) -> Grown<()>
+    requires known { IsKnownIn a.old.memory known.old }
+    requires tree { HasStmt a.old.memory node room (known_blocks known.old) }
+    requires kind { node.kind ≡ Kind.Let }
+    ensures moves { Moves a.old.memory a.new.memory known.old known.new }
+    ensures finds { (s : Stmt) → StmtAt s a.old.memory node
+        → Finds a.old.memory a.new.memory known.old known.new found.old found.new result (walk_stmt s) }
+    ensures takes { (s : Stmt) → StmtAt s a.old.memory node
+        → Takes (weight s) a.old a.new known.old known.new (error_of result) }
+{
+    use_names(alloc, a, known, node, room, found)?;
+    define(alloc, a, known, node.text, found)
+}
+
+// A block begins. The list of its statements.
+fn enter_block<C: ChunkSource>(
+    a: &mut Allocator<C>,
+    known: &mut Known,
+    node: Node,
+    _room: u64,
+) -> Grown<Vec<Node>>
+    requires known { IsKnownIn a.old.memory known.old }
+    requires tree { HasStmt a.old.memory node _room (known_blocks known.old) }
+    requires kind { node.kind ≡ Kind.Block }
+    ensures moves { Moves a.old.memory a.new.memory known.old known.new }
+    ensures tree { IfOk result (λ list. HaveStmts a.new.memory list _room (known_blocks known.new)) }
+    ensures enters { IfOk result (Enters a.old.memory a.new.memory known.old known.new node) }
+    ensures takes { Takes 1 a.old a.new known.old known.new (error_of result) }
+{
+    known.scopes.enter(a)?;
+    Ok(kids(node))
+}
+
+// A block ends.
+fn leave_block<C: ChunkSource>(a: &mut Allocator<C>, known: &mut Known)
+    requires { IsKnownIn a.old.memory known.old }
+    ensures moves { Moves a.old.memory a.new.memory known.old known.new }
+    ensures leaves { (names : Names) (sets : List Names) → Knows a.old.memory known.old (names ∷ sets)
+        → IsNotEmpty sets → Knows a.new.memory known.new sets }
+    ensures takes { Takes 0 a.old a.new known.old known.new None }
+{
+    known.scopes.leave(a);
+}
+
+// A statement of a list.
+fn stmt<C: ChunkSource>(
+    a: &Allocator<C>,
+    _known: &Known,
+    list: Vec<Node>,
+    i: u32,
+    _room: u64,
+) -> Node
+    requires trees { HaveStmts a.now.memory list _room (known_blocks _known.now) }
+    requires index { i < list.raw.len }
+    ensures tree { HasStmt a.now.memory result (_room - 1) (known_blocks _known.now) }
+    ensures room { 1 ≤ _room }
+    ensures stmt { slice_get (vec_list node_item a.now.memory list) i ≡ Some result }
+{
+    list.get(a, i)
+}
+
+#[cycle(walk)]
+fn walk_stmt<C: ChunkSource>(
+    alloc: Global,
+    a: &mut Allocator<C>,
+    known: &mut Known,
+    node: Node,
+    room: u64,
+    found: &mut Findings,
+) -> Grown<()>
+    requires known { IsKnownIn a.old.memory known.old }
+    requires tree { HasStmt a.old.memory node room (known_blocks known.old) }
+    ensures moves { Moves a.old.memory a.new.memory known.old known.new }
+    ensures finds { (s : Stmt) → StmtAt s a.old.memory node
+        → Finds a.old.memory a.new.memory known.old known.new found.old found.new result (walk_stmt s) }
+    ensures takes { (s : Stmt) → StmtAt s a.old.memory node
+        → Takes (weight s) a.old a.new known.old known.new (error_of result) }
+{
+    match node.kind {
+        Kind::Let => let_line(alloc, a, known, node, room, found),
+        Kind::Block => {
+            let list = enter_block(a, known, node, room)?;
+            walk(alloc, a, known, list, room, found)?;
+            leave_block(a, known);
+            Ok(())
+        }
+        _ => use_names(alloc, a, known, node, room, found),
+    }
+}
+
+#[cycle(walk)]
+pub(crate) fn walk<C: ChunkSource>(
+    alloc: Global,
+    a: &mut Allocator<C>,
+    known: &mut Known,
+    list: Vec<Node>,
+    room: u64,
+    found: &mut Findings,
+) -> Grown<()>
+    requires known { IsKnownIn a.old.memory known.old }
+    requires trees { HaveStmts a.old.memory list room (known_blocks known.old) }
+    ensures moves { Moves a.old.memory a.new.memory known.old known.new }
+    ensures finds { (ss : Stmts) → StmtsAt ss a.old.memory (vec_list node_item a.old.memory list)
+        → Finds a.old.memory a.new.memory known.old known.new found.old found.new result (walk ss) }
+    ensures takes { (ss : Stmts) → StmtsAt ss a.old.memory (vec_list node_item a.old.memory list)
+        → Takes (weights ss) a.old a.new known.old known.new (error_of result) }
+{
+    'stmts: for i in 0..list.len() {
+        let node = stmt(a, known, list, i, room);
+        walk_stmt(alloc, a, known, node, room - 1, found)?;
+    }
+    Ok(())
+}

@@ -1,0 +1,62 @@
+-- Lists with room for all nodes that are to come.
+use Rattle.std.proofs.Common.{◌≡◌, ◌+◌, sym, subst, ◌∙◌, Result, Ok, Err, [], ◌∷◌, ◌++◌, length, length-append, arith}
+use Rattle.arena_chunks.specs.Memory.{Memory}
+use Rattle.arena_chunks.specs.Source.{View}
+use Rattle.arena_chunks.specs.Frame.{Frame}
+use Rattle.arena_items.specs.Room.{SamePlaces}
+use Rattle.arena_items.specs.Values.{bytes_of}
+use Rattle.arena_items.specs.declared.room.AllocError.{AllocError}
+use Rattle.arena_items.specs.declared.room.Growth.TheVariants.{Stays}
+use Rattle.arena_items.proofs.Layers.{length-elements}
+use Rattle.arena_vec.specs.Changes.{Grows}
+use Rattle.arena_vec.specs.Growth.{amortised_growth}
+use Rattle.arena_vec.specs.Vecs.{IsVecIn, vec_list}
+use Rattle.arena_vec.specs.declared.vec.Vec.{Vec}
+use Rattle.tree_rules.specs.Trees.{NoExprs, NoStmts}
+use Rattle.arena_tree.specs.declared.node.Node.{Node}
+use Rattle.arena_tree.specs.TreesAt.{node_item, ExprsAt, IsBuilt}
+use Rattle.arena_tree.specs.StmtsAt.{StmtsAt, AreBuilt}
+
+-- a list of no nodes in a block that was free
+pub room_built : (old new : Memory) (v : Vec Node) → IsVecIn node_item new v → vec_list node_item new v ≡ []
+    → Frame old new [] (v.raw.block ∷ []) → IsBuilt NoExprs old new v
+room_built old new v held none frame = record {
+  held = held;
+  stand = subst (ExprsAt NoExprs new) (sym none) tt;
+  apart = (tt, tt);
+  frame = frame;
+}
+
+pub room_lines : (old new : Memory) (v : Vec Node) → IsVecIn node_item new v → vec_list node_item new v ≡ []
+    → Frame old new [] (v.raw.block ∷ []) → AreBuilt NoStmts old new v
+room_lines old new v held none frame = record {
+  held = held;
+  stand = subst (StmtsAt NoStmts new) (sym none) tt;
+  apart = (tt, tt);
+  frame = frame;
+}
+
+-- Where there is room, a node is never refused, and no cursor moves.
+pub record Fills (old new : View) (v w : Vec Node) : Type 0 where
+  pub places : SamePlaces old new
+  pub len : w.raw.len ≡ v.raw.len + 1
+  pub cap : w.raw.cap ≡ v.raw.cap
+
+module _ (old new : View) (v w : Vec Node) (n : Node)
+    (stays : amortised_growth 88 v.raw.cap (v.raw.len + 1) ≡ Stays) where
+  abbrev pub growth : Result (Unit {0}) AllocError → Type 0
+  growth result = Grows node_item old new v (amortised_growth 88 v.raw.cap (v.raw.len + 1)) (vec_list node_item old.memory v ++ n ∷ [])
+      w result
+
+  pub never_refused : (e : AllocError) → growth (Err e) → ⊥
+  never_refused e grows = absurd (rw stays at grows.made).0
+
+  longer : length (vec_list node_item old.memory v ++ n ∷ []) ≡ v.raw.len + 1
+  longer = omega (
+    arith,
+    length-append (vec_list node_item old.memory v) (n ∷ []),
+    length-elements 88 node_item.decoded v.raw.len (bytes_of old.memory v.raw.block),
+  )
+
+  pub fills : growth (Ok tt) → Fills old new v w
+  fills grows = record { places = (rw stays at grows.made).1; len = grows.len ∙ longer; cap = rw stays at grows.cap }

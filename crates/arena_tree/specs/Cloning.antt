@@ -1,0 +1,59 @@
+-- What a copy of a tree in another arena answers, and what it takes.
+use Rattle.std.specs.Prelude.{ℕ, ◌+◌, ◌*◌, [], length, Result, Ok, Err}
+use Rattle.arena_chunks.specs.Source.{View}
+use Rattle.arena_chunks.specs.Frame.{Frame}
+use Rattle.tree_rules.specs.Trees.{Expr, Num, Name, Neg, Sum, Prod, Exprs, NoExprs, And, Stmt, Let, Show, Stmts, NoStmts, Then}
+use Rattle.tree_rules.specs.Trees as tree
+use Rattle.arena_tree.specs.Counts.{below, nodes, below_stmt, stmt_nodes}
+use Rattle.arena_tree.specs.StmtsAt.{AreBuilt}
+use Rattle.arena_tree.specs.Parsing.{IsShortOf}
+use Rattle.arena_tree.specs.declared.tree.Tree.{Tree}
+use Rattle.arena_tree.specs.declared.tree.TreeErr.{TreeErr}
+use Rattle.arena_tree.specs.declared.tree.TreeErr.TheVariants.{Syntax, TooDeep, NumberTooBig, AllocErr, OutOfMemory}
+
+-- how many bytes the names of a tree have
+abbrev mutual
+  pub name_bytes : Expr → ℕ
+  name_bytes (Num n) = 0
+  name_bytes (Name bytes) = length bytes
+  name_bytes (Neg e) = name_bytes e
+  name_bytes (Sum kids) = names_bytes kids
+  name_bytes (Prod kids) = names_bytes kids
+
+  pub names_bytes : Exprs → ℕ
+  names_bytes NoExprs = 0
+  names_bytes (And e rest) = name_bytes e + names_bytes rest
+
+abbrev mutual
+  pub stmt_name_bytes : Stmt → ℕ
+  stmt_name_bytes (Let name e) = length name + name_bytes e
+  stmt_name_bytes (Show e) = name_bytes e
+  stmt_name_bytes (tree.Block body) = stmts_name_bytes body
+
+  pub stmts_name_bytes : Stmts → ℕ
+  stmts_name_bytes NoStmts = 0
+  stmts_name_bytes (Then s rest) = stmt_name_bytes s + stmts_name_bytes rest
+
+-- the bytes of the arena that a tree's copy takes at most: 128 for each node, and one for each byte of the names
+abbrev pub clone_bytes : Stmts → ℕ
+clone_bytes ss = 128 * stmt_nodes ss + stmts_name_bytes ss
+
+-- those of kids, and of what is below one node
+abbrev pub kids_bytes : Exprs → ℕ
+kids_bytes es = 128 * nodes es + names_bytes es
+
+abbrev pub below_bytes : Expr → ℕ
+below_bytes e = 128 * below e + name_bytes e
+
+abbrev pub below_line_bytes : Stmt → ℕ
+below_line_bytes s = 128 * below_stmt s + stmt_name_bytes s
+
+-- A tree is placed that means these statements, on blocks that were free and lie apart from each other, or a block of it is refused. No
+-- text is judged, so no refusal is one of texts.
+abbrev pub Clones : Stmts → View → View → Result Tree TreeErr → Type 0
+Clones trees old new (Ok t) = AreBuilt trees old.memory new.memory t.stmts
+Clones trees old new (Err (AllocErr k)) = IsShortOf (clone_bytes trees) k old new × Frame old.memory new.memory [] []
+Clones trees old new (Err OutOfMemory) = Frame old.memory new.memory [] []
+Clones trees old new (Err (Syntax at)) = ⊥
+Clones trees old new (Err (TooDeep at)) = ⊥
+Clones trees old new (Err (NumberTooBig at)) = ⊥

@@ -1,0 +1,8 @@
+use Rattle.arena_symbols.specs.Tables.{entry_item, IsTableIn}
+use Rattle.bench_arena.proofs.loops.symbols.nested.Given as goal
+
+abbrev pub invariant-loop-i : goal.invariant-loop-i
+invariant-loop-i l = IsTableIn entry_item l.a.memory l.scopes
+
+abbrev pub invariant-loop-k : goal.invariant-loop-k
+invariant-loop-k l = IsTableIn entry_item l.a.memory l.scopes

@@ -1,0 +1,138 @@
+// Loops over interners and scopes.
+ghost use Rattle.std.specs.Prelude.{IfOk};
+ghost use Rattle.arena_symbols.specs.Names.{IsInternerIn};
+ghost use Rattle.arena_symbols.specs.Tables.{entry_item, IsTableIn};
+
+use super::maps::key;
+use super::vec::{count, new_allocator};
+use super::{Failed, Timed};
+use arena_chunks::{Allocator, MemoryChunks};
+use arena_symbols::{Scopes, Symbols};
+use std::alloc::{self, Global};
+use std::time::Instant;
+
+// How many ids a scope has where it hides those of the scope outside.
+const FEW: u32 = 4;
+
+// So many distinct texts.
+fn texts(alloc: Global, n: u32) -> Result<Vec<String>, alloc::AllocError> {
+    let mut texts = Vec::with_capacity(alloc, n as usize)?;
+    for i in 0..n {
+        let number = key(i);
+        texts.push(format!(in alloc; "name {number}")?)?;
+    }
+    Ok(texts)
+}
+
+fn some_texts(alloc: Global, calls: u64) -> Result<Vec<String>, Failed> {
+    texts(alloc, count(calls)?).map_err(|_| Failed::NoPlace)
+}
+
+// Each text's number, in an interner that may have them; the numbers added up.
+fn interned(
+    a: &mut Allocator<MemoryChunks>,
+    symbols: &mut Symbols,
+    texts: &[String],
+) -> Result<u64, Failed>
+    requires { IsInternerIn a.old.memory symbols.old }
+    ensures { IfOk result (λ _. IsInternerIn a.new.memory symbols.new) }
+{
+    let mut number: u64 = 0;
+    for text in texts {
+        if text.len() >= 1 << 32 {
+            return Err(Failed::NoPlace);
+        }
+        number = number.wrapping_add(symbols.intern(a, text.as_str())? as u64);
+    }
+    Ok(number)
+}
+
+/// Texts that get a number each.
+pub fn intern_new(rt: &HostRuntime, calls: u64) -> Result<Timed, Failed> {
+    let texts = some_texts(rt.alloc(), calls)?;
+    let mut a = new_allocator(rt);
+    let mut symbols = Symbols::new_in();
+    let began = Instant::now(rt)?;
+    let number = interned(&mut a, &mut symbols, &texts)?;
+    let time = began.elapsed(rt)?;
+    Ok(Timed { time, number })
+}
+
+/// Texts that have a number.
+pub fn intern_known(rt: &HostRuntime, calls: u64) -> Result<Timed, Failed> {
+    let texts = some_texts(rt.alloc(), calls)?;
+    let mut a = new_allocator(rt);
+    let mut symbols = Symbols::new_in();
+    interned(&mut a, &mut symbols, &texts)?;
+    let began = Instant::now(rt)?;
+    let number = interned(&mut a, &mut symbols, &texts)?;
+    let time = began.elapsed(rt)?;
+    Ok(Timed { time, number })
+}
+
+// A scope in which so many ids stand.
+fn defined(a: &mut Allocator<MemoryChunks>, n: u32) -> Result<Scopes, Failed>
+    ensures { IfOk result (IsTableIn entry_item a.new.memory) }
+{
+    let mut scopes = Scopes::new_in();
+    for i in 0..n {
+        scopes.define(a, key(i), i)?;
+    }
+    Ok(scopes)
+}
+
+/// Ids put into one scope.
+pub fn scope_define(rt: &HostRuntime, calls: u64) -> Result<Timed, Failed> {
+    let n = count(calls)?;
+    let mut a = new_allocator(rt);
+    let began = Instant::now(rt)?;
+    let scopes = defined(&mut a, n)?;
+    let time = began.elapsed(rt)?;
+    Ok(Timed {
+        time,
+        number: scopes.pairs.len() as u64,
+    })
+}
+
+/// Ids looked up, of which half are there.
+pub fn scope_lookup(rt: &HostRuntime, calls: u64) -> Result<Timed, Failed> {
+    let n = count(calls)?;
+    let mut a = new_allocator(rt);
+    let scopes = defined(&mut a, n)?;
+    let began = Instant::now(rt)?;
+    let mut number: u64 = 0;
+    for i in 0..n {
+        if let Some(value) = scopes.lookup(&a, key(i.wrapping_mul(2))) {
+            number = number.wrapping_add(value as u64);
+        }
+    }
+    let time = began.elapsed(rt)?;
+    Ok(Timed { time, number })
+}
+
+// Scopes begun and ended, in each of which some ids hide those outside; the pairs that they had, counted.
+fn nested(a: &mut Allocator<MemoryChunks>, scopes: &mut Scopes, n: u32) -> Result<u64, Failed>
+    requires { IsTableIn entry_item a.old.memory scopes.old }
+{
+    let mut number: u64 = 0;
+    for i in 0..n {
+        scopes.enter(a)?;
+        for k in 0..FEW {
+            scopes.define(a, key(k), i)?;
+        }
+        number = number.wrapping_add(scopes.pairs.len() as u64);
+        scopes.leave(a);
+    }
+    Ok(number)
+}
+
+/// Scopes begun and ended, in each of which four ids hide those outside. A call is one scope.
+pub fn scope_enter(rt: &HostRuntime, calls: u64) -> Result<Timed, Failed> {
+    let n = count(calls)?;
+    let mut a = new_allocator(rt);
+    let mut scopes = defined(&mut a, FEW)?;
+    let began = Instant::now(rt)?;
+    let number = nested(&mut a, &mut scopes, n)?;
+    let time = began.elapsed(rt)?;
+    Ok(Timed { time, number })
+}

@@ -1,0 +1,3 @@
+pub mod ReportLemmas
+mod SourceLemmas
+mod SizeLemmas

@@ -1,0 +1,161 @@
+-- An input that is cut line by line.
+use Rattle.std.proofs.Common.{◌≡◌, ◌≢◌, ℕ, zero, suc, ◌+◌, ◌<◌, ◌≤◌, Bool, true, false, List, [], ◌∷◌, ◌++◌, length, map, take, drop, refl, sym, ap, ◌∙◌, arith, append_assoc, add-one}
+use Rattle.std.specs.Prelude.{◌==◌, if◌then◌else◌, All}
+use Rattle.std.specs.List.{slice_split, onto_first, slice_index}
+use Rattle.std.proofs.Math.Seq.{take-append-add, drop-append-add, drop-length, take-append_seam, drop-append_seam}
+use Rattle.std.proofs.lemmas.Bool.{eq-eqb}
+use Rattle.std.proofs.lemmas.Bool.Decides.{nat_tests}
+use Rattle.std.proofs.lemmas.List.{append-nil, length-append, length-drop, length-take-le, take-append-drop}
+use Rattle.std.proofs.lemmas.List.Elements.{All-head, All-tail}
+use Rattle.std.proofs.lemmas.List.Splits.{slice_split-cons_yes, slice_split-cons_no, length-slice_split}
+use Rattle.lint_reports.specs.Sources.{fed_lines, is_mark, joined, sources, IsFirstLine}
+
+-- ---- The first line
+
+abbrev other : ℕ → Type 0
+other b = b ≢ 10
+
+abbrev lines_behind : ℕ → List ℕ → Bool → List (List ℕ)
+lines_behind b bytes t = if t then (b ∷ []) ∷ fed_lines bytes else onto_first b (fed_lines bytes)
+
+fed : (b : ℕ) (bytes : List ℕ) → b ≡ 10 → fed_lines (b ∷ bytes) ≡ (b ∷ []) ∷ fed_lines bytes
+fed b bytes is = ap (lines_behind b bytes) (eq-eqb b 10 is)
+
+unfed : (b : ℕ) (bytes : List ℕ) → b ≢ 10 → fed_lines (b ∷ bytes) ≡ onto_first b (fed_lines bytes)
+unfed b bytes differs = let test : (b == 10) ≡ false = grind (arith, nat_tests) in ap (lines_behind b bytes) test
+
+fed_at : (bytes : List ℕ) (n : ℕ) → n < length bytes → All other (take n bytes) → slice_index bytes n ≡ 10
+    → fed_lines bytes ≡ take (suc n) bytes ∷ fed_lines (drop (suc n) bytes)
+fed_at [] n h before is = absurd (omega arith)
+fed_at (b ∷ bytes) zero h before is = fed b bytes is
+fed_at (b ∷ bytes) (suc n) h before is = unfed b bytes (All-head other b (take n bytes) before)
+    ∙ ap (onto_first b) (fed_at bytes n (omega arith) (All-tail other b (take n bytes) before) is)
+
+unfed_all : (bytes : List ℕ) → All other bytes → bytes ≢ [] → fed_lines bytes ≡ bytes ∷ []
+unfed_all [] before some = absurd (some refl)
+unfed_all (b ∷ []) before some = unfed b [] (All-head other b [] before)
+unfed_all (b ∷ (c ∷ bytes)) before some = unfed b (c ∷ bytes) (All-head other b (c ∷ bytes) before)
+    ∙ ap (onto_first b) (unfed_all (c ∷ bytes) (All-tail other b (c ∷ bytes) before) (λ e. cc))
+
+some_taken : (bytes : List ℕ) (n : ℕ) → n < length bytes → take (suc n) bytes ≡ [] → bytes ≡ []
+some_taken [] n h none = refl
+some_taken (b ∷ bytes) n h none = cc
+
+pub first_fed : (bytes : List ℕ) (n : ℕ) → n < length bytes → All other (take n bytes) → slice_index bytes n ≡ 10
+    → IsFirstLine bytes (take (n + 1) bytes)
+first_fed bytes n h before is = rw (add-one n) (record {
+  behind = drop (suc n) bytes;
+  all = sym (take-append-drop (suc n) bytes);
+  none = some_taken bytes n h;
+  first = λ some. fed_at bytes n h before is;
+})
+
+pub first_unfed : (bytes : List ℕ) → All other bytes → IsFirstLine bytes bytes
+first_unfed bytes before = record {
+  behind = [];
+  all = sym (append-nil bytes);
+  none = λ none. none;
+  first = unfed_all bytes before;
+}
+
+-- ---- Sources
+
+-- the sources of lines
+abbrev parts : List (List ℕ) → List (List ℕ)
+parts lines = map joined (slice_split is_mark lines)
+
+-- bytes before the first
+abbrev pub onto : List ℕ → List (List ℕ) → List (List ℕ)
+onto bytes [] = []
+onto bytes (source ∷ rest) = (bytes ++ source) ∷ rest
+
+onto_joined : (line : List ℕ) (groups : List (List (List ℕ))) → 0 < length groups
+    → map joined (onto_first line groups) ≡ onto line (map joined groups)
+onto_joined line [] some = absurd (omega arith)
+onto_joined line (group ∷ groups) some = refl
+
+onto_none : (xs : List (List ℕ)) → onto [] xs ≡ xs
+onto_none [] = refl
+onto_none (x ∷ xs) = refl
+
+onto_both : (a b : List ℕ) (xs : List (List ℕ)) → onto a (onto b xs) ≡ onto (a ++ b) xs
+onto_both a b [] = refl
+onto_both a b (x ∷ xs) = ap (λ y. y ∷ xs) (sym (append_assoc a b x))
+
+pub marked : (line : List ℕ) (lines : List (List ℕ)) → is_mark line ≡ true → parts (line ∷ lines) ≡ [] ∷ parts lines
+marked line lines is = ap (map joined) (slice_split-cons_yes is_mark line lines is)
+
+pub unmarked : (line : List ℕ) (lines : List (List ℕ)) → is_mark line ≡ false → parts (line ∷ lines) ≡ onto line (parts lines)
+unmarked line lines is = ap (map joined) (slice_split-cons_no is_mark line lines is)
+    ∙ onto_joined line (slice_split is_mark lines) (omega (arith, length-slice_split is_mark lines))
+
+-- ---- Lines one after another
+
+-- Some sources were cut off, and so many bytes of the next one's lines were seen.
+pub record Cut (bytes : List ℕ) (all : List (List ℕ)) (rest : List ℕ) (seen : ℕ) : Type 0 where
+  pub inside : length rest ≤ length bytes
+  pub within : seen ≤ length rest
+  pub are : sources bytes ≡ all ++ onto (take seen rest) (sources (drop seen rest))
+
+pub cut_none : (bytes : List ℕ) → Cut bytes [] bytes 0
+cut_none bytes = record { inside = omega arith; within = omega arith; are = sym (onto_none (sources bytes)) }
+
+pub cut_last : (bytes : List ℕ) (all : List (List ℕ)) (rest : List ℕ) (seen : ℕ) → Cut bytes all rest seen → seen ≡ length rest
+    → all ++ rest ∷ [] ≡ sources bytes
+cut_last bytes all rest seen cut end =
+    let left : drop seen rest ≡ [] = ap (λ n. drop n rest) end ∙ drop-length rest in
+    let whole : take seen rest ++ [] ≡ rest = ap (λ xs. take seen rest ++ xs) (sym left) ∙ take-append-drop seen rest in
+    ap (λ x. all ++ x ∷ []) (sym whole) ∙ sym (cut.are ∙ ap (λ xs. all ++ onto (take seen rest) (sources xs)) left)
+
+module _ (bytes : List ℕ) (all : List (List ℕ)) (rest : List ℕ) (seen : ℕ) (cut : Cut bytes all rest seen) (line : List ℕ)
+    (is : IsFirstLine (drop seen rest) line) where
+  abbrev before : List ℕ
+  before = take seen rest
+
+  counted : length before ≡ seen
+  counted = length-take-le seen rest cut.within
+
+  whole : rest ≡ before ++ (line ++ is.behind)
+  whole = sym (take-append-drop seen rest) ∙ ap (λ xs. before ++ xs) is.all
+
+  pub seen_within : seen + length line ≤ length rest
+  seen_within = omega (arith, ap length whole, counted, length_both)
+    where
+      length_both : length (before ++ (line ++ is.behind)) ≡ length before + (length line + length is.behind)
+      length_both = length-append before (line ++ is.behind) ∙ ap (λ n. length before + n) (length-append line is.behind)
+
+  some : seen ≢ length rest → line ≢ []
+  some more none = more (omega (arith, cut.within, length-drop seen rest, ap length (is.none none)))
+
+  behind_is : drop (seen + length line) rest ≡ is.behind
+  behind_is = ap (drop (seen + length line)) whole ∙ ap (λ k. drop (k + length line) (before ++ (line ++ is.behind))) (sym counted)
+      ∙ drop-append-add before (line ++ is.behind) (length line) ∙ drop-append_seam line is.behind
+
+  seen_is : take (seen + length line) rest ≡ before ++ line
+  seen_is = ap (take (seen + length line)) whole ∙ ap (λ k. take (k + length line) (before ++ (line ++ is.behind))) (sym counted)
+      ∙ take-append-add before (line ++ is.behind) (length line) ∙ ap (λ xs. before ++ xs) (take-append_seam line is.behind)
+
+  pub cut_mark : (new : List (List ℕ)) → seen ≢ length rest → is_mark line ≡ true → new ≡ all ++ take seen rest ∷ []
+      → Cut bytes new (drop (seen + length line) rest) 0
+  cut_mark new more mark added =
+      let one : sources (drop seen rest) ≡ [] ∷ sources is.behind
+      = ap parts (is.first (some more)) ∙ marked line (fed_lines is.behind) mark in
+      record {
+        inside = omega (arith, cut.inside, length-drop (seen + length line) rest);
+        within = omega arith;
+        are = cut.are ∙ ap (λ xs. all ++ onto before xs) one ∙ ap (λ x. all ++ x ∷ sources is.behind) (append-nil before)
+            ∙ sym (append_assoc all (before ∷ []) (sources is.behind)) ∙ ap (λ xs. xs ++ sources is.behind) (sym added)
+            ∙ ap (λ xs. new ++ xs) (ap sources (sym behind_is) ∙ sym (onto_none (sources (drop (seen + length line) rest))));
+      }
+
+  pub cut_line : seen ≢ length rest → is_mark line ≡ false → Cut bytes all rest (seen + length line)
+  cut_line more mark =
+      let one : sources (drop seen rest) ≡ onto line (sources is.behind)
+      = ap parts (is.first (some more)) ∙ unmarked line (fed_lines is.behind) mark in
+      record {
+        inside = cut.inside;
+        within = seen_within;
+        are = cut.are ∙ ap (λ xs. all ++ onto before xs) one ∙ ap (λ xs. all ++ xs) (onto_both before line (sources is.behind))
+            ∙ ap (λ xs. all ++ onto xs (sources is.behind)) (sym seen_is)
+            ∙ ap (λ xs. all ++ onto (take (seen + length line) rest) (sources xs)) (sym behind_is);
+      }

@@ -1,0 +1,17 @@
+//! What a linter says of texts: the reports of sources, their lines, and the sources of an input.
+//!
+//! The definitions lie in `specs/`: `Reports` what a report says of a source and how it is printed, `Sources` where an
+//! input is cut. What is found in a text is said in `tree_rules`.
+#![tactic(auto)]
+
+mod findings;
+pub mod laws;
+mod printing;
+mod report;
+mod sources;
+
+pub use findings::Findings;
+pub use printing::put_report;
+pub use report::FileReport;
+pub use sources::sources_of;
+pub use tree_rules::{FindKind, Finding};

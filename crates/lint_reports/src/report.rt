@@ -1,0 +1,39 @@
+// What is said of one source.
+ghost use Rattle.lint_reports.specs.Reports.{Reports};
+ghost use Rattle.tree_rules.specs.Refusals.{TreeOf};
+ghost use Rattle.std.specs.Prelude.{ℕ, List, Err};
+
+use crate::findings::Findings;
+use tree_rules::Refused;
+
+/// What is said of one source.
+#[derive(Drop, Debug)]
+pub enum FileReport {
+    /// It is a program, and this was found in it.
+    Checked(Findings),
+    /// Its first refused token, which begins at this byte, can't stand there; or it ends too early, and this is its length.
+    Syntax { at: u64 },
+    /// With the token at this byte more than 64 parentheses, braces and signs would be open at once.
+    TooDeep { at: u64 },
+    /// The number at this byte passes 64 bits.
+    NumberTooBig { at: u64 },
+    /// An arena that doesn't grow had no place for a block.
+    Full,
+    /// An arena that grows refused a block.
+    Refused,
+    /// Memory is wanting.
+    OutOfMemory,
+}
+
+impl FileReport {
+    /// The report of a text that is refused.
+    pub fn refused(refused: Refused) -> FileReport
+        ensures { (bytes : List ℕ) → TreeOf bytes (Err refused) → Reports bytes result }
+    {
+        match refused {
+            Refused::Syntax { at } => FileReport::Syntax { at },
+            Refused::TooDeep { at } => FileReport::TooDeep { at },
+            Refused::NumberTooBig { at } => FileReport::NumberTooBig { at },
+        }
+    }
+}

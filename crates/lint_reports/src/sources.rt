@@ -1,0 +1,86 @@
+// Cuts an input into sources.
+ghost use Rattle.std.specs.Prelude.{◌≡◌, ◌≢◌, ◌<◌, ◌≤◌, ◌++◌, ◌∷◌, [], All, take, drop, length, IfOk, OnOk};
+ghost use Rattle.std.specs.List.{slice_index};
+ghost use Rattle.lint_reports.specs.Sources.{is_mark, sources, IsFirstLine};
+
+use placement::{Bytes, OutOfMemory};
+use std::alloc::Global;
+
+// How many bytes come before the first line feed, or all of them.
+fn len_before_feed(bytes: &[u8]) -> usize
+    ensures within { result ≤ length bytes.now }
+    ensures before { All (λ b. b ≢ 10) (take result bytes.now) }
+    ensures found { result < length bytes.now → slice_index bytes.now result ≡ 10 }
+{
+    bytes
+        .iter()
+        .position(|b| *b == b'\n')
+        .unwrap_or(bytes.len())
+}
+
+// The first line with its line feed, if it has one.
+fn first_line(bytes: &[u8]) -> &[u8]
+    ensures { IsFirstLine bytes.now result.now }
+{
+    let n = len_before_feed(bytes);
+    if n < bytes.len() {
+        &bytes[..n + 1]
+    } else {
+        bytes
+    }
+}
+
+// What comes behind so many bytes.
+fn after(bytes: &[u8], n: usize) -> &[u8]
+    requires { n ≤ length bytes.now }
+    ensures { result.now ≡ drop n bytes.now }
+{
+    &bytes[n..]
+}
+
+// Whether the line, with its feed if it has one, is exactly `%%`.
+fn is_mark(line: &[u8]) -> bool
+    ensures { result ≡ is_mark line.now }
+{
+    line == b"%%".as_slice() || line == b"%%\n".as_slice()
+}
+
+// Adds a copy of these bytes.
+fn add(alloc: Global, all: &mut Vec<Bytes>, source: &[u8]) -> Result<(), OutOfMemory>
+    ensures { OnOk result (all.new.items ≡ all.old.items ++ source.now ∷ []) }
+{
+    let source = Bytes::of(alloc, source)?;
+    match all.push(source) {
+        Ok(()) => Ok(()),
+        Err(_) => Err(OutOfMemory),
+    }
+}
+
+/// The sources of an input, of which each byte is copied once.
+///
+/// # Errors
+///
+/// Memory is wanting.
+pub fn sources_of(alloc: Global, bytes: &[u8]) -> Result<Vec<Bytes>, OutOfMemory>
+    ensures { IfOk result (λ all. all.items ≡ sources bytes.now) }
+{
+    let mut all = Vec::new(alloc);
+    // The source at hand and what comes behind it, and how many bytes of its lines were seen.
+    let mut rest = bytes;
+    let mut seen: usize = 0;
+    'lines: loop {
+        if seen == rest.len() {
+            add(alloc, &mut all, rest)?;
+            return Ok(all);
+        }
+        let line = first_line(after(rest, seen));
+        let end = seen + line.len();
+        if is_mark(line) {
+            add(alloc, &mut all, &rest[..seen])?;
+            rest = after(rest, end);
+            seen = 0;
+        } else {
+            seen = end;
+        }
+    }
+}

@@ -1,0 +1,136 @@
+// The sources of an input, linted over a pool that is made for them.
+ghost use Rattle.std.specs.Prelude.{◌≡◌, ◌≤◌, ◌^◌, All, IsTrue, None, length};
+ghost use Rattle.arena_pool.specs.Names.{IsBlankOf};
+ghost use Rattle.arena_pool.specs.declared.kind.PoolKind.{PoolKind};
+
+use super::ok;
+use arena_chunks::ChunkSource;
+use arena_lint::{Gate, Linted, lint_all};
+use arena_pool::{AllocatorPool, ChunkMaker, MOST_LENT, PoolKind, PoolName};
+use lint_reports::{FileReport, put_report, sources_of};
+use placement::Bytes;
+use std::alloc::Global;
+use std::marker::Brand;
+use std::process::Abort;
+use std::sync::Wait;
+use std::sync::ledger::Blank;
+use std::test::*;
+use std::thread::Threads;
+
+/// A pool of so many arenas, and how many workers lint over it.
+#[derive(Clone, Copy)]
+pub struct Over {
+    pub kind: PoolKind,
+    pub arenas: u32,
+    pub workers: u32,
+}
+
+/// The text of the reports, and how many sources were starved.
+#[derive(Drop)]
+pub struct Told {
+    pub text: Vec<u8>,
+    pub starved: u64,
+}
+
+impl Told {
+    /// Whether these are the lines, of reports of which so many are of starved sources.
+    pub fn is(&self, lines: &[u8], starved: u64) -> bool {
+        self.text.as_slice() == lines && self.starved == starved
+    }
+}
+
+// Whether a linter takes each of the sources.
+fn are_short(sources: &[Bytes]) -> bool
+    ensures { IsTrue result → All (λ bytes. length bytes ≤ 2 ^ 24) sources.now }
+{
+    sources
+        .iter()
+        .all(|source| source.as_slice().len() <= 16_777_216)
+}
+
+// A source was starved exactly where its report is that its arena refused.
+fn put_all<C: ChunkSource>(
+    rt: &impl Abort,
+    alloc: Global,
+    all: &[Linted<C>],
+) -> Result<Told, Fail> {
+    let mut text = Vec::new(alloc);
+    let mut starved = 0u64;
+    for (i, linted) in all.iter().enumerate() {
+        ok(put_report(&mut text, i as u64, &linted.outcome))?;
+        let is_refused = matches!(linted.outcome, FileReport::Refused);
+        assert!(rt; linted.starved.is_some() == is_refused);
+        if is_refused {
+            starved = starved.saturating_add(1);
+        }
+    }
+    Ok(Told { text, starved })
+}
+
+// Afterwards each arena of the pool was given back, but for those of starved sources.
+fn lint_with<
+    K: ChunkMaker + Drop + Send,
+    L: PoolName + Send + Sync,
+    R: Threads + Wait + Abort + Sync,
+    G: Gate + Sync,
+>(
+    rt: &R,
+    alloc: Global,
+    pool: &AllocatorPool<K, L>,
+    workers: u32,
+    gate: &G,
+    input: &[u8],
+) -> Result<Told, Fail> {
+    let sources = ok(sources_of(alloc, input))?;
+    assert!(rt; workers > 0 && workers <= 64);
+    assert!(rt; sources.len() < 1 << 20 && are_short(&sources));
+    let linted = lint_all(rt, alloc, pool, workers, gate, &sources);
+    let all = linted.ok().expect(rt, "reports");
+    let told = put_all(rt, alloc, &all)?;
+    let counts = pool.counts(rt);
+    assert!(rt; counts.lent == 0 && counts.given_up == told.starved);
+    Ok(told)
+}
+
+// The pool is named by L, which stands in no type of the signature.
+fn lint_named<
+    L: PoolName + Send + Sync,
+    K: ChunkMaker + Drop + Send,
+    R: Threads + Wait + Abort + Sync,
+    G: Gate + Sync,
+>(
+    rt: &R,
+    alloc: Global,
+    over: Over,
+    maker: K,
+    gate: &G,
+    input: &[u8],
+    blank: Blank,
+) -> Result<Told, Fail>
+    requires blank { IsBlankOf L.name L.parts blank }
+    requires kind { L.kind ≡ over.kind }
+    requires limit { L.limit ≡ None }
+{
+    let made = match over.kind {
+        PoolKind::Standard => AllocatorPool::<K, L>::new(alloc, over.arenas, maker, blank),
+        PoolKind::FixedSize { bytes } => {
+            assert!(rt; bytes % 16 == 0 && bytes >= 48);
+            AllocatorPool::new_fixed_size(alloc, over.arenas, bytes, maker, blank)
+        }
+    };
+    let pool = made.ok().expect(rt, "a pool");
+    lint_with(rt, alloc, &pool, over.workers, gate, input)
+}
+
+/// What is told of the sources of an input, over a new pool.
+pub fn lint_over<K: ChunkMaker + Drop + Send, R: Threads + Wait + Abort + Sync, G: Gate + Sync>(
+    rt: &R,
+    alloc: Global,
+    over: Over,
+    maker: K,
+    gate: &G,
+    input: &[u8],
+) -> Result<Told, Fail> {
+    let blank = Blank::new(MOST_LENT);
+    lint_named::<Brand, K, R, G>(rt, alloc, over, maker, gate, input, blank)
+}

@@ -1,0 +1,134 @@
+// Sources on arenas that may not have their chunks, beside others.
+use super::over::{Over, Told, lint_over};
+use arena_chunks::RefusingChunks;
+use arena_lint::NoGate;
+use arena_pool::{ChunkMaker, MemoryMaker, PoolKind};
+use std::alloc::Global;
+use std::process::Abort;
+use std::sync::Wait;
+use std::test::*;
+use std::thread::Threads;
+
+// A source of 2,000 statements, which has no place in a first chunk; one that is no program; an empty one, which takes no
+// block; and one of two statements.
+fn input(alloc: Global) -> Result<Vec<u8>, Fail> {
+    let mut text = Vec::new(alloc);
+    for _ in 0..1000 {
+        text.extend_from_slice(b"1;\n{}\n")?;
+    }
+    text.extend_from_slice(b"b;\n%%\na + ;\n%%\n%%\nlet a = a; let a = 2;\n")?;
+    Ok(text)
+}
+
+/// One worker on a pool that begins with one arena.
+const ALONE: Over = Over {
+    kind: PoolKind::Standard,
+    arenas: 1,
+    workers: 1,
+};
+
+const REPORTS: &str = "\
+source 0\nundefined b\nsource 1\nsyntax error at 4\nsource 2\nsource 3\nundefined a\nredefined a\n";
+
+const FIRST_REFUSED: &str = "\
+source 0\nrefused\nsource 1\nsyntax error at 4\nsource 2\nsource 3\nundefined a\nredefined a\n";
+
+const BOTH_REFUSED: &str =
+    "source 0\nrefused\nsource 1\nsyntax error at 4\nsource 2\nsource 3\nrefused\n";
+
+// The budget of each arena's source, the workers, the lines, and how many sources are starved. A first chunk takes less
+// than 16384 bytes, in which the small program has its place; no chunk is made of 100 bytes.
+const BUDGETS: [(u64, u32, &str, u64); 6] = [
+    (0, 1, BOTH_REFUSED, 2),
+    (0, 64, BOTH_REFUSED, 2),
+    (100, 2, BOTH_REFUSED, 2),
+    (16384, 1, FIRST_REFUSED, 1),
+    (16384, 4, FIRST_REFUSED, 1),
+    (1 << 24, 1, REPORTS, 0),
+];
+
+#[test]
+fn budgets(rt: HostRuntime) -> Result<(), Fail> {
+    let alloc = rt.alloc();
+    let input = input(alloc)?;
+    for (budget, workers, lines, starved) in BUDGETS {
+        let over = Over { workers, ..ALONE };
+        let maker = MemoryMaker::new(alloc, budget);
+        let told = lint_over(&rt, alloc, over, maker, &NoGate, &input)?;
+        assert!(rt; told.is(lines.as_bytes(), starved), "budget {budget}");
+    }
+    Ok(())
+}
+
+/// Makes sources that refuse so many requests from this one on, from 1.
+#[derive(Drop)]
+struct RefusingMaker {
+    alloc: Global,
+    first: u64,
+    count: u64,
+}
+
+impl ChunkMaker for RefusingMaker {
+    type Chunks = RefusingChunks;
+
+    fn make(&mut self) -> RefusingChunks {
+        let mut refuse = Vec::new(self.alloc);
+        for i in 0..self.count {
+            let _ = refuse.push(self.first.saturating_add(i));
+        }
+        RefusingChunks::new(self.alloc, refuse)
+    }
+}
+
+// What is told where each arena's source refuses so many requests from this one on.
+fn refusing<R: Threads + Wait + Abort + Sync>(
+    rt: &R,
+    alloc: Global,
+    first: u64,
+    count: u64,
+) -> Result<Told, Fail> {
+    let maker = RefusingMaker {
+        alloc,
+        first,
+        count,
+    };
+    let input = input(alloc)?;
+    lint_over(rt, alloc, ALONE, maker, &NoGate, &input)
+}
+
+// Smaller chunks are asked for where one is refused, and so a source that refuses one request may starve nobody.
+#[test]
+fn each_request_is_refused_in_turn(rt: HostRuntime) -> Result<(), Fail> {
+    for first in 1..=20 {
+        let told = refusing(&rt, rt.alloc(), first, 1)?;
+        let starved = told.starved;
+        assert!(rt;
+            told.is(REPORTS.as_bytes(), 0)
+                || told.is(FIRST_REFUSED.as_bytes(), 1)
+                || told.is(BOTH_REFUSED.as_bytes(), 2),
+            "request {first}, {starved} starved"
+        );
+    }
+    Ok(())
+}
+
+// From the first request on both programs are starved, from a later one on the large program alone, and at last none.
+#[test]
+fn all_requests_from_one_on_are_refused(rt: HostRuntime) -> Result<(), Fail> {
+    let mut before = 2;
+    for first in 1..=20 {
+        let told = refusing(&rt, rt.alloc(), first, 100)?;
+        let starved = told.starved;
+        let lines = match starved {
+            0 => REPORTS,
+            1 => FIRST_REFUSED,
+            _ => BOTH_REFUSED,
+        };
+        assert!(rt; told.is(lines.as_bytes(), starved) && starved <= before);
+        assert!(rt; first > 1 || starved == 2);
+        assert!(rt; first != 2 || starved == 1);
+        before = starved;
+    }
+    assert_eq!(rt; before, 0);
+    Ok(())
+}

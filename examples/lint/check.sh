@@ -1,0 +1,19 @@
+#!/bin/bash
+# Lints each example on 1, 2, 7 and 64 workers, and compares the reports: they are the same however many workers there are.
+set -u
+here=$(dirname "$(readlink -f "$0")")
+program=$("$here/../../tools/program.sh" arena_run --version) || exit 1
+failed=0
+
+for input in "$here"/*.txt; do
+    name=$(basename "$input" .txt)
+    for workers in 1 2 7 64; do
+        if "$program" lint $workers < "$input" | cmp -s - "$here/$name.replies"; then
+            echo "ok   $name, lint $workers"
+        else
+            echo "FAIL $name, lint $workers"
+            failed=1
+        fi
+    done
+done
+exit $failed
