@@ -12,7 +12,7 @@ import sys
 
 TOP = pathlib.Path(__file__).resolve().parent.parent
 PAGE = TOP / "docs" / "PERFORMANCE.md"
-SIZES = (1000, 100000, 1000000, 10000000)
+SIZES = (10000, 100000, 1000000, 10000000)
 CHUNKS = (1, 10, 20, 40)
 HERE, RUST, GRID, TEXT = "#0b6e4f", "#b3541e", "#dddddd", "#222222"
 
@@ -95,7 +95,7 @@ def ratios(loops, found):
         return left + (math.log2(max(ratio, 0.25)) + 2) * 90
 
     shapes = [text(left, 16, "time here by time in the Rust crate: left of 1 is faster here", size=13)]
-    for ratio in (0.25, 0.5, 1, 2, 4, 8):
+    for ratio in (0.25, 0.5, 1, 2, 4, 8, 16):
         shapes += [line(x(ratio), top - 8, x(ratio), bottom, TEXT if ratio == 1 else GRID)]
         shapes += [text(x(ratio), top - 14, f"{ratio:g}", "middle")]
     for i, loop in enumerate(loops):
@@ -105,7 +105,7 @@ def ratios(loops, found):
         shapes += [text(left - 10, y + 12, loop, "end")]
         shapes += [f'<rect x="{low:.1f}" y="{y + 3}" width="{max(high - low, 1):.1f}" height="{step - 6}" fill="{colour}"/>']
         shapes += [text(high + 5, y + 12, f"{ratio:.2f}", colour=colour)]
-    return svg(720, bottom + 12, "Each loop's time here by the Rust crate's", shapes)
+    return svg(780, bottom + 12, "Each loop's time here by the Rust crate's", shapes)
 
 
 def panel(name, found, left, top):
@@ -116,7 +116,7 @@ def panel(name, found, left, top):
     low, top_power = math.floor(math.log10(min(times))), math.ceil(math.log10(max(times)))
 
     def x(size):
-        return left + (math.log10(size) - 3) / 4 * wide
+        return left + (math.log10(size) - 4) / 3 * wide
 
     def y(time):
         return top + high - (math.log10(time) - low) / (top_power - low) * high

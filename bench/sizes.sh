@@ -1,16 +1,16 @@
 #!/bin/bash
-# Measures cost against size, as loops.sh and calls.sh do: vectors and maps of a thousand to ten million values, blocks of eight
+# Measures cost against size, as loops.sh and calls.sh do: vectors and maps of ten thousand to ten million values, blocks of eight
 # bytes in one of up to forty chunks, and lines of calls.
 set -euo pipefail
 here=$(dirname "$(readlink -f "$0")")
 loops=()
 for name in vec_push vec_sum map_insert map_get; do
-    for values in 1000 100000 1000000 10000000; do
+    for values in 10000 100000 1000000 10000000; do
         loops+=("$name $values")
     done
 done
 for name in map_remove map_iter; do
-    for values in 1000 100000 1000000; do
+    for values in 10000 100000 1000000; do
         loops+=("$name $values")
     done
 done
