@@ -74,9 +74,9 @@ one_lender words a b p q = same_lender a.lender b.lender (ap (drop 2) (sym p.all
 
 module _ {C : Type 0} (source : C → Source) (worked : List Command → Outcome → Type 0) (words : List (List ℕ)) (status : Status)
     (old new : Outside) (before after : List (ℕ × Starved C)) where
-  pub scripts_ended : (task : Task) → AsksScripts words task → ScriptEnds source worked task.lender status old new before after
+  pub scripts_end : (task : Task) → AsksScripts words task → ScriptEnds source worked task.lender status old new before after
       → MainEnds source worked words status old new before after
-  scripts_ended task asks ends = record {
+  scripts_end task asks ends = record {
     calls = λ calls. absurd (no_calls words task asks calls);
     gen = λ start count gen. absurd (no_gen words task start count asks gen);
     scripts = λ other asked. subst (λ lender. ScriptEnds source worked lender status old new before after)
@@ -86,9 +86,9 @@ module _ {C : Type 0} (source : C → Source) (worked : List Command → Outcome
     unstarved = λ none lint. absurd (none task asks);
   }
 
-  pub lint_ended : (workers : ℕ) → AsksLint words workers → LintEnds source status old new before after
+  pub lint_end : (workers : ℕ) → AsksLint words workers → LintEnds source status old new before after
       → MainEnds source worked words status old new before after
-  lint_ended workers asks ends = record {
+  lint_end workers asks ends = record {
     calls = λ calls. absurd (lint_no_calls words workers asks calls);
     gen = λ start count gen. absurd (lint_no_gen words workers start count asks gen);
     scripts = λ task scripts. absurd (no_lint words task workers scripts asks);
@@ -97,9 +97,10 @@ module _ {C : Type 0} (source : C → Source) (worked : List Command → Outcome
     unstarved = λ scripts none. absurd (none workers asks);
   }
 
-  pub calls_ended : ((task : Task) → AsksScripts words task → ⊥) → ((workers : ℕ) → AsksLint words workers → ⊥) → EndsBy words status old new → after ≡ before
+  pub calls_end : ((task : Task) → AsksScripts words task → ⊥) → ((workers : ℕ) → AsksLint words workers → ⊥)
+      → EndsBy words status old new → after ≡ before
       → MainEnds source worked words status old new before after
-  calls_ended none unlinted ends kept = record {
+  calls_end none unlinted ends kept = record {
     calls = ends.calls;
     gen = ends.gen;
     scripts = λ task asks. absurd (none task asks);

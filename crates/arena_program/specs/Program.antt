@@ -75,7 +75,8 @@ line_message n = codes "line " ++ (number n ++ (codes " is not understood" ++ 10
 
 abbrev pub message_of : Status → List ℕ
 message_of Done = []
-message_of Usage = codes "usage: arena_run calls | gen START COUNT | scripts WORKERS [fixed BYTES ARENAS | keep BYTES] | lint WORKERS" ++ 10 ∷ []
+message_of Usage =
+    codes "usage: arena_run calls | gen START COUNT | scripts WORKERS [fixed BYTES ARENAS | keep BYTES] | lint WORKERS" ++ 10 ∷ []
 message_of (BadLine n) = line_message n
 message_of OutOfMemory = codes "out of memory" ++ 10 ∷ []
 message_of ReadFault = codes "read fault" ++ 10 ∷ []

@@ -19,7 +19,7 @@ use std::thread::Threads;
 /// an arena of a pool with a source of `maker`, and writes what they answered. Nothing is written before all was run. With
 /// scripts and sources it waits at the pool's lock, and `starved` gains the number of each that ended refused, with what shows
 /// that it was starved.
-#[tactic(auto, using(crate::proofs::MainLemmas::scripts_ended, crate::proofs::MainLemmas::lint_ended, crate::proofs::MainLemmas::calls_ended))]
+#[tactic(auto, using(crate::proofs::MainLemmas::scripts_end, crate::proofs::MainLemmas::lint_end, crate::proofs::MainLemmas::calls_end))]
 pub fn arena_main<
     C: ChunkSource,
     I: Input,

@@ -28,7 +28,8 @@ returns-in-Ok-write_all g c =
         record {
           bytes = c.in-Ok.bytes.items;
           whole = record { told = c.in-Ok.ensures.all; small = omega (arith, c.in-Ok.ensures.kept) };
-          alone = rw (c.as_slice-2.ensures.value, c.in-Ok-sources_in.ensures.sources, c.as_slice.ensures.value) at c.in-Ok-lint_over_pool.ensures;
+          alone = rw (c.as_slice-2.ensures.value, c.in-Ok-sources_in.ensures.sources, c.as_slice.ensures.value)
+              at c.in-Ok-lint_over_pool.ensures;
           gained = c.in-Ok-report.ensures.gained;
           arena = refl;
         },
@@ -47,7 +48,8 @@ returns g c =
         record {
           bytes = c.in-Ok.bytes.items;
           whole = record { told = c.in-Ok.ensures.all; small = omega (arith, c.in-Ok.ensures.kept) };
-          alone = rw (c.as_slice-2.ensures.value, c.in-Ok-sources_in.ensures.sources, c.as_slice.ensures.value) at c.in-Ok-lint_over_pool.ensures;
+          alone = rw (c.as_slice-2.ensures.value, c.in-Ok-sources_in.ensures.sources, c.as_slice.ensures.value)
+              at c.in-Ok-lint_over_pool.ensures;
           gained = c.in-Ok-report.ensures.gained;
           arena = refl;
         },
