@@ -3,5 +3,4 @@ pub mod ReadAll
 pub mod Lines
 pub mod Ends
 pub mod Tallies
-pub mod Draws
 pub mod Arguments

@@ -7,7 +7,7 @@ use Rattle.std.proofs.lemmas.Bool.Decides.{nat_tests}
 use Rattle.std.proofs.lemmas.Option.{cond_some}
 use Rattle.std.proofs.lemmas.List.{length-map, length-take}
 use Rattle.placement.specs.Rounding.{up, is_layout, is_power}
-use Rattle.placement.specs.State.{State, Chunk, AreChunks, IsValid, top_of, cursor_of, newest_size, used_bytes}
+use Rattle.placement.specs.State.{State, Chunk, AreChunks, IsValid, top_of, cursor_of, newest_size, used_bytes, allocated_bytes}
 use Rattle.placement.specs.Search.{place, asked, requests, alloc_requests}
 use Rattle.placement.specs.Moves.{Outcome, Resizing, alloc, dealloc, resize, growing, growth, down_to, shrinking, shrink_step, stays, placed, fails}
 use Rattle.placement.specs.Moves.Resizing.{Stays, Moves, Anew, Refused as NotGrown}
@@ -17,6 +17,7 @@ use Rattle.placement.specs.Asking.{IsRequestWithin, HasGrown, most_asked}
 use Rattle.placement.proofs.RoundingLemmas.{layout_power, up_close, power_positive, min_align_positive, min_align_le}
 use Rattle.placement.proofs.UsedResizeLemmas.{resize_stays, resize_moves, resize_refused}
 use Rattle.placement.proofs.AskedSizeLemmas.{all_requests, newest_short, one_chunk, asks_some}
+use Rattle.placement.proofs.AnySizeLemmas.{asks_any}
 use Rattle.placement.proofs.GrownLemmas.{grown_not, cursor_grown, dealloc_grown, alloc_grown, IsFailed, alloc_failed}
 use Rattle.placement.proofs.AskingLemmas.{asks_nothing, asks_by, refused_by}
 use Rattle.arena_chunks.specs.Memory.{Memory}
@@ -111,15 +112,13 @@ made_some : (state : State) (size align k : ℕ) → IsFailed state size align k
 unfolding requests
 made_some state size align k failed some = rw (failed.none, failed.all) (simp (length-map, length-take) (omega arith))
 
--- Where an arena that grows has no place for a block, the source has refused.
-alloc_starved : (old new : View) (size align k : ℕ) → IsValid old.memory.state → old.memory.state.is_growing ≡ true
-    → IsTrue (is_layout size align) → align ≤ 16 → size ≤ 2 ^ 60 → (state : State)
+-- Where an arena that grows has no place for a block, and some chunk may be asked for, the source has refused.
+alloc_starved : (old new : View) (size align k : ℕ) → IsValid old.memory.state → IsTrue (is_layout size align)
+    → 0 < length (asked old.memory.state size align) → (state : State)
     → alloc old.memory.state size align k ≡ Some (record { answer = None; state = state })
-    → IsAsked old.source new.source k (alloc_requests old.memory.state size align k)
-    → top_of old.memory.state.chunks ≤ 2 ^ 63 + 2 ^ 62 → IsRefusedBySource old new
-alloc_starved old new size align k valid growing layout small bounded state step asked low =
+    → IsAsked old.source new.source k (alloc_requests old.memory.state size align k) → IsRefusedBySource old new
+alloc_starved old new size align k valid layout some state step asked =
     let failed = alloc_failed old.memory.state state size align k valid (layout_power size align layout) step in
-    let some = asks_some old.memory.state size align valid growing small bounded low in
     refused_by k (alloc_requests old.memory.state size align k) old.source new.source asked (omega (arith, failed.all, some))
     (made_some old.memory.state size align k failed some)
 
@@ -139,8 +138,17 @@ pub placed_starved : (old new : View) (size align k : ℕ) → IsTrue (is_layout
     → old.memory.state.is_growing ≡ true → PlacesBlock old new size align (Refused k)
     → top_of old.memory.state.chunks ≤ 2 ^ 63 + 2 ^ 62 → IsRefusedBySource old new
 placed_starved old new size align k layout small bounded growing places low =
-    alloc_starved old new size align places.0 places.1.valid.entry growing layout small bounded old.memory.state
-    places.1.outcome.1.step places.1.outcome.1.asked low
+    let valid = places.1.valid.entry in
+    alloc_starved old new size align places.0 valid layout (asks_some old.memory.state size align valid growing small bounded low)
+    old.memory.state places.1.outcome.1.step places.1.outcome.1.asked
+
+pub placed_starved_any : (old new : View) (size align k : ℕ) → IsTrue (is_layout size align) → align ≤ 16 → size + 64 ≤ 2 ^ 63
+    → old.memory.state.is_growing ≡ true → PlacesBlock old new size align (Refused k)
+    → allocated_bytes old.memory.state < 2 ^ 60 → top_of old.memory.state.chunks ≤ 2 ^ 62 + 2 ^ 61 → IsRefusedBySource old new
+placed_starved_any old new size align k layout small fits growing places few low =
+    let valid = places.1.valid.entry in
+    alloc_starved old new size align places.0 valid layout (asks_any old.memory.state size align valid growing small fits few low)
+    old.memory.state places.1.outcome.1.step places.1.outcome.1.asked
 
 pub placed_full : (old new : View) (size align k : ℕ) → IsTrue (is_layout size align) → old.memory.state.is_growing ≡ false
     → PlacesBlock old new size align (Refused k) → IsFull (used_bytes old.memory.state + size + (unit_of old.memory.state align - 1)) old
@@ -199,7 +207,8 @@ pub grown_starved : (old new : View) (block : Block) (size align k : ℕ) → Is
     → GrowsBlock old new block size align (Refused k) → top_of old.memory.state.chunks ≤ 2 ^ 63 + 2 ^ 62 → IsRefusedBySource old new
 grown_starved old new block size align k layout small power low_align bounded growing grows low =
     let anew = grown_anew old new block size align k power low_align (omega arith) grows in
-    alloc_starved old new size align anew.0 anew.3 growing layout small bounded old.memory.state anew.1 anew.2 low
+    alloc_starved old new size align anew.0 anew.3 layout (asks_some old.memory.state size align anew.3 growing small bounded low)
+    old.memory.state anew.1 anew.2
 
 -- no chunk has as many bytes as a size that is refused at once
 chunk_below : (state : State) → IsValid state → newest_size state.chunks + 64 ≤ 2 ^ 63
@@ -247,7 +256,8 @@ pub shrunk_starved : (old new : View) (block : Block) (size align k : ℕ) → I
     → top_of old.memory.state.chunks ≤ 2 ^ 63 + 2 ^ 62 → IsRefusedBySource old new
 shrunk_starved old new block size align k layout small bounded growing shrinks low =
     let anew = shrunk_anew old new block size align k shrinks in
-    alloc_starved old new size align anew.0 anew.3 growing layout small bounded old.memory.state anew.1 anew.2 low
+    alloc_starved old new size align anew.0 anew.3 layout (asks_some old.memory.state size align anew.3 growing small bounded low)
+    old.memory.state anew.1 anew.2
 
 pub shrunk_full : (old new : View) (block : Block) (size align k : ℕ) → IsTrue (is_layout size align)
     → old.memory.state.is_growing ≡ false → ShrinksBlock old new block size align (Refused k)

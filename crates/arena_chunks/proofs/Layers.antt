@@ -23,6 +23,7 @@ pub use Rattle.arena_chunks.proofs.AskingLemmas.{
   asks_resized,
   asks_given_back,
   placed_starved,
+  placed_starved_any,
   grown_starved,
   shrunk_starved,
   placed_full,

@@ -15,7 +15,7 @@ use crate::chunks::chunk::{NOWHERE, StoredChunk};
 use crate::chunks::table::Table;
 use arena_place::CHUNK_FOOTER_SIZE;
 pub use create::RawErr;
-pub use iter::{ChunkIter, ChunkRawIter};
+pub use iter::{Chunk, ChunkIter, ChunkRawIter, Chunks};
 use placement::Place;
 pub use rewind::Checkpoint;
 use std::marker::Model;

@@ -1,5 +1,5 @@
 -- The fixed hash. No other file rests on its values.
-use Rattle.std.specs.Prelude.{ℕ, zero, suc, ◌+◌, ◌*◌, ◌/◌, ◌%◌, ◌^◌, List, take, drop, length, fold, bit_xor, ◌==◌, if◌then◌else◌}
+use Rattle.std.specs.Prelude.{ℕ, zero, suc, ◌+◌, ◌-◌, ◌*◌, ◌/◌, ◌%◌, ◌^◌, List, take, drop, length, fold, bit_xor, ◌==◌, nat_lt, if◌then◌else◌}
 use Rattle.std.specs.Int.{w32, w64, from_le_bytes, rotate_left}
 
 -- the factor of the products
@@ -10,18 +10,40 @@ factor = 0xf1357aea2e62a9c5
 abbrev pub mixed : ℕ → ℕ
 mixed word = let product = word * factor in bit_xor (product % 2 ^ 64) (product / 2 ^ 64)
 
--- the number of a few bytes behind the factor, the first byte highest, below 2 ^ 64
+-- a length, spread over the bits of a word
+abbrev pub spread : ℕ → ℕ
+spread n = n * factor % 2 ^ 64
+
+-- the number of a few bytes, the first byte highest, below 2 ^ 64
 abbrev pub number_of : List ℕ → ℕ
-number_of bytes = fold (λ n byte. (n * 256 % 2 ^ 64 + byte) % 2 ^ 64) factor bytes
+number_of bytes = fold (λ n byte. (n * 256 % 2 ^ 64 + byte) % 2 ^ 64) 0 bytes
 
--- so many words of eight bytes, to each of which the factor is added, and then what is left
+-- the number of fewer than eight bytes: of all, or of the first four and the last four, which may overlap
+abbrev pub short_of : List ℕ → ℕ
+short_of content =
+    if nat_lt (length content) 4 then number_of content
+    else from_le_bytes w32 (take 4 content) + 2 ^ 32 * from_le_bytes w32 (drop (length content - 4) content)
+
+-- a hash, and one more word of eight bytes, to which the factor is added: so a hash that became 0 doesn't stay 0 over words of 0
+abbrev pub joined : ℕ → List ℕ → ℕ
+joined hash word = mixed (bit_xor hash ((from_le_bytes w64 word + factor) % 2 ^ 64))
+
+-- a hash, and so many words more
 unfoldable pub folded : ℕ → ℕ → List ℕ → ℕ
-folded hash zero bytes = mixed (bit_xor hash (number_of bytes))
-folded hash (suc words) bytes = folded (mixed (bit_xor hash ((from_le_bytes w64 (take 8 bytes) + factor) % 2 ^ 64))) words (drop 8 bytes)
+folded hash zero bytes = hash
+folded hash (suc words) bytes = folded (joined hash (take 8 bytes)) words (drop 8 bytes)
 
--- A number of four bytes is multiplied and rotated, one of eight is mixed, and any other content is folded word after word.
+-- the words that the last byte isn't in, and then the last eight bytes, of which some may be in the word before
+abbrev pub long_of : List ℕ → ℕ
+long_of content =
+    let n = length content in
+    joined (folded (spread n) ((n - 1) / 8) content) (drop (n - 8) content)
+
+-- A number of four bytes is multiplied and rotated, one of eight is mixed, and any other content is mixed with its length.
 unfoldable pub fx_of : List ℕ → ℕ
 fx_of content =
-    if length content == 4 then rotate_left w64 (from_le_bytes w32 content * factor % 2 ^ 64) 26
-    else (if length content == 8 then mixed (from_le_bytes w64 content)
-    else folded (mixed (bit_xor (length content) factor)) (length content / 8) content)
+    let n = length content in
+    if nat_lt 8 n then long_of content
+    else (if n == 4 then rotate_left w64 (from_le_bytes w32 content * factor % 2 ^ 64) 26
+    else (if n == 8 then mixed (from_le_bytes w64 content)
+    else mixed (bit_xor (spread n) ((short_of content + factor) % 2 ^ 64))))

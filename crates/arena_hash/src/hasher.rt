@@ -1,6 +1,6 @@
 // Hashes of contents.
-ghost use Rattle.std.specs.Prelude.{◌≡◌, ℕ, ◌/◌, List, length, bit_xor};
-ghost use Rattle.arena_hash.specs.Fx.{factor, mixed, number_of, folded, fx_of};
+ghost use Rattle.std.specs.Prelude.{◌≡◌, ℕ, ◌+◌, ◌<◌, ◌≤◌, List, take, drop, length};
+ghost use Rattle.arena_hash.specs.Fx.{mixed, spread, number_of, short_of, joined, long_of, fx_of};
 
 use arena_items::Item;
 
@@ -25,6 +25,8 @@ const FACTOR: u64 = 0xf135_7aea_2e62_a9c5;
 
 const SPAN: u128 = 0x1_0000_0000_0000_0000;
 
+const HALF: u64 = 0x1_0000_0000;
+
 // The two halves of a product, joined.
 #[inline]
 fn mixed(word: u64) -> u64
@@ -39,24 +41,59 @@ fn mixed(word: u64) -> u64
 fn number_of(bytes: &[u8]) -> u64
     ensures { result ≡ number_of bytes.now }
 {
-    bytes.iter().fold(FACTOR, |number, byte| {
+    bytes.iter().fold(0, |number: u64, byte| {
         number.wrapping_mul(256).wrapping_add(*byte as u64)
     })
 }
 
-// The hash of any content, word after word. The factor is added to each word, so that a hash that became 0
-// doesn't stay 0 over words of 0, nor where nothing is left.
-fn folded(content: &[u8]) -> u64
-    ensures { result ≡ folded
-        (mixed (bit_xor (length content.now) factor)) (length content.now / 8) content.now }
+// A length, spread over the bits of a word.
+#[inline]
+fn spread(n: usize) -> u64
+    ensures { result ≡ spread n }
 {
-    let mut hash = mixed(content.len() as u64 ^ FACTOR);
-    let words = content.len() / 8;
-    for i in 0..words {
-        let word = u64::decode(&content[8 * i..8 * i + 8]).wrapping_add(FACTOR);
-        hash = mixed(hash ^ word);
+    (n as u64).wrapping_mul(FACTOR)
+}
+
+// The hash with the word of eight bytes at an index. The factor is added to each word, so that a hash that
+// became 0 doesn't stay 0 over words of 0.
+#[inline]
+fn joined(hash: u64, content: &[u8], at: usize) -> u64
+    requires { at + 8 ≤ length content.now }
+    ensures { result ≡ joined hash (take 8 (drop at content.now)) }
+{
+    let word = u64::decode(&content[at..at + 8]);
+    mixed(hash ^ word.wrapping_add(FACTOR))
+}
+
+// A content of fewer than eight bytes as one number: two words of four bytes, which may overlap, or all bytes.
+#[inline(always)]
+fn short_of(content: &[u8]) -> u64
+    requires { length content.now < 8 }
+    ensures { result ≡ short_of content.now }
+{
+    let n = content.len();
+    if n < 4 {
+        return number_of(content);
     }
-    mixed(hash ^ number_of(&content[8 * words..]))
+    let low = u32::decode(&content[..4]) as u64;
+    let high = u32::decode(&content[n - 4..]) as u64;
+    low + HALF * high
+}
+
+// The hash of a content of more than eight bytes, word after word. The last eight bytes are a word of their own, which
+// may overlap the one before it.
+#[inline]
+fn long_of(content: &[u8]) -> u64
+    requires { 8 < length content.now }
+    ensures { result ≡ long_of content.now }
+{
+    let n = content.len();
+    let words = (n - 1) / 8;
+    let mut hash = joined(spread(n), content, 0);
+    for i in 1..words {
+        hash = joined(hash, content, 8 * i);
+    }
+    joined(hash, content, n - 8)
 }
 
 impl KeyHasher for FxHasher {
@@ -64,13 +101,17 @@ impl KeyHasher for FxHasher {
 
     #[inline]
     fn hash(&self, content: &[u8]) -> u64 {
-        match content.len() {
+        let n = content.len();
+        if n > 8 {
+            return long_of(content);
+        }
+        match n {
             4 => {
                 let number = u32::decode(content) as u64;
                 number.wrapping_mul(FACTOR).rotate_left(26)
             }
             8 => mixed(u64::decode(content)),
-            _ => folded(content),
+            _ => mixed(spread(n) ^ short_of(content).wrapping_add(FACTOR)),
         }
     }
 }

@@ -15,6 +15,7 @@ mod pairs;
 mod policy;
 mod put;
 mod rehash;
+mod same;
 mod set;
 mod table;
 mod walk;

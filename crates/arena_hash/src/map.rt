@@ -20,6 +20,7 @@ use crate::marks::{farther, home_mark, least, ring};
 use crate::pairs::{key_at, value_at};
 use crate::policy::limit_of;
 use crate::put::PutValue;
+use crate::same::same;
 use crate::table::{Spot, Table};
 use arena_chunks::{Allocator, ChunkSource};
 use arena_items::{Grown, Item};
@@ -47,22 +48,6 @@ pub(crate) struct Look {
 }
 
 #[tactic(auto, using(crate::proofs::WordLemmas::word_laws))]
-// Whether two contents are equal. Words are compared at once, since the call that compares slices takes
-// longer.
-#[inline(always)]
-fn same(one: &[u8], other: &[u8]) -> bool
-    ensures { IsTrue result ↔ (one.now ≡ other.now) }
-{
-    if one.len() != other.len() {
-        return false;
-    }
-    match one.len() {
-        4 => u32::decode(one) == u32::decode(other),
-        8 => u64::decode(one) == u64::decode(other),
-        _ => one == other,
-    }
-}
-
 // Whether a key has this content.
 #[inline(always)]
 fn holds<K: ArenaKey, C: ChunkSource>(a: &Allocator<C>, key: K, wanted: &[u8]) -> bool
@@ -73,17 +58,19 @@ fn holds<K: ArenaKey, C: ChunkSource>(a: &Allocator<C>, key: K, wanted: &[u8]) -
     same(key.content(a, &mut room), wanted)
 }
 
-// Looks for a content in a table that has slots.
+// Looks for a content in a table that has slots, among its bytes.
 #[inline(always)]
 fn find<K: ArenaKey, V: Item, C: ChunkSource>(
     a: &Allocator<C>,
     table: Table<K, V>,
+    bytes: &[u8],
     hash: u64,
     wanted: &[u8],
 ) -> Spot
     requires keys_small { K.SIZE ≤ 2 ^ 24 }
     requires values_small { V.SIZE ≤ 2 ^ 24 }
     requires handle { IsTableHandle K.Item V.Item a.now.memory table }
+    requires bytes { bytes.now ≡ bytes_of a.now.memory table.block }
     requires free { HasFree K.Item V.Item a.now.memory table }
     requires texts { (x : K × V) → Has (slots_in K.Item V.Item a.now.memory table) x
         → IsTrue (is_readable a.now.memory.state (K.key.text x.0)) }
@@ -94,7 +81,6 @@ fn find<K: ArenaKey, V: Item, C: ChunkSource>(
         (slots_in K.Item V.Item a.now.memory table)
         (λ p. content_in K.key a.now.memory p.0) wanted.now hash result }
 {
-    let bytes = a.read(table.block);
     let mut at = ring(table.slots, hash);
     let mut mark = home_mark(hash);
     'slots: for _ in 0..table.slots {
@@ -122,13 +108,19 @@ impl<K: ArenaKey, V: Item, S: KeyHasher> HashMap<K, V, S> {
         self.hasher.hash(key.content(a, &mut room))
     }
 
-    // Looks for a content.
+    // Looks for a content, among the table's bytes.
     #[inline(always)]
-    pub(crate) fn look_by<C: ChunkSource>(&self, a: &Allocator<C>, wanted: &[u8]) -> Look
+    pub(crate) fn look_by<C: ChunkSource>(
+        &self,
+        a: &Allocator<C>,
+        bytes: &[u8],
+        wanted: &[u8],
+    ) -> Look
         requires keys_small { K.SIZE ≤ 2 ^ 24 }
         requires values_small { V.SIZE ≤ 2 ^ 24 }
         requires held { IsTableIn
             (kind K.Item K.key V.Item S.hash_of) a.now.memory self.now.hasher self.now.table }
+        requires bytes { bytes.now ≡ bytes_of a.now.memory self.now.table.block }
         requires free { 0 < self.now.table.slots → HasFree K.Item V.Item a.now.memory self.now.table }
         ensures hash { result.hash ≡ S.hash_of self.now.hasher wanted.now }
         ensures ends { Ends (λ p. home_of self.now.table.slots (pair_hash
@@ -140,7 +132,7 @@ impl<K: ArenaKey, V: Item, S: KeyHasher> HashMap<K, V, S> {
         let spot = if self.table.slots == 0 {
             Spot::Open { at: 0, mark: 0 }
         } else {
-            find(a, self.table, hash, wanted)
+            find(a, self.table, bytes, hash, wanted)
         };
         Look { hash, spot }
     }
@@ -163,7 +155,7 @@ impl<K: ArenaKey, V: Item, S: KeyHasher> HashMap<K, V, S> {
     {
         let mut room = [0u8; 16];
         let wanted = key.content(a, &mut room);
-        self.look_by(a, wanted)
+        self.look_by(a, a.read(self.table.block), wanted)
     }
 
     // The value in a slot.
@@ -205,10 +197,9 @@ impl<K: ArenaKey, V: Item, S: KeyHasher> HashMap<K, V, S> {
         ensures { result ≡ value_of (map_in (kind K.Item K.key V.Item S.hash_of) a.now.memory self.now
             (content_in K.key a.now.memory key)) }
     {
-        match self.look(a, key).spot {
-            Spot::Taken { at } => Some(self.value(a, at)),
-            Spot::Open { .. } => None,
-        }
+        let mut room = [0u8; 16];
+        let wanted = key.content(a, &mut room);
+        self.get_by(a, wanted)
     }
 
     /// The value of the key with this content, so that a text need not be placed to be looked for.
@@ -220,8 +211,9 @@ impl<K: ArenaKey, V: Item, S: KeyHasher> HashMap<K, V, S> {
         ensures { result ≡ value_of (map_in (kind K.Item K.key V.Item S.hash_of) a.now.memory self.now
             content.now) }
     {
-        match self.look_by(a, content).spot {
-            Spot::Taken { at } => Some(self.value(a, at)),
+        let bytes = a.read(self.table.block);
+        match self.look_by(a, bytes, content).spot {
+            Spot::Taken { at } => Some(value_at::<K, V>(bytes, self.table.slots, at)),
             Spot::Open { .. } => None,
         }
     }

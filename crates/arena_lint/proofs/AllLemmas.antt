@@ -1,5 +1,5 @@
 -- What comes of work on a lent arena, where the work is a source, is what comes of the source alone.
-use Rattle.std.proofs.Common.{◌≡◌, ◌≢◌, ℕ, ◌≤◌, ◌⊎◌, inl, inr, true, false, List, [], ◌∷◌, length, Option, None, Some, sym, refl, ap, ◌∙◌, subst, arith}
+use Rattle.std.proofs.Common.{◌≡◌, ◌≢◌, ℕ, ◌⊎◌, inl, inr, false, List, [], ◌∷◌, length, Option, None, Some, sym, refl, ap, ◌∙◌, subst, arith}
 use Rattle.std.specs.Prelude.{Result, IfNone}
 use Rattle.std.specs.List.{AllZip}
 use Rattle.arena_chunks.specs.Source.{Source, View}

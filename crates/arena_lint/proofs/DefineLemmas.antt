@@ -1,39 +1,35 @@
 -- Sets of names and scopes, as texts are given numbers and names are defined.
-use Rattle.std.proofs.Common.{◌≡◌, ℕ, ◌<◌, ◌≤◌, List, [], ◌∷◌, ◌++◌, length, length-append, refl, sym, ap, ◌∙◌, inl, inr, Some, None, Option, true, false, Bool, ◌||◌, ◌&&◌, is_some, arith, get_or}
-use Rattle.std.specs.Prelude.{if◌then◌else◌, bytes_eq, ◌==◌}
-use Rattle.std.proofs.lemmas.Bool.{cases_Bool, eqb-true, eq-eqb}
+use Rattle.std.proofs.Common.{◌≡◌, ℕ, ◌<◌, List, [], ◌∷◌, ◌++◌, length, length-append, refl, sym, ap, ◌∙◌, Some, None, Option, true, false, Bool, ◌||◌, ◌&&◌, is_some, arith, get_or}
+use Rattle.std.specs.Prelude.{Decides, if◌then◌else◌, bytes_eq, ◌==◌}
+use Rattle.std.proofs.lemmas.Bool.{eqb-true, eq-eqb}
+use Rattle.std.proofs.lemmas.Bool.Decides.{Decides-at, nat_tests, same_from_decides}
 use Rattle.std.proofs.lemmas.Option.{none-some, same_Some}
 use Rattle.std.proofs.lemmas.Slice.Eq.{bytes_eq-Decides}
 use Rattle.std.proofs.lemmas.List.Quantifiers.{position-Some}
 use Rattle.std.proofs.lemmas.Iterator.Adapters.{position_from-zero}
 use Rattle.arena_symbols.specs.Interner.{number_of, with_text}
-use Rattle.arena_symbols.specs.Scoping.{seen, value_in, lookup, is_in_last, with_pair}
+use Rattle.arena_symbols.specs.Scoping.{value_in, lookup, is_in_last, with_pair}
 use Rattle.arena_symbols.proofs.Layers.{number_push}
 use Rattle.tree_rules.specs.Tokens.{are_same}
 use Rattle.tree_rules.specs.Report.{Names, has_name, have_name, defined}
 use Rattle.tree_rules.specs.declared.finding.FindKind.TheVariants.{Redefined, Shadowed}
 use Rattle.tree_rules.specs.declared.finding.FindKind.{FindKind}
 use Rattle.arena_lint.specs.Knowing.{has_number, have_number, IsScope, AreScopes, found_of}
-use Rattle.arena_lint.proofs.KnowLemmas.{known_has}
+use Rattle.arena_lint.proofs.KnowLemmas.{known_has, some_seen}
 
 -- ---- Texts that are the same
 
 false-true : false ≡ true → ⊥
 false-true e = cc
 
-same_is : (a b : List ℕ) → are_same a b ≡ true → a ≡ b
-same_is [] [] is = refl
-same_is [] (c ∷ b) is = absurd (cc)
-same_is (c ∷ a) [] is = absurd (cc)
-same_is (c ∷ a) (d ∷ b) is = elim (cases_Bool (c == d)) [
-  | inl eq ↦ ap (λ (h : ℕ). h ∷ a) (eqb-true c d eq) ∙ ap (λ (l : List ℕ). d ∷ l) (same_is a b (sym (ap (λ (x : Bool). x && are_same a
-      b) eq) ∙ is))
-  | inr differ ↦ absurd (false-true (sym (ap (λ (x : Bool). x && are_same a b) differ) ∙ is))
-]
+same_bytes : (a b : List ℕ) → are_same a b ≡ bytes_eq a b
+same_bytes [] [] = refl
+same_bytes [] (c ∷ b) = refl
+same_bytes (c ∷ a) [] = refl
+same_bytes (c ∷ a) (d ∷ b) = ap (λ (x : Bool). (c == d) && x) (same_bytes a b)
 
-are_refl : (a : List ℕ) → are_same a a ≡ true
-are_refl [] = refl
-are_refl (c ∷ a) = ap (λ (x : Bool). x && are_same a a) (eq-eqb c c refl) ∙ are_refl a
+same_decides : (a b : List ℕ) → Decides (are_same a b) (a ≡ b)
+same_decides a b = Decides-at (are_same a b) (bytes_eq a b) (same_bytes a b) (bytes_eq-Decides a b)
 
 -- ---- Numbers
 
@@ -46,10 +42,19 @@ one_number texts a b i one other =
 number_within : (texts : List (List ℕ)) (a : List ℕ) (i : ℕ) → number_of texts a ≡ Some i → i < length texts
 number_within texts a i is = (position-Some (bytes_eq a) texts i [] (position_from-zero (bytes_eq a) texts ∙ is)).0
 
--- ---- A text more has a number
+-- a text without a number isn't one with a number, and texts with numbers are the same where those are
+no_number : (texts : List (List ℕ)) (a b : List ℕ) (i : ℕ) → number_of texts a ≡ Some i → number_of texts b ≡ None → are_same a b ≡ false
+no_number texts a b i one none = same_from_decides (are_same a b) false (same_decides a b)
+    (λ e. absurd (false-true e), λ is. absurd (none-some i (sym none ∙ ap (number_of texts) (sym is) ∙ one)))
 
-no_value : (scope : List (ℕ × ℕ)) (id : ℕ) → value_in scope id ≡ None → has_number scope (Some id) ≡ false
-no_value scope id none = ap is_some none
+same_number : (texts : List (List ℕ)) (a b : List ℕ) (i j : ℕ) → number_of texts a ≡ Some i → number_of texts b ≡ Some j
+    → are_same a b ≡ (i == j)
+same_number texts a b i j one two = same_from_decides (are_same a b) (i == j) (same_decides a b) (
+  λ is. one_number texts a b j (one ∙ ap Some (eqb-true i j is)) two,
+  λ is. eq-eqb i j (same_Some i j (sym one ∙ ap (number_of texts) is ∙ two)),
+)
+
+-- ---- A text more has a number
 
 scope_grown : (texts : List (List ℕ)) (text : List ℕ) (names : Names) (scope : List (ℕ × ℕ)) → number_of texts text ≡ None
     → IsScope texts names scope → IsScope (texts ++ text ∷ []) names scope
@@ -61,8 +66,7 @@ scope_grown texts text names scope none is = record {
     by : (name : List ℕ) (b : Bool) → bytes_eq name text ≡ b
         → has_number scope (if b then Some (length texts) else number_of texts name) ≡ has_number scope (number_of texts name)
     by name false differ = refl
-    by name true equal =
-        no_value scope (length texts) (is.within (length texts) (omega arith))
+    by name true equal = ap is_some (is.within (length texts) (omega arith))
         ∙ sym (ap (has_number scope) (ap (number_of texts) ((bytes_eq-Decides name text).0 equal) ∙ none))
 
 grown_none : (texts : List (List ℕ)) (text : List ℕ) → number_of texts text ≡ None → (known : List Names) (scopes : List (List (ℕ × ℕ)))
@@ -84,61 +88,42 @@ scopes_grown texts text known scopes are = by (number_of texts text) refl
 
 -- ---- A pair more in a scope
 
-value_push : (scope : List (ℕ × ℕ)) (id v j : ℕ) → value_in (scope ++ (id, v) ∷ []) j ≡ seen (if id == j then Some v else None)
-    (value_in scope j)
-value_push [] id v j = seen_none (if id == j then Some v else None)
-  where
-    seen_none : (o : Option ℕ) → seen None o ≡ seen o None
-    seen_none None = refl
-    seen_none (Some x) = refl
-value_push (p ∷ ps) id v j =
-    ap (λ (o : Option ℕ). seen o (if p.0 == j then Some p.1 else None)) (value_push ps id v j)
-    ∙ seen_seen (if id == j then Some v else None) (value_in ps j) (if p.0 == j then Some p.1 else None)
-  where
-    seen_seen : (a b c : Option ℕ) → seen (seen a b) c ≡ seen a (seen b c)
-    seen_seen None b c = refl
-    seen_seen (Some x) b c = refl
+or_assoc : (x y z : Bool) → ((x || y) || z) ≡ (x || (y || z))
+or_assoc true y z = refl
+or_assoc false y z = refl
 
-has_push : (scope : List (ℕ × ℕ)) (id v j : ℕ) → has_number (scope ++ (id, v) ∷ []) (Some j) ≡ ((id == j) || has_number scope (Some j))
-has_push scope id v j = ap is_some (value_push scope id v j) ∙ by (id == j) (value_in scope j)
+none_of : (o : Option ℕ) → is_some o ≡ false → o ≡ None
+none_of None h = refl
+none_of (Some x) h = absurd (cc)
+
+has_push : (scope : List (ℕ × ℕ)) (id v j : ℕ) → is_some (value_in (scope ++ (id, v) ∷ []) j) ≡ ((id == j) || is_some (value_in scope j))
+has_push [] id v j = by (id == j)
   where
-    by : (b : Bool) (o : Option ℕ) → is_some (seen (if b then Some v else None) o) ≡ (b || is_some o)
-    by true o = refl
-    by false o = refl
+    by : (b : Bool) → is_some (if b then Some v else None) ≡ (b || false)
+    by true = refl
+    by false = refl
+has_push (p ∷ ps) id v j =
+    let here : Option ℕ = if p.0 == j then Some p.1 else None in
+    some_seen (value_in (ps ++ (id, v) ∷ []) j) here ∙ ap (λ (x : Bool). x || is_some here) (has_push ps id v j)
+    ∙ or_assoc (id == j) (is_some (value_in ps j)) (is_some here)
+    ∙ ap (λ (x : Bool). (id == j) || x) (sym (some_seen (value_in ps j) here))
 
 scope_defined : (texts : List (List ℕ)) (name : List ℕ) (names : Names) (scope : List (ℕ × ℕ)) (id v : ℕ)
-    → number_of texts name ≡ Some id
-    → IsScope texts names scope → IsScope texts (name ∷ names) (scope ++ (id, v) ∷ [])
+    → number_of texts name ≡ Some id → IsScope texts names scope → IsScope texts (name ∷ names) (scope ++ (id, v) ∷ [])
 scope_defined texts name names scope id v number is = record {
   same = λ n. by n (number_of texts n) refl;
-  within = λ j far. value_push scope id v j ∙ away j far (id == j) refl;
+  within = λ j far.
+      let low = number_within texts name id number in
+      let away : (id == j) ≡ false = grind (arith, nat_tests) in
+      none_of _ (has_push scope id v j ∙ ap (λ (x : Bool). x || is_some (value_in scope j)) away ∙ ap is_some (is.within j far));
 }
   where
-    by : (n : List ℕ) (o : Option ℕ) → number_of texts n ≡ o → (are_same name n || has_name names n) ≡ has_number (scope ++ (id, v) ∷
-        []) o
-    by n None none = other n none (are_same name n) refl ∙ is.same n ∙ ap (has_number scope) none
-      where
-        other : (n : List ℕ) → number_of texts n ≡ None → (b : Bool) → are_same name n ≡ b
-            → (are_same name n || has_name names n) ≡ has_name names n
-        other n none true same = absurd (none-some id (sym none ∙ ap (number_of texts) (sym (same_is name n same)) ∙ number))
-        other n none false differ = ap (λ (x : Bool). x || has_name names n) differ
-    by n (Some j) some =
-        ap (λ (x : Bool). x || has_name names n) (equal n j some (are_same name n) (id == j) refl refl)
-        ∙ ap (λ (x : Bool). (id == j) || x) (is.same n ∙ ap (has_number scope) some)
-        ∙ sym (has_push scope id v j)
-      where
-        equal : (n : List ℕ) (j : ℕ) → number_of texts n ≡ Some j → (a b : Bool) → are_same name n ≡ a → (id == j) ≡ b
-            → are_same name n ≡ (id == j)
-        equal n j some true b same is-b =
-            same ∙ sym (eq-eqb id j (same_Some id j (sym number ∙ ap (number_of texts) (same_is name n same) ∙ some)))
-        equal n j some false false differ not-b = differ ∙ sym not-b
-        equal n j some false true differ is-b =
-            let same : name ≡ n = one_number texts name n j (number ∙ ap Some (eqb-true id j is-b)) some in
-            absurd (false-true (sym differ ∙ ap (are_same name) (sym same) ∙ are_refl name))
-
-    away : (j : ℕ) → length texts ≤ j → (b : Bool) → (id == j) ≡ b → seen (if id == j then Some v else None) (value_in scope j) ≡ None
-    away j far true equal = absurd (omega (arith, eqb-true id j equal, far, number_within texts name id number))
-    away j far false differ = ap (λ (x : Bool). seen (if x then Some v else None) (value_in scope j)) differ ∙ is.within j far
+    by : (n : List ℕ) (o : Option ℕ) → number_of texts n ≡ o
+        → (are_same name n || has_name names n) ≡ has_number (scope ++ (id, v) ∷ []) o
+    by n None none = ap (λ (x : Bool). x || has_name names n) (no_number texts name n id number none)
+        ∙ is.same n ∙ ap (has_number scope) none
+    by n (Some j) some = ap (λ (x : Bool). x || has_name names n) (same_number texts name n id j number some)
+        ∙ ap (λ (x : Bool). (id == j) || x) (is.same n ∙ ap (has_number scope) some) ∙ sym (has_push scope id v j)
 
 -- ---- A definition
 

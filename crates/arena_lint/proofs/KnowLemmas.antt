@@ -10,7 +10,7 @@ use Rattle.arena_lint.specs.Knowing.{has_number, have_number, AreScopes}
 
 -- ---- Whether a name is known
 
-some_seen : (a b : Option ℕ) → is_some (seen a b) ≡ (is_some a || is_some b)
+pub some_seen : (a b : Option ℕ) → is_some (seen a b) ≡ (is_some a || is_some b)
 some_seen None b = refl
 some_seen (Some v) b = refl
 

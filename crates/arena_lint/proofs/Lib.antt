@@ -1,6 +1,5 @@
 pub mod KnowLemmas
 pub mod NameLemmas
-pub mod OneLemmas
 pub mod DefineLemmas
 pub mod KnownLemmas
 pub mod SpendingLemmas

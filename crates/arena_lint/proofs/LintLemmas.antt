@@ -13,9 +13,9 @@ use Rattle.arena_items.specs.declared.room.AllocError.{AllocError}
 use Rattle.arena_items.specs.declared.room.AllocError.TheVariants as alloc
 use Rattle.arena_vec.specs.Vecs.{vec_list}
 use Rattle.arena_symbols.specs.Interning.{IsNewInterner}
-use Rattle.arena_symbols.specs.Names.{own_blocks, blocks_of, texts_in, names_credit}
+use Rattle.arena_symbols.specs.Names.{own_blocks, blocks_of, texts_in}
 use Rattle.arena_symbols.specs.TableCalls.{IsNewTable}
-use Rattle.arena_symbols.specs.Tables.{entry_item, table_blocks, table_credit}
+use Rattle.arena_symbols.specs.Tables.{entry_item, table_blocks}
 use Rattle.arena_symbols.specs.Scoping.{pair_count}
 use Rattle.arena_symbols.proofs.Layers.{all_turned}
 use Rattle.tree_rules.specs.Report.{findings_of}
@@ -28,7 +28,7 @@ use Rattle.arena_tree.specs.TreesAt.{node_item}
 use Rattle.arena_tree.specs.declared.tree.Tree.{Tree}
 use Rattle.arena_tree.specs.declared.tree.TreeErr.{TreeErr}
 use Rattle.arena_tree.specs.declared.tree.TreeErr.TheVariants as tree
-use Rattle.arena_tree.proofs.Layers.{nodes_used}
+use Rattle.arena_tree.proofs.Layers.{nodes_used, one_stmts}
 use Rattle.lint_reports.specs.Reports.{Reports, said}
 use Rattle.lint_reports.specs.declared.report.FileReport.{FileReport}
 use Rattle.lint_reports.specs.declared.report.FileReport.TheVariants.{Checked, Syntax, TooDeep, NumberTooBig, Full, Refused, OutOfMemory}
@@ -38,15 +38,11 @@ use Rattle.arena_lint.specs.Rooms.{HaveStmts, IsLight}
 use Rattle.arena_lint.specs.Spending.{IsStarvedSince, Spends, HasNumbers, Takes}
 use Rattle.arena_lint.specs.Weights.{weights, walk_bytes}
 use Rattle.arena_lint.specs.declared.names.Known.{Known}
-use Rattle.arena_lint.proofs.OneLemmas.{one_stmts}
 use Rattle.arena_lint.proofs.SpendingLemmas.{spends_then}
 use Rattle.arena_lint.proofs.WalkLemmas.{no_names}
 use Rattle.arena_lint.proofs.WeightLemmas.{tree_weight}
 
 -- ---- Nothing
-
-none_saved : (n m : ℕ) → n ≡ 0 → m ≡ 0 → n + m ≡ 0
-none_saved n m one two = omega (arith, one, two)
 
 pub nothing_known : (k : Known) → IsNewInterner k.names → IsNewTable entry_item k.scopes → IsNothing k
 nothing_known k names scopes = record {
@@ -54,21 +50,17 @@ nothing_known k names scopes = record {
   knows = λ m. rw (names.names m, scopes.scopes m) (no_names [], tt);
   names = names.names;
   scopes = scopes.scopes;
-  credit = none_saved (names_credit k.names) (table_credit k.scopes) names.credit scopes.credit;
+  credit = omega (arith, names.credit, scopes.credit);
   apart = λ m blocks.
       let own = ((all_of_both (own_blocks k.names) (blocks_of (texts_in m k.names)) blocks).0 (names.apart m blocks)).0 in
-      all_turned (known_blocks k) blocks ((all_of_both (own_blocks k.names) (table_blocks k.scopes) blocks).1 (
-        own,
-        scopes.apart
-            blocks,
-      ));
+      all_turned (known_blocks k) blocks ((all_of_both (own_blocks k.names) (table_blocks k.scopes) blocks).1 (own, scopes.apart blocks));
 }
 
 -- ---- A tree
 
-pub tree_room : (m : Memory) (t : Tree) (k : Known) → IsLight m t → IsNothing k
+pub tree_room : {m : Memory} {t : Tree} {k : Known} → IsLight m t → IsNothing k
     → HaveStmts m t.stmts (used_bytes m.state) (known_blocks k)
-tree_room m t k is none =
+tree_room {m} {t} is none =
     let given = is.tree in
     let nodes = nodes_used given.trees m t.stmts given.held given.means given.lists in
     record {
@@ -81,28 +73,33 @@ tree_room m t k is none =
       apart = none.apart m (t.stmts.raw.block ∷ stmts_blocks given.trees m (vec_list node_item m t.stmts));
     }
 
-pub parsed_light : (bytes : List ℕ) (old new : View) (t : Tree) → length bytes ≤ 2 ^ 24 → Parses bytes old new (Ok t)
+pub parsed_light : (bytes : List ℕ) (old new : View) {t : Tree} → length bytes ≤ 2 ^ 24 → Parses bytes old new (Ok t)
     → IsTreeIn new.memory t → IsLight new.memory t
-parsed_light bytes old new t small parsed given = record { tree = given; light = omega (arith, light, small) }
+parsed_light bytes old new {t} small parsed given = record { tree = given; light = omega (arith, ap weights same, light, small) }
   where
-    light : weights given.trees ≤ length bytes
-    light = subst (λ (ss : Stmts). weights ss ≤ length bytes)
-        (one_stmts parsed.0 given.trees new.memory (vec_list node_item new.memory t.stmts) parsed.2.stand given.means)
-        (tree_weight bytes parsed.0 parsed.1)
+    same : parsed.0 ≡ given.trees
+    same = one_stmts parsed.0 given.trees new.memory (vec_list node_item new.memory t.stmts) parsed.2.stand given.means
+
+    light : weights parsed.0 ≤ length bytes
+    light = tree_weight bytes parsed.0 parsed.1
 
 -- A walk from nothing spends what the tree's statements take.
-pub nothing_spends : (old new : View) (t : Tree) (k l : Known) (error : Option AllocError) (trees : Stmts) → IsLight old.memory t
+pub nothing_spends : {old new : View} {t : Tree} {k l : Known} {error : Option AllocError} (trees : Stmts) → IsLight old.memory t
     → IsNothing k → Means old.memory t trees → Takes (weights trees) old new k l error
     → Spends (walk_bytes (weights trees)) 0 0 old new error
-nothing_spends old new t k l error trees is none means takes =
+nothing_spends {old} {new} {t} {k} {l} {error} trees is none means takes =
     let spent = (takes 0 numbers).spends in
     let from-none : Spends (walk_bytes (weights trees)) 0 (credit l) old new error
     = subst (λ (n : ℕ). Spends (walk_bytes (weights trees)) n (credit l) old new error) none.credit spent in
     record { takes = omega (arith, from-none.takes); asks = from-none.asks; kind = from-none.kind; stops = from-none.stops }
   where
     few : weights trees ≤ 2 ^ 24
-    few = subst (λ (ss : Stmts). weights ss ≤ 2 ^ 24)
-        (one_stmts is.tree.trees trees old.memory (vec_list node_item old.memory t.stmts) is.tree.means means) is.light
+    few = omega (
+      arith,
+      is.light,
+      ap weights
+          (one_stmts is.tree.trees trees old.memory (vec_list node_item old.memory t.stmts) is.tree.means means),
+    )
 
     numbers : HasNumbers old.memory k (weights trees + 0)
     numbers = record {
@@ -113,45 +110,53 @@ nothing_spends old new t k l error trees is none means takes =
 
 -- ---- Reports
 
--- what is known of each: no more was taken than may be, of an arena of which nothing was used
-record Within (bytes : List ℕ) (old new : View) : Type 0 where
-  pub none : used old ≡ 0
-  pub takes : TakesAtMost (lint_bytes (length bytes)) old new
+module _ {bytes : List ℕ} {old new : View} (unused : used old ≡ 0) where
+  -- No more was taken than may be, of an arena of which nothing was used.
+  module _ (within : TakesAtMost (lint_bytes (length bytes)) old new) where
+    lints : (report : FileReport) → Reports bytes report → IfNone (said report) (IsProgram bytes)
+        → (report ≡ Full → IsFull (lint_bytes (length bytes)) old) → (report ≡ Refused → IsStarved (2 ^ 62) old new)
+        → Lints bytes old new report
+    lints report reports stopped full refused = record {
+      reports = reports;
+      stopped = stopped;
+      most = omega (arith, within.takes, unused);
+      asks = within.asks;
+      full = full;
+      refused = λ is. record { asks = within.asks; starved = refused is };
+      kind = within.kind;
+    }
 
-module _ (bytes : List ℕ) (old new : View) (within : Within bytes old new) where
-  lints : (report : FileReport) → Reports bytes report → IfNone (said report) (IsProgram bytes)
-      → (report ≡ Full → IsFull (lint_bytes (length bytes)) old) → (report ≡ Refused → IsStarved (2 ^ 62) old new)
-      → Lints bytes old new report
-  lints report reports stopped full refused = record {
-    reports = reports;
-    stopped = stopped;
-    most = omega (arith, within.takes.takes, within.none);
-    asks = within.takes.asks;
-    full = full;
-    refused = λ is. record { asks = within.takes.asks; starved = refused is };
-    kind = within.takes.kind;
-  }
+    -- what is told for no want of a place
+    lints_told : (report : FileReport) → Reports bytes report → IfNone (said report) (IsProgram bytes) → (report ≡ Full → ⊥)
+        → (report ≡ Refused → ⊥) → Lints bytes old new report
+    lints_told report reports stopped full refused =
+        lints report reports stopped (λ is. absurd (full is)) (λ is. absurd (refused is))
 
-  -- no place for a block
-  lints_unplaced : (growing : Bool) → new.memory.state.is_growing ≡ growing → IsProgram bytes
-      → (old.memory.state.is_growing ≡ true → IsStarved (2 ^ 62) old new)
-      → (old.memory.state.is_growing ≡ false → IsFull (lint_bytes (length bytes)) old) → Lints bytes old new (no_place growing)
-  lints_unplaced true is program starved full =
-      lints Refused tt program (λ no. absurd (cc)) (λ refused. starved (sym within.takes.kind.is_growing ∙ is))
-  lints_unplaced false is program starved full =
-      lints Full tt program (λ said. full (sym within.takes.kind.is_growing ∙ is)) (λ no. absurd (cc))
+    -- no place for a block
+    lints_unplaced : (growing : Bool) → new.memory.state.is_growing ≡ growing → IsProgram bytes
+        → (old.memory.state.is_growing ≡ true → IsStarved (2 ^ 62) old new)
+        → (old.memory.state.is_growing ≡ false → IsFull (lint_bytes (length bytes)) old) → Lints bytes old new (no_place growing)
+    lints_unplaced true is program starved full =
+        lints Refused tt program (λ no. absurd (cc)) (λ refused. starved (sym within.kind.is_growing ∙ is))
+    lints_unplaced false is program starved full =
+        lints Full tt program (λ said. full (sym within.kind.is_growing ∙ is)) (λ no. absurd (cc))
 
-  lints_wanting : IsProgram bytes → Lints bytes old new OutOfMemory
-  lints_wanting program = lints OutOfMemory tt program (λ no. absurd (cc)) (λ no. absurd (cc))
+    lints_unparsed : (why : TreeErr) → Parses bytes old new (Err why) → Lints bytes old new (unparsed_by new.memory.state.is_growing why)
+    lints_unparsed (tree.Syntax at) parsed = lints_told (Syntax at) parsed.0 tt (λ no. cc) (λ no. cc)
+    lints_unparsed (tree.TooDeep at) parsed = lints_told (TooDeep at) parsed.0 tt (λ no. cc) (λ no. cc)
+    lints_unparsed (tree.NumberTooBig at) parsed = lints_told (NumberTooBig at) parsed.0 tt (λ no. cc) (λ no. cc)
+    lints_unparsed (tree.AllocErr k) parsed = lints_unplaced new.memory.state.is_growing refl parsed.0 parsed.1.starved
+        (λ still. record { still = still; short = omega (arith, (parsed.1.full still).short, unused) })
+    lints_unparsed tree.OutOfMemory parsed = lints_told OutOfMemory tt parsed.0 (λ no. cc) (λ no. cc)
 
-  lints_unparsed : (why : TreeErr) → Parses bytes old new (Err why) → Lints bytes old new (unparsed_by new.memory.state.is_growing why)
-  lints_unparsed (tree.Syntax at) parsed = lints (Syntax at) parsed.0 tt (λ no. absurd (cc)) (λ no. absurd (cc))
-  lints_unparsed (tree.TooDeep at) parsed = lints (TooDeep at) parsed.0 tt (λ no. absurd (cc)) (λ no. absurd (cc))
-  lints_unparsed (tree.NumberTooBig at) parsed = lints (NumberTooBig at) parsed.0 tt (λ no. absurd (cc)) (λ no. absurd (cc))
-  lints_unparsed (tree.AllocErr k) parsed =
-      lints_unplaced new.memory.state.is_growing refl parsed.0 parsed.1.starved
-      (λ still. record { still = still; short = omega (arith, (parsed.1.full still).short, within.none) })
-  lints_unparsed tree.OutOfMemory parsed = lints_wanting parsed.0
+  -- A text that has no tree is told so.
+  pub unparsed : (why : TreeErr) → Parses bytes old new (Err why) → TakesAtMost (parse_bytes (length bytes)) old new
+      → Lints bytes old new (unparsed_by new.memory.state.is_growing why)
+  unparsed why parsed takes = lints_unparsed (record {
+    takes = omega (arith, takes.takes);
+    asks = asks_more _ _ old.memory.state new.memory.state old.source new.source (omega arith) takes.asks;
+    kind = takes.kind;
+  }) why parsed
 
 starved : (old new : View) → old.memory.state.is_growing ≡ true → IsStarvedSince old new → IsStarved (2 ^ 62) old new
 starved old new growing (inl refused) = record { growing = growing; cause = inr (inr refused) }
@@ -163,72 +168,47 @@ starved old new growing (inr (inr up)) = record { growing = growing; cause = by 
     by (inl few) = inl (omega (arith, up, few))
     by (inr much) = inr (inl much)
 
--- A text that has no tree is told so.
-pub unparsed : (bytes : List ℕ) (old new : View) (why : TreeErr) → used old ≡ 0 → Parses bytes old new (Err why)
-    → TakesAtMost (parse_bytes (length bytes)) old new → Lints bytes old new (unparsed_by new.memory.state.is_growing why)
-unparsed bytes old new why none parsed takes = lints_unparsed bytes old new within why parsed
-  where
-    within : Within bytes old new
-    within = record {
-      none = none;
-      takes = record {
-        takes = omega (arith, takes.takes);
-        asks = asks_more _ _ old.memory.state new.memory.state old.source new.source (omega arith) takes.asks;
-        kind = takes.kind;
-      };
-    }
-
 -- A program that was walked over.
-module _ (bytes : List ℕ) (old mid new : View) (t : Tree) (none : used old ≡ 0) (parsed : Parses bytes old mid (Ok t))
+module _ {bytes : List ℕ} {old mid new : View} (t : Tree) (unused : used old ≡ 0) (parsed : Parses bytes old mid (Ok t))
     (takes : TakesAtMost (parse_bytes (length bytes)) old mid) where
-  all_spends : (error : Option AllocError) → ((trees : Stmts) → Means mid.memory t trees → Spends (walk_bytes (weights trees)) 0 0 mid
-      new error)
+  all_spends : {error : Option AllocError}
+      → ((trees : Stmts) → Means mid.memory t trees → Spends (walk_bytes (weights trees)) 0 0 mid new error)
       → Spends (lint_bytes (length bytes)) 0 0 old new error
-  all_spends error spends = spends_then parse_spends (spends parsed.0 parsed.2.stand) (omega (
-    arith,
-    tree_weight bytes parsed.0
-        parsed.1,
-  ))
-    where
-      parse_spends : Spends (parse_bytes (length bytes)) 0 0 old mid None
-      parse_spends = record {
+  all_spends spends =
+      let parse_spends : Spends (parse_bytes (length bytes)) 0 0 old mid None = record {
         takes = omega (arith, takes.takes);
         asks = asks_more _ _ old.memory.state mid.memory.state old.source mid.source (omega arith) takes.asks;
         kind = takes.kind;
         stops = tt;
-      }
+      } in
+      spends_then parse_spends (spends parsed.0 parsed.2.stand) (omega (arith, tree_weight bytes parsed.0 parsed.1))
 
-  spent_within : (error : Option AllocError) → Spends (lint_bytes (length bytes)) 0 0 old new error → Within bytes old new
-  spent_within error spent = record {
-    none = none;
-    takes = record {
-      takes = omega (arith, spent.takes);
-      asks = asks_more _ _ old.memory.state new.memory.state old.source new.source (omega arith) spent.asks;
-      kind = spent.kind;
-    };
+  within : {error : Option AllocError} → Spends (lint_bytes (length bytes)) 0 0 old new error
+      → TakesAtMost (lint_bytes (length bytes)) old new
+  within spent = record {
+    takes = omega (arith, spent.takes);
+    asks = asks_more _ _ old.memory.state new.memory.state old.source new.source (omega arith) spent.asks;
+    kind = spent.kind;
   }
-
-  program : IsProgram bytes
-  program = (parsed.0, parsed.1)
 
   pub checked : (found : List Finding) → ((trees : Stmts) → Means mid.memory t trees → found ≡ findings_of trees)
       → ((trees : Stmts) → Means mid.memory t trees → Spends (walk_bytes (weights trees)) 0 0 mid new None)
       → Lints bytes old new (Checked found)
-  checked found is spends =
-      lints bytes old new (spent_within None (all_spends None spends)) (Checked found) (parsed.0, parsed.1, is parsed.0 parsed.2.stand)
-      tt
-      (λ no. absurd (cc)) (λ no. absurd (cc))
+  checked found is spends = lints_told unused (within (all_spends spends)) (Checked found)
+      (parsed.0, parsed.1, is parsed.0 parsed.2.stand) tt (λ no. cc) (λ no. cc)
 
   pub stopped : (why : AllocError)
       → ((trees : Stmts) → Means mid.memory t trees → Spends (walk_bytes (weights trees)) 0 0 mid new (Some why))
       → Lints bytes old new (stopped_by new.memory.state.is_growing why)
-  stopped why spends = by why (all_spends (Some why) spends)
+  stopped why spends = by why (all_spends spends)
     where
+      program : IsProgram bytes
+      program = (parsed.0, parsed.1)
+
       by : (e : AllocError) → Spends (lint_bytes (length bytes)) 0 0 old new (Some e)
           → Lints bytes old new (stopped_by new.memory.state.is_growing e)
-      by (alloc.AllocErr k) spent =
-          lints_unplaced bytes old new (spent_within _ spent) new.memory.state.is_growing refl program
+      by (alloc.AllocErr k) spent = lints_unplaced unused (within spent) new.memory.state.is_growing refl program
           (λ growing. starved old new growing (spent.stops.starved growing))
-          (λ still. record { still = still; short = omega (arith, (spent.stops.full still).short, none) })
+          (λ still. record { still = still; short = omega (arith, (spent.stops.full still).short, unused) })
       by alloc.CapacityOverflow spent = absurd spent.stops
-      by alloc.OutOfMemory spent = lints_wanting bytes old new (spent_within _ spent) program
+      by alloc.OutOfMemory spent = lints_told unused (within spent) OutOfMemory tt program (λ no. cc) (λ no. cc)

@@ -96,29 +96,9 @@ front_is b bytes = by (is_digit b) (is_name_start b) refl refl
     word-start p q is = rw is (omega arith)
 
     signs-small : letters (look_up signs b) ≤ 1
-    signs-small = sign_letters signs b (
-      omega arith,
-      (
-        omega arith,
-        (
-          omega arith,
-          (
-            omega arith,
-            (
-              omega arith,
-              (
-                omega arith,
-                (
-                  omega
-                      arith,
-                  (omega arith, (omega arith, tt)),
-                ),
-              ),
-            ),
-          ),
-        ),
-      ),
-    )
+    signs-small =
+        let one : 1 ≤ 1 = omega arith in
+        sign_letters signs b (one, (one, (one, (one, (one, (one, (one, (one, (one, tt)))))))))
 
     by : (digit start : Bool) → is_digit b ≡ digit → is_name_start b ≡ start
         → IsFront (cond digit (number_front (run is_digit (b ∷ bytes))) (cond start (word_front (run is_name_byte (b ∷ bytes)))

@@ -1,5 +1,5 @@
 // The names of an expression that are defined nowhere.
-ghost use Rattle.std.specs.Prelude.{◌≡◌, ◌≢◌, ◌*◌, ◌-◌, ◌<◌, ◌≤◌, [], ◌∷◌, ◌++◌, List, OnOk, Some, slice_get};
+ghost use Rattle.std.specs.Prelude.{◌≡◌, ◌≢◌, ◌-◌, ◌<◌, ◌≤◌, [], ◌∷◌, ◌++◌, List, OnOk, Some, slice_get};
 ghost use Rattle.std.specs.Str.{IsUtf8};
 ghost use Rattle.arena_items.specs.Values.{IsTextIn, text_bytes};
 ghost use Rattle.arena_vec.specs.Vecs.{IsVecIn, vec_list};
@@ -16,6 +16,7 @@ use arena_vec::Vec;
 use lint_reports::{FindKind, Findings};
 use placement::{Bytes, OutOfMemory};
 use std::alloc::Global;
+use std::str;
 
 /// The names that a walk knows: each has a number, and the numbers of those that are defined stand in scopes.
 #[derive(Clone, Copy)]
@@ -50,9 +51,7 @@ impl Known {
         ensures { (known : List Names) → Knows a.now.memory self.now known
             → OnOk result (found.new ≡ found.old ++ undefined known (text_bytes a.now.memory text ∷ [])) }
     {
-        let Some(name) = text.get(a) else {
-            unreachable!();
-        };
+        let name = unsafe { str::from_utf8_unchecked(a.read(text.block)) };
         if self.has(a, name) {
             return Ok(());
         }
@@ -61,28 +60,25 @@ impl Known {
     }
 }
 
-// The list of a node's kids.
-pub(crate) fn kids(node: Node) -> Vec<Node>
-    requires size { node.kids.size ≡ node.cap * 88 }
-    requires align { node.kids.align ≡ 8 }
-    requires within { node.len ≤ node.cap }
+// The list of a node's kids. The allocator is there for what is known of it.
+pub(crate) fn kids<C: ChunkSource>(_a: &Allocator<C>, node: Node) -> Vec<Node>
+    requires { IsVecIn node_item _a.now.memory (kids_of node) }
     ensures { result ≡ kids_of node }
 {
     Vec::from_raw_parts_in(node.kids, node.len, node.cap)
 }
 
-// The list of the kids of an expression that isn't a number nor a name. The allocator and the count are there for what is
-// known of them.
-fn kids_within<C: ChunkSource>(_a: &Allocator<C>, node: Node, _room: u64) -> Vec<Node>
-    requires tree { HasExpr _a.now.memory node _room }
+// The list of the kids of an expression that isn't a number nor a name. The count is there for what is known of it.
+fn kids_within<C: ChunkSource>(a: &Allocator<C>, node: Node, _room: u64) -> Vec<Node>
+    requires tree { HasExpr a.now.memory node _room }
     requires num { node.kind ≢ Kind.Num }
     requires name { node.kind ≢ Kind.Name }
-    ensures held { IsVecIn node_item _a.now.memory result }
-    ensures trees { HaveExprs _a.now.memory (vec_list node_item _a.now.memory result) _room }
-    ensures names { (e : Expr) → ExprAt e _a.now.memory node
-        → AreNamed _a.now.memory (vec_list node_item _a.now.memory result) (names_of e) }
+    ensures held { IsVecIn node_item a.now.memory result }
+    ensures trees { HaveExprs a.now.memory (vec_list node_item a.now.memory result) _room }
+    ensures names { (e : Expr) → ExprAt e a.now.memory node
+        → AreNamed a.now.memory (vec_list node_item a.now.memory result) (names_of e) }
 {
-    kids(node)
+    kids(a, node)
 }
 
 // A node of a list.

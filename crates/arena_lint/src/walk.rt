@@ -98,9 +98,7 @@ fn define<C: ChunkSource>(
         Ok(name) => name,
         Err(_) => return Err(AllocError::OutOfMemory),
     };
-    let Ok(spelled) = str::from_utf8(name.as_slice()) else {
-        unreachable!();
-    };
+    let spelled = unsafe { str::from_utf8_unchecked(name.as_slice()) };
     let kind = define_name(a, known, spelled)?;
     add(found, kind, name)
 }
@@ -126,15 +124,15 @@ fn use_names<C: ChunkSource>(
 }
 
 // The list of the expression of a statement that is no block.
-fn stmt_kids<C: ChunkSource>(_a: &Allocator<C>, _known: &Known, node: Node, _room: u64) -> Vec<Node>
-    requires tree { HasStmt _a.now.memory node _room (known_blocks _known.now) }
+fn stmt_kids<C: ChunkSource>(a: &Allocator<C>, _known: &Known, node: Node, _room: u64) -> Vec<Node>
+    requires tree { HasStmt a.now.memory node _room (known_blocks _known.now) }
     requires kind { node.kind ≢ Kind.Block }
-    ensures held { IsVecIn node_item _a.now.memory result }
-    ensures trees { HaveExprs _a.now.memory (vec_list node_item _a.now.memory result) _room }
-    ensures names { (s : Stmt) → StmtAt s _a.now.memory node
-        → AreNamed _a.now.memory (vec_list node_item _a.now.memory result) (stmt_names s) }
+    ensures held { IsVecIn node_item a.now.memory result }
+    ensures trees { HaveExprs a.now.memory (vec_list node_item a.now.memory result) _room }
+    ensures names { (s : Stmt) → StmtAt s a.now.memory node
+        → AreNamed a.now.memory (vec_list node_item a.now.memory result) (stmt_names s) }
 {
-    kids(node)
+    kids(a, node)
 }
 
 fn let_line<C: ChunkSource>(
@@ -174,7 +172,7 @@ fn enter_block<C: ChunkSource>(
     ensures takes { Takes 1 a.old a.new known.old known.new (error_of result) }
 {
     known.scopes.enter(a)?;
-    Ok(kids(node))
+    Ok(kids(a, node))
 }
 
 // A block ends.

@@ -12,11 +12,11 @@ ghost use Rattle.arena_program.specs.LintEnds.{LintEnds};
 
 use crate::told::report;
 use arena_calls::{Input, Output, ReadErr, Status, read_all, write_all};
-use arena_chunks::{Bytes, OutOfMemory};
-use arena_lint::{LintErr, Linted, lint_all};
+use arena_chunks::OutOfMemory;
+use arena_lint::{LintErr, Linted, lint_parts};
 use arena_pool::{AllocatorPool, ChunkMaker, MOST_LENT, PoolName};
 use arena_workers::{NoGate, Starved};
-use lint_reports::{laws, sources_of};
+use lint_reports::{Source, laws, sources_of};
 use std::alloc::Global;
 use std::marker::Brand;
 use std::sync::Wait;
@@ -29,7 +29,7 @@ fn lint_over_pool<R: Threads + Wait + Sync, K: ChunkMaker + Drop + Send>(
     alloc: Global,
     workers: u32,
     maker: K,
-    sources: &[Bytes],
+    sources: &[Source<'_>],
 ) -> Result<Vec<Linted<K::Chunks>>, LintErr>
     requires workers { IsWithin 1 64 workers }
     requires few { length sources.now < 2 ^ 32 }
@@ -51,7 +51,7 @@ fn lint_in_standard<
     workers: u32,
     maker: K,
     blank: Blank,
-    sources: &[Bytes],
+    sources: &[Source<'_>],
 ) -> Result<Vec<Linted<K::Chunks>>, LintErr>
     requires blank { IsBlankOf L.name L.parts blank }
     requires kind { L.kind ≡ Standard }
@@ -62,11 +62,11 @@ fn lint_in_standard<
     ensures { IfOk result (λ all. AllZip (IsLintedAlone K.Chunks.source Standard) sources.now all.items) }
 {
     let pool = AllocatorPool::<K, L>::new(alloc, workers, maker, blank)?;
-    lint_all(rt, alloc, &pool, workers, &NoGate, sources)
+    lint_parts(rt, alloc, &pool, workers, &NoGate, sources)
 }
 
 // The sources of an input: few enough, and none too long, to be linted.
-fn sources_in(alloc: Global, bytes: &[u8]) -> Result<Vec<Bytes>, OutOfMemory>
+fn sources_in<'a>(alloc: Global, bytes: &'a [u8]) -> Result<Vec<Source<'a>>, OutOfMemory>
     requires { length bytes.now ≤ 2 ^ 24 }
     ensures sources { IfOk result (λ all. all.items ≡ sources bytes.now) }
     ensures few { IfOk result (λ all. length all.items < 2 ^ 32) }
@@ -102,12 +102,12 @@ pub fn run_sources<I: Input, O: Output, R: Threads + Wait + Sync, K: ChunkMaker 
     let Ok(sources) = sources_in(alloc, bytes.as_slice()) else {
         return Status::OutOfMemory;
     };
-    drop(bytes);
     let Ok(all) = lint_over_pool(rt, alloc, workers, maker, sources.as_slice()) else {
         return Status::OutOfMemory;
     };
-    // The sources are let go before the text is made, which may need much memory.
+    // The input is let go before the text is made, which may need much memory.
     drop(sources);
+    drop(bytes);
     let Ok(text) = report(alloc, all, starved) else {
         return Status::OutOfMemory;
     };

@@ -1,21 +1,25 @@
 -- What a call on other blocks leaves of maps, of vectors and of texts.
-use Rattle.std.proofs.Common.{◌≡◌, List, [], ◌∷◌, sym, ap, subst, refl}
+use Rattle.std.proofs.Common.{◌≡◌, ℕ, List, [], ◌∷◌, map, sym, ap, subst, refl}
 use Rattle.arena_chunks.specs.Memory.{Memory}
 use Rattle.arena_chunks.specs.Frame.{Frame, IsApart, AreAllApart}
 use Rattle.arena_chunks.specs.declared.block.Block.{Block}
 use Rattle.arena_chunks.specs.declared.allocator.text.Str.{Str}
-use Rattle.arena_chunks.proofs.Layers.{frame_keeps, frame_keeps_all}
+use Rattle.arena_chunks.proofs.Layers.{apart_empty, frame_keeps, frame_keeps_all}
 use Rattle.arena_items.specs.Footprint.{AreReadable}
+use Rattle.arena_items.specs.FootprintLaws.{held_again}
 use Rattle.arena_items.specs.Values.{elements}
 use Rattle.arena_items.specs.declared.item.Item.{Ghosts}
 use Rattle.arena_items.proofs.Layers.{stays_readable, stays_agree, stays_apart}
 use Rattle.arena_vec.specs.Vecs.{IsVecIn, vec_list}
 use Rattle.arena_vec.specs.declared.vec.Vec.{Vec}
-use Rattle.arena_hash.specs.Contents.{Kind}
-use Rattle.arena_hash.specs.Maps.{IsMapIn, StaysMap, footprint}
 use Rattle.arena_hash.specs.AgreeLaws.{footprint-agree, meaning-agree, held-agree}
+use Rattle.arena_hash.specs.Contents.{Kind}
+use Rattle.arena_hash.specs.Maps.{IsMapIn, StaysMap, pairs_in, footprint}
+use Rattle.arena_hash.specs.declared.hasher.FxHasher.{FxHasher}
 use Rattle.arena_hash.specs.declared.map.HashMap.{HashMap}
+use Rattle.arena_symbols.specs.NameLaws.{contents_agree}
 use Rattle.arena_symbols.specs.Names.{blocks_of, contents_of}
+use Rattle.arena_symbols.specs.Tables.{id_kind}
 
 -- A vector is held, with its list,
 pub record VecStays {T : Type 0} (old new : Memory) (after : List Block) (item : Ghosts T) (v : Vec T) : Type 0 where
@@ -29,12 +33,20 @@ pub record TextsStay (old new : Memory) (after : List Block) (list : List Str) :
   pub contents : contents_of new list ≡ contents_of old list
   pub apart : AreAllApart (blocks_of list) after
 
-module _ (old new : Memory) (before after : List Block) (frame : Frame old new before after) where
+-- The footprint of a map of numbers lies apart where its table does: its keys have no texts.
+pub plain_apart : (memory : Memory) (m : HashMap ℕ ℕ FxHasher) (others : List Block) → IsApart m.table.block.addr m.table.block.size others
+    → AreAllApart (footprint id_kind memory m) others
+plain_apart memory m others apart = (apart, go (pairs_in id_kind memory m))
+  where
+    go : (ps : List (ℕ × ℕ)) → AreAllApart (map (λ (p : ℕ × ℕ). id_kind.key.text p.0) ps) others
+    go [] = tt
+    go (p ∷ ps) = (apart_empty 1 0 others refl, go ps)
+
+module _ {old new : Memory} {before after : List Block} (frame : Frame old new before after) where
   pub map_beside : {K V S : Type 0} (k : Kind K V S) (m : HashMap K V S) → IsMapIn k old m → AreAllApart (footprint k old m) before
       → StaysMap k old new after m
   map_beside k m held apart =
-      let readable : AreReadable old.state (footprint k old m) = (held.handle.place.readable, held.texts) in
-      let stays = frame_keeps_all old new before after (footprint k old m) frame readable apart in
+      let stays = frame_keeps_all old new before after (footprint k old m) frame (held.handle.place.readable, held.texts) apart in
       let agree = stays_agree old new after (footprint k old m) stays in
       let same = footprint-agree k old new m agree in
       record {
@@ -44,13 +56,17 @@ module _ (old new : Memory) (before after : List Block) (frame : Frame old new b
         apart = subst (λ (bs : List Block). AreAllApart bs after) same (stays_apart old new after (footprint k old m) stays);
       }
 
+  pub plain_beside : (m : HashMap ℕ ℕ FxHasher) → IsMapIn id_kind old m → IsApart m.table.block.addr m.table.block.size before
+      → StaysMap id_kind old new after m
+  plain_beside m held apart = map_beside id_kind m held (plain_apart old m before apart)
+
   pub vec_beside : {T : Type 0} (item : Ghosts T) (v : Vec T) → IsVecIn item old v → IsApart v.raw.block.addr v.raw.block.size before
       → VecStays old new after item v
   vec_beside item v held apart =
       let stays = frame_keeps old new before after v.raw.block frame held.place.readable apart in
       record {
         held = record {
-          place = record { readable = stays.readable; of_size = held.place.of_size; of_align = held.place.of_align };
+          place = held_again _ item.ALIGN old.state new.state v.raw.block held.place stays.readable;
           within = held.within;
           no_bytes = held.no_bytes;
         };
@@ -64,14 +80,6 @@ module _ (old new : Memory) (before after : List Block) (frame : Frame old new b
       let stays = frame_keeps_all old new before after (blocks_of list) frame readable apart in
       record {
         readable = stays_readable old new after (blocks_of list) stays;
-        contents = same list readable apart;
+        contents = sym (contents_agree old new list (stays_agree old new after (blocks_of list) stays));
         apart = stays_apart old new after (blocks_of list) stays;
       }
-    where
-      same : (list : List Str) → AreReadable old.state (blocks_of list) → AreAllApart (blocks_of list) before
-          → contents_of new list ≡ contents_of old list
-      same [] readable apart = refl
-      same (t ∷ ts) readable apart =
-          let first = (frame_keeps old new before after t.block frame readable.0 apart.0).bytes in
-          let rest = same ts readable.1 apart.1 in
-          (λ i. first i ∷ rest i)

@@ -1,6 +1,6 @@
 -- What `intern` does, in each of its ways.
 use Rattle.std.proofs.Common.{◌≡◌, ℕ, ◌+◌, ◌^◌, ◌<◌, ◌≤◌, List, [], ◌∷◌, ◌++◌, length, refl, sym, ap, subst, ◌∙◌, arith, Some, None, Ok, Err, append-nil}
-use Rattle.std.specs.Prelude.{Result}
+use Rattle.std.specs.Prelude.{Result, ◌↔◌}
 use Rattle.std.proofs.lemmas.Option.{none-some}
 use Rattle.std.proofs.lemmas.Slice.Eq.{bytes_eq-Decides}
 use Rattle.arena_chunks.specs.Memory.{Memory}
@@ -8,36 +8,44 @@ use Rattle.arena_chunks.specs.Source.{View}
 use Rattle.arena_chunks.specs.Answers.Answer.{Placed}
 use Rattle.arena_chunks.specs.BlockCalls.{PlacesBlock}
 use Rattle.arena_chunks.specs.Frame.{Frame}
-use Rattle.arena_chunks.specs.declared.block.Block.{Block}
 use Rattle.arena_chunks.specs.declared.allocator.text.Str.{Str}
 use Rattle.arena_chunks.proofs.Layers.{blocks_turned, all_from_none, frame_reflexive, frame_then, frame_weaken, frame_beside, frame_behind}
-use Rattle.arena_items.specs.Costs.{farthest}
 use Rattle.arena_items.specs.Room.{RoomAnswer}
 use Rattle.arena_items.specs.Values.{bytes_of}
 use Rattle.arena_items.specs.declared.room.AllocError.{AllocError}
-use Rattle.arena_items.specs.declared.room.AllocError.TheVariants.{AllocErr, CapacityOverflow, OutOfMemory}
+use Rattle.arena_items.specs.declared.room.AllocError.TheVariants.{CapacityOverflow}
+use Rattle.arena_hash.specs.Maps.{IsMapIn}
+use Rattle.arena_hash.specs.declared.hasher.FxHasher.{FxHasher}
+use Rattle.arena_hash.specs.declared.map.HashMap.{HashMap}
+use Rattle.arena_vec.specs.declared.vec.Vec.{Vec}
 use Rattle.arena_symbols.specs.Interner.{number_of, most_texts}
-use Rattle.arena_symbols.specs.Interning.{Appends, Interns, KeepsTexts}
-use Rattle.arena_symbols.specs.Names.{blocks_of, texts_in, names_in, own_blocks, names_footprint, names_credit, IsInternerIn}
+use Rattle.arena_symbols.specs.Interning.{Interns, KeepsTexts}
+use Rattle.arena_symbols.specs.Listing.{CanList, Lists}
+use Rattle.arena_symbols.specs.Names.{name_kind, blocks_of, contents_of, texts_in, names_in, own_blocks, names_footprint, names_credit, IsInternerIn}
 use Rattle.arena_symbols.specs.Paying.{Pays, far_up}
 use Rattle.arena_symbols.specs.declared.symbols.Symbols.{Symbols}
-use Rattle.arena_symbols.proofs.InternLemmas.{IsNewText, InternerStays, interner_beside, length_names, blocks_push}
+use Rattle.arena_symbols.proofs.InternLemmas.{AreTexts, IsNewText, InternerStays, interner_beside, length_names, blocks_push, can_append, appended, not_appended}
 use Rattle.arena_symbols.proofs.NumberLemmas.{number_push}
-use Rattle.arena_symbols.proofs.PayLemmas.{pays_nothing, pays_overflow, pays_err, pays_more, pays_then, pays_text, no_overflow}
+use Rattle.arena_symbols.proofs.PayLemmas.{pays_nothing, pays_more, pays_told, pays_then, pays_text}
 
 -- A block that isn't placed leaves the memory as it was.
-unplaced_same : {X : Type 0} (f : X → Block) (e : AllocError) (size align : ℕ) (old new : View)
-    → RoomAnswer f (Err e) (PlacesBlock old new size align) → new.memory ≡ old.memory
-unplaced_same f (AllocErr refused) size align old new placed = placed.1.outcome.1.memory
-unplaced_same f OutOfMemory size align old new placed = ap (λ v. v.memory) placed.1.outcome.same
-unplaced_same f CapacityOverflow size align old new placed = absurd placed
+unplaced_same : (e : AllocError) (size align : ℕ) (old new : View)
+    → RoomAnswer {X = Str} (λ t. t.block) (Err e) (PlacesBlock old new size align) → new.memory ≡ old.memory
+unplaced_same e size align old new placed = grind (arith, placed)
 
 module _ (old : View) (s : Symbols) (text : List ℕ) (held : IsInternerIn old.memory s) where
+  abbrev list : List Str
+  list = texts_in old.memory s
+
   abbrev names : List (List ℕ)
   names = names_in old.memory s
 
-  same_texts : KeepsTexts old old s s []
-  same_texts = record { blocks = sym (append-nil (blocks_of (texts_in old.memory s))); frame = frame_reflexive old.memory (own_blocks s) }
+  -- no text more is named
+  same_texts : (new : Memory) (u : Symbols) → texts_in new u ≡ list → blocks_of (texts_in new u) ≡ blocks_of list ++ []
+  same_texts new u same = ap blocks_of same ∙ sym (append-nil (blocks_of list))
+
+  as_before : KeepsTexts old old s s []
+  as_before = record { blocks = same_texts old.memory s refl; frame = frame_reflexive old.memory (own_blocks s) }
 
   -- The text is there.
   pub interns_known : (n : ℕ) → number_of names text ≡ Some n → Interns old old s s text (Ok n)
@@ -48,8 +56,8 @@ module _ (old : View) (s : Symbols) (text : List ℕ) (held : IsInternerIn old.m
     number = is;
     overflows = (λ no. absurd (cc), λ both. absurd (none-some n (sym both.0 ∙ is)));
     known = λ some. (refl, refl);
-    pays = pays_nothing far_up (1024 + length text) (names_credit s) old n;
-    texts = ([], same_texts);
+    pays = pays_nothing far_up (1024 + length text) (names_credit s) old (Ok n) (λ k no. cc);
+    texts = ([], as_before);
   }
 
   -- There are as many as there may be.
@@ -61,55 +69,56 @@ module _ (old : View) (s : Symbols) (text : List ℕ) (held : IsInternerIn old.m
     number = tt;
     overflows = (λ is. (none, omega (arith, full, length_names old.memory s)), λ both. refl);
     known = λ some. absurd (some none);
-    pays = pays_overflow far_up (1024 + length text) (names_credit s) old;
-    texts = ([], same_texts);
+    pays = pays_nothing far_up (1024 + length text) (names_credit s) old (Err CapacityOverflow) (λ k no. cc);
+    texts = ([], as_before);
   }
 
   module _ (none : number_of names text ≡ None) (few : s.texts.raw.len < most_texts) (one : old.memory.state.min_align ≡ 1)
       (short : length text < 2 ^ 32) where
+    fits_more : (result : Result ℕ AllocError) → (result ≡ Err CapacityOverflow → ⊥)
+        → (result ≡ Err CapacityOverflow) ↔ ((number_of names text ≡ None) × (most_texts ≤ length names))
+    fits_more result fits =
+        (λ is. absurd (fits is), λ both. absurd (omega (arith, both.1, few, length_names old.memory s)))
+
+    pays_place : (mid : View) (result : Result Str AllocError)
+        → RoomAnswer (λ t. t.block) result (PlacesBlock old mid (length text) 1)
+        → Pays far_up (length text) (names_credit s) (names_credit s) old mid result
+    pays_place mid result places =
+        pays_more (names_credit s) (omega arith) (omega arith) (omega arith) (omega arith)
+        (pays_text (λ (t : Str). t.block) old mid (length text) result one short places)
+
     -- The text isn't placed.
     pub interns_unplaced : (new : View) (e : AllocError) → RoomAnswer {X = Str} (λ t. t.block) (Err e) (PlacesBlock old new (length text) 1)
         → Interns old new s s text (Err e)
-    interns_unplaced new e places = record {
-      held = rw same held;
-      names = tt;
-      kept = ap (λ (m : Memory). names_in m s) same;
-      number = tt;
-      overflows = (
-        λ is. absurd (no_overflow {X = Str} (λ t. t.block) (Err e) _ places (refused_so e is)),
-        λ both. absurd (omega (arith, both.1, few, length_names old.memory s)),
-      );
-      known = λ some. absurd (some none);
-      pays = pays_more far_up farthest (length text) (1024 + length text) 0 0 _ _ (names_credit s) old new (Err e) (omega arith)
-          (omega arith)
-          (omega arith) (omega arith)
-          (pays_err farthest (length text) 0 0 old new e (pays_text {X = Str} (λ t. t.block) old new (length text) one short (Err e)
-          places));
-      texts = (
-        [],
+    interns_unplaced new e places =
+        let same = unplaced_same e (length text) 1 old new places in
         record {
-          blocks = ap (λ (m : Memory). blocks_of (texts_in m s)) same ∙ sym (append-nil (blocks_of (texts_in old.memory s)));
-          frame = subst (λ (m : Memory). Frame old.memory m (own_blocks s) (own_blocks s)) (sym same)
-              (frame_reflexive old.memory (own_blocks s));
-        },
-      );
-    }
-      where
-        same : new.memory ≡ old.memory
-        same = unplaced_same {X = Str} (λ t. t.block) e (length text) 1 old new places
-
-        refused_so : (e : AllocError) → ◌≡◌ {A = Result ℕ AllocError} (Err e) (Err CapacityOverflow)
-            → ◌≡◌ {A = Result Str AllocError} (Err e) (Err CapacityOverflow)
-        refused_so e is = let told : e ≡ CapacityOverflow = cc in ap {B = Result Str AllocError} (λ (e : AllocError). Err e) told
+          held = rw same held;
+          names = tt;
+          kept = ap (λ (m : Memory). names_in m s) same;
+          number = tt;
+          overflows = fits_more (Err e) (λ is. (let error : e ≡ CapacityOverflow = cc in
+              subst (λ (e : AllocError). RoomAnswer {X = Str} (λ t. t.block) (Err e) (PlacesBlock old new (length text) 1)) error places));
+          known = λ some. absurd (some none);
+          pays = pays_more 0 (omega arith) (omega arith) (omega arith) (omega arith) (pays_told (λ _. 0) (Err e) (pays_place new (Err e)
+              places));
+          texts = (
+            [],
+            record {
+              blocks = same_texts new.memory s (ap (λ (m : Memory). texts_in m s) same);
+              frame = subst (λ (m : Memory). Frame old.memory m (own_blocks s) (own_blocks s)) (sym same)
+                  (frame_reflexive old.memory (own_blocks s));
+            },
+          );
+        }
 
     module _ (mid : View) (t : Str) (places : PlacesBlock old mid (length text) 1 (Placed t.block))
         (bytes : bytes_of mid.memory t.block ≡ text) where
       -- It is, and the texts are as they were,
-      pub stays : InternerStays old.memory mid.memory (t.block ∷ []) s
-      stays = interner_beside old.memory mid.memory [] (t.block ∷ []) s places.1.outcome.frame held
-          (all_from_none (names_footprint old.memory s))
+      stays : InternerStays old.memory mid.memory (t.block ∷ []) s
+      stays = interner_beside s places.1.outcome.frame held (all_from_none (names_footprint old.memory s))
 
-      pub fresh : IsNewText mid.memory s t
+      fresh : IsNewText mid.memory s t
       fresh = record {
         readable = places.1.outcome.of_layout.readable;
         apart = (
@@ -119,64 +128,71 @@ module _ (old : View) (s : Symbols) (text : List ℕ) (held : IsInternerIn old.m
         new = ap (λ (l : List (List ℕ)). number_of l (bytes_of mid.memory t.block)) stays.names ∙ ap (number_of names) bytes ∙ none;
       }
 
-      framed : (new : Memory) (u : Symbols) → Frame mid.memory new (own_blocks s) (own_blocks u)
-          → Frame old.memory new (own_blocks s) (own_blocks u ++ t.block ∷ [])
-      framed new u frame =
-          frame_then old.memory mid.memory new (own_blocks s) (own_blocks s ++ t.block ∷ []) (own_blocks u ++ t.block ∷ [])
-          (frame_behind old.memory mid.memory [] (t.block ∷ []) (own_blocks s) places.1.outcome.frame)
-          (frame_beside mid.memory new (own_blocks s) (own_blocks u) (t.block ∷ []) frame)
+      pub can_list : CanList name_kind.keys name_kind mid.memory s.numbers s.texts t
+      can_list = can_append stays.held few fresh
 
-      pays_all : (new : View) (u : Symbols) (result : Result ℕ AllocError)
-          → Pays (far_up + 2 ^ 61) 839 (names_credit s) (names_credit u) mid new result
-          → Pays far_up (1024 + length text) (names_credit s) (names_credit u) old new result
-      pays_all new u result pays =
-          pays_more far_up far_up (length text + 839) (1024 + length text) _ _ _ _ 0 old new result (omega arith) (omega arith)
-          (omega arith)
-          (omega arith)
-          (pays_then far_up (length text) 839 (names_credit s) (names_credit s) (names_credit u) old mid new t result
-          places.1.outcome.frame.is_growing places.1.outcome.frame.allocated pays.refused
-          (pays_more far_up farthest (length text) (length text) 0 0 (names_credit s) (names_credit s) (names_credit s) old mid (Ok t)
-          (omega arith) (omega arith) (omega arith) (omega arith)
-          (pays_text {X = Str} (λ t. t.block) old mid (length text) one short (Ok t) places)) pays)
+      module _ (new : View) (n : HashMap Str ℕ FxHasher) (v : Vec Str) where
+        abbrev now : Symbols
+        now = record { numbers = n; texts = v }
 
-      -- and then it is put at the end, or not.
-      pub interns_placed : (new : View) (u : Symbols) (result : Result ℕ AllocError) → Appends mid.memory new.memory s u t result
-          → Pays (far_up + 2 ^ 61) 839 (names_credit s) (names_credit u) mid new result → (result ≡ Err CapacityOverflow → ⊥)
-          → Interns old new s u text result
-      interns_placed new u (Ok n) appends pays fits = record {
-        held = appends.held;
-        names = longer ∙ (rw none refl);
-        kept = tt;
-        number = ap (λ (l : List (List ℕ)). number_of l text) longer ∙ number_push names text text none
-            ∙ rw ((bytes_eq-Decides text text).1 refl) (ap Some (length_names old.memory s ∙ sym appends.number));
-        overflows = (λ is. absurd (fits is), λ both. absurd (omega (arith, both.1, few, length_names old.memory s)));
-        known = λ some. absurd (some none);
-        pays = pays_all new u (Ok n) pays;
-        texts = (
-          t.block ∷ [],
-          record {
-            blocks = ap blocks_of (appends.texts ∙ ap (λ (l : List Str). l ++ t ∷ []) stays.texts) ∙ blocks_push (texts_in old.memory s) t;
-            frame = framed new.memory u appends.frame;
-          },
-        );
-      }
-        where
-          longer : names_in new.memory u ≡ names ++ text ∷ []
-          longer = appends.names ∙ (λ i. stays.names i ++ bytes i ∷ [])
-      interns_placed new u (Err e) appends pays fits = record {
-        held = appends.held;
-        names = tt;
-        kept = appends.kept.1 ∙ stays.names;
-        number = tt;
-        overflows = (λ is. absurd (fits is), λ both. absurd (omega (arith, both.1, few, length_names old.memory s)));
-        known = λ some. absurd (some none);
-        pays = pays_all new u (Err e) pays;
-        texts = (
-          [],
-          record {
-            blocks = ap blocks_of (appends.kept.0 ∙ stays.texts) ∙ sym (append-nil (blocks_of (texts_in old.memory s)));
-            frame = frame_weaken old.memory new.memory (own_blocks s) (own_blocks s) (own_blocks u ++ t.block ∷ []) (own_blocks u)
-                (λ addr n some apart. apart) (λ addr n some apart after. (after.0, (after.1.0, tt))) (framed new.memory u appends.frame);
-          },
-        );
-      }
+        framed : Frame mid.memory new.memory (own_blocks s) (n.table.block ∷ v.raw.block ∷ [])
+            → Frame old.memory new.memory (own_blocks s) (n.table.block ∷ v.raw.block ∷ t.block ∷ [])
+        framed frame = frame_then old.memory mid.memory new.memory (own_blocks s) (own_blocks s ++ t.block ∷ [])
+            (n.table.block ∷ v.raw.block ∷ t.block ∷ [])
+            (frame_behind old.memory mid.memory [] (t.block ∷ []) (own_blocks s) places.1.outcome.frame)
+            (frame_beside mid.memory new.memory (own_blocks s) (n.table.block ∷ v.raw.block ∷ []) (t.block ∷ []) frame)
+
+        pays_all : (result : Result ℕ AllocError) → Lists name_kind.keys name_kind mid new s.numbers s.texts t t n v result
+            → Pays far_up (1024 + length text) (names_credit s) (names_credit now) old new result
+        pays_all result lists =
+            let both : Pays far_up (length text + 839) (names_credit s) (names_credit now) old new result =
+            pays_then t places.1.outcome.frame.is_growing places.1.outcome.frame.allocated lists.pays.refused (pays_place mid (Ok t) places)
+            lists.pays in
+            pays_more 0 (omega arith) (omega arith) (omega arith) (omega arith) both
+
+        -- and then it is put at the end, or not.
+        pub interns_placed : (result : Result ℕ AllocError)
+            → ((memory : Memory) (m : HashMap Str ℕ FxHasher) → IsMapIn name_kind memory m → AreTexts memory m)
+            → Lists name_kind.keys name_kind mid new s.numbers s.texts t t n v result → Interns old new s now text result
+        interns_placed (Ok at) texts lists =
+            let are = appended mid new n v stays.held fresh (texts mid.memory s.numbers stays.held.numbers) (texts new.memory n lists.map)
+            lists in
+            let named : names_in new.memory now ≡ names ++ text ∷ [] = ap (contents_of new.memory) lists.list_is ∙ are.1
+            ∙ (λ i. stays.names i ++ bytes i ∷ []) in
+            record {
+              held = are.0;
+              names = named ∙ (rw none refl);
+              kept = tt;
+              number = ap (λ (l : List (List ℕ)). number_of l text) named ∙ number_push names text text none
+                  ∙ rw ((bytes_eq-Decides text text).1 refl) (ap Some (length_names old.memory s ∙ sym lists.place));
+              overflows = fits_more (Ok at) lists.fits;
+              known = λ some. absurd (some none);
+              pays = pays_all (Ok at) lists;
+              texts = (
+                t.block ∷ [],
+                record {
+                  blocks = ap blocks_of (lists.list_is ∙ ap (λ (l : List Str). l ++ t ∷ []) stays.texts) ∙ blocks_push list t;
+                  frame = framed lists.frame;
+                },
+              );
+            }
+        interns_placed (Err e) texts lists =
+            let are = not_appended mid new n v stays.held fresh lists in
+            let named : texts_in new.memory now ≡ list = lists.kept.1 ∙ stays.texts in
+            record {
+              held = are.0;
+              names = tt;
+              kept = ap (contents_of new.memory) lists.kept.1 ∙ are.1 ∙ stays.names;
+              number = tt;
+              overflows = fits_more (Err e) lists.fits;
+              known = λ some. absurd (some none);
+              pays = pays_all (Err e) lists;
+              texts = (
+                [],
+                record {
+                  blocks = same_texts new.memory now named;
+                  frame = frame_weaken old.memory new.memory (own_blocks s) (own_blocks s) (own_blocks now ++ t.block ∷ []) (own_blocks now)
+                      (λ addr n some apart. apart) (λ addr n some apart after. (after.0, (after.1.0, tt))) (framed lists.frame);
+                },
+              );
+            }

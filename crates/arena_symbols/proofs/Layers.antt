@@ -1,3 +1,6 @@
--- The lemmas that a layer above cites: the number of each text once one more has a number, and blocks apart the other way round.
-pub use Rattle.arena_symbols.proofs.NumberLemmas.{number_push}
-pub use Rattle.arena_symbols.proofs.NamedLemmas.{all_turned}
+-- The lemmas that a layer above cites: numbers of texts, values in scopes, blocks apart the other way round, and what a call on an
+-- interner leaves of a table beside it, and a call on a table of an interner.
+pub use Rattle.arena_symbols.proofs.NumberLemmas.{number_push, number_there}
+pub use Rattle.arena_symbols.proofs.ScopeLemmas.{value_push, lookup_put}
+pub use Rattle.arena_symbols.proofs.InternLemmas.{InternerStays, interner_beside}
+pub use Rattle.arena_symbols.proofs.NamedLemmas.{all_turned, scopes_moved, texts_moved, moves_then}

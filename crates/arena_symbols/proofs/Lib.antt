@@ -1,13 +1,12 @@
 pub mod NumberLemmas
 pub mod BesideLemmas
 pub mod PayLemmas
+pub mod ListingLemmas
 pub mod InternLemmas
-pub mod InternPays
 pub mod InternCalls
 pub mod ScopeLemmas
 pub mod TableLemmas
 pub mod TableCallLemmas
-pub mod PutPairLemmas
 pub mod DefineLemmas
 pub mod UndoLemmas
 pub mod LeaveLemmas

@@ -1,69 +1,62 @@
 -- Numbers of texts.
-use Rattle.std.proofs.Common.{◌≡◌, ℕ, zero, suc, ◌+◌, ◌-◌, ◌≤◌, List, [], ◌∷◌, ◌++◌, length, refl, sym, ap, ◌∙◌, arith, inl, inr, Some, None, Option, true, false, Bool, cond}
+use Rattle.std.proofs.Common.{◌≡◌, ℕ, ◌+◌, List, [], ◌∷◌, ◌++◌, length, get_or, refl, sym, ap, ◌∙◌, arith, inl, inr, Some, None, true, false, Bool, cond, ltb}
 use Rattle.std.specs.Prelude.{bytes_eq, slice_get, if◌then◌else◌}
-use Rattle.std.specs.List.{position_from, AllByRecursion, IsDistinct, list_any}
-use Rattle.std.proofs.lemmas.Bool.{cases_Bool, cond-true, cond-false}
-use Rattle.std.proofs.lemmas.Option.{none-some, same_Some}
-use Rattle.std.proofs.lemmas.Slice.Eq.{bytes_eq-Decides}
-use Rattle.std.proofs.lemmas.Map.Keys.{IsDistinct-push, IsDistinct-head, IsDistinct-tail}
+use Rattle.std.specs.List.{position_from, IsDistinct, list_any}
+use Rattle.std.proofs.lemmas.Bool.{cases_Bool, cond-true, cond-false, lt-ltb}
 use Rattle.std.proofs.lemmas.Bool.Decides.{same_from_decides}
+use Rattle.std.proofs.lemmas.Iterator.Adapters.{position_from-zero}
+use Rattle.std.proofs.lemmas.List.Quantifiers.{position-Some}
+use Rattle.std.proofs.lemmas.List.Sums.{position_or_len_is}
+use Rattle.std.proofs.lemmas.Option.{none-some, slice_get-get_or, slice_get_within, get_or_from_slice_get}
+use Rattle.std.proofs.lemmas.Slice.Eq.{bytes_eq-Decides}
+use Rattle.std.proofs.lemmas.Map.Keys.{IsDistinct-push, apart_from_distinct}
 use Rattle.std.specs.Cmp.{IsEquivalence}
 use Rattle.arena_symbols.specs.Interner.{number_of}
 
--- the place that was found, or else that of a last element
-after : Option ℕ → Bool → ℕ → Option ℕ
-after None b n = cond b (Some n) None
-after (Some i) b n = Some i
+push_position : (text : List ℕ) (xs : List (List ℕ)) (q : List ℕ) (i : ℕ) → position_from (bytes_eq text) i xs ≡ None
+    → position_from (bytes_eq q) i (xs ++ text ∷ [])
+    ≡ (if bytes_eq q text then Some (i + length xs) else position_from (bytes_eq q) i xs)
+push_position text [] q i none = ap (λ (n : ℕ). if bytes_eq q text then Some n else None) (omega arith)
+push_position text (x ∷ xs) q i none = elim (cases_Bool (bytes_eq text x)) [
+  | inl same ↦ absurd (none-some i (sym none ∙ cond-true _ _ _ same))
+  | inr away ↦ ap (cond (bytes_eq q x) (Some i)) (push_position text xs q (i + 1) (sym (cond-false _ _ _ away) ∙ none))
+      ∙ by (bytes_eq q x) (bytes_eq q text) (λ one other. true-false (sym ((bytes_eq-Decides text x).1
+      (sym ((bytes_eq-Decides q text).0 other) ∙ (bytes_eq-Decides q x).0 one)) ∙ away))
+]
+  where
+    true-false : true ≡ false → ⊥
+    true-false same = cc
 
-after_cond : (i : ℕ) (here last : Bool) (more : Option ℕ) (n m : ℕ) → n ≡ m
-    → cond here (Some i) (after more last n) ≡ after (cond here (Some i) more) last m
-unfolding after
-after_cond i true last more n m same = refl
-after_cond i false last more n m same = ap (after more last) same
-
-push_position : {X : Type 0} (p : X → Bool) (x : X) → (xs : List X) (i : ℕ)
-    → position_from p i (xs ++ x ∷ []) ≡ after (position_from p i xs) (p x) (i + length xs)
-unfolding after
-push_position p x [] i = ap (λ (n : ℕ). cond (p x) (Some n) None) (omega arith)
-push_position {X} p x (y ∷ ys) i =
-    ap (λ (o : Option ℕ). cond (p y) (Some i) o) (push_position p x ys (i + 1))
-    ∙ after_cond i (p y) (p x) (position_from p (i + 1) ys) (i + 1 + length ys) (i + length (y ∷ ys)) (omega arith)
+    by : (one other : Bool) → (one ≡ true → other ≡ true → ⊥)
+        → cond one (Some i) (if other then Some (i + 1 + length xs) else position_from (bytes_eq q) (i + 1) xs)
+        ≡ (if other then Some (i + length (x ∷ xs)) else cond one (Some i) (position_from (bytes_eq q) (i + 1) xs))
+    by one other never = grind (arith, never)
 
 -- A new text at the end has the next number, and the others have theirs.
 pub number_push : (texts : List (List ℕ)) (text q : List ℕ) → number_of texts text ≡ None
     → number_of (texts ++ text ∷ []) q ≡ (if bytes_eq q text then Some (length texts) else number_of texts q)
-unfolding after
-number_push texts text q none = push_position (bytes_eq q) text texts 0 ∙ elim (cases_Bool (bytes_eq q text)) [
-  | inl same ↦
-      let is : q ≡ text = (bytes_eq-Decides q text).0 same in
-      let nothing : number_of texts q ≡ None = ap (number_of texts) is ∙ none in
-      rw (nothing, same) (ap Some (omega arith))
-  | inr other ↦ rw other (stays (number_of texts q))
-]
-  where
-    stays : (o : Option ℕ) → after o false (0 + length texts) ≡ o
-    stays None = refl
-    stays (Some n) = refl
+number_push texts text q none =
+    push_position text texts q 0 none ∙ ap (λ (n : ℕ). if bytes_eq q text then Some n else number_of texts q) (omega arith)
 
 -- a text that none equals has no number
 none_any : {X : Type 0} (p : X → Bool) → (xs : List X) (i : ℕ) → position_from p i xs ≡ None → list_any p xs ≡ false
 none_any p [] i none = refl
 none_any p (x ∷ xs) i none = elim (cases_Bool (p x)) [
-  | inl here ↦ absurd (none-some i (sym none ∙ ap (λ (b : Bool). cond b (Some i) (position_from p (i + 1) xs)) here))
-  | inr away ↦ rw away (none_any p xs (i + 1) (sym (ap (λ (b : Bool). cond b (Some i) (position_from p (i + 1) xs)) away) ∙ none))
+  | inl here ↦ absurd (none-some i (sym none ∙ cond-true _ _ _ here))
+  | inr away ↦ rw away (none_any p xs (i + 1) (sym (cond-false _ _ _ away) ∙ none))
 ]
 
 -- the test on texts
-bytes-equivalence : IsEquivalence bytes_eq
-bytes-equivalence = record {
+turned : (x y : List ℕ) → bytes_eq x y ≡ bytes_eq y x
+turned x y = same_from_decides (bytes_eq x y) (bytes_eq y x) (bytes_eq-Decides x y)
+    ((λ e. sym ((bytes_eq-Decides y x).0 e)), (λ e. (bytes_eq-Decides y x).1 (sym e)))
+
+equivalence : IsEquivalence bytes_eq
+equivalence = record {
   refl = λ x. (bytes_eq-Decides x x).1 refl;
-  symm = λ x y. symm x y;
+  symm = turned;
   congr = λ x y z e. ap (λ w. bytes_eq w z) ((bytes_eq-Decides x y).0 e);
 }
-  where
-    symm : (x y : List ℕ) → bytes_eq x y ≡ bytes_eq y x
-    symm x y = same_from_decides (bytes_eq x y) (bytes_eq y x) (bytes_eq-Decides x y)
-        ((λ e. sym ((bytes_eq-Decides y x).0 e)), (λ e. (bytes_eq-Decides y x).1 (sym e)))
 
 -- none
 pub distinct_none : IsDistinct bytes_eq []
@@ -74,40 +67,23 @@ distinct_none = tt
 pub distinct_push : (texts : List (List ℕ)) (text : List ℕ) → IsDistinct bytes_eq texts → number_of texts text ≡ None
     → IsDistinct bytes_eq (texts ++ text ∷ [])
 distinct_push texts text distinct none =
-    IsDistinct-push bytes-equivalence texts text distinct (none_any (bytes_eq text) texts 0 none)
+    IsDistinct-push equivalence texts text distinct (none_any (bytes_eq text) texts 0 none)
 
 -- Where a text's number is, the text stands.
-pub number_there : (text : List ℕ) (xs : List (List ℕ)) (i n : ℕ) → position_from (bytes_eq text) i xs ≡ Some n
-    → (i ≤ n) × (slice_get xs (n - i) ≡ Some text)
-number_there text [] i n is = absurd (none-some n is)
-number_there text (x ∷ xs) i n is =
-    let later = position_from (bytes_eq text) (i + 1) xs in
-    elim (cases_Bool (bytes_eq text x)) [
-      | inl here ↦
-          let at : i ≡ n = same_Some i n (sym (cond-true (bytes_eq text x) (Some i) later here) ∙ is) in
-          let first : n - i ≡ 0 = omega (arith, at) in
-          (omega (arith, at), ap (slice_get (x ∷ xs)) first ∙ ap Some (sym ((bytes_eq-Decides text x).0 here)))
-      | inr away ↦
-          let rest = number_there text xs (i + 1) n (sym (cond-false (bytes_eq text x) (Some i) later away) ∙ is) in
-          let behind : n - i ≡ suc (n - (i + 1)) = omega (arith, rest.0) in
-          (omega (arith, rest.0), ap (slice_get (x ∷ xs)) behind ∙ rest.1)
-    ]
-
--- a text that none equals differs from each
-differs : (text x : List ℕ) (xs : List (List ℕ)) (n : ℕ) → AllByRecursion (λ (y : List ℕ). bytes_eq x y ≡ false) xs
-    → slice_get xs n ≡ Some text → bytes_eq x text ≡ false
-differs text x [] n all there = absurd (cc)
-differs text x (y ∷ ys) zero all there = ap (bytes_eq x) (sym (same_Some y text there)) ∙ all.0
-differs text x (y ∷ ys) (suc n) all there = differs text x ys n all.1 there
+pub number_there : (text : List ℕ) (texts : List (List ℕ)) (n : ℕ) → number_of texts text ≡ Some n → slice_get texts n ≡ Some text
+number_there text texts n is =
+    let at = position-Some (bytes_eq text) texts n [] (position_from-zero (bytes_eq text) texts ∙ is) in
+    slice_get-get_or texts n [] at.0 ∙ ap Some (sym ((bytes_eq-Decides text (get_or texts n [])).0 at.1))
 
 -- Of distinct texts each has its place as its number.
-pub number_place : (text : List ℕ) (xs : List (List ℕ)) (i n : ℕ) → IsDistinct bytes_eq xs → slice_get xs n ≡ Some text
-    → position_from (bytes_eq text) i xs ≡ Some (i + n)
-number_place text [] i n distinct there = absurd (cc)
-number_place text (x ∷ xs) i zero distinct there =
-    cond-true (bytes_eq text x) (Some i) (position_from (bytes_eq text) (i + 1) xs)
-    ((bytes_eq-Decides text x).1 (sym (same_Some x text there))) ∙ ap Some (omega arith)
-number_place text (x ∷ xs) i (suc n) distinct there =
-    cond-false (bytes_eq text x) (Some i) (position_from (bytes_eq text) (i + 1) xs)
-    (bytes-equivalence.symm text x ∙ differs text x xs n (IsDistinct-head bytes_eq x xs distinct) there)
-    ∙ number_place text xs (i + 1) n (IsDistinct-tail bytes_eq x xs distinct) there ∙ ap Some (omega arith)
+pub number_place : (text : List ℕ) (texts : List (List ℕ)) (n : ℕ) → IsDistinct bytes_eq texts → slice_get texts n ≡ Some text
+    → number_of texts text ≡ Some n
+number_place text texts n distinct there =
+    let within = slice_get_within texts n text there in
+    let is = get_or_from_slice_get texts n text [] there in
+    let place = position_or_len_is (bytes_eq text) texts n [] (omega (arith, within))
+    (λ k less. turned text (get_or texts k []) ∙ ap (bytes_eq (get_or texts k [])) (sym is)
+    ∙ apart_from_distinct bytes_eq texts k n [] distinct less within)
+    (λ more. (bytes_eq-Decides text (get_or texts n [])).1 (sym is)) in
+    sym (position_from-zero (bytes_eq text) texts) ∙ (λ i. cond (ltb (place i) (length texts)) (Some (place i)) None)
+    ∙ cond-true _ _ _ (lt-ltb n (length texts) within)

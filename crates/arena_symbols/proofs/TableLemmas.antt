@@ -1,51 +1,70 @@
 -- Scoped tables in an arena.
-use Rattle.std.proofs.Common.{◌≡◌, ℕ, ◌-◌, ◌^◌, ◌<◌, ◌≤◌, length, sym, ap, subst, ◌∙◌, arith, Some, None, Option}
-use Rattle.std.specs.Prelude.{slice_get}
+use Rattle.std.proofs.Common.{◌≡◌, ℕ, ◌+◌, ◌^◌, ◌<◌, List, length, reverse, sym, ap, ◌∙◌, arith, refl, Some, Option}
+use Rattle.std.specs.Prelude.{is_some}
+use Rattle.std.specs.Int.{w32, to_le_bytes}
+use Rattle.std.proofs.lemmas.List.{length-map, length-reverse, reverse-reverse}
 use Rattle.placement.specs.Rounding.{up}
 use Rattle.arena_chunks.specs.Memory.{Memory}
 use Rattle.arena_items.specs.Layout.{pair_size, second_at, option_size}
 use Rattle.arena_items.specs.declared.item.Item.{Ghosts}
 use Rattle.arena_items.proofs.Layers.{length-elements}
-use Rattle.arena_symbols.specs.Scoping.{lookup, newest, start_in, is_in_last, AreStarts, stands_from}
-use Rattle.arena_symbols.specs.Tables.{Entry, entry_item, pairs_of, entries_in, starts_in, scopes_in, IsTableIn}
+use Rattle.arena_hash.specs.Finite.{value_of}
+use Rattle.arena_hash.specs.Maps.{map_in}
+use Rattle.arena_vec.specs.Vecs.{vec_list}
+use Rattle.arena_symbols.specs.Listing.{place_item}
+use Rattle.arena_symbols.specs.Scoping.{lookup, value_in, scopes_of, pair_count, start_in, is_in_last, stands_from}
+use Rattle.arena_symbols.specs.Tables.{Entry, entry_item, id_kind, pairs_of, newest, entries_in, recent_in, starts_in, scopes_in, IsTableIn}
 use Rattle.arena_symbols.specs.declared.scopes.Scopes.{Scopes}
-use Rattle.arena_symbols.proofs.ScopeLemmas.{lookup_whole, newest_none, newest_stands, length_pairs, pair_at, is_in_last_is}
-
-module _ (item : Ghosts Entry) (memory : Memory) (s : Scopes) (held : IsTableIn item memory s) where
-  pub length_entries : length (pairs_of (entries_in item memory s)) ≡ s.pairs.raw.len
-  length_entries = length_pairs (entries_in item memory s) ∙ length-elements _ _ _ _
-
-  -- What the map tells of an id is where its newest pair stands,
-  pub stands : (id at : ℕ) → newest (pairs_of (entries_in item memory s)) id ≡ Some at → at < s.pairs.raw.len
-  stands id at is = omega (arith, (newest_stands 0 (pairs_of (entries_in item memory s)) id at is).high, length_entries)
-
-  -- with its value.
-  pub looked_up : (id at : ℕ) (e : Entry) → newest (pairs_of (entries_in item memory s)) id ≡ Some at
-      → slice_get (entries_in item memory s) at ≡ Some e
-      → lookup (scopes_in item memory s) id ≡ Some e.1.0
-  looked_up id at e is there =
-      let found = newest_stands 0 (pairs_of (entries_in item memory s)) id at is in
-      let pair : Some found.pair ≡ Some (e.0, e.1.0) = sym found.there
-      ∙ ap (slice_get (pairs_of (entries_in item memory s))) (let h : at - 0 ≡ at = omega arith in h)
-      ∙ pair_at (entries_in item memory s) at e there in
-      lookup_whole (pairs_of (entries_in item memory s)) (starts_in memory s) id ∙ found.value_is
-      ∙ ap (λ (o : Option (ℕ × ℕ)). second o) pair
-    where
-      second : Option (ℕ × ℕ) → Option ℕ
-      second None = None
-      second (Some p) = Some p.1
-
-  pub not_found : (id : ℕ) → newest (pairs_of (entries_in item memory s)) id ≡ None → lookup (scopes_in item memory s) id ≡ None
-  not_found id none = lookup_whole (pairs_of (entries_in item memory s)) (starts_in memory s) id
-      ∙ newest_none 0 (pairs_of (entries_in item memory s)) id none
-
-  -- The innermost map has an id whose newest pair stands from its start on.
-  pub in_last_is : (id : ℕ) → is_in_last (scopes_in item memory s) id
-      ≡ stands_from (newest (pairs_of (entries_in item memory s)) id) (start_in (starts_in memory s))
-  in_last_is id = is_in_last_is (pairs_of (entries_in item memory s)) (starts_in memory s) id
-      (subst (λ (n : ℕ). AreStarts n (starts_in memory s)) (sym length_entries) held.begins)
+use Rattle.arena_symbols.proofs.ScopeLemmas.{told, lookup_whole, value_told, newest_within, is_in_last_is, length_scopes, count_pairs}
 
 -- An entry is small.
-pub entry_small : entry_item.SIZE ≤ 2 ^ 24
+pub entry_size : (entry_item.SIZE ≡ 16) × (entry_item.ALIGN ≡ 4)
 unfolding up pair_size second_at option_size
-entry_small = omega arith
+entry_size = (refl, refl)
+
+pub some_value : {K V : Type 0} (found : Option (K × V)) → is_some (value_of found) ≡ is_some found
+some_value found = grind arith
+
+module _ (item : Ghosts Entry) (memory : Memory) (s : Scopes) where
+  abbrev entries : List Entry
+  entries = entries_in item memory s
+
+  abbrev recent : List Entry
+  recent = recent_in item memory s
+
+  pub length_recent : length recent ≡ s.pairs.raw.len
+  length_recent = length-reverse entries ∙ length-elements _ _ _ _
+
+  pub depth_is : length (scopes_in item memory s) ≡ s.starts.raw.len + 1
+  depth_is = length_scopes (pairs_of entries) (starts_in memory s)
+      ∙ ap (λ (n : ℕ). n + 1) (length-reverse (vec_list place_item memory s.starts) ∙ length-elements _ _ _ _)
+
+  pub counted_pairs : pair_count (scopes_in item memory s) ≡ s.pairs.raw.len
+  counted_pairs = count_pairs (pairs_of entries) (starts_in memory s) ∙ length-map entries (λ (e : Entry). (e.0, e.1.0))
+      ∙ length-elements _ _ _ _
+
+module _ {item : Ghosts Entry} {memory : Memory} {s : Scopes} (held : IsTableIn item memory s) (id : ℕ) (o : Option ℕ) (fits : id < 2 ^ 32)
+    (is : o ≡ value_of (map_in id_kind memory s.newest (to_le_bytes w32 id))) where
+  -- What the map tells of an id is where its newest entry stands,
+  pub newest_is : o ≡ newest (recent_in item memory s) id
+  newest_is = is ∙ held.places id fits
+
+  pub stands : (at : ℕ) → o ≡ Some at → at < s.pairs.raw.len
+  stands at found =
+      omega (arith, newest_within (recent_in item memory s) id at (sym newest_is ∙ found), length_recent item memory s)
+
+  -- which has its value,
+  pub looked_up : lookup (scopes_in item memory s) id ≡ told (entries_in item memory s) o
+  looked_up =
+      let entries = entries_in item memory s in
+      lookup_whole (pairs_of entries) (starts_in memory s) id
+      ∙ ap (λ (l : List Entry). value_in (pairs_of l) id) (sym (reverse-reverse entries)) ∙ value_told (reverse entries) id
+      ∙ (λ i. told (reverse-reverse entries i) (sym newest_is i))
+
+  -- and is of the innermost map where it stands from that one's start on.
+  pub in_last_is : is_in_last (scopes_in item memory s) id ≡ stands_from o (start_in (starts_in memory s))
+  in_last_is =
+      let entries = entries_in item memory s in
+      ap (λ (l : List Entry). is_in_last (scopes_of (pairs_of l) (starts_in memory s)) id) (sym (reverse-reverse entries))
+      ∙ is_in_last_is (reverse entries) (starts_in memory s) id held.begins
+      ∙ ap (λ (o : Option ℕ). stands_from o (start_in (starts_in memory s))) (sym newest_is)

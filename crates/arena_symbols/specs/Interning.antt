@@ -1,11 +1,9 @@
 -- What calls on interners do.
-use Rattle.std.specs.Prelude.{◌≡◌, ◌≢◌, ℕ, ◌+◌, ◌≤◌, ◌↔◌, List, [], ◌∷◌, ◌++◌, length, Some, None, Result, Err, IfOk, OnOk, OnErr}
+use Rattle.std.specs.Prelude.{◌≡◌, ◌≢◌, ℕ, ◌+◌, ◌≤◌, ◌↔◌, List, [], ◌++◌, length, Some, None, Result, Err, IfOk, OnOk, OnErr}
 use Rattle.arena_chunks.specs.Memory.{Memory}
 use Rattle.arena_chunks.specs.Source.{View}
 use Rattle.arena_chunks.specs.Frame.{AreAllApart, Frame}
 use Rattle.arena_chunks.specs.declared.block.Block.{Block}
-use Rattle.arena_chunks.specs.declared.allocator.text.Str.{Str}
-use Rattle.arena_items.specs.Values.{bytes_of}
 use Rattle.arena_items.specs.declared.room.AllocError.{AllocError}
 use Rattle.arena_items.specs.declared.room.AllocError.TheVariants.{CapacityOverflow}
 use Rattle.arena_symbols.specs.Paying.{Pays, far_up}
@@ -29,15 +27,6 @@ pub record Interns (old new : View) (s t : Symbols) (text : List ℕ) (result : 
   pub known : number_of (names_in old.memory s) text ≢ None → (new ≡ old) × (t ≡ s)
   pub pays : Pays far_up (1024 + length text) (names_credit s) (names_credit t) old new result
   pub texts : (more : List Block) × KeepsTexts old new s t more
-
--- A text, which has no number yet, is put at the end, and has the next number. Refused, the texts are as they were.
-pub record Appends (old new : Memory) (s t : Symbols) (text : Str) (result : Result ℕ AllocError) : Type 0 where
-  pub held : IsInternerIn new t
-  pub texts : OnOk result (texts_in new t ≡ texts_in old s ++ text ∷ [])
-  pub names : OnOk result (names_in new t ≡ names_in old s ++ bytes_of old text.block ∷ [])
-  pub kept : OnErr result ((texts_in new t ≡ texts_in old s) × (names_in new t ≡ names_in old s))
-  pub number : IfOk result (λ n. n ≡ s.texts.raw.len)
-  pub frame : Frame old new (own_blocks s) (own_blocks t)
 
 -- An interner with no text, which places nothing: it is one in every arena, apart from all.
 pub record IsNewInterner (s : Symbols) : Type 0 where

@@ -2,7 +2,6 @@
 use Rattle.std.proofs.Common.{◌≡◌, ℕ, zero, suc, List, [], ◌∷◌, ◌++◌, refl, sym, ap, subst, ◌∙◌, arith}
 use Rattle.std.specs.List.{AllByRecursion, Contains}
 use Rattle.arena_chunks.specs.Memory.{Memory}
-use Rattle.arena_chunks.specs.Frame.{AreAllApart}
 use Rattle.arena_chunks.specs.declared.block.Block.{Block}
 use Rattle.arena_chunks.specs.declared.allocator.text.Str.{Str}
 use Rattle.arena_items.specs.Footprint.{AreReadable, Agree}
@@ -11,12 +10,11 @@ use Rattle.arena_items.specs.Values.{elements}
 use Rattle.arena_hash.specs.AgreeLaws.{footprint-agree, meaning-agree, held-agree}
 use Rattle.arena_hash.specs.Finite.{Finite, value_of}
 use Rattle.arena_hash.specs.Maps.{texts_in as map_texts, footprint as map_footprint}
-use Rattle.arena_symbols.specs.Interner.{number_of, AreDistinct}
-use Rattle.arena_symbols.specs.Names.{name_kind, blocks_of, contents_of, texts_in, names_in, own_blocks, names_footprint, IsInternerIn}
+use Rattle.arena_symbols.specs.Names.{name_kind, blocks_of, contents_of, texts_in, names_in, own_blocks, names_footprint, IsInternerOf, IsInternerIn}
 use Rattle.arena_symbols.specs.declared.symbols.Symbols.{Symbols}
 
 -- What holds of each holds of those that are among them.
-all_at : {X : Type 0} (P : X → Type 0) (xs : List X) (x : X) → AllByRecursion P xs → Contains xs x → P x
+pub all_at : {X : Type 0} (P : X → Type 0) (xs : List X) (x : X) → AllByRecursion P xs → Contains xs x → P x
 all_at P [] x all (k, less, is) = absurd (omega arith)
 all_at P (y ∷ ys) x all (zero, less, is) = subst P is all.0
 all_at P (y ∷ ys) x all (suc k, less, is) = all_at P ys x all.1 (k, omega arith, is)
@@ -26,9 +24,15 @@ all_of P [] each = tt
 all_of P (x ∷ xs) each =
     (each x (0, omega arith, refl), all_of P xs (λ y among. each y (suc among.0, omega (arith, among.1), among.2)))
 
-contents_agree : (a c : Memory) (list : List Str) → Agree a c (blocks_of list) → contents_of a list ≡ contents_of c list
+-- What two arenas that agree on texts have there, and what an interner is made of.
+pub contents_agree : (a c : Memory) (list : List Str) → Agree a c (blocks_of list) → contents_of a list ≡ contents_of c list
 contents_agree a c [] agree = refl
 contents_agree a c (t ∷ ts) agree = (λ i. agree.0 i ∷ contents_agree a c ts agree.1 i)
+
+pub interner_of : (memory : Memory) (s : Symbols) (list : List Str) (names : List (List ℕ)) → texts_in memory s ≡ list
+    → contents_of memory list ≡ names → IsInternerOf memory s list names → IsInternerIn memory s
+interner_of memory s list names is named of = subst (λ (l : List Str). IsInternerOf memory s l (contents_of memory l)) (sym is)
+    (subst (IsInternerOf memory s list) (sym named) of)
 
 -- lists that are the same are the same behind their first
 pub behind_same : (x y : Block) (xs ys : List Block) → x ∷ xs ≡ y ∷ ys → xs ≡ ys
@@ -61,20 +65,18 @@ module _ (a c : Memory) (s : Symbols) (agree : Agree a c (names_footprint a s)) 
       λ P all. all_of P (map_texts name_kind a s.numbers) (λ b among. all_at P (blocks_of (texts_in a s)) b all (held.keys b among)) in
       let map_agree : Agree a c (map_footprint name_kind a s.numbers) = (agree.0, within _ agree.1.1) in
       let map_same = footprint-agree name_kind a c s.numbers map_agree in
-      record {
+      interner_of c s (texts_in a s) (names_in a s) (sym texts_same) (sym (contents_agree a c (texts_in a s) agree.1.1)) (record {
         numbers = held-agree name_kind a c s.numbers map_agree held.numbers (readable.0, within _ readable.1.1);
         texts = record {
           place = held_again _ name_kind.keys.ALIGN a.state c.state s.texts.raw.block held.texts.place readable.1.0;
           within = held.texts.within;
           no_bytes = held.texts.no_bytes;
         };
-        readable = subst (λ (l : List Str). AreReadable c.state (blocks_of l)) texts_same readable.1.1;
+        readable = readable.1.1;
         apart = held.apart;
-        texts_apart = subst (λ (l : List Str). AreAllApart (blocks_of l) (own_blocks s)) texts_same held.texts_apart;
-        keys = λ b among. subst (λ (l : List Str). Contains (blocks_of l) b) texts_same
-            (held.keys b (subst (λ (bs : List Block). Contains bs b) (sym (behind_same _ _ _ _ map_same)) among));
+        texts_apart = held.texts_apart;
+        keys = λ b among. held.keys b (subst (λ (bs : List Block). Contains bs b) (sym (behind_same _ _ _ _ map_same)) among);
         count = held.count;
-        places = λ q. ap (λ (f : Finite Str ℕ). value_of (f q)) (sym (meaning-agree name_kind a c s.numbers map_agree)) ∙ held.places q
-            ∙ ap (λ (l : List (List ℕ)). number_of l q) names_same;
-        distinct = subst AreDistinct names_same held.distinct;
-      }
+        places = λ q. ap (λ (f : Finite Str ℕ). value_of (f q)) (sym (meaning-agree name_kind a c s.numbers map_agree)) ∙ held.places q;
+        distinct = held.distinct;
+      })

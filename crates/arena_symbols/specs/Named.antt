@@ -1,10 +1,12 @@
 -- The names of a program: an interner and a scoped table side by side in an arena.
-use Rattle.std.specs.Prelude.{◌≡◌, ℕ, List, Option, Some, None}
+use Rattle.std.specs.Prelude.{◌≡◌, ℕ, ◌⊎◌, List, ◌++◌, Bool, not, Option, Some, None, Result, IfOk, OnOk, OnErr, if◌then◌else◌}
 use Rattle.arena_chunks.specs.Memory.{Memory}
-use Rattle.arena_chunks.specs.Frame.{AreAllApart}
-use Rattle.arena_symbols.specs.Interner.{number_of}
+use Rattle.arena_chunks.specs.Frame.{AreAllApart, Frame}
+use Rattle.arena_chunks.specs.declared.block.Block.{Block}
+use Rattle.arena_items.specs.declared.room.AllocError.{AllocError}
+use Rattle.arena_symbols.specs.Interner.{number_of, with_text}
 use Rattle.arena_symbols.specs.Names.{IsInternerIn, names_in, names_footprint}
-use Rattle.arena_symbols.specs.Scoping.{lookup}
+use Rattle.arena_symbols.specs.Scoping.{lookup, is_in_last, with_pair}
 use Rattle.arena_symbols.specs.Tables.{entry_item, IsTableIn, scopes_in, table_blocks}
 use Rattle.arena_symbols.specs.declared.uses.Names.{Names}
 
@@ -14,6 +16,15 @@ pub record AreNames (memory : Memory) (n : Names) : Type 0 where
   pub scopes : IsTableIn entry_item memory n.scopes
   pub apart : AreAllApart (table_blocks n.scopes) (names_footprint memory n.symbols)
 
+-- the blocks of both
+abbrev pub all_blocks : Memory → Names → List Block
+all_blocks memory n = table_blocks n.scopes ++ names_footprint memory n.symbols
+
+-- Both stand there after a call, and nothing else in the arena was written.
+pub record Moves (old new : Memory) (n m : Names) : Type 0 where
+  pub held : AreNames new m
+  pub frame : Frame old new (all_blocks old n) (all_blocks new m)
+
 -- the value of a number, if a text has one
 abbrev pub meant : List (List (ℕ × ℕ)) → Option ℕ → Option ℕ
 meant scopes None = None
@@ -22,3 +33,19 @@ meant scopes (Some id) = lookup scopes id
 -- what a name means: the value of its number in the innermost scope that has it
 abbrev pub meaning : Memory → Names → List ℕ → Option ℕ
 meaning memory n name = meant (scopes_in entry_item memory n.scopes) (number_of (names_in memory n.symbols) name)
+
+-- A text more has a number, or was refused one.
+abbrev pub MayHave : List (List ℕ) → List ℕ → List (List ℕ) → Type 0
+MayHave texts text after = (after ≡ texts) ⊎ (after ≡ with_text texts text)
+
+-- A name has a number, and with that a value in the innermost scope, unless it had one there. Refused, the scopes are as they were, and
+-- the name may have its number.
+pub record Declares (old new : Memory) (n m : Names) (name : List ℕ) (value : ℕ) (result : Result Bool AllocError) : Type 0 where
+  pub moves : Moves old new n m
+  pub texts : OnOk result (names_in new m.symbols ≡ with_text (names_in old n.symbols) name)
+  pub put : IfOk result (λ is_new. (id : ℕ) × (number_of (names_in new m.symbols) name ≡ Some id)
+      × (is_new ≡ not (is_in_last (scopes_in entry_item old n.scopes) id))
+      × (scopes_in entry_item new m.scopes
+      ≡ (if is_new then with_pair (scopes_in entry_item old n.scopes) id value else scopes_in entry_item old n.scopes)))
+  pub refused : OnErr result (MayHave (names_in old n.symbols) name (names_in new m.symbols))
+  pub kept : OnErr result (scopes_in entry_item new m.scopes ≡ scopes_in entry_item old n.scopes)

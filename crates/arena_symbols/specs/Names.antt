@@ -10,19 +10,18 @@ use Rattle.arena_items.specs.Values.{bytes_of}
 use Rattle.arena_vec.specs.Credit.{credit_of as list_credit}
 use Rattle.arena_vec.specs.Vecs.{IsVecIn, vec_list}
 use Rattle.arena_hash.specs.Accounts.{credit_of}
-use Rattle.arena_hash.specs.Contents.{Kind, kind}
+use Rattle.arena_hash.specs.Contents.{Kind}
 use Rattle.arena_hash.specs.Finite.{value_of}
 use Rattle.arena_hash.specs.Maps.{IsMapIn, map_in, texts_in as map_texts}
 use Rattle.arena_hash.specs.declared.hasher.FxHasher.{FxHasher}
 use Rattle.arena_symbols.specs.Interner.{number_of, AreDistinct}
+use Rattle.arena_symbols.specs.Listing.{place_kind}
 use Rattle.arena_symbols.specs.declared.symbols.Symbols.{Symbols}
 
 -- what the types of its map tell: texts are keys, and numbers values
 abbrev pub name_kind : Kind Str ℕ FxHasher
-name_kind = kind Rattle.arena_items.specs.contracts.handles.StrItem.TheImpl.ghosts
+name_kind = place_kind Rattle.arena_items.specs.contracts.handles.StrItem.TheImpl.ghosts
     Rattle.arena_hash.specs.contracts.key.StrArenaKey.TheImpl.ghosts.key
-    Rattle.arena_items.specs.contracts.numbers.unsigned.U32Item.TheImpl.ghosts
-    Rattle.arena_hash.specs.contracts.hasher.FxHasherKeyHasher.TheImpl.ghosts.hash_of
 
 -- the blocks of texts, and their bytes
 abbrev pub blocks_of : List Str → List Block
@@ -45,18 +44,22 @@ own_blocks s = s.numbers.table.block ∷ s.texts.raw.block ∷ []
 abbrev pub names_footprint : Memory → Symbols → List Block
 names_footprint memory s = own_blocks s ++ blocks_of (texts_in memory s)
 
--- The handle stands for an interner: a map and a vector of the same distinct texts, in which the map has each one's place. Their blocks
--- and the texts lie apart.
-pub record IsInternerIn (memory : Memory) (s : Symbols) : Type 0 where
+-- The handle stands for an interner of these texts, which are distinct: a map and a vector of them, in which the map has each one's
+-- place. Their blocks and the texts lie apart.
+pub record IsInternerOf (memory : Memory) (s : Symbols) (list : List Str) (names : List (List ℕ)) : Type 0 where
   pub numbers : IsMapIn name_kind memory s.numbers
   pub texts : IsVecIn name_kind.keys memory s.texts
-  pub readable : AreReadable memory.state (blocks_of (texts_in memory s))
+  pub readable : AreReadable memory.state (blocks_of list)
   pub apart : ArePairwiseApart (own_blocks s)
-  pub texts_apart : AreAllApart (blocks_of (texts_in memory s)) (own_blocks s)
-  pub keys : (b : Block) → Contains (map_texts name_kind memory s.numbers) b → Contains (blocks_of (texts_in memory s)) b
+  pub texts_apart : AreAllApart (blocks_of list) (own_blocks s)
+  pub keys : (b : Block) → Contains (map_texts name_kind memory s.numbers) b → Contains (blocks_of list) b
   pub count : s.numbers.len ≡ s.texts.raw.len
-  pub places : (q : List ℕ) → value_of (map_in name_kind memory s.numbers q) ≡ number_of (names_in memory s) q
-  pub distinct : AreDistinct (names_in memory s)
+  pub places : (q : List ℕ) → value_of (map_in name_kind memory s.numbers q) ≡ number_of names q
+  pub distinct : AreDistinct names
+
+-- It stands for an interner.
+abbrev pub IsInternerIn : Memory → Symbols → Type 0
+IsInternerIn memory s = IsInternerOf memory s (texts_in memory s) (names_in memory s)
 
 -- the bytes that it saved up for its next blocks
 abbrev pub names_credit : Symbols → ℕ

@@ -2,23 +2,19 @@
 use Rattle.std.specs.Prelude.{◌≡◌, List, ◌++◌, ◌↔◌, Result, Err, IfOk, OnOk, OnErr}
 use Rattle.arena_chunks.specs.Memory.{Memory}
 use Rattle.arena_chunks.specs.Frame.{Frame}
-use Rattle.arena_chunks.specs.declared.block.Block.{Block}
 use Rattle.arena_items.specs.declared.room.AllocError.{AllocError}
 use Rattle.arena_items.specs.declared.room.AllocError.TheVariants.{CapacityOverflow}
 use Rattle.arena_symbols.specs.Calls.{State, answer, after, answers, after_all, IsFull}
-use Rattle.arena_symbols.specs.Named.{AreNames}
-use Rattle.arena_symbols.specs.Names.{names_in, names_footprint}
-use Rattle.arena_symbols.specs.Tables.{entry_item, scopes_in, table_blocks}
+use Rattle.arena_symbols.specs.Named.{AreNames, all_blocks}
+use Rattle.arena_symbols.specs.Names.{names_in}
+use Rattle.arena_symbols.specs.Tables.{entry_item, scopes_in}
 use Rattle.arena_symbols.specs.declared.calls.Call.{Call}
 use Rattle.arena_symbols.specs.declared.calls.Reply.{Reply}
 use Rattle.arena_symbols.specs.declared.uses.Names.{Names}
 
--- the texts and the maps that stand there, and the blocks of both
+-- the texts and the maps that stand there
 abbrev pub state_in : Memory → Names → State
 state_in memory n = record { texts = names_in memory n.symbols; scopes = scopes_in entry_item memory n.scopes }
-
-abbrev pub all_blocks : Memory → Names → List Block
-all_blocks memory n = table_blocks n.scopes ++ names_footprint memory n.symbols
 
 -- A call is answered as the texts and the maps say, and leaves what they say. Refused, they are as they were. Nothing else in the arena
 -- was written.

@@ -1,5 +1,5 @@
 -- What calls on scoped tables do.
-use Rattle.std.specs.Prelude.{◌≡◌, ℕ, ◌+◌, ◌-◌, ◌^◌, ◌<◌, ◌≤◌, ◌↔◌, take, bytes_eq, is_some, Option, Bool, true, false, List, [], ◌∷◌, length, Result, Ok, Err, IfOk, OnOk, OnErr, if◌then◌else◌, not}
+use Rattle.std.specs.Prelude.{◌≡◌, ℕ, ◌-◌, ◌^◌, ◌<◌, ◌≤◌, ◌↔◌, take, bytes_eq, is_some, Option, Bool, true, false, List, [], ◌∷◌, length, Result, Ok, Err, IfOk, OnOk, OnErr, if◌then◌else◌, not}
 use Rattle.std.specs.Int.{w32, to_le_bytes}
 use Rattle.arena_chunks.specs.Memory.{Memory}
 use Rattle.arena_chunks.specs.Source.{View}
@@ -35,31 +35,21 @@ pub record Enters (item : Ghosts Entry) (old new : View) (s t : Scopes) (result 
   pub pays : Pays far_up 64 (table_credit s) (table_credit t) old new result
   pub frame : Frame old.memory new.memory (table_blocks s) (table_blocks t)
 
--- A pair is put into the innermost map, which doesn't have its id. Refused, the maps are as they were.
-pub record PutsPair (item : Ghosts Entry) (old new : View) (s t : Scopes) (id value : ℕ) (result : Result (Unit {0}) AllocError) : Type
-    0 where
-  pub held : IsTableIn item new.memory t
-  pub scopes : OnOk result (scopes_in item new.memory t ≡ with_pair (scopes_in item old.memory s) id value)
-  pub kept : OnErr result (scopes_in item new.memory t ≡ scopes_in item old.memory s)
-  pub fits : result ≡ Err CapacityOverflow → ⊥
-  pub pays : Pays far_up 512 (table_credit s) (table_credit t) old new result
-  pub frame : Frame old.memory new.memory (table_blocks s) (table_blocks t)
-
 -- A map in which an id has what was hidden, or nothing, and each other id has what it had. No memory is taken.
 pub record Unhides (old new : View) (m : HashMap ℕ ℕ FxHasher) (id : ℕ) (hidden : Option ℕ) (w : HashMap ℕ ℕ FxHasher) : Type 0 where
   pub held : IsMapIn id_kind new.memory w
   pub values : (q : ℕ) → q < 2 ^ 32 → value_of (map_in id_kind new.memory w (to_le_bytes w32 q))
       ≡ (if bytes_eq (to_le_bytes w32 q) (to_le_bytes w32 id) then hidden else value_of (map_in id_kind old.memory m (to_le_bytes w32 q)))
-  pub len : w.len + (if is_some hidden then 0 else 1) ≡ m.len
+  pub len : w.len ≡ m.len - (if is_some hidden then 0 else 1)
   pub places : SamePlaces old new
   pub credit : credit_of id_kind w ≤ credit_of id_kind m
   pub frame : Frame old.memory new.memory (m.table.block ∷ []) (w.table.block ∷ [])
 
--- The newest pair is gone, and the one that it hid is the newest of its id. No memory is taken, and nothing is refused.
-pub record Undoes (item : Ghosts Entry) (old new : View) (s t : Scopes) : Type 0 where
+-- All but the first n pairs are gone, and those that they hid are the newest of their ids. No memory is taken, and nothing is refused.
+pub record Cuts (item : Ghosts Entry) (old new : View) (s t : Scopes) (n : ℕ) : Type 0 where
   pub held : IsTableIn item new.memory t
-  pub entries : entries_in item new.memory t ≡ take (s.pairs.raw.len - 1) (entries_in item old.memory s)
-  pub len : t.pairs.raw.len + 1 ≡ s.pairs.raw.len
+  pub entries : entries_in item new.memory t ≡ take n (entries_in item old.memory s)
+  pub len : t.pairs.raw.len ≡ n
   pub starts : starts_in new.memory t ≡ starts_in old.memory s
   pub places : SamePlaces old new
   pub credit : table_credit t ≤ table_credit s

@@ -12,8 +12,9 @@ use Rattle.arena_items.specs.declared.item.Item.{Ghosts}
 use Rattle.arena_hash.specs.AgreeLaws.{meaning-agree, held-agree}
 use Rattle.arena_hash.specs.Finite.{Finite, value_of}
 use Rattle.arena_hash.specs.Maps.{pairs_in, footprint as map_footprint}
-use Rattle.arena_symbols.specs.Scoping.{scopes_of, AreStarts, newest}
-use Rattle.arena_symbols.specs.Tables.{Entry, pairs_of, place_item, id_kind, entries_in, starts_in, scopes_in, first_count, TellHidden, IsTableIn, table_blocks}
+use Rattle.arena_symbols.specs.Listing.{place_item}
+use Rattle.arena_symbols.specs.Scoping.{scopes_of}
+use Rattle.arena_symbols.specs.Tables.{Entry, pairs_of, id_kind, entries_in, recent_in, starts_in, scopes_in, IsTableOf, IsTableIn, table_blocks}
 use Rattle.arena_symbols.specs.declared.scopes.Scopes.{Scopes}
 
 -- What holds of an empty block holds of the texts of ids.
@@ -21,6 +22,13 @@ all_empty : (P : Block → Type 0) → P (record { generation = 0; addr = 1; siz
     → AllByRecursion P (map (λ (p : ℕ × ℕ). id_kind.key.text p.0) ps)
 all_empty P one [] = tt
 all_empty P one (p ∷ ps) = (one, all_empty P one ps)
+
+-- what a table is made of
+pub table_of : {item : Ghosts Entry} {memory : Memory} {s : Scopes} {es : List Entry} {ks : List ℕ} → recent_in item memory s ≡ es
+    → starts_in memory s ≡ ks → IsTableOf item memory s es ks → IsTableIn item memory s
+table_of {item = item} {memory = memory} {s = s} {ks = ks} es-are ks-are of =
+    subst (IsTableOf item memory s (recent_in item memory s)) (sym ks-are) (subst (λ (es : List Entry). IsTableOf item memory s es ks)
+    (sym es-are) of)
 
 module _ (item : Ghosts Entry) where
   -- Its blocks may be read.
@@ -43,7 +51,7 @@ module _ (item : Ghosts Entry) where
     table_held_again held readable =
         let none : bytes_from (image a) 1 0 ≡ bytes_from (image c) 1 0 = no_bytes (image a) 1 0 refl ∙ sym (no_bytes (image c) 1 0 refl) in
         let map_agree : Agree a c (map_footprint id_kind a s.newest) = (agree.0, all_empty _ none (pairs_in id_kind a s.newest)) in
-        record {
+        table_of (ap (λ (l : List Entry). reverse l) (sym entries_same)) (sym starts_same) (record {
           ids = held-agree id_kind a c s.newest map_agree held.ids (readable.0, all_empty _ refl (pairs_in id_kind a s.newest));
           pairs = record {
             place = held_again _ item.ALIGN a.state c.state s.pairs.raw.block held.pairs.place readable.1.0;
@@ -57,10 +65,9 @@ module _ (item : Ghosts Entry) where
           };
           apart = held.apart;
           places = λ id fits. ap (λ (f : Finite ℕ ℕ). value_of (f (to_le_bytes w32 id)))
-              (sym (meaning-agree id_kind a c s.newest map_agree))
-              ∙ held.places id fits ∙ ap (λ (l : List Entry). newest (pairs_of l) id) entries_same;
-          hidden = subst TellHidden entries_same held.hidden;
-          begins = subst (λ (l : List ℕ). AreStarts s.pairs.raw.len l) starts_same held.begins;
+              (sym (meaning-agree id_kind a c s.newest map_agree)) ∙ held.places id fits;
+          hidden = held.hidden;
+          begins = held.begins;
           depth = held.depth;
-          count = held.count ∙ ap first_count entries_same;
-        }
+          count = held.count;
+        })

@@ -1,5 +1,5 @@
 -- Scoped tables in an arena, and the maps that they are.
-use Rattle.std.specs.Prelude.{◌≡◌, ℕ, ◌+◌, ◌^◌, ◌<◌, List, [], ◌∷◌, ◌++◌, map, reverse, take, slice_get, Option, Some, is_some, if◌then◌else◌}
+use Rattle.std.specs.Prelude.{◌≡◌, ◌==◌, ℕ, ◌+◌, ◌^◌, ◌<◌, List, [], ◌∷◌, map, reverse, length, Option, Some, None, is_some, if◌then◌else◌}
 use Rattle.std.specs.Int.{w32, to_le_bytes}
 use Rattle.arena_chunks.specs.Memory.{Memory}
 use Rattle.arena_chunks.specs.Frame.{ArePairwiseApart}
@@ -9,11 +9,12 @@ use Rattle.arena_items.specs.declared.item.Item.{Ghosts}
 use Rattle.arena_vec.specs.Credit.{credit_of as list_credit}
 use Rattle.arena_vec.specs.Vecs.{IsVecIn, vec_list}
 use Rattle.arena_hash.specs.Accounts.{credit_of}
-use Rattle.arena_hash.specs.Contents.{Kind, kind, whole_key}
+use Rattle.arena_hash.specs.Contents.{Kind, whole_key}
 use Rattle.arena_hash.specs.Finite.{value_of}
 use Rattle.arena_hash.specs.Maps.{IsMapIn, map_in}
 use Rattle.arena_hash.specs.declared.hasher.FxHasher.{FxHasher}
-use Rattle.arena_symbols.specs.Scoping.{scopes_of, AreStarts, newest}
+use Rattle.arena_symbols.specs.Listing.{place_item, place_kind}
+use Rattle.arena_symbols.specs.Scoping.{scopes_of, AreStarts}
 use Rattle.arena_symbols.specs.declared.scopes.Scopes.{Scopes}
 
 -- A pair with what it hid: the id, the value, and the place of the newest pair before it with that id.
@@ -23,22 +24,39 @@ Entry = ℕ × (ℕ × Option ℕ)
 abbrev pub pairs_of : List Entry → List (ℕ × ℕ)
 pairs_of entries = map (λ (e : Entry). (e.0, e.1.0)) entries
 
--- what the types of the map tell, and of the places
-abbrev pub place_item : Ghosts ℕ
-place_item = Rattle.arena_items.specs.contracts.numbers.unsigned.U32Item.TheImpl.ghosts
-
 -- the byte form of an entry
 abbrev pub entry_item : Ghosts Entry
 entry_item = pair_item place_item (pair_item place_item (option_item place_item))
 
+-- what the types of the map tell
 abbrev pub id_kind : Kind ℕ ℕ FxHasher
-id_kind =
-    kind place_item (whole_key place_item) place_item
-    Rattle.arena_hash.specs.contracts.hasher.FxHasherKeyHasher.TheImpl.ghosts.hash_of
+id_kind = place_kind place_item (whole_key place_item)
 
--- the entries of a table, oldest first; where its maps begin, innermost first; and the maps
+-- ---- Entries, the newest first
+
+-- the place of the newest with an id: how many came before it
+abbrev pub newest : List Entry → ℕ → Option ℕ
+newest [] id = None
+newest (e ∷ older) id = if e.0 == id then Some (length older) else newest older id
+
+-- Each entry tells the newest before it with its id.
+abbrev pub TellHidden : List Entry → Type 0
+TellHidden [] = Unit {0}
+TellHidden (e ∷ older) = (e.1.1 ≡ newest older e.0) × TellHidden older
+
+-- how many entries hid none: there are as many ids
+abbrev pub first_count : List Entry → ℕ
+first_count [] = 0
+first_count (e ∷ older) = (if is_some e.1.1 then 0 else 1) + first_count older
+
+-- ---- Tables
+
+-- the entries of a table, oldest first and newest first; where its maps begin, innermost first; and the maps
 abbrev pub entries_in : Ghosts Entry → Memory → Scopes → List Entry
 entries_in item memory s = vec_list item memory s.pairs
+
+abbrev pub recent_in : Ghosts Entry → Memory → Scopes → List Entry
+recent_in item memory s = reverse (entries_in item memory s)
 
 abbrev pub starts_in : Memory → Scopes → List ℕ
 starts_in memory s = reverse (vec_list place_item memory s.starts)
@@ -46,32 +64,26 @@ starts_in memory s = reverse (vec_list place_item memory s.starts)
 abbrev pub scopes_in : Ghosts Entry → Memory → Scopes → List (List (ℕ × ℕ))
 scopes_in item memory s = scopes_of (pairs_of (entries_in item memory s)) (starts_in memory s)
 
--- Each entry tells the newest before it with its id.
-abbrev pub TellHidden : List Entry → Type 0
-TellHidden entries = (i : ℕ) (e : Entry) → slice_get entries i ≡ Some e → e.1.1 ≡ newest (take i (pairs_of entries)) e.0
-
--- how many entries hid none: there are as many ids
-abbrev pub first_count : List Entry → ℕ
-first_count [] = 0
-first_count (e ∷ es) = (if is_some e.1.1 then 0 else 1) + first_count es
-
 -- the blocks that its calls write, which are all that it reads: its ids have no texts
 abbrev pub table_blocks : Scopes → List Block
 table_blocks s = s.newest.table.block ∷ s.pairs.raw.block ∷ s.starts.raw.block ∷ []
 
--- The handle stands for a scoped table: a map from ids to their newest pairs, a list of pairs with what each hid, and a list of where
--- maps begin, whose blocks lie apart.
-pub record IsTableIn (item : Ghosts Entry) (memory : Memory) (s : Scopes) : Type 0 where
+-- The handle stands for these entries, the newest first, and these starts of maps, the innermost first: a map from ids to their newest
+-- entries, a list of entries with what each hid, and a list of where maps begin, whose blocks lie apart.
+pub record IsTableOf (item : Ghosts Entry) (memory : Memory) (s : Scopes) (es : List Entry) (ks : List ℕ) : Type 0 where
   pub ids : IsMapIn id_kind memory s.newest
   pub pairs : IsVecIn item memory s.pairs
   pub starts : IsVecIn place_item memory s.starts
   pub apart : ArePairwiseApart (table_blocks s)
-  pub places : (id : ℕ) → id < 2 ^ 32 → value_of (map_in id_kind memory s.newest (to_le_bytes w32 id)) ≡ newest
-      (pairs_of (entries_in item memory s)) id
-  pub hidden : TellHidden (entries_in item memory s)
-  pub begins : AreStarts s.pairs.raw.len (starts_in memory s)
+  pub places : (id : ℕ) → id < 2 ^ 32 → value_of (map_in id_kind memory s.newest (to_le_bytes w32 id)) ≡ newest es id
+  pub hidden : TellHidden es
+  pub begins : AreStarts (length es) ks
   pub depth : s.starts.raw.len < 2 ^ 29
-  pub count : s.newest.len ≡ first_count (entries_in item memory s)
+  pub count : s.newest.len ≡ first_count es
+
+-- It stands for a scoped table.
+abbrev pub IsTableIn : Ghosts Entry → Memory → Scopes → Type 0
+IsTableIn item memory s = IsTableOf item memory s (recent_in item memory s) (starts_in memory s)
 
 abbrev pub table_credit : Scopes → ℕ
 table_credit s =

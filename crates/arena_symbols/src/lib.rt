@@ -3,6 +3,7 @@
 
 mod calls;
 mod laws;
+mod listing;
 mod scopes;
 mod symbols;
 mod uses;

@@ -1,15 +1,16 @@
 // Scopes of names.
-ghost use Rattle.std.specs.Prelude.{◌≡◌, ◌<◌, ◌^◌, length, true};
+ghost use Rattle.std.specs.Prelude.{◌≡◌, ◌-◌, ◌<◌, ◌≤◌, length, true};
 ghost use Rattle.arena_chunks.specs.Memory.{Memory};
 ghost use Rattle.std.specs.Int.{w32, to_le_bytes};
 ghost use Rattle.arena_hash.specs.Finite.{has};
 ghost use Rattle.arena_hash.specs.Maps.{IsMapIn, map_in};
-ghost use Rattle.arena_symbols.specs.Scoping.{lookup, is_in_last, start_in, stands_from, newest, most_pairs};
-ghost use Rattle.arena_symbols.specs.Tables.{IsTableIn, scopes_in, starts_in, entries_in, pairs_of, id_kind, entry_item};
-ghost use Rattle.arena_symbols.specs.TableCalls.{IsNewTable, Enters, Leaves, Defines, PutsPair, Undoes, Unhides};
+ghost use Rattle.arena_symbols.specs.Scoping.{lookup, is_in_last, start_in, stands_from};
+ghost use Rattle.arena_symbols.specs.Tables.{IsTableIn, scopes_in, starts_in, id_kind, entry_item};
+ghost use Rattle.arena_symbols.specs.TableCalls.{IsNewTable, Enters, Leaves, Defines, Cuts, Unhides};
 
+use crate::listing::put_listed;
 use arena_chunks::{Allocator, ChunkSource};
-use arena_hash::{FxHasher, HashMap, insert_law};
+use arena_hash::HashMap;
 use arena_items::{AllocError, Grown, Item};
 use arena_vec::Vec;
 use arena_vec::laws::{growth_costs, vector_costs};
@@ -131,6 +132,7 @@ impl Scopes {
         requires { IsTableIn entry_item a.old.memory self.old }
         ensures { Defines entry_item a.old a.new self.old self.new id value result }
     {
+        let _ = a.min_align();
         let hidden = self.newest.get(a, id);
         if self.is_inner(a, hidden) {
             return Ok(false);
@@ -138,36 +140,14 @@ impl Scopes {
         if self.pairs.len() >= MOST_PAIRS {
             return Err(AllocError::CapacityOverflow);
         }
-        self.put(a, id, value, hidden)?;
+        put_listed(
+            &mut self.newest,
+            &mut self.pairs,
+            a,
+            id,
+            (id, (value, hidden)),
+        )?;
         Ok(true)
-    }
-
-    // Puts a pair into the innermost map, which hides this one.
-    fn put<C: ChunkSource>(
-        &mut self,
-        a: &mut Allocator<C>,
-        id: u32,
-        value: u32,
-        hidden: Option<u32>,
-    ) -> Grown<()>
-        requires held { IsTableIn entry_item a.old.memory self.old }
-        requires hidden { hidden ≡ newest (pairs_of (entries_in entry_item a.old.memory self.old)) id }
-        requires few { self.old.pairs.raw.len < most_pairs }
-        ensures { PutsPair entry_item a.old a.new self.old self.new id value result }
-    {
-        insert_law::<u32, u32, FxHasher>();
-        growth_costs();
-        vector_costs::<Entry, ()>();
-        let _ = a.min_align();
-        let n = self.pairs.len();
-        self.pairs.push(a, (id, (value, hidden)))?;
-        match self.newest.insert(a, id, n) {
-            Ok(_) => Ok(()),
-            Err(e) => {
-                self.pairs.truncate(n);
-                Err(e)
-            }
-        }
     }
 
     // Takes the newest pair away, so that the one that it hid is the newest of its id. It takes no memory: a key that is
@@ -175,13 +155,25 @@ impl Scopes {
     fn undo<C: ChunkSource>(&mut self, a: &mut Allocator<C>)
         requires held { IsTableIn entry_item a.old.memory self.old }
         requires inner { start_in (starts_in a.old.memory self.old) < self.old.pairs.raw.len }
-        ensures { Undoes entry_item a.old a.new self.old self.new }
+        ensures { Cuts entry_item a.old a.new self.old self.new (self.old.pairs.raw.len - 1) }
     {
         let last = self.pairs.len() - 1;
         let entry = self.pairs.get(a, last);
         entry.known();
         self.unhide(a, entry.0, entry.1.1);
         self.pairs.truncate(last);
+    }
+
+    // Takes the pairs away from a place on, the newest first.
+    fn cut<C: ChunkSource>(&mut self, a: &mut Allocator<C>, start: u32)
+        requires held { IsTableIn entry_item a.old.memory self.old }
+        requires inner { start_in (starts_in a.old.memory self.old) ≤ start }
+        requires within { start ≤ self.old.pairs.raw.len }
+        ensures { Cuts entry_item a.old a.new self.old self.new start }
+    {
+        'pairs: for _ in start..self.pairs.len() {
+            self.undo(a);
+        }
     }
 
     // Makes an id that is there tell what was hidden, or nothing.
@@ -211,9 +203,7 @@ impl Scopes {
         }
         let start = self.start(a);
         self.starts.truncate(self.starts.len() - 1);
-        'pairs: for _ in start..self.pairs.len() {
-            self.undo(a);
-        }
+        self.cut(a, start);
         true
     }
 }

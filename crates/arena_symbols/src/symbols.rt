@@ -1,21 +1,18 @@
 // Texts with a number each.
-ghost use Rattle.std.specs.Prelude.{◌≡◌, ◌≢◌, ◌+◌, ◌^◌, ◌<◌, Some, None, Err, IfOk, slice_get, length, IsTrue};
+ghost use Rattle.std.specs.Prelude.{◌≡◌, ◌^◌, ◌<◌, Some, IfOk, slice_get, length, IsTrue};
 ghost use Rattle.arena_chunks.specs.BlockCalls.{PlacesBlock};
-ghost use Rattle.arena_chunks.specs.Frame.{IsApart};
 ghost use Rattle.arena_chunks.specs.Memory.{Memory, is_readable};
 ghost use Rattle.arena_items.specs.Room.{RoomAnswer};
 ghost use Rattle.arena_items.specs.Values.{bytes_of};
-ghost use Rattle.arena_items.specs.declared.room.AllocError.TheVariants.{CapacityOverflow};
-ghost use Rattle.arena_symbols.specs.Interner.{number_of, most_texts};
-ghost use Rattle.arena_symbols.specs.Interning.{IsNewInterner, Appends, Interns};
-ghost use Rattle.arena_symbols.specs.Names.{IsInternerIn, names_in, texts_in, own_blocks, names_credit};
-ghost use Rattle.arena_symbols.specs.Paying.{Pays, far_up};
+ghost use Rattle.arena_symbols.specs.Interner.{number_of};
+ghost use Rattle.arena_symbols.specs.Interning.{IsNewInterner, Interns};
+ghost use Rattle.arena_symbols.specs.Names.{IsInternerIn, names_in, texts_in};
 
+use crate::listing::put_listed;
 use arena_chunks::{Allocator, ChunkSource, Str};
-use arena_hash::{FxHasher, HashMap, insert_law, texts_law};
+use arena_hash::{FxHasher, HashMap, texts_law};
 use arena_items::{AllocError, Grown, grown};
 use arena_vec::Vec;
-use arena_vec::laws::{growth_costs, vector_costs};
 
 /// How many texts an interner may have.
 pub const MOST_TEXTS: u32 = 67_108_864;
@@ -67,35 +64,6 @@ impl Symbols {
         self.texts.get(a, id)
     }
 
-    // Puts a text at the end that has no number yet.
-    fn append<C: ChunkSource>(&mut self, a: &mut Allocator<C>, text: Str) -> Grown<u32>
-        requires held { IsInternerIn a.old.memory self.old }
-        requires text { IsTrue (is_readable a.old.memory.state text.block) }
-        requires apart { IsApart text.block.addr text.block.size (own_blocks self.old) }
-        requires new { number_of (names_in a.old.memory self.old) (bytes_of a.old.memory text.block) ≡ None }
-        requires few { self.old.texts.raw.len < most_texts }
-        ensures appends { Appends a.old.memory a.new.memory self.old self.new text result }
-        ensures pays { Pays (far_up + 2 ^ 61) 839 (names_credit self.old) (names_credit self.new)
-            a.old a.new result }
-        ensures fits { result ≢ Err CapacityOverflow }
-    {
-        texts_law::<Str, u32, FxHasher>();
-        insert_law::<Str, u32, FxHasher>();
-        growth_costs();
-        vector_costs::<Str, ()>();
-        // So the least alignment is known to be 1.
-        let _ = a.min_align();
-        let id = self.texts.len();
-        self.texts.push(a, text)?;
-        match self.numbers.insert(a, text, id) {
-            Ok(_) => Ok(id),
-            Err(e) => {
-                self.texts.truncate(id);
-                Err(e)
-            }
-        }
-    }
-
     /// The number of a text: the one that it has, or the next one. A new text is placed, and is read from then on.
     ///
     /// # Errors
@@ -107,6 +75,8 @@ impl Symbols {
         requires length { length text.now < 2 ^ 32 }
         ensures { Interns a.old a.new self.old self.new text.now result }
     {
+        texts_law::<Str, u32, FxHasher>();
+        // So the least alignment is known to be 1.
         let _ = a.min_align();
         if let Some(id) = self.find(a, text) {
             return Ok(id);
@@ -115,7 +85,7 @@ impl Symbols {
             return Err(AllocError::CapacityOverflow);
         }
         let placed = place_text(a, text)?;
-        self.append(a, placed)
+        put_listed(&mut self.numbers, &mut self.texts, a, placed, placed)
     }
 }
 

@@ -1,16 +1,17 @@
 // A caller: the names of a program are declared in scopes, and resolved.
 ghost use Rattle.std.specs.Prelude.{◌≡◌, ◌≢◌, ◌^◌, ◌<◌, ◌≤◌, [], ◌∷◌, Some, Ok, length, true, false, IfOk, OnOk, OnErr};
 ghost use Rattle.arena_chunks.specs.Memory.{Memory};
-ghost use Rattle.arena_symbols.specs.Named.{AreNames, meaning};
+ghost use Rattle.arena_chunks.specs.Frame.{Frame};
+ghost use Rattle.arena_symbols.specs.Interner.{with_text};
+ghost use Rattle.arena_symbols.specs.Named.{AreNames, Moves, Declares, MayHave, all_blocks, meaning};
+ghost use Rattle.arena_symbols.specs.Names.{names_in};
 ghost use Rattle.arena_symbols.specs.Scoping.{innermost, outer_of};
 ghost use Rattle.arena_symbols.specs.Tables.{entry_item, scopes_in};
 
-use crate::laws::scopes_law;
 use crate::scopes::Scopes;
 use crate::symbols::Symbols;
 use arena_chunks::{Allocator, ChunkSource};
 use arena_items::Grown;
-use arena_items::laws::frame_law;
 
 /// The names of a program: what number each has, and what the numbers stand for in scopes.
 #[derive(Clone, Copy)]
@@ -48,7 +49,7 @@ impl Names {
     ///
     /// # Errors
     ///
-    /// As of `intern` and of `define`. The scopes are as they were.
+    /// As of `intern` and of `define`. The scopes are as they were; the name may have its number.
     pub fn declare<C: ChunkSource>(
         &mut self,
         a: &mut Allocator<C>,
@@ -64,10 +65,17 @@ impl Names {
             ≡ outer_of (scopes_in entry_item a.old.memory self.old.scopes) }
         ensures kept { OnErr result (scopes_in entry_item a.new.memory self.new.scopes
             ≡ scopes_in entry_item a.old.memory self.old.scopes) }
+        ensures declares { Declares a.old.memory a.new.memory self.old self.new name.now value result }
     {
-        frame_law::<Scopes>();
-        frame_law::<Symbols>();
-        scopes_law();
+        self.bind(a, name, value)
+    }
+
+    // Declares a name in the innermost scope.
+    fn bind<C: ChunkSource>(&mut self, a: &mut Allocator<C>, name: &str, value: u32) -> Grown<bool>
+        requires held { AreNames a.old.memory self.old }
+        requires short { length name.now < 2 ^ 32 }
+        ensures { Declares a.old.memory a.new.memory self.old self.new name.now value result }
+    {
         let id = self.symbols.intern(a, name)?;
         self.scopes.define(a, id, value)
     }
@@ -75,25 +83,25 @@ impl Names {
     // Begins a scope inside the others.
     fn enter<C: ChunkSource>(&mut self, a: &mut Allocator<C>) -> Grown<()>
         requires { AreNames a.old.memory self.old }
-        ensures held { AreNames a.new.memory self.new }
+        ensures moves { Moves a.old.memory a.new.memory self.old self.new }
+        ensures names { names_in a.new.memory self.new.symbols ≡ names_in a.old.memory self.old.symbols }
         ensures scopes { OnOk result (scopes_in entry_item a.new.memory self.new.scopes
             ≡ [] ∷ scopes_in entry_item a.old.memory self.old.scopes) }
         ensures kept { OnErr result (scopes_in entry_item a.new.memory self.new.scopes
             ≡ scopes_in entry_item a.old.memory self.old.scopes) }
     {
-        frame_law::<Symbols>();
         self.scopes.enter(a)
     }
 
     // Ends the innermost scope.
     fn leave<C: ChunkSource>(&mut self, a: &mut Allocator<C>)
         requires { AreNames a.old.memory self.old }
-        ensures held { AreNames a.new.memory self.new }
+        ensures moves { Moves a.old.memory a.new.memory self.old self.new }
+        ensures names { names_in a.new.memory self.new.symbols ≡ names_in a.old.memory self.old.symbols }
         ensures scopes { 2 ≤ length (scopes_in entry_item a.old.memory self.old.scopes)
             → scopes_in entry_item a.new.memory self.new.scopes
             ≡ outer_of (scopes_in entry_item a.old.memory self.old.scopes) }
     {
-        frame_law::<Symbols>();
         let _ = self.scopes.leave(a);
     }
 
@@ -107,7 +115,11 @@ impl Names {
         requires held { AreNames a.old.memory self.old }
         requires short { length name.now < 2 ^ 32 }
         requires empty { innermost (scopes_in entry_item a.old.memory self.old.scopes) ≡ [] }
-        ensures held { AreNames a.new.memory self.new }
+        ensures moves { Moves a.old.memory a.new.memory self.old self.new }
+        ensures texts { OnOk result (names_in a.new.memory self.new.symbols
+            ≡ with_text (names_in a.old.memory self.old.symbols) name.now) }
+        ensures refused { OnErr result (MayHave (names_in a.old.memory self.old.symbols) name.now
+            (names_in a.new.memory self.new.symbols)) }
         ensures found { IfOk result (λ found. found ≡ Some value) }
         ensures outer { outer_of (scopes_in entry_item a.new.memory self.new.scopes)
             ≡ outer_of (scopes_in entry_item a.old.memory self.old.scopes) }
@@ -117,11 +129,11 @@ impl Names {
     }
 
     /// What a name means in a scope of its own, in which it has this value. Then that scope has ended, and the others are as they
-    /// were, whatever they say of the name.
+    /// were, whatever they say of the name. The name has a number from then on, and no other name that had none.
     ///
     /// # Errors
     ///
-    /// As of `enter`, `intern` and `define`. The scopes are as they were.
+    /// As of `enter`, `intern` and `define`. The scopes are as they were; the name may have its number.
     pub fn in_own_scope<C: ChunkSource>(
         &mut self,
         a: &mut Allocator<C>,
@@ -134,8 +146,13 @@ impl Names {
         ensures found { IfOk result (λ found. found ≡ Some value) }
         ensures after { scopes_in entry_item a.new.memory self.new.scopes
             ≡ scopes_in entry_item a.old.memory self.old.scopes }
+        ensures texts { OnOk result (names_in a.new.memory self.new.symbols
+            ≡ with_text (names_in a.old.memory self.old.symbols) name.now) }
+        ensures refused { OnErr result (MayHave (names_in a.old.memory self.old.symbols) name.now
+            (names_in a.new.memory self.new.symbols)) }
+        ensures frame { Frame a.old.memory a.new.memory (all_blocks a.old.memory self.old)
+            (all_blocks a.new.memory self.new) }
     {
-        scopes_law();
         self.enter(a)?;
         let found = self.declared(a, name, value);
         self.leave(a);

@@ -12,12 +12,11 @@ use Rattle.arena_chunks.specs.Asking.{AsksWithin, IsFull}
 use Rattle.arena_chunks.specs.BlockCalls.{PlacesBlock}
 use Rattle.arena_chunks.specs.Frame.{Frame}
 use Rattle.arena_chunks.specs.declared.block.Block.{Block}
-use Rattle.arena_chunks.proofs.Layers.{asks_same, asks_placed, placed_most, placed_full, frame_reflexive}
+use Rattle.arena_chunks.proofs.Layers.{asks_same, asks_placed, placed_most, placed_full, placed_starved_any, frame_reflexive}
 use Rattle.arena_items.specs.Costs.{used}
 use Rattle.arena_items.specs.Room.{SamePlaces}
 use Rattle.arena_items.specs.declared.room.AllocError.TheVariants.{AllocErr, OutOfMemory}
 use Rattle.arena_tree.specs.Spending.{KeepsKind, IsStarvedBehind, Spends, far_end}
-use Rattle.arena_tree.proofs.AnySizeLemmas.{refused_by_source}
 use Rattle.arena_tree.proofs.NodeCostLemmas.{told}
 
 module _ (old new : View) (size align : ℕ) (one : old.memory.state.min_align ≡ 1) (layout : IsTrue (is_layout size align))
@@ -64,7 +63,7 @@ module _ (old new : View) (size align : ℕ) (one : old.memory.state.min_align �
       starved growing = elim (cases_lt (allocated_bytes old.memory.state) (2 ^ 60)) [
         | inl few ↦ elim (cases_lt far_end (top_of old.memory.state.chunks)) [
           | inl far ↦ inr (inr (omega (arith, far, held)))
-          | inr low ↦ inl (refused_by_source old new size align k layout small fits growing places few low)
+          | inr low ↦ inl (placed_starved_any old new size align k layout small fits growing places few low)
         ]
         | inr much ↦ inr (inl (omega (arith, much, held)))
       ]

@@ -93,6 +93,37 @@ built_more es e old one two new v w n built placed held list_is frame =
           (frame_then old two new [] (vb ∷ all) (wb ∷ all) to_two (frame_beside two new (vb ∷ []) (wb ∷ []) all frame));
     }
 
+-- A tree that was placed before is put in a list with room, in a block that was free.
+pub first_built : (e : Expr) (old one mid new : Memory) (v w : Vec Node) (n : Node) → IsPlaced e old one n → IsBuilt NoExprs one mid v
+    → IsVecIn node_item new w → vec_list node_item new w ≡ vec_list node_item mid v ++ n ∷ []
+    → Frame mid new (v.raw.block ∷ []) (w.raw.block ∷ []) → IsBuilt (And e NoExprs) old new w
+first_built e old one mid new v w n placed room held list_is filled =
+    let wb = w.raw.block in
+    let nb = expr_blocks e one n in
+    let frame : Frame one new [] (wb ∷ []) = frame_then one mid new [] (v.raw.block ∷ []) (wb ∷ []) (room_frame (vec_list node_item mid v)
+    room.stand room.frame) filled in
+    let stay : StayAll one new (wb ∷ []) nb
+    = stay_all one new [] (wb ∷ []) nb frame (expr_readable e one n placed.stands) (all_none nb) in
+    let tree = tree_stays e one new (wb ∷ []) n placed.stands stay in
+    let list : vec_list node_item new w ≡ n ∷ [] = list_is ∙ ap (λ ks. ks ++ n ∷ []) (no_trees (vec_list node_item mid v) room.stand) in
+    let blocks : exprs_blocks (And e NoExprs) new (vec_list node_item new w) ≡ nb
+    = ap (exprs_blocks (And e NoExprs) new) list ∙ append_none (expr_blocks e new n) ∙ tree.blocks_are in
+    record {
+      held = held;
+      stand = subst (ExprsAt (And e NoExprs) new) (sym list) (tree.stands, tt);
+      apart = subst (λ bs. ArePairwiseApart (wb ∷ bs)) (sym blocks) (turned_one wb nb stay.apart, placed.apart);
+      frame = subst (λ bs. Frame old new [] (wb ∷ bs)) (sym blocks)
+          (frame_then old one new [] nb (wb ∷ nb) placed.frame (frame_beside one new [] (wb ∷ []) nb frame));
+    }
+  where
+    no_trees : (ns : List Node) → ExprsAt NoExprs mid ns → ns ≡ []
+    no_trees [] at = refl
+    no_trees (k ∷ ns) at = absurd at
+
+    room_frame : (ns : List Node) → ExprsAt NoExprs mid ns → Frame one mid [] (v.raw.block ∷ exprs_blocks NoExprs mid ns)
+        → Frame one mid [] (v.raw.block ∷ [])
+    room_frame ns at h = h
+
 -- ---- Nodes of lists that are built
 
 -- a list of no nodes, with no storage
@@ -109,6 +140,11 @@ pub only_one : (e : Expr) (m : Memory) (ns : List Node) → ExprsAt (And e NoExp
 only_one e m [] at = absurd at
 only_one e m (k ∷ []) at = at.0
 only_one e m (k ∷ l ∷ ks) at = absurd at.1
+
+pub one_row : (e : Expr) (m : Memory) (ns : List Node) → IsOnly ns (λ k. ExprAt e m k) → ExprsAt (And e NoExprs) m ns
+one_row e m [] at = absurd at
+one_row e m (k ∷ []) at = (at, tt)
+one_row e m (k ∷ l ∷ ks) at = absurd at
 
 pub only_blocks : (e : Expr) (m : Memory) (ns : List Node) → exprs_blocks (And e NoExprs) m ns ≡ of_first ns (λ k. expr_blocks e m k)
 only_blocks e m [] = refl

@@ -12,29 +12,14 @@ use Rattle.arena_vec.specs.Changes.{Grows}
 use Rattle.arena_vec.specs.Growth.{amortised_growth}
 use Rattle.arena_vec.specs.Vecs.{IsVecIn, vec_list}
 use Rattle.arena_vec.specs.declared.vec.Vec.{Vec}
-use Rattle.tree_rules.specs.Trees.{NoExprs, NoStmts}
 use Rattle.arena_tree.specs.declared.node.Node.{Node}
-use Rattle.arena_tree.specs.TreesAt.{node_item, ExprsAt, IsBuilt}
-use Rattle.arena_tree.specs.StmtsAt.{StmtsAt, AreBuilt}
+use Rattle.arena_tree.specs.TreesAt.{node_item}
+use Rattle.arena_tree.specs.Subtrees.{RowAt, IsRowBuilt}
 
 -- a list of no nodes in a block that was free
 pub room_built : (old new : Memory) (v : Vec Node) → IsVecIn node_item new v → vec_list node_item new v ≡ []
-    → Frame old new [] (v.raw.block ∷ []) → IsBuilt NoExprs old new v
-room_built old new v held none frame = record {
-  held = held;
-  stand = subst (ExprsAt NoExprs new) (sym none) tt;
-  apart = (tt, tt);
-  frame = frame;
-}
-
-pub room_lines : (old new : Memory) (v : Vec Node) → IsVecIn node_item new v → vec_list node_item new v ≡ []
-    → Frame old new [] (v.raw.block ∷ []) → AreBuilt NoStmts old new v
-room_lines old new v held none frame = record {
-  held = held;
-  stand = subst (StmtsAt NoStmts new) (sym none) tt;
-  apart = (tt, tt);
-  frame = frame;
-}
+    → Frame old new [] (v.raw.block ∷ []) → IsRowBuilt [] old new v
+room_built old new v held none frame = record { held = held; stand = subst (RowAt [] new) (sym none) tt; apart = (tt, tt); frame = frame }
 
 -- Where there is room, a node is never refused, and no cursor moves.
 pub record Fills (old new : View) (v w : Vec Node) : Type 0 where

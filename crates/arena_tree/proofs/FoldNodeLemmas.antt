@@ -1,242 +1,182 @@
--- One node is folded, whose kids are.
-use Rattle.std.proofs.Common.{◌≡◌, ℕ, ◌+◌, ◌^◌, ◌<◌, ap, sym, refl, subst, ◌∙◌, Bool, true, false, Option, Some, None, List, [], ◌∷◌, arith}
-use Rattle.std.specs.Prelude.{slice_get, nat_lt, if◌then◌else◌}
+-- One node is folded: its kids, and then itself by the rule for its kind.
+use Rattle.std.proofs.Common.{◌≡◌, ℕ, ◌+◌, ◌^◌, ◌<◌, ap, sym, refl, subst, ◌∙◌, true, false, List, [], ◌∷◌, ◌++◌, arith}
+use Rattle.std.specs.Prelude.{map}
 use Rattle.arena_chunks.specs.Memory.{Memory}
 use Rattle.arena_chunks.specs.declared.block.Block.{Block}
-use Rattle.arena_vec.specs.Vecs.{vec_list}
+use Rattle.arena_chunks.proofs.Layers.{apart_both, apart_each, all_of_both}
+use Rattle.arena_items.specs.Footprint.{AreReadable, Agree}
+use Rattle.arena_vec.specs.Vecs.{IsVecIn, vec_list}
 use Rattle.arena_vec.specs.declared.vec.Vec.{Vec}
-use Rattle.tree_rules.specs.Trees.{Expr, Num, Name, Neg, Sum, Prod, Exprs, NoExprs, And, numbers_of, reckoned, fold_neg, folded, all_folded, one_if_neg, one_if_reckoned, folds_of, all_folds}
-use Rattle.arena_tree.specs.declared.node.Kind.TheVariants as kind
+use Rattle.tree_rules.specs.Trees.{Expr, Num, Name, Neg, Sum, Prod, Exprs, NoExprs, And, Let, Show, Stmts, NoStmts, Then}
+use Rattle.tree_rules.specs.Trees.{folded, all_folded, all_folds, folded_stmt, folded_stmts, folds_of_stmts}
+use Rattle.tree_rules.specs.Trees as tree
 use Rattle.arena_tree.specs.declared.node.Node.{Node}
-use Rattle.arena_tree.specs.Counts.{nodes}
-use Rattle.arena_tree.specs.TreesAt.{node_item, kids_of, kids_in, IsOnly, of_first, ExprAt, ExprsAt}
-use Rattle.arena_tree.specs.Lists.{expr_lists, expr_texts}
-use Rattle.arena_tree.specs.Walks.{HasRoom, ListHasRoom, IsOther, IsNegShape}
-use Rattle.arena_tree.specs.FoldingParts.{IsClear, IsListClear, Shrinks, list_blocks, list_texts, IsFolded, AreFolded, IsLeaf, IsNegRow, IsTotalRow, total_of_kids, total_kind, total_of, IsTotal}
-use Rattle.arena_tree.proofs.BuildLemmas.{only_one}
-use Rattle.arena_tree.proofs.WalkLemmas.{some_node, only_get, only_some, list_len, kid_room}
-use Rattle.arena_tree.proofs.FoldBlockLemmas.{shrinks_none, shrinks_less, shrinks_all}
-use Rattle.arena_tree.proofs.FoldRowLemmas.{all_low, all_folds_low}
-use Rattle.arena_tree.proofs.FoldKindLemmas.{value_lists, value_texts, value_clear, value_folded, total_at, total_clear}
+use Rattle.arena_tree.specs.Counts.{nodes, stmt_nodes}
+use Rattle.arena_tree.specs.TreesAt.{node_item, kids_of, kids_in, IsOnly, ExprAt}
+use Rattle.arena_tree.specs.TreeLaws.{list_held}
+use Rattle.arena_tree.specs.Subtrees.{Subtree, OfExpr, OfStmt, SubtreeAt, lists_at, texts_at, below_it, expr_row, stmt_row, RowAt, row_lists, row_texts, row_nodes, HasTree, has_kids}
+use Rattle.arena_tree.specs.FoldingParts.{folded_it, folds_of_it, row_folds, IsClear, IsRowClear, CanFoldRow, Shrinks, IsFolded, AreFolded, kids_folded, ruled, times_ruled, IsRuled}
+use Rattle.arena_tree.proofs.FoldBlockLemmas.{agree_beside, still_readable, shrinks_none, shrinks_as}
+use Rattle.arena_tree.proofs.SubtreeLemmas.{row_exprs_at, row_stmts_at, kids_it, own_texts, kids_at, true_false}
+use Rattle.arena_tree.proofs.FoldLowLemmas.{row_low}
 
-pub one_len : (f : Expr) (m : Memory) (v : Vec Node) → ExprsAt (And f NoExprs) m (vec_list node_item m v) → 0 < v.raw.len
-one_len f m v at =
-    let one = only_some (vec_list node_item m v) (λ k. ExprAt f m k) (only_one f m (vec_list node_item m v) at) in
-    omega (arith, one, list_len m v)
+-- ---- A tree, as its node with its kids
 
-pub first_room : (es : Exprs) (old new : Memory) (v : Vec Node) (count room : ℕ) (k : Node) → AreFolded es old new v count → nodes es < room
-    → slice_get (vec_list node_item new v) 0 ≡ Some k → HasRoom new k room
-first_room es old new v count room k fold low get =
-    let few : nodes (all_folded es) < room = omega (arith, low, all_low es) in
-    let h = kid_room (all_folded es) new (vec_list node_item new v) 0 room k fold.row.stand few get in
-    record { tree = h.0.tree; stands = h.0.stands; low = omega (arith, h.0.low) }
+expr_row_is : (es : Exprs) → (nodes es ≡ row_nodes (expr_row es)) × (all_folds es ≡ row_folds (expr_row es))
+    × (expr_row (all_folded es) ≡ map folded_it (expr_row es))
+expr_row_is NoExprs = (refl, refl, refl)
+expr_row_is (And e rest) = let r = expr_row_is rest in (omega (arith, r.0), omega (arith, r.1), ap (λ ts. OfExpr (folded e) ∷ ts) r.2)
 
-pub list_room : (es : Exprs) (old new : Memory) (v : Vec Node) (count room : ℕ) → AreFolded es old new v count → nodes es < room
-    → ListHasRoom new v room
-list_room es old new v count room fold low =
-    record { trees = all_folded es; held = fold.row.held; stand = fold.row.stand; low = omega (arith, low, all_low es) }
+pub stmt_row_is : (ss : Stmts) → (stmt_nodes ss ≡ row_nodes (stmt_row ss)) × (folds_of_stmts ss ≡ row_folds (stmt_row ss))
+    × (stmt_row (folded_stmts ss) ≡ map folded_it (stmt_row ss))
+stmt_row_is NoStmts = (refl, refl, refl)
+stmt_row_is (Then s rest) = let r = stmt_row_is rest in (omega (arith, r.0), omega (arith, r.1), ap (λ ts. OfStmt (folded_stmt s) ∷ ts) r.2)
 
-pub count_fits : (es : Exprs) (old new : Memory) (v : Vec Node) (count room : ℕ) → AreFolded es old new v count → nodes es < room
-    → room < 2 ^ 64 → count + 1 < 2 ^ 64
-count_fits es old new v count room fold low fits = omega (arith, low, fits, fold.count_is, all_folds_low es)
+pub record IsBranch (t : Subtree) : Type 0 where
+  pub below_is : below_it t ≡ row_nodes (kids_it t)
+  pub folds_are : folds_of_it t ≡ row_folds (kids_it t) + times_ruled (kids_folded t)
+  pub folded_is : folded_it t ≡ ruled (kids_folded t)
+  pub kids_are : kids_it (kids_folded t) ≡ map folded_it (kids_it t)
+  pub texts_are : (n : Node) → own_texts (kids_folded t) n ≡ own_texts t n
 
-only_first : (ns : List Node) (P : Node → Type 0) (f : Node → List Block) (k : Node) → IsOnly ns P → slice_get ns 0 ≡ Some k
-    → of_first ns f ≡ f k
-only_first [] P f k only is = absurd only
-only_first (l ∷ []) P f k only is = ap f (some_node l k is)
-only_first (l ∷ j ∷ ks) P f k only is = absurd only
+pub branch : (t : Subtree) → IsBranch t
+branch (OfExpr (Sum kids)) =
+    let r = expr_row_is kids in
+    record { below_is = r.0; folds_are = omega (arith, r.1); folded_is = refl; kids_are = r.2; texts_are = λ n. refl }
+branch (OfExpr (Prod kids)) =
+    let r = expr_row_is kids in
+    record { below_is = r.0; folds_are = omega (arith, r.1); folded_is = refl; kids_are = r.2; texts_are = λ n. refl }
+branch (OfStmt (tree.Block body)) =
+    let r = stmt_row_is body in
+    record { below_is = r.0; folds_are = omega (arith, r.1); folded_is = refl; kids_are = r.2; texts_are = λ n. refl }
+branch (OfStmt (Show e)) =
+    record { below_is = omega arith; folds_are = omega arith; folded_is = refl; kids_are = refl; texts_are = λ n. refl }
+branch t = record { below_is = omega arith; folds_are = omega arith; folded_is = refl; kids_are = refl; texts_are = λ n. refl }
+
+-- the node stands for the tree whose kids are folded where these are
+only_row : (e : Expr) (m : Memory) (ns : List Node) → RowAt (OfExpr e ∷ []) m ns → IsOnly ns (λ k. ExprAt e m k)
+only_row e m (k ∷ []) at = at.0
+only_row e m (k ∷ j ∷ ks) at = at.1
+only_row e m ns at = at
+
+module _ (old new : Memory) (n : Node) (state : new.state ≡ old.state) (held : IsVecIn node_item new (kids_of n)) where
+  pub kids_back : (t : Subtree) → SubtreeAt t old n → has_kids n.kind ≡ true → Agree old new (own_texts t n)
+      → RowAt (map folded_it (kids_it t)) new (kids_in new n) → SubtreeAt (kids_folded t) new n
+  kids_back (OfExpr (Neg e)) at is same row = (at.0, held, only_row (folded e) new (kids_in new n) row)
+  kids_back (OfExpr (Sum kids)) at is same row =
+      (at.0, held, row_exprs_at (all_folded kids) new (kids_in new n) (rw (expr_row_is kids).2 row))
+  kids_back (OfExpr (Prod kids)) at is same row =
+      (at.0, held, row_exprs_at (all_folded kids) new (kids_in new n) (rw (expr_row_is kids).2 row))
+  kids_back (OfStmt (Let name e)) at is same row =
+      let text = still_readable old new (n.text.block ∷ []) state (at.1, tt) in
+      (at.0, text.0, sym same.0 ∙ at.2, held, only_row (folded e) new (kids_in new n) row)
+  kids_back (OfStmt (Show e)) at is same row = (at.0, held, only_row (folded e) new (kids_in new n) row)
+  kids_back (OfStmt (tree.Block body)) at is same row =
+      (at.0, held, row_stmts_at (folded_stmts body) new (kids_in new n) (rw (stmt_row_is body).2 row))
+  kids_back t at is same row = absurd (true_false (sym is ∙ ap has_kids at.0))
+
+-- ---- A node with no kids
+
+pub leaf_folded : (t : Subtree) (m : Memory) (n : Node) → SubtreeAt t m n → has_kids n.kind ≡ false → IsFolded t m m n n 0
+leaf_folded (OfExpr (Num k)) m n at is = record { stands = at; blocks = shrinks_none m [] [] tt; count_is = refl }
+leaf_folded (OfExpr (Name bytes)) m n at is =
+    record { stands = at; blocks = shrinks_none m [] (n.text.block ∷ []) tt; count_is = refl }
+leaf_folded (OfStmt (Let name e)) m n at is = absurd (true_false (sym (ap has_kids at.0) ∙ is))
+leaf_folded t m n at is = absurd (true_false (sym (ap has_kids at.0) ∙ is))
+
+-- ---- The kids
+
+own_readable : (t : Subtree) (m : Memory) (n : Node) → SubtreeAt t m n → AreReadable m.state (own_texts t n)
+own_readable (OfStmt (Let name e)) m n at = (at.1, tt)
+own_readable t m n at = tt
+
+module _ (m : Memory) (n : Node) (t : Subtree) (at : SubtreeAt t m n) (is : has_kids n.kind ≡ true) where
+  pub kids_clear : IsClear (lists_at t m n) (texts_at t m n) → IsRowClear (kids_it t) m (kids_of n)
+  kids_clear clear =
+      let k = kids_at t m n at is in
+      let c = rw (k.lists_are, k.texts_are) at clear in
+      record {
+        lists = c.lists;
+        texts = ((all_of_both (own_texts t n) (row_texts (kids_it t) m (kids_in m n)) _).0 c.texts).1;
+      }
+
+  pub kids_can : (room : ℕ) → IsClear (lists_at t m n) (texts_at t m n) → below_it t < room → CanFoldRow m (kids_of n) room
+  kids_can room clear low = record {
+    trees = kids_it t;
+    held = (kids_at t m n at is).held;
+    stand = (kids_at t m n at is).stand;
+    clear = kids_clear clear;
+    low = omega (arith, low, (branch t).below_is);
+  }
 
 -- what a fold of a list says
-abbrev pub FoldsList : Memory → Memory → Vec Node → ℕ → Type 0
-FoldsList old new v count = (es : Exprs) → ExprsAt es old (vec_list node_item old v) → IsListClear es old v → AreFolded es old new v count
+abbrev pub FoldsRow : Memory → Memory → Vec Node → ℕ → Type 0
+FoldsRow old new v count = (ts : List Subtree) → RowAt ts old (vec_list node_item old v) → IsRowClear ts old v → AreFolded ts old new v count
 
--- ---- Leaves
+pub record KidsFolded (t : Subtree) (old new : Memory) (n : Node) (count : ℕ) : Type 0 where
+  pub stands : SubtreeAt (kids_folded t) new n
+  pub blocks : Shrinks old new (lists_at t old n) (texts_at t old n) (lists_at (kids_folded t) new n) (texts_at (kids_folded t) new n)
+  pub count_is : count ≡ row_folds (kids_it t)
 
-pub leaf_folded : (e : Expr) (m : Memory) (n : Node) → IsLeaf e → ExprAt e m n → IsFolded e m m n n 0
-leaf_folded (Num k) m n leaf at = record { stands = at; blocks = shrinks_none m [] [] tt; count_is = refl }
-leaf_folded (Name bytes) m n leaf at = record { stands = at; blocks = shrinks_none m [] (n.text.block ∷ []) tt; count_is = refl }
-leaf_folded (Neg e) m n leaf at = absurd leaf
-leaf_folded (Sum kids) m n leaf at = absurd leaf
-leaf_folded (Prod kids) m n leaf at = absurd leaf
+more_texts : {old new : Memory} {ls ts ls' ts' : List Block} (own : List Block) → Shrinks old new ls ts ls' ts'
+    → Shrinks old new ls (own ++ ts) ls' (own ++ ts')
+more_texts {ts = ts} {ts' = ts'} own s = record {
+  pairs = s.pairs;
+  lists_in = s.lists_in;
+  texts_in = λ addr n h. let each = apart_each addr n own ts h in apart_both addr n own ts' each.0 (s.texts_in addr n each.1);
+  writes = s.writes;
+}
 
--- ---- Negations
-
--- the negated expression is folded
-neg_row : (e : Expr) (old new : Memory) (n : Node) (v : Vec Node) (count : ℕ) → kids_of n ≡ v → (r : IsNegRow old e v)
-    → IsClear (expr_lists e old n) (expr_texts e old n) → FoldsList old new v count
-    → AreFolded (And r.kid NoExprs) old new (kids_of n) count
-neg_row e old new n v count same r clear fold =
-    let own = value_clear r.kid old n (subst (λ g. IsClear (expr_lists g old n) (expr_texts g old n)) r.is clear) in
-    subst (λ (w : Vec Node). AreFolded (And r.kid NoExprs) old new w count) (sym same)
-    (fold (And r.kid NoExprs) r.stand (subst (λ (w : Vec Node). IsListClear (And r.kid NoExprs) old w) same own))
-
-fold_other : (e : Expr) → IsOther e → (fold_neg e ≡ Neg e) × (one_if_neg e ≡ 0)
-fold_other (Num k) other = (refl, refl)
-fold_other (Name bytes) other = (refl, refl)
-fold_other (Neg e) other = absurd other
-fold_other (Sum kids) other = (refl, refl)
-fold_other (Prod kids) other = (refl, refl)
-
-neg_stays_at : (f : Expr) (old new : Memory) (n k : Node) (count : ℕ) → n.kind ≡ kind.Neg
-    → AreFolded (And f NoExprs) old new (kids_of n) count
-    → slice_get (kids_in new n) 0 ≡ Some k → ((e : Expr) → ExprAt e new k → IsOther e) → IsFolded (Neg f) old new n n count
-neg_stays_at f old new n k count is fold get other =
-    let x = folded f in
-    let ns = kids_in new n in
-    let only = only_one x new ns fold.row.stand in
-    let o = fold_other x (other x (only_get ns (λ j. ExprAt x new j) k only get)) in
-    let stands : ExprAt (Neg x) new n = (is, fold.row.held, only) in
+pub kids_done : (t : Subtree) (old new : Memory) (n : Node) (v : Vec Node) (count : ℕ) → SubtreeAt t old n
+    → IsClear (lists_at t old n) (texts_at t old n) → has_kids n.kind ≡ true → v ≡ kids_of n → FoldsRow old new v count
+    → KidsFolded t old new n count
+kids_done t old new n v count at clear is same fold =
+    let k = kids_at t old n at is in
+    let b = branch t in
+    let f = (subst (λ w. FoldsRow old new w count) same fold) (kids_it t) k.stand (kids_clear old n t at is clear) in
+    let w = f.row.blocks.writes in
+    let own = own_texts t n in
+    let c = rw (k.lists_are, k.texts_are) at clear in
+    let apart = (all_of_both own (row_texts (kids_it t) old (kids_in old n)) _).0 c.texts in
+    let held = list_held old new (kids_of n) k.held (still_readable old new (n.kids ∷ []) w.state (k.held.place.readable, tt)).0 in
+    let stands = kids_back old new n w.state held t at is (agree_beside own w (own_readable t old n at) apart.0) f.row.stand in
+    let k' = kids_at (kids_folded t) new n stands is in
     record {
-      stands = subst (λ g. ExprAt g new n) (sym o.0) stands;
-      blocks = subst (λ g. Shrinks old new (value_lists f old n) (value_texts f old n) (expr_lists g new n) (expr_texts g new n)) (sym o.0)
-          (value_folded f old new n count fold);
-      count_is = omega (arith, fold.count_is, o.1);
+      stands = stands;
+      blocks = shrinks_as k.lists_are k.texts_are (k'.lists_are ∙ ap (λ ts. n.kids ∷ row_lists ts new (kids_in new n)) b.kids_are)
+          (k'.texts_are ∙ (λ i. b.texts_are n i ++ row_texts (b.kids_are i) new (kids_in new n))) (more_texts own f.row.blocks);
+      count_is = f.count_is;
     }
 
-neg_goes_at : (f : Expr) (old new : Memory) (n k inner : Node) (count room : ℕ) → AreFolded (And f NoExprs) old new (kids_of n) count
-    → slice_get (kids_in new n) 0 ≡ Some k → IsNegShape new k room inner → IsFolded (Neg f) old new n inner (count + 1)
-neg_goes_at f old new n k inner count room fold get t =
-    let x = folded f in
-    let ns = kids_in new n in
-    let only = only_one x new ns fold.row.stand in
-    let at : ExprAt x new k = only_get ns (λ j. ExprAt x new j) k only get in
-    let o = t.tree x at in
-    let g = o.kid in
-    let neg : ExprAt (Neg g) new k = subst (λ y. ExprAt y new k) o.is at in
-    let lists : of_first ns (λ j. expr_lists x new j) ≡ k.kids ∷ expr_lists g new inner
-    = only_first ns (λ j. ExprAt x new j) (λ j. expr_lists x new j) k only get
-    ∙ ap (λ y. expr_lists y new k) o.is
-    ∙ ap (λ bs. k.kids ∷ bs) (only_first (kids_in new k) (λ j. ExprAt g new j) (λ j. expr_lists g new j) inner neg.2 t.first) in
-    let texts : of_first ns (λ j. expr_texts x new j) ≡ expr_texts g new inner
-    = only_first ns (λ j. ExprAt x new j) (λ j. expr_texts x new j) k only get
-    ∙ ap (λ y. expr_texts y new k) o.is
-    ∙ only_first (kids_in new k) (λ j. ExprAt g new j) (λ j. expr_texts g new j) inner neg.2 t.first in
-    let gone : folded (Neg f) ≡ g = ap fold_neg o.is in
-    let once : one_if_neg x ≡ 1 = ap one_if_neg o.is in
-    let ls = value_lists f old n in
-    let ts = value_texts f old n in
-    let whole : Shrinks old new ls ts (n.kids ∷ (k.kids ∷ expr_lists g new inner)) (expr_texts g new inner)
-    = subst (λ bs. Shrinks old new ls ts (n.kids ∷ bs) (expr_texts g new inner)) lists
-    (subst (λ bs. Shrinks old new ls ts (value_lists x new n) bs) texts (value_folded f old new n count fold)) in
-    let blocks = shrinks_less old new ls ts (n.kids ∷ (k.kids ∷ expr_lists g new inner)) (expr_texts g new inner) (expr_lists g new inner)
-    whole (λ addr n h. h.1.1) whole.pairs.1.1 in
+-- ---- The rule
+
+pub can_rule : (t : Subtree) (old new : Memory) (n : Node) (count room : ℕ) → KidsFolded t old new n count → below_it t < room
+    → HasTree new n room
+can_rule t old new n count room k low =
+    let fewer = ap row_nodes (branch t).kids_are in
     record {
-      stands = subst (λ y. ExprAt y new inner) (sym gone) o.stands;
-      blocks = subst (λ y. Shrinks old new ls ts (expr_lists y new inner) (expr_texts y new inner)) (sym gone) blocks;
-      count_is = omega (arith, fold.count_is, once);
+      tree = kids_folded t;
+      stands = k.stands;
+      low = omega (arith, low, (branch t).below_is, (branch (kids_folded t)).below_is, fewer, (row_low (kids_it t)).0);
     }
 
-pub neg_goes : (e : Expr) (old new : Memory) (n after k inner : Node) (v : Vec Node) (count room : ℕ) → kids_of n ≡ v
-    → (r : IsNegRow old e v)
-    → IsClear (expr_lists e old n) (expr_texts e old n) → FoldsList old new v count → slice_get (vec_list node_item new v) 0 ≡ Some k
-    → IsNegShape new k room inner → inner ≡ after → IsFolded e old new n after (count + 1)
-neg_goes e old new n after k inner v count room same r clear fold get t is =
-    let f = neg_row e old new n v count same r clear fold in
-    let first = subst (λ (w : Vec Node). slice_get (vec_list node_item new w) 0 ≡ Some k) (sym same) get in
-    subst (λ g. IsFolded g old new n after (count + 1)) (sym r.is)
-    (subst (λ j. IsFolded (Neg r.kid) old new n j (count + 1)) is (neg_goes_at r.kid old new n k inner count room f first t))
+pub count_fits : (t : Subtree) (old new : Memory) (n : Node) (count room : ℕ) → KidsFolded t old new n count → below_it t < room
+    → room < 2 ^ 64 → count + 1 < 2 ^ 64
+count_fits t old new n count room k low fits =
+    omega (arith, k.count_is, low, fits, (branch t).below_is, (row_low (kids_it t)).1)
 
-pub neg_stays : (e : Expr) (old new : Memory) (n k : Node) (v : Vec Node) (count : ℕ) → n.kind ≡ kind.Neg → kids_of n ≡ v
-    → (r : IsNegRow old e v) → IsClear (expr_lists e old n) (expr_texts e old n) → FoldsList old new v count
-    → slice_get (vec_list node_item new v) 0 ≡ Some k → ((g : Expr) → ExprAt g new k → IsOther g) → IsFolded e old new n n count
-neg_stays e old new n k v count is same r clear fold get other =
-    let f = neg_row e old new n v count same r clear fold in
-    let first = subst (λ (w : Vec Node). slice_get (vec_list node_item new w) 0 ≡ Some k) (sym same) get in
-    subst (λ g. IsFolded g old new n n count) (sym r.is) (neg_stays_at r.kid old new n k count is f first other)
-
--- ---- Sums and products
-
-no_some : (t : ℕ) → ◌≡◌ {A = Option ℕ} (Some t) None → ⊥
-no_some t e = cc
-
-same_total : (s t : ℕ) → Some s ≡ Some t → s ≡ t
-same_total s t e = cc
-
-total_some : (which : Bool) (o : Option (List ℕ)) (e : Expr) (t : ℕ) → IsTotal which o (Some t)
-    → (reckoned (total_of which) o e ≡ Num t) × (one_if_reckoned (total_of which) o ≡ 1)
-total_some which None e t is = absurd (no_some t is)
-total_some which (Some ns) e t is = by (nat_lt (total_of which ns) (2 ^ 64)) is
-  where
-    by : (b : Bool) → ◌≡◌ {A = Option ℕ} (Some t) (if b then Some (total_of which ns) else None)
-        → ((if b then Num (total_of which ns) else e) ≡ Num t) × (◌≡◌ {A = ℕ} (if b then 1 else 0) 1)
-    by true h = (ap Num (sym (same_total t (total_of which ns) h)), refl)
-    by false h = absurd (no_some t h)
-
-total_none : (which : Bool) (o : Option (List ℕ)) (e : Expr) → IsTotal which o None
-    → (reckoned (total_of which) o e ≡ e) × (one_if_reckoned (total_of which) o ≡ 0)
-total_none which None e is = (refl, refl)
-total_none which (Some ns) e is = by (nat_lt (total_of which ns) (2 ^ 64)) is
-  where
-    by : (b : Bool) → ◌≡◌ {A = Option ℕ} None (if b then Some (total_of which ns) else None)
-        → ((if b then Num (total_of which ns) else e) ≡ e) × (◌≡◌ {A = ℕ} (if b then 1 else 0) 0)
-    by true h = absurd (no_some (total_of which ns) (sym h))
-    by false h = (refl, refl)
-
--- what a total of kids becomes
-becomes : (which : Bool) (kids : Exprs)
-    → (folded (total_of_kids which kids) ≡ reckoned (total_of which) (numbers_of (all_folded kids)) (total_of_kids which (all_folded kids)))
-    × (folds_of (total_of_kids which kids) ≡ all_folds kids + one_if_reckoned (total_of which) (numbers_of (all_folded kids)))
-becomes false kids = (refl, refl)
-becomes true kids = (refl, refl)
-
-total_row : (which : Bool) (e : Expr) (old new : Memory) (n : Node) (v : Vec Node) (count : ℕ) → kids_of n ≡ v
-    → (r : IsTotalRow old e v which)
-    → IsClear (expr_lists e old n) (expr_texts e old n) → FoldsList old new v count → AreFolded r.kids old new (kids_of n) count
-total_row which e old new n v count same r clear fold =
-    subst (λ (w : Vec Node). AreFolded r.kids old new w count) (sym same) (fold r.kids r.stand
-    (subst (λ (w : Vec Node). IsListClear r.kids old w) same (total_clear which r.kids e old n r.is clear)))
-
--- the kids' blocks before are the node's
-total_before : (which : Bool) (kids : Exprs) (old new : Memory) (n : Node) (ls ts : List Block)
-    → Shrinks old new (list_blocks kids old (kids_of n)) (list_texts kids old (kids_of n)) ls ts
-    → Shrinks old new (expr_lists (total_of_kids which kids) old n) (expr_texts (total_of_kids which kids) old n) ls ts
-total_before false kids old new n ls ts s = s
-total_before true kids old new n ls ts s = s
-
-total_after : (which : Bool) (kids : Exprs) (old new : Memory) (n : Node) (ls ts : List Block)
-    → Shrinks old new ls ts (list_blocks kids new (kids_of n)) (list_texts kids new (kids_of n))
-    → Shrinks old new ls ts (expr_lists (total_of_kids which kids) new n) (expr_texts (total_of_kids which kids) new n)
-total_after false kids old new n ls ts s = s
-total_after true kids old new n ls ts s = s
-
-pub total_goes : (which : Bool) (e : Expr) (old new : Memory) (n after : Node) (v : Vec Node) (count t : ℕ) → kids_of n ≡ v
-    → (r : IsTotalRow old e v which) → IsClear (expr_lists e old n) (expr_texts e old n) → FoldsList old new v count
-    → ((es : Exprs) → ExprsAt es new (vec_list node_item new v) → IsTotal which (numbers_of es) (Some t)) → after.kind ≡ kind.Num
-    → after.number ≡ t → IsFolded e old new n after (count + 1)
-total_goes which e old new n after v count t same r clear fold total named number =
-    let f = total_row which e old new n v count same r clear fold in
-    let fs = all_folded r.kids in
-    let at = subst (λ (w : Vec Node). ExprsAt fs new (vec_list node_item new w)) same f.row.stand in
-    let o = total_some which (numbers_of fs) (total_of_kids which fs) t (total fs at) in
-    let b = becomes which r.kids in
-    let is : Num t ≡ folded (total_of_kids which r.kids) = sym (b.0 ∙ o.0) in
-    let ls = expr_lists (total_of_kids which r.kids) old n in
-    let ts = expr_texts (total_of_kids which r.kids) old n in
-    let none = shrinks_all old new ls ts (list_blocks fs new (kids_of n)) (list_texts fs new (kids_of n))
-    (total_before which r.kids old new n (list_blocks fs new (kids_of n)) (list_texts fs new (kids_of n)) f.row.blocks) in
-    subst (λ g. IsFolded g old new n after (count + 1)) (sym r.is) (record {
-      stands = subst (λ g. ExprAt g new after) is (named, number);
-      blocks = subst (λ g. Shrinks old new ls ts (expr_lists g new after) (expr_texts g new after)) is none;
-      count_is = omega (arith, f.count_is, b.1, o.1);
-    })
-
-pub total_stays : (which : Bool) (e : Expr) (old new : Memory) (n : Node) (v : Vec Node) (count : ℕ) → n.kind ≡ total_kind which
-    → kids_of n ≡ v
-    → (r : IsTotalRow old e v which) → IsClear (expr_lists e old n) (expr_texts e old n) → FoldsList old new v count
-    → ((es : Exprs) → ExprsAt es new (vec_list node_item new v) → IsTotal which (numbers_of es) None) → IsFolded e old new n n count
-total_stays which e old new n v count named same r clear fold total =
-    let f = total_row which e old new n v count same r clear fold in
-    let fs = all_folded r.kids in
-    let at = subst (λ (w : Vec Node). ExprsAt fs new (vec_list node_item new w)) same f.row.stand in
-    let o = total_none which (numbers_of fs) (total_of_kids which fs) (total fs at) in
-    let b = becomes which r.kids in
-    let is : total_of_kids which fs ≡ folded (total_of_kids which r.kids) = sym (b.0 ∙ o.0) in
-    let ls = expr_lists (total_of_kids which r.kids) old n in
-    let ts = expr_texts (total_of_kids which r.kids) old n in
-    let before = total_before which r.kids old new n (list_blocks fs new (kids_of n)) (list_texts fs new (kids_of n)) f.row.blocks in
-    subst (λ g. IsFolded g old new n n count) (sym r.is) (record {
-      stands = subst (λ g. ExprAt g new n) is (total_at which fs new n named f.row.held f.row.stand);
-      blocks = subst (λ g. Shrinks old new ls ts (expr_lists g new n) (expr_texts g new n)) is
-          (total_after which fs old new n ls ts before);
-      count_is = omega (arith, f.count_is, b.1, o.1);
-    })
+pub rule_done : (t : Subtree) (old new : Memory) (n after : Node) (count once total : ℕ) → KidsFolded t old new n count
+    → IsRuled (kids_folded t) new n after once → total ≡ count + once → IsFolded t old new n after total
+rule_done t old new n after count once total k r sum =
+    let b = branch t in
+    record {
+      stands = subst (λ u. SubtreeAt u new after) (sym b.folded_is) r.stands;
+      blocks = subst (λ u. Shrinks old new (lists_at t old n) (texts_at t old n) (lists_at u new after) (texts_at u new after))
+          (sym b.folded_is) (record {
+            pairs = r.pairs k.blocks.pairs;
+            lists_in = λ addr n h. r.lists_in addr n (k.blocks.lists_in addr n h);
+            texts_in = λ addr n h. r.texts_in addr n (k.blocks.texts_in addr n h);
+            writes = k.blocks.writes;
+          });
+      count_is = omega (arith, sum, k.count_is, r.count_is, b.folds_are);
+    }

@@ -1,25 +1,23 @@
--- Lists of kids that are folded one after another, each where it stands.
-use Rattle.std.proofs.Common.{◌≡◌, ℕ, suc, zero, ◌+◌, ◌<◌, ◌≤◌, ap, sym, refl, subst, ◌∙◌, Option, Some, None, List, [], ◌∷◌, ◌++◌, length, arith}
-use Rattle.std.specs.Prelude.{slice_get, slice_set, nat_lt, Bool, true, false, ◌^◌, if◌then◌else◌}
+-- Lists of trees that are folded one after another, each where it stands.
+use Rattle.std.proofs.Common.{◌≡◌, ℕ, suc, zero, ◌+◌, ◌-◌, ◌<◌, ◌≤◌, ap, sym, refl, subst, ◌∙◌, Some, List, [], ◌∷◌, ◌++◌, length, append_assoc, length-append, arith}
+use Rattle.std.specs.Prelude.{slice_get, slice_set, map}
 use Rattle.arena_chunks.specs.Memory.{Memory}
 use Rattle.arena_chunks.specs.Source.{View}
-use Rattle.arena_chunks.specs.Frame.{Frame, IsApart, AreAllApart}
-use Rattle.arena_chunks.specs.declared.block.Block.{Block}
-use Rattle.arena_chunks.proofs.Layers.{all_apart}
-use Rattle.arena_items.specs.Footprint.{AreReadable}
+use Rattle.arena_chunks.specs.Frame.{Frame}
+use Rattle.arena_clone.proofs.Layers.{all_turned}
 use Rattle.arena_items.specs.Room.{SamePlaces}
+use Rattle.arena_vec.specs.Changes.{Becomes}
 use Rattle.arena_vec.specs.Vecs.{IsVecIn, vec_list}
 use Rattle.arena_vec.specs.declared.vec.Vec.{Vec}
-use Rattle.tree_rules.specs.Trees.{Expr, Num, Name, Neg, Sum, Prod, Exprs, NoExprs, And, folded, all_folded, folds_of, all_folds, fold_neg, reckoned, numbers_of, sum, product, one_if_neg, one_if_reckoned}
 use Rattle.arena_tree.specs.declared.node.Node.{Node}
-use Rattle.arena_tree.specs.Counts.{below, nodes}
-use Rattle.arena_tree.specs.TreesAt.{node_item, ExprAt, ExprsAt, expr_blocks, exprs_blocks}
-use Rattle.arena_tree.specs.Lists.{expr_lists, exprs_lists, expr_texts, exprs_texts}
-use Rattle.arena_tree.specs.TreeLaws.{list_same, list_held, expr_readable, exprs_readable}
-use Rattle.arena_tree.specs.FoldingParts.{IsClear, Shrinks, IsListClear, list_blocks, list_texts, CanFoldKid, IsRow, IsFolded, AreFolded}
-use Rattle.arena_tree.proofs.PartsLemmas.{parts_readable, expr_parts, exprs_parts}
-use Rattle.arena_tree.proofs.FoldBlockLemmas.{all_turned, all_within, shrunk_clear, of_middle, texts_middle, middle_clear, shrinks_step, shrinks_none, agree_beside, around}
-use Rattle.arena_tree.proofs.FoldSlotLemmas.{set_expr, expr_at, Slot, slot_of, expr_kept}
+use Rattle.arena_tree.specs.TreesAt.{node_item}
+use Rattle.arena_tree.specs.TreeLaws.{list_same, list_held}
+use Rattle.arena_tree.specs.Subtrees.{Subtree, lists_at, texts_at, RowAt, row_lists, row_texts, row_nodes}
+use Rattle.arena_tree.specs.FoldingParts.{folded_it, row_folds, IsClear, IsRowClear, CanFold, WritesIn, Shrinks, IsFolded, IsRowFolded, AreFolded}
+use Rattle.arena_tree.proofs.WalkLemmas.{some_node, none_node, list_len}
+use Rattle.arena_tree.proofs.FoldBlockLemmas.{all_within, Split, split_of, writes_more, writes_then, agree_beside, still_readable, shrinks_none, shrinks_as, shrinks_both}
+use Rattle.arena_tree.proofs.KeptLemmas.{IsKept, tree_beside, row_beside}
+use Rattle.arena_tree.proofs.FoldLowLemmas.{row_low}
 
 -- ---- Calls that take no memory
 
@@ -34,255 +32,186 @@ pub no_places : (view : View) → SamePlaces view view
 no_places view = record { state = refl; statistics = refl; source = refl }
 
 pub held_still : (old new : Memory) (v : Vec Node) → new.state ≡ old.state → IsVecIn node_item old v → IsVecIn node_item new v
-held_still old new v same held =
-    list_held old new v held (subst (λ s. AreReadable s (v.raw.block ∷ [])) (sym same) (held.place.readable, tt)).0
+held_still old new v same held = list_held old new v held (still_readable old new (v.raw.block ∷ []) same (held.place.readable, tt)).0
 
--- ---- One kid is folded, and put in its place
+-- ---- A node among others
 
--- a list's blocks, with those of one kid in the middle
-pub row_at : (fs : Exprs) (old m : Memory) (l0 t0 : List Block) (v : Vec Node) (i : ℕ) (k : Node)
-    (s : Slot fs m (vec_list node_item m v) i k)
-    → Shrinks old m l0 t0 (list_blocks fs m v) (list_texts fs m v)
-    → Shrinks old m l0 t0 (v.raw.block ∷ (s.p ++ (expr_lists (expr_at fs i) m k ++ s.q))) (s.pt ++ (expr_texts (expr_at fs i) m k ++ s.qt))
-row_at fs old m l0 t0 v i k s row =
-    subst (λ bs. Shrinks old m l0 t0 (v.raw.block ∷ bs) (s.pt ++ (expr_texts (expr_at fs i) m k ++ s.qt))) s.lists_are
-    (subst (λ bs. Shrinks old m l0 t0 (list_blocks fs m v) bs) s.texts_are row)
+first_behind : (front nodes : List Node) (k : Node) → slice_get (front ++ nodes) (length front) ≡ Some k
+    → (behind : List Node) × (nodes ≡ k ∷ behind)
+first_behind [] [] k is = absurd (none_node k is)
+first_behind [] (n ∷ ns) k is = (ns, ap (λ l. l ∷ ns) (some_node n k is))
+first_behind (x ∷ xs) nodes k is = first_behind xs nodes k is
 
-pub clear_at : (fs : Exprs) (m : Memory) (v : Vec Node) (i : ℕ) (k : Node) (s : Slot fs m (vec_list node_item m v) i k) → IsListClear fs m v
-    → IsClear (v.raw.block ∷ (s.p ++ (expr_lists (expr_at fs i) m k ++ s.q))) (s.pt ++ (expr_texts (expr_at fs i) m k ++ s.qt))
-clear_at fs m v i k s clear =
-    subst (λ bs. IsClear (v.raw.block ∷ bs) (s.pt ++ (expr_texts (expr_at fs i) m k ++ s.qt))) s.lists_are
-    (subst (λ bs. IsClear (list_blocks fs m v) bs) s.texts_are clear)
+set_behind : (front behind : List Node) (k l : Node) → slice_set (front ++ k ∷ behind) (length front) l ≡ (front ++ l ∷ []) ++ behind
+set_behind [] behind k l = refl
+set_behind (x ∷ xs) behind k l = ap (λ ns. x ∷ ns) (set_behind xs behind k l)
 
-pub row_step : (es fs : Exprs) (old m two new : Memory) (v : Vec Node) (i : ℕ) (k l : Node) (f : Expr)
-    (s : Slot fs m (vec_list node_item m v) i k) → IsListClear es old v → IsRow es fs old m v → ExprAt f two l
-    → Shrinks m two (expr_lists (expr_at fs i) m k) (expr_texts (expr_at fs i) m k) (expr_lists f two l) (expr_texts f two l)
-    → IsVecIn node_item new v → vec_list node_item new v ≡ slice_set (vec_list node_item two v) i l
-    → Frame two new (v.raw.block ∷ []) (v.raw.block ∷ []) → new.state ≡ two.state → IsRow es (set_expr fs i f) old new v
-row_step es fs old m two new v i k l f s whole row stands first held list_is set state =
-    let vb = v.raw.block in
-    let ns = vec_list node_item m v in
-    let l0 = list_blocks es old v in
-    let t0 = list_texts es old v in
-    let b = expr_lists (expr_at fs i) m k in
-    let bt = expr_texts (expr_at fs i) m k in
-    let a = expr_lists f two l in
-    let at = expr_texts f two l in
-    let here = row_at fs old m l0 t0 v i k s row.blocks in
-    let clear = shrunk_clear old m l0 t0 (vb ∷ (s.p ++ (b ++ s.q))) (s.pt ++ (bt ++ s.qt)) whole here in
-    let own = middle_clear vb s.p b s.q s.pt bt s.qt clear in
-    let reads = parts_readable m (exprs_blocks fs m ns) (exprs_lists fs m ns) (exprs_texts fs m ns) (exprs_parts fs m ns)
-    (exprs_readable fs m ns row.stand) in
-    let round = around m two new vb s.p b s.q a s.pt bt s.qt at clear (subst (AreReadable m.state) s.lists_are reads.0)
-    (subst (AreReadable m.state) s.texts_are reads.1) first set in
-    let vb_b : IsApart vb.addr vb.size b = of_middle s.p b s.q vb.addr vb.size clear.lists.0 in
-    let list_two : vec_list node_item two v ≡ ns
-    = list_same m two v (agree_beside m two b (vb ∷ []) first.frame (row.held.place.readable, tt) (vb_b, tt)).0 in
-    let text_reads = parts_readable two (expr_blocks f two l) a at (expr_parts f two l) (expr_readable f two l stands) in
-    let bt_vb : AreAllApart bt (vb ∷ [])
-    = all_within bt (vb ∷ (s.p ++ (b ++ s.q))) (vb ∷ []) (λ addr n h. (h.0, tt))
-    (texts_middle s.pt bt s.qt (vb ∷ (s.p ++ (b ++ s.q))) clear.texts) in
-    let at_vb : AreAllApart at (vb ∷ []) = all_turned (vb ∷ []) at (all_within (vb ∷ []) bt at first.texts_in
-    (all_turned bt (vb ∷ []) bt_vb)) in
-    let kept = expr_kept f two new l state stands
-    (agree_beside two new (vb ∷ []) a set text_reads.0 (all_apart vb a (first.lists_in vb.addr vb.size vb_b)))
-    (agree_beside two new (vb ∷ []) at set text_reads.1 at_vb) in
-    let filled = s.filled new f l (state ∙ first.state) kept.stands round in
-    let list : vec_list node_item new v ≡ slice_set ns i l = list_is ∙ ap (λ ks. slice_set ks i l) list_two in
-    let lists : exprs_lists (set_expr fs i f) new (vec_list node_item new v) ≡ s.p ++ (a ++ s.q)
-    = ap (exprs_lists (set_expr fs i f) new) list ∙ filled.lists ∙ ap (λ bs. s.p ++ (bs ++ s.q)) kept.lists in
-    let texts : exprs_texts (set_expr fs i f) new (vec_list node_item new v) ≡ s.pt ++ (at ++ s.qt)
-    = ap (exprs_texts (set_expr fs i f) new) list ∙ filled.texts ∙ ap (λ bs. s.pt ++ (bs ++ s.qt)) kept.texts in
-    let blocks = shrinks_step old m two new l0 t0 vb s.p b s.q a s.pt bt s.qt at here first set state in
-    record {
-      held = held;
-      stand = subst (ExprsAt (set_expr fs i f) new) (sym list) filled.stand;
-      blocks = subst (λ bs. Shrinks old new l0 t0 (vb ∷ bs) (list_texts (set_expr fs i f) new v)) (sym lists)
-          (subst (λ bs. Shrinks old new l0 t0 (vb ∷ (s.p ++ (a ++ s.q))) bs) (sym texts) blocks);
-    }
-
--- ---- The first kids folded
-
-abbrev pub mixed : ℕ → Exprs → Exprs
-mixed zero es = es
-mixed (suc i) NoExprs = NoExprs
-mixed (suc i) (And e rest) = And (folded e) (mixed i rest)
-
-abbrev pub front_folds : ℕ → Exprs → ℕ
-front_folds zero es = 0
-front_folds (suc i) NoExprs = 0
-front_folds (suc i) (And e rest) = folds_of e + front_folds i rest
-
-pub row_begins : (es : Exprs) (m : Memory) (v : Vec Node) → IsVecIn node_item m v → ExprsAt es m (vec_list node_item m v)
-    → IsListClear es m v
-    → IsRow es es m m v
-row_begins es m v held at clear =
-    record { held = held; stand = at; blocks = shrinks_none m (list_blocks es m v) (list_texts es m v) clear.lists }
-
-mixed_all : (es : Exprs) (m : Memory) (ns : List Node) (i : ℕ) → ExprsAt es m ns → length ns ≤ i
-    → (mixed i es ≡ all_folded es) × (front_folds i es ≡ all_folds es)
-mixed_all NoExprs m [] zero at h = (refl, refl)
-mixed_all NoExprs m [] (suc i) at h = (refl, refl)
-mixed_all NoExprs m (n ∷ ns) i at h = absurd at
-mixed_all (And e rest) m [] i at h = absurd at
-mixed_all (And e rest) m (n ∷ ns) zero at h = absurd (omega (arith, h))
-mixed_all (And e rest) m (n ∷ ns) (suc i) at h =
-    let r = mixed_all rest m ns i at.1 (omega (arith, h)) in
-    (ap (And (folded e)) r.0, ap (λ n. folds_of e + n) r.1)
-
--- the kid whose turn it is
-record Turn (es : Exprs) (i : ℕ) : Type 0 where
-  pub mixed_is : mixed (suc i) es ≡ set_expr (mixed i es) i (folded (expr_at (mixed i es) i))
-  pub folds_are : front_folds (suc i) es ≡ front_folds i es + folds_of (expr_at (mixed i es) i)
-
-turn_of : (es : Exprs) (i : ℕ) → Turn es i
-turn_of NoExprs zero = record { mixed_is = refl; folds_are = omega arith }
-turn_of NoExprs (suc i) = record { mixed_is = refl; folds_are = omega arith }
-turn_of (And e rest) zero = record { mixed_is = refl; folds_are = omega arith }
-turn_of (And e rest) (suc i) =
-    let t = turn_of rest i in
-    record { mixed_is = ap (And (folded e)) t.mixed_is; folds_are = omega (arith, t.folds_are) }
-
--- ---- Folding adds no nodes, and folds no more often than there are nodes
-
-low_numbers : (total : List ℕ → ℕ) (o : Option (List ℕ)) (e : Expr) → below (reckoned total o e) ≤ below e
-low_numbers total None e = omega arith
-low_numbers total (Some ns) e = fits (nat_lt (total ns) (2 ^ 64))
-  where
-    fits : (b : Bool) → below (if b then Num (total ns) else e) ≤ below e
-    fits true = omega arith
-    fits false = omega arith
-
-low_neg : (e : Expr) → below (fold_neg e) ≤ 1 + below e
-low_neg (Num n) = omega arith
-low_neg (Name bytes) = omega arith
-low_neg (Neg e) = omega arith
-low_neg (Sum kids) = omega arith
-low_neg (Prod kids) = omega arith
-
-mutual
-  pub folded_low : (e : Expr) → below (folded e) ≤ below e
-  folded_low (Num n) = omega arith
-  folded_low (Name bytes) = omega arith
-  folded_low (Neg e) = omega (arith, low_neg (folded e), folded_low e)
-  folded_low (Sum kids) = omega (arith, low_numbers sum (numbers_of (all_folded kids)) (Sum (all_folded kids)), all_low kids)
-  folded_low (Prod kids) = omega (arith, low_numbers product (numbers_of (all_folded kids)) (Prod (all_folded kids)), all_low kids)
-
-  pub all_low : (es : Exprs) → nodes (all_folded es) ≤ nodes es
-  all_low NoExprs = omega arith
-  all_low (And e rest) = omega (arith, folded_low e, all_low rest)
-
-mixed_low : (i : ℕ) (es : Exprs) → nodes (mixed i es) ≤ nodes es
-mixed_low zero es = omega arith
-mixed_low (suc i) NoExprs = omega arith
-mixed_low (suc i) (And e rest) = omega (arith, folded_low e, mixed_low i rest)
-
-one_neg : (e : Expr) → one_if_neg e ≤ 1
-one_neg (Num n) = omega arith
-one_neg (Name bytes) = omega arith
-one_neg (Neg e) = omega arith
-one_neg (Sum kids) = omega arith
-one_neg (Prod kids) = omega arith
-
-one_total : (total : List ℕ → ℕ) (o : Option (List ℕ)) → one_if_reckoned total o ≤ 1
-one_total total None = omega arith
-one_total total (Some ns) = fits (nat_lt (total ns) (2 ^ 64))
-  where
-    fits : (b : Bool) → (if b then 1 else 0) ≤ 1
-    fits true = omega arith
-    fits false = omega arith
-
-mutual
-  pub folds_low : (e : Expr) → folds_of e ≤ 1 + below e
-  folds_low (Num n) = omega arith
-  folds_low (Name bytes) = omega arith
-  folds_low (Neg e) = omega (arith, folds_low e, one_neg (folded e))
-  folds_low (Sum kids) = omega (arith, all_folds_low kids, one_total sum (numbers_of (all_folded kids)))
-  folds_low (Prod kids) = omega (arith, all_folds_low kids, one_total product (numbers_of (all_folded kids)))
-
-  pub all_folds_low : (es : Exprs) → all_folds es ≤ nodes es
-  all_folds_low NoExprs = omega arith
-  all_folds_low (And e rest) = omega (arith, folds_low e, all_folds_low rest)
-
-front_low : (i : ℕ) (es : Exprs) → front_folds i es ≤ nodes es
-front_low zero es = omega arith
-front_low (suc i) NoExprs = omega arith
-front_low (suc i) (And e rest) = omega (arith, folds_low e, front_low i rest)
-
--- ---- The loop over kids
-
--- the kid whose turn it is, and what a fold of it does
-record Next (es : Exprs) (old m : Memory) (v : Vec Node) (i : ℕ) (k : Node) : Type 0 where
-  pub slot : Slot (mixed i es) m (vec_list node_item m v) i k
-  pub clear : IsClear (expr_lists (expr_at (mixed i es) i) m k) (expr_texts (expr_at (mixed i es) i) m k)
-
-next_of : (es : Exprs) (old m : Memory) (v : Vec Node) (i : ℕ) (k : Node) → IsListClear es old v → IsRow es (mixed i es) old m v
-    → slice_get (vec_list node_item m v) i ≡ Some k → Next es old m v i k
-next_of es old m v i k whole row is =
-    let s = slot_of (mixed i es) m (vec_list node_item m v) i k row.stand is in
-    let clear = shrunk_clear old m (list_blocks es old v) (list_texts es old v) (list_blocks (mixed i es) m v) (list_texts (mixed i es) m v)
-    whole row.blocks in
-    record {
-      slot = s;
-      clear = middle_clear v.raw.block s.p (expr_lists (expr_at (mixed i es) i) m k) s.q s.pt (expr_texts (expr_at (mixed i es) i) m k) s.qt
-          (clear_at (mixed i es) m v i k s clear);
-    }
-
-pub can_kid : (es : Exprs) (old m : Memory) (v : Vec Node) (i room : ℕ) → nodes es < room → IsListClear es old v
-    → IsRow es (mixed i es) old m v → CanFoldKid m v i room
-can_kid es old m v i room low whole row = λ k is.
-    let n = next_of es old m v i k whole row is in
-    let few = mixed_low i es in (
-      record { tree = expr_at (mixed i es) i; stands = n.slot.stands; clear = n.clear; low = omega (arith, n.slot.low, few, low) },
-      omega (arith, low),
-    )
-
--- what a fold of a kid says
-abbrev pub Folding : Memory → Memory → Node → Node → ℕ → Type 0
-Folding m two k l count =
-    (e : Expr) → ExprAt e m k → IsClear (expr_lists e m k) (expr_texts e m k) → IsFolded e m two k l count
-
-pub count_low : (es : Exprs) (old m two : Memory) (v : Vec Node) (i total count room : ℕ) (k l : Node) → nodes es < room
-    → IsListClear es old v
-    → IsRow es (mixed i es) old m v → total ≡ front_folds i es → slice_get (vec_list node_item m v) i ≡ Some k → Folding m two k l count
-    → total + count < room
-count_low es old m two v i total count room k l low whole row is get fold =
-    let n = next_of es old m v i k whole row get in
-    let f = fold (expr_at (mixed i es) i) n.slot.stands n.clear in
-    let t = turn_of es i in
-    omega (arith, low, is, f.count_is, t.folds_are, front_low (suc i) es)
-
-pub same_handle : (v w : Vec Node) (ns : List Node) → w.raw.block ≡ v.raw.block → w.raw.len ≡ length ns → length ns ≡ v.raw.len
-    → w.raw.cap ≡ v.raw.cap → v ≡ w
-same_handle v w ns b l n c =
-    let len : w.raw.len ≡ v.raw.len = l ∙ n in
-    sym (λ i. record { raw = record { block = b i; len = len i; cap = c i; of = v.raw.of } })
-
-pub set_length : (ns : List Node) (i : ℕ) (l : Node) → length (slice_set ns i l) ≡ length ns
+set_length : (ns : List Node) (i : ℕ) (l : Node) → length (slice_set ns i l) ≡ length ns
 set_length [] zero l = refl
 set_length [] (suc i) l = refl
 set_length (n ∷ ns) zero l = refl
 set_length (n ∷ ns) (suc i) l = omega (arith, set_length ns i l)
 
-pub row_next : (es : Exprs) (old m two new : Memory) (v w : Vec Node) (i total count : ℕ) (k l : Node) → IsListClear es old v
-    → IsRow es (mixed i es) old m v × (total ≡ front_folds i es) → slice_get (vec_list node_item m v) i ≡ Some k → Folding m two k l count
-    → IsVecIn node_item new w → vec_list node_item new w ≡ slice_set (vec_list node_item two v) i l → v ≡ w
-    → Frame two new (v.raw.block ∷ []) (w.raw.block ∷ []) → new.state ≡ two.state
-    → IsRow es (mixed (i + 1) es) old new v × (total + count ≡ front_folds (i + 1) es)
-row_next es old m two new v w i total count k l whole row get fold held list same set state =
-    let n = next_of es old m v i k whole row.0 get in
-    let f = fold (expr_at (mixed i es) i) n.slot.stands n.clear in
-    let t = turn_of es i in
-    let next : suc i ≡ i + 1 = omega arith in
-    let r = row_step es (mixed i es) old m two new v i k l (folded (expr_at (mixed i es) i)) n.slot whole row.0 f.stands f.blocks
-    (subst (IsVecIn node_item new) (sym same) held)
-    (subst (λ (u : Vec Node). vec_list node_item new u ≡ slice_set (vec_list node_item two v) i l) (sym same) list)
-    (subst (λ (u : Vec Node). Frame two new (v.raw.block ∷ []) (u.raw.block ∷ [])) (sym same) set) state in
-    let counted : total + count ≡ front_folds (suc i) es = omega (arith, row.1, f.count_is, t.folds_are) in
-    (subst (λ gs. IsRow es gs old new v) (sym t.mixed_is ∙ ap (λ j. mixed j es) next) r, counted ∙ ap (λ j. front_folds j es) next)
+-- One node of a list was set: the handle stays.
+pub record IsSet (old new : Memory) (v : Vec Node) (i : ℕ) (l : Node) : Type 0 where
+  pub list_is : vec_list node_item new v ≡ slice_set (vec_list node_item old v) i l
+  pub writes : WritesIn old new (v.raw.block ∷ [])
 
-pub row_done : (es : Exprs) (old new : Memory) (v : Vec Node) (i total : ℕ) → ExprsAt es old (vec_list node_item old v)
-    → length (vec_list node_item old v) ≤ i → IsRow es (mixed i es) old new v × (total ≡ front_folds i es) → AreFolded es old new v total
-row_done es old new v i total at h row =
-    let all = mixed_all es old (vec_list node_item old v) i at h in
-    record { row = subst (λ gs. IsRow es gs old new v) all.0 row.0; count_is = row.1 ∙ all.1 }
+pub set_is : {old new : View} (v w : Vec Node) (i : ℕ) (l : Node)
+    → Becomes node_item old new v (slice_set (vec_list node_item old.memory v) i l) w → IsSet old.memory new.memory v i l
+set_is {old} {new} v w i l b =
+    let len : w.raw.len ≡ v.raw.len = b.len ∙ set_length (vec_list node_item old.memory v) i l ∙ list_len old.memory v in
+    let same : w ≡ v = λ j. record { raw = record { block = b.block j; len = len j; cap = b.cap j; of = v.raw.of } } in
+    record {
+      list_is = subst (λ u. vec_list node_item new.memory u ≡ slice_set (vec_list node_item old.memory v) i l) same b.list_is;
+      writes = record {
+        frame = subst (λ (u : Vec Node). Frame old.memory new.memory (v.raw.block ∷ []) (u.raw.block ∷ [])) same b.frame;
+        state = b.places.state;
+      };
+    }
+
+-- ---- The first tree of a list is folded, and then the others are
+
+first_folded : (t : Subtree) (ts : List Subtree) (m two mid new : Memory) (v : Vec Node) (k l : Node) (ns ms : List Node) (once : ℕ)
+    → Split v.raw.block (lists_at t m k) (row_lists ts m ns) (texts_at t m k) (row_texts ts m ns) → IsFolded t m two k l once
+    → WritesIn two mid (v.raw.block ∷ [])
+    → IsKept (RowAt ts mid ns) (row_lists ts m ns) (row_lists ts mid ns) (row_texts ts m ns) (row_texts ts mid ns)
+    → IsRowFolded ts mid new v ns ms → IsRowFolded (t ∷ ts) m new v (k ∷ ns) (l ∷ ms)
+first_folded t ts m two mid new v k l ns ms once s f set kept rest =
+    let vb = v.raw.block in
+    let q = row_lists ts m ns in
+    let qt = row_texts ts m ns in
+    let a = lists_at (folded_it t) two l in
+    let at = texts_at (folded_it t) two l in
+    let z = row_lists (map folded_it ts) new ms in
+    let zt = row_texts (map folded_it ts) new ms in
+    let r : Shrinks mid new (vb ∷ q) qt (vb ∷ z) zt
+    = shrinks_as (ap (λ bs. vb ∷ bs) (sym kept.lists)) (sym kept.texts) refl refl rest.blocks in
+    let w = writes_then (writes_more (vb ∷ q) (λ addr n h. (h.0, tt)) set) r.writes in
+    let one = tree_beside two new (vb ∷ q) w (folded_it t) l f.stands
+    (all_turned (vb ∷ q) a (all_within (vb ∷ q) (lists_at t m k) a f.blocks.lists_in s.first_beside))
+    (all_turned (vb ∷ q) at (all_within (vb ∷ q) (texts_at t m k) at f.blocks.texts_in s.first_texts)) in
+    record {
+      stand = (one.stands, rest.stand);
+      blocks = shrinks_as refl refl (ap (λ bs. vb ∷ (bs ++ z)) one.lists) (ap (λ bs. bs ++ zt) one.texts)
+          (shrinks_both q qt z zt s f.blocks w r.pairs r.lists_in r.texts_in);
+    }
+
+-- ---- The loop
+
+-- What is left of a list when its first nodes are folded; when the rest is, the list is.
+pub record Rest (es : List Subtree) (old m : Memory) (v : Vec Node) (count : ℕ) (front nodes : List Node) (trees : List Subtree) : Type 0 where
+  pub stand : RowAt trees m nodes
+  pub clear : IsClear (v.raw.block ∷ row_lists trees m nodes) (row_texts trees m nodes)
+  pub few : row_nodes trees ≤ row_nodes es
+  pub counted : count + row_folds trees ≡ row_folds es
+  pub list_is : vec_list node_item m v ≡ front ++ nodes
+  pub ends : (new : Memory) (after : List Node) → vec_list node_item new v ≡ front ++ after → IsRowFolded trees m new v nodes after
+      → IsRowFolded es old new v (vec_list node_item old v) (vec_list node_item new v)
+
+pub record Left (es : List Subtree) (old m : Memory) (v : Vec Node) (i count : ℕ) : Type 0 where
+  pub front : List Node
+  pub nodes : List Node
+  pub trees : List Subtree
+  pub index : length front ≡ i
+  pub rest : Rest es old m v count front nodes trees
+
+pub row_begins : (es : List Subtree) (m : Memory) (v : Vec Node) → RowAt es m (vec_list node_item m v) → IsRowClear es m v
+    → Left es m m v 0 0
+row_begins es m v at clear = record {
+  front = [];
+  nodes = vec_list node_item m v;
+  trees = es;
+  index = refl;
+  rest = record {
+    stand = at;
+    clear = clear;
+    few = omega arith;
+    counted = omega arith;
+    list_is = refl;
+    ends = λ new after is r. subst (λ ns. IsRowFolded es m new v (vec_list node_item m v) ns) (sym is) r;
+  };
+}
+
+-- the tree whose turn it is
+pub record Turn (es : List Subtree) (old m : Memory) (v : Vec Node) (i count : ℕ) (k : Node) : Type 0 where
+  pub front : List Node
+  pub behind : List Node
+  pub tree : Subtree
+  pub trees : List Subtree
+  pub index : length front ≡ i
+  pub rest : Rest es old m v count front (k ∷ behind) (tree ∷ trees)
+  pub split : Split v.raw.block (lists_at tree m k) (row_lists trees m behind) (texts_at tree m k) (row_texts trees m behind)
+
+pub turn_of : (es : List Subtree) (old m : Memory) (v : Vec Node) (i count : ℕ) (k : Node) → Left es old m v i count
+    → slice_get (vec_list node_item m v) i ≡ Some k → Turn es old m v i count k
+turn_of es old m v i count k left get =
+    let b = first_behind left.front left.nodes k (rw (left.rest.list_is, ← left.index) at get) in
+    by left.trees (subst (λ ns. Rest es old m v count left.front ns left.trees) b.1 left.rest)
+  where
+    by : (trees : List Subtree) {behind : List Node} → Rest es old m v count left.front (k ∷ behind) trees → Turn es old m v i count k
+    by [] r = absurd r.stand
+    by (t ∷ ts) {behind} r = record {
+      front = left.front;
+      behind = behind;
+      tree = t;
+      trees = ts;
+      index = left.index;
+      rest = r;
+      split = split_of v.raw.block (lists_at t m k) (row_lists ts m behind) (texts_at t m k) (row_texts ts m behind) r.clear;
+    }
+
+module _ (es : List Subtree) (old m : Memory) (v : Vec Node) (i count room : ℕ) (k : Node) (t : Turn es old m v i count k)
+    (low : row_nodes es < room) where
+  pub turn_can : CanFold m k (room - 1)
+  turn_can = record { tree = t.tree; stands = t.rest.stand.0; clear = t.split.first; low = omega (arith, t.rest.few, low) }
+
+  pub count_low : (two : Memory) (l : Node) (once : ℕ) → IsFolded t.tree m two k l once → count + once < room
+  count_low two l once f = omega (arith, t.rest.counted, f.count_is, (row_low es).1, low)
+
+pub row_next : (es : List Subtree) (old m two new : Memory) (v : Vec Node) (i count once : ℕ) (k l : Node) (t : Turn es old m v i count k)
+    → IsVecIn node_item m v → IsFolded t.tree m two k l once → IsSet two new v i l → Left es old new v (i + 1) (count + once)
+row_next es old m two new v i count once k l t held f set =
+    let vb = v.raw.block in
+    let b = lists_at t.tree m k in
+    let w : WritesIn m new (vb ∷ b)
+    = writes_then (writes_more (vb ∷ b) (λ addr n h. h.1) f.blocks.writes) (writes_more (vb ∷ b) (λ addr n h. (h.0, tt)) set.writes) in
+    let kept = row_beside m new (vb ∷ b) w t.trees t.behind t.rest.stand.1 t.split.lists_beside t.split.texts_beside in
+    let same = list_same m two v (agree_beside (vb ∷ []) f.blocks.writes (held.place.readable, tt) (t.split.first_beside.0, tt)).0 in
+    record {
+      front = t.front ++ l ∷ [];
+      nodes = t.behind;
+      trees = t.trees;
+      index = omega (arith, length-append t.front (l ∷ []), t.index);
+      rest = record {
+        stand = kept.stands;
+        clear = rw (kept.lists, kept.texts) t.split.others;
+        few = omega (arith, t.rest.few);
+        counted = omega (arith, t.rest.counted, f.count_is);
+        list_is = set.list_is ∙ ap (λ ns. slice_set ns i l) (same ∙ t.rest.list_is) ∙ (rw (← t.index) (set_behind t.front t.behind k l));
+        ends = λ fin after is r.
+            t.rest.ends fin (l ∷ after) (is ∙ append_assoc t.front (l ∷ []) after)
+            (first_folded t.tree t.trees m two new fin v k l t.behind after once t.split f set.writes kept r);
+      };
+    }
+
+pub row_done : (es : List Subtree) (old new : Memory) (v : Vec Node) (i count : ℕ) → v.raw.len ≤ i → Left es old new v i count
+    → AreFolded es old new v count
+row_done es old new v i count done left =
+    by left.nodes left.trees left.rest (omega (
+      arith,
+      done,
+      left.index,
+      length-append left.front left.nodes,
+      ap length left.rest.list_is,
+      list_len new v,
+    ))
+  where
+    by : (nodes : List Node) (trees : List Subtree) → Rest es old new v count left.front nodes trees → length nodes ≡ 0
+        → AreFolded es old new v count
+    by [] [] r none = record {
+      row = r.ends new [] r.list_is (record { stand = tt; blocks = shrinks_none new (v.raw.block ∷ []) [] (tt, tt) });
+      count_is = omega (arith, r.counted);
+    }
+    by [] (t ∷ ts) r none = absurd r.stand
+    by (n ∷ ns) ts r none = absurd (omega (arith, none))

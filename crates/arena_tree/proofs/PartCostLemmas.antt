@@ -3,24 +3,26 @@ use Rattle.std.proofs.Common.{◌≡◌, ℕ, ◌+◌, ◌-◌, ◌<◌, ◌≤�
 use Rattle.arena_chunks.specs.Source.{View}
 use Rattle.arena_chunks.specs.Frame.{Frame}
 use Rattle.arena_items.specs.declared.room.AllocError.{AllocError}
-use Rattle.arena_tree.specs.Spending.{Spends, most_for, left_for_node, node_cost}
+use Rattle.arena_vec.specs.declared.vec.Vec.{Vec}
+use Rattle.arena_tree.specs.declared.node.Node.{Node}
+use Rattle.arena_tree.specs.Spending.{Spends, SpendsOnList, most_for, left_for_node, node_cost}
 use Rattle.arena_tree.proofs.SpendingLemmas.{spends_then}
 
 pub less_than : {a b c : ℕ} → a < b → b < c → a < c
 less_than one two = omega (arith, one, two)
 
--- The first kid was read up to a byte, and its list has saved nothing.
-pub first_put : {at end next saved kept : ℕ} {old one new : View} → at < end → Spends (most_for (end - at)) 0 left_for_node old one None
-    → saved ≡ 0 → Frame old.memory one.memory [] [] → end < next → Spends node_cost saved kept one new None
-    → Spends (most_for (next - at)) 0 (1024 + kept) old new None
-first_put some read none frame later put =
-    spends_then read put frame (omega (arith, some, later)) (omega (arith, none, some, later)) (omega (arith, none, some, later))
+-- The first kid was read up to a byte, and put in a list with room for one more, which has saved nothing.
+pub first_put : {at end next : ℕ} {old one new : View} (v : Vec Node) → at < end
+    → Spends (most_for (end - at)) 0 left_for_node old one None → Frame old.memory one.memory [] [] → end < next → v.raw.len ≡ 1
+    → v.raw.cap ≡ 2 → Spends node_cost 0 0 one new None → SpendsOnList (next - at) old new v
+first_put v some read frame later one two put =
+    spends_then read put frame (omega (arith, some, later)) (omega (arith, some, later)) (omega (arith, one, two, some, later))
 
-pub first_refused : {at end len saved kept : ℕ} {old one new : View} {e : AllocError} → at < end
-    → Spends (most_for (end - at)) 0 left_for_node old one None → saved ≡ 0 → Frame old.memory one.memory [] [] → end ≤ len
-    → Spends node_cost saved kept one new (Some e) → Spends (most_for (len - at)) 0 0 old new (Some e)
-first_refused some read none frame within put =
-    spends_then read put frame (omega (arith, some, within)) (omega (arith, none, some, within)) (omega (arith, none, some, within))
+pub first_refused : {at end len : ℕ} {old one new : View} {e : AllocError} → at < end
+    → Spends (most_for (end - at)) 0 left_for_node old one None → Frame old.memory one.memory [] [] → end ≤ len
+    → Spends node_cost 0 0 one new (Some e) → Spends (most_for (len - at)) 0 0 old new (Some e)
+first_refused some read frame within put =
+    spends_then read put frame (omega (arith, some, within)) (omega (arith, some, within)) (omega (arith, some, within))
 
 -- A kid is read behind others. It may be negated then.
 pub kid_read : {at here end : ℕ} {old one two : View} (saved : ℕ) → at < here → here < end

@@ -160,18 +160,18 @@ range_length bytes begin end = omega (arith, length-take (end - begin) (drop beg
 abbrev pub IsHandedOn : {X : Type 0} → Result X AllocError → AllocError → Type 0
 IsHandedOn result e = IsErr result × IsErrAnd result (λ f. f ≡ e)
 
-pub err_up_to : {X : Type 0} {old new : View} (at len : ℕ) (result : Result (X × ℕ) AllocError) (e : AllocError) → IsHandedOn result e
+pub err_up_to : {old new : View} (at len : ℕ) (result : Result ℕ AllocError) (e : AllocError) → IsHandedOn result e
     → Spends (most_for (len - at)) 0 0 old new (Some e) → SpendsUpTo at len old new result
 err_up_to at len (Ok x) e is spends = absurd is.1
-err_up_to {X} {old} {new} at len (Err f) e is spends = subst (λ d. Spends (most_for (len - at)) 0 0 old new (Some d)) (sym is.1) spends
+err_up_to {old} {new} at len (Err f) e is spends = subst (λ d. Spends (most_for (len - at)) 0 0 old new (Some d)) (sym is.1) spends
 
 pub err_all : {X : Type 0} {old new : View} (at len : ℕ) (result : Result (X × ℕ) AllocError) (e : AllocError) → IsHandedOn result e
     → Spends (most_for (len - at)) 0 0 old new (Some e) → SpendsAll at len old new result
 err_all at len (Ok x) e is spends = absurd is.1
 err_all {X} {old} {new} at len (Err f) e is spends = subst (λ d. Spends (most_for (len - at)) 0 0 old new (Some d)) (sym is.1) spends
 
-pub err_or_not : {X : Type 0} {old new : View} (at len : ℕ) (result : Result (Option (X × ℕ)) AllocError) (e : AllocError)
+pub err_or_not : {old new : View} (at len : ℕ) (result : Result (Option ℕ) AllocError) (e : AllocError)
     → IsHandedOn result e
     → Spends (most_for (len - at)) 0 0 old new (Some e) → SpendsOrNot at len old new result
 err_or_not at len (Ok x) e is spends = absurd is.1
-err_or_not {X} {old} {new} at len (Err f) e is spends = subst (λ d. Spends (most_for (len - at)) 0 0 old new (Some d)) (sym is.1) spends
+err_or_not {old} {new} at len (Err f) e is spends = subst (λ d. Spends (most_for (len - at)) 0 0 old new (Some d)) (sym is.1) spends

@@ -25,7 +25,7 @@ handle_is v n b l c = λ i. record { raw = record { block = b i; len = l i; cap 
 pub some_node : (k l : Node) → Some k ≡ Some l → k ≡ l
 some_node k l e = cc
 
-none_node : (k : Node) → ◌≡◌ {A = Option Node} None (Some k) → ⊥
+pub none_node : (k : Node) → ◌≡◌ {A = Option Node} None (Some k) → ⊥
 none_node k e = cc
 
 -- ---- Lists of one node

@@ -1,11 +1,12 @@
 -- What a copy of a tree in another arena answers, and what it takes.
-use Rattle.std.specs.Prelude.{ℕ, ◌+◌, ◌*◌, [], length, Result, Ok, Err}
+use Rattle.std.specs.Prelude.{ℕ, ◌+◌, ◌*◌, List, [], ◌∷◌, length, Result, Ok, Err}
 use Rattle.arena_chunks.specs.Source.{View}
 use Rattle.arena_chunks.specs.Frame.{Frame}
 use Rattle.tree_rules.specs.Trees.{Expr, Num, Name, Neg, Sum, Prod, Exprs, NoExprs, And, Stmt, Let, Show, Stmts, NoStmts, Then}
 use Rattle.tree_rules.specs.Trees as tree
-use Rattle.arena_tree.specs.Counts.{below, nodes, below_stmt, stmt_nodes}
+use Rattle.arena_tree.specs.Counts.{below, below_stmt, stmt_nodes}
 use Rattle.arena_tree.specs.StmtsAt.{AreBuilt}
+use Rattle.arena_tree.specs.Subtrees.{Subtree, OfExpr, OfStmt}
 use Rattle.arena_tree.specs.Parsing.{IsShortOf}
 use Rattle.arena_tree.specs.declared.tree.Tree.{Tree}
 use Rattle.arena_tree.specs.declared.tree.TreeErr.{TreeErr}
@@ -38,15 +39,14 @@ abbrev mutual
 abbrev pub clone_bytes : Stmts → ℕ
 clone_bytes ss = 128 * stmt_nodes ss + stmts_name_bytes ss
 
--- those of kids, and of what is below one node
-abbrev pub kids_bytes : Exprs → ℕ
-kids_bytes es = 128 * nodes es + names_bytes es
+-- those of what is below one node, and of a list of nodes
+abbrev pub below_bytes : Subtree → ℕ
+below_bytes (OfExpr e) = 128 * below e + name_bytes e
+below_bytes (OfStmt s) = 128 * below_stmt s + stmt_name_bytes s
 
-abbrev pub below_bytes : Expr → ℕ
-below_bytes e = 128 * below e + name_bytes e
-
-abbrev pub below_line_bytes : Stmt → ℕ
-below_line_bytes s = 128 * below_stmt s + stmt_name_bytes s
+abbrev pub row_bytes : List Subtree → ℕ
+row_bytes [] = 0
+row_bytes (t ∷ ts) = 128 + below_bytes t + row_bytes ts
 
 -- A tree is placed that means these statements, on blocks that were free and lie apart from each other, or a block of it is refused. No
 -- text is judged, so no refusal is one of texts.

@@ -12,7 +12,7 @@ pub mod Lists
 pub mod Given
 pub mod Spending
 pub mod Parsing
+pub mod Subtrees
 pub mod Cloning
 pub mod Folding
 pub mod FoldingParts
-pub mod FoldingLines

@@ -82,9 +82,9 @@ pub record MustCloseBlock (bytes : List ℕ) (at : ℕ) : Type 0 where
   pub stop : LinesStop (tokens_at bytes at)
 
 -- a statement was read and placed, or none begins here and nothing was done
-abbrev pub LineOrStop : List ℕ → ℕ → Memory → Memory → Option (Node × ℕ) → Type 0
-LineOrStop bytes at old new None = LinesStop (tokens_at bytes at) × (new ≡ old)
-LineOrStop bytes at old new (Some r) = IsLine bytes at r.1 old new r.0
+abbrev pub LineOrStop : List ℕ → ℕ → Memory → Memory → Node → Option ℕ → Type 0
+LineOrStop bytes at old new n None = LinesStop (tokens_at bytes at) × (new ≡ old)
+LineOrStop bytes at old new n (Some end) = IsLine bytes at end old new n
 
 abbrev pub ExprStarts : List ℕ → ℕ → ℕ → Type 0
 ExprStarts bytes at behind = (opens : List Open) → IsPassed bytes (state AtLine opens) at → IsPassed bytes (state AtFactor opens) behind

@@ -76,8 +76,8 @@ abbrev pub left_for_node : ℕ
 left_for_node = 512
 
 -- A part was read from a byte on up to another: its node is not in a list yet, and for that something is left.
-abbrev pub SpendsUpTo : {X : Type 0} → ℕ → ℕ → View → View → Result (X × ℕ) AllocError → Type 0
-SpendsUpTo from length old new (Ok r) = Spends (most_for (r.1 - from)) 0 left_for_node old new None
+abbrev pub SpendsUpTo : ℕ → ℕ → View → View → Result ℕ AllocError → Type 0
+SpendsUpTo from length old new (Ok end) = Spends (most_for (end - from)) 0 left_for_node old new None
 SpendsUpTo from length old new (Err e) = Spends (most_for (length - from)) 0 0 old new (Some e)
 
 -- Kids were read up to an operator, and their nodes are in a list: so much is left for a kid that may be negated, and what the list saved.
@@ -89,7 +89,7 @@ abbrev pub SpendsAll : {X : Type 0} → ℕ → ℕ → View → View → Result
 SpendsAll from length old new (Ok r) = Spends (most_for (r.1 - from)) 0 0 old new None
 SpendsAll from length old new (Err e) = Spends (most_for (length - from)) 0 0 old new (Some e)
 
-abbrev pub SpendsOrNot : {X : Type 0} → ℕ → ℕ → View → View → Result (Option (X × ℕ)) AllocError → Type 0
+abbrev pub SpendsOrNot : ℕ → ℕ → View → View → Result (Option ℕ) AllocError → Type 0
 SpendsOrNot from length old new (Ok None) = Spends 0 0 0 old new None
-SpendsOrNot from length old new (Ok (Some r)) = Spends (most_for (r.1 - from)) 0 left_for_node old new None
+SpendsOrNot from length old new (Ok (Some end)) = Spends (most_for (end - from)) 0 left_for_node old new None
 SpendsOrNot from length old new (Err e) = Spends (most_for (length - from)) 0 0 old new (Some e)

@@ -22,6 +22,7 @@ pub(crate) enum LineStart {
     End,
 }
 
+#[inline(always)]
 fn name_at(src: &[u8], at: usize) -> (usize, usize)
     requires within { at ≤ length src.now }
     requires place { (opens : List Open) × IsPassed src.now (state Mode.AtName opens) at }
@@ -38,6 +39,7 @@ fn name_at(src: &[u8], at: usize) -> (usize, usize)
     }
 }
 
+#[inline(always)]
 fn equals_at(src: &[u8], at: usize) -> usize
     requires within { at ≤ length src.now }
     requires place { (opens : List Open) × IsPassed src.now (state Mode.AtEquals opens) at }
@@ -53,6 +55,7 @@ fn equals_at(src: &[u8], at: usize) -> usize
 }
 
 // What a statement begins with, or that there is none.
+#[inline(always)]
 pub(crate) fn line_at(src: &[u8], at: usize) -> LineStart
     requires within { at ≤ length src.now }
     requires place { IsLinesPlace src.now at }
@@ -73,6 +76,7 @@ pub(crate) fn line_at(src: &[u8], at: usize) -> LineStart
     }
 }
 
+#[inline(always)]
 pub(crate) fn semicolon_at(src: &[u8], at: usize) -> usize
     requires within { at ≤ length src.now }
     requires must { MustEnd src.now at }
@@ -87,6 +91,7 @@ pub(crate) fn semicolon_at(src: &[u8], at: usize) -> usize
     }
 }
 
+#[inline(always)]
 pub(crate) fn brace_at(src: &[u8], at: usize) -> usize
     requires within { at ≤ length src.now }
     requires must { MustCloseBlock src.now at }

@@ -9,6 +9,7 @@ use arena_items::{AllocError, Grown};
 use arena_place::Layout;
 
 // Places a block.
+#[inline(always)]
 pub(crate) fn place_block<C: ChunkSource>(a: &mut Allocator<C>, layout: Layout) -> Grown<Block>
     requires aligned { layout.align ≤ 16 }
     requires small { layout.size + 64 ≤ 2 ^ 63 }

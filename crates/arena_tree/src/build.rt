@@ -9,11 +9,12 @@ ghost use Rattle.arena_tree.specs.NodeForms.{number_node};
 ghost use Rattle.arena_tree.specs.Parts.{signed_tree};
 ghost use Rattle.arena_tree.specs.Spending.{Spends, error_of, node_cost, credit};
 
+use crate::clone_list::roomy;
 use crate::node::{Kind, Node};
 use arena_chunks::{Allocator, Block, ChunkSource, Str};
 use arena_items::Grown;
 use arena_vec::Vec;
-use arena_vec::laws::{growth_costs, vector_costs};
+use arena_vec::laws::{growth_costs, growth_rule, vector_costs};
 
 pub(crate) fn number(n: u64) -> Node
     ensures kind { result.kind ≡ Kind.Num }
@@ -64,6 +65,7 @@ pub(crate) fn with_kids(kind: Kind, list: Vec<Node>) -> Node
 }
 
 // Puts a node at the end of a list that is built, of expressions or of statements.
+#[inline(always)]
 pub(crate) fn push_node<C: ChunkSource>(
     a: &mut Allocator<C>,
     list: &mut Vec<Node>,
@@ -119,6 +121,23 @@ pub(crate) fn only<C: ChunkSource>(a: &mut Allocator<C>, node: Node) -> Grown<Ve
     let mut list = Vec::new_in();
     push_node(a, &mut list, node)?;
     Ok(list)
+}
+
+// A list of this node, with room for one more.
+#[inline(always)]
+pub(crate) fn first_of<C: ChunkSource>(a: &mut Allocator<C>, node: Node) -> Grown<Vec<Node>>
+    ensures tree { (e : Expr) (old : Memory) → IsPlaced e old a.old.memory node
+        → IfOk result (IsBuilt (And e NoExprs) old a.new.memory) }
+    ensures spends { Spends node_cost 0 0 a.old a.new (error_of result) }
+    ensures len { IfOk result (λ v. v.raw.len ≡ 1) }
+    ensures cap { IfOk result (λ v. v.raw.cap ≡ 2) }
+{
+    growth_rule();
+    let mut list = roomy(a, 2)?;
+    match list.push(a, node) {
+        Ok(()) => Ok(list),
+        Err(_) => unreachable!(),
+    }
 }
 
 // The node of a definition.

@@ -3,91 +3,113 @@ ghost use Rattle.std.specs.Prelude.{◌^◌, ◌≤◌, length, IfOk};
 ghost use Rattle.arena_tree.specs.Parts.{IsFactorPlace, IsFactor, IsTerm, IsTerms};
 ghost use Rattle.arena_tree.specs.Spending.{SpendsUpTo};
 
-use crate::build::{named, negated, number, push_node, signed, with_kids};
+use crate::build::{first_of, named, negated, number, push_node, signed, with_kids};
 use crate::look::{Start, close_at, sign_at, star_at, start_at};
 use crate::name::place_name;
 use crate::node::{Kind, Node};
 use arena_chunks::{Allocator, ChunkSource};
 use arena_items::Grown;
-use arena_vec::Vec;
 
+// Each part that is read writes its node.
 #[cycle(parse)]
-fn factor<C: ChunkSource>(a: &mut Allocator<C>, src: &[u8], at: usize) -> Grown<(Node, usize)>
+fn factor<C: ChunkSource>(
+    a: &mut Allocator<C>,
+    src: &[u8],
+    at: usize,
+    node: &mut Node,
+) -> Grown<usize>
     requires small { length src.now ≤ 2 ^ 24 }
     requires within { at ≤ length src.now }
     requires place { IsFactorPlace src.now at }
-    ensures tree { IfOk result (λ r. IsFactor src.now at r.1 a.old.memory a.new.memory r.0) }
+    ensures tree { IfOk result (λ end. IsFactor src.now at end a.old.memory a.new.memory node.new) }
     ensures spends { SpendsUpTo at (length src.now) a.old a.new result }
 {
     match start_at(src, at) {
-        Start::Number { n, end } => Ok((number(n), end)),
+        Start::Number { n, end } => {
+            *node = number(n);
+            Ok(end)
+        }
         Start::Minus(behind) => {
-            let (kid, end) = factor(a, src, behind)?;
-            let node = negated(a, kid)?;
-            Ok((node, end))
+            let end = factor(a, src, behind, node)?;
+            *node = negated(a, *node)?;
+            Ok(end)
         }
         Start::Paren(behind) => {
-            let (node, end) = expr(a, src, behind)?;
-            let last = close_at(src, end);
-            Ok((node, last))
+            let end = expr(a, src, behind, node)?;
+            Ok(close_at(src, end))
         }
         Start::Word { begin, end } => {
             let text = place_name(a, &src[begin..end])?;
-            Ok((named(text), end))
+            *node = named(text);
+            Ok(end)
         }
     }
 }
 
 #[cycle(parse)]
-fn term<C: ChunkSource>(a: &mut Allocator<C>, src: &[u8], at: usize) -> Grown<(Node, usize)>
+fn term<C: ChunkSource>(
+    a: &mut Allocator<C>,
+    src: &[u8],
+    at: usize,
+    node: &mut Node,
+) -> Grown<usize>
     requires small { length src.now ≤ 2 ^ 24 }
     requires within { at ≤ length src.now }
     requires place { IsFactorPlace src.now at }
-    ensures tree { IfOk result (λ r. IsTerm src.now at r.1 a.old.memory a.new.memory r.0) }
+    ensures tree { IfOk result (λ end. IsTerm src.now at end a.old.memory a.new.memory node.new) }
     ensures spends { SpendsUpTo at (length src.now) a.old a.new result }
 {
-    let mut list = Vec::new_in();
-    let (first, end) = factor(a, src, at)?;
+    let end = factor(a, src, at, node)?;
     let Some(star) = star_at(src, end) else {
-        return Ok((first, end));
+        return Ok(end);
     };
-    push_node(a, &mut list, first)?;
+    let mut list = first_of(a, *node)?;
     let mut here = star;
     loop {
-        let (kid, end) = factor(a, src, here)?;
-        push_node(a, &mut list, kid)?;
-        match star_at(src, end) {
+        let stop = factor(a, src, here, node)?;
+        push_node(a, &mut list, *node)?;
+        match star_at(src, stop) {
             Some(more) => here = more,
-            None => return Ok((with_kids(Kind::Prod, list), end)),
+            None => {
+                *node = with_kids(Kind::Prod, list);
+                return Ok(stop);
+            }
         }
     }
 }
 
 #[cycle(parse)]
-pub fn expr<C: ChunkSource>(a: &mut Allocator<C>, src: &[u8], at: usize) -> Grown<(Node, usize)>
+pub fn expr<C: ChunkSource>(
+    a: &mut Allocator<C>,
+    src: &[u8],
+    at: usize,
+    node: &mut Node,
+) -> Grown<usize>
     requires small { length src.now ≤ 2 ^ 24 }
     requires within { at ≤ length src.now }
     requires place { IsFactorPlace src.now at }
-    ensures tree { IfOk result (λ r. IsTerms src.now at r.1 a.old.memory a.new.memory r.0) }
+    ensures tree { IfOk result (λ end. IsTerms src.now at end a.old.memory a.new.memory node.new) }
     ensures spends { SpendsUpTo at (length src.now) a.old a.new result }
 {
-    let mut list = Vec::new_in();
-    let (first, end) = term(a, src, at)?;
+    let end = term(a, src, at, node)?;
     let Some(sign) = sign_at(src, end) else {
-        return Ok((first, end));
+        return Ok(end);
     };
-    push_node(a, &mut list, first)?;
+    let mut list = first_of(a, *node)?;
     let (mut minus, mut here) = sign;
     loop {
-        let (kid, end) = term(a, src, here)?;
-        let kid = signed(a, minus, kid)?;
+        let stop = term(a, src, here, node)?;
+        let kid = signed(a, minus, *node)?;
         push_node(a, &mut list, kid)?;
-        match sign_at(src, end) {
+        match sign_at(src, stop) {
             Some((less, more)) => {
                 minus = less;
                 here = more;
             }
-            None => return Ok((with_kids(Kind::Sum, list), end)),
+            None => {
+                *node = with_kids(Kind::Sum, list);
+                return Ok(stop);
+            }
         }
     }
 }

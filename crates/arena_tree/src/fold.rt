@@ -1,13 +1,15 @@
-// Folding of expressions, where they stand.
-ghost use Rattle.std.specs.Prelude.{◌≡◌, ℕ, ◌-◌, ◌<◌, Some, slice_get};
+// Folding of trees, where they stand.
+ghost use Rattle.std.specs.Prelude.{◌≡◌, ℕ, List};
 ghost use Rattle.arena_items.specs.Room.{SamePlaces};
-ghost use Rattle.arena_vec.specs.Vecs.{IsVecIn, vec_list};
-ghost use Rattle.tree_rules.specs.Trees.{Expr, Exprs, numbers_of};
-ghost use Rattle.arena_tree.specs.TreesAt.{node_item, ExprAt, ExprsAt};
-ghost use Rattle.arena_tree.specs.Lists.{expr_lists, expr_texts};
+ghost use Rattle.arena_vec.specs.Vecs.{vec_list};
+ghost use Rattle.tree_rules.specs.Trees.{Exprs, numbers_of};
+ghost use Rattle.arena_tree.specs.TreesAt.{node_item, ExprsAt};
 ghost use Rattle.arena_tree.specs.Walks.{ListHasRoom};
-ghost use Rattle.arena_tree.specs.FoldingParts.{IsClear, IsListClear, CanFold, CanFoldKids, CanFoldKid, IsFolded, AreFolded, IsFoldShape};
-ghost use Rattle.arena_tree.specs.FoldingParts.{IsTotal, capped, added};
+ghost use Rattle.arena_tree.specs.Subtrees.{Subtree, SubtreeAt, lists_at, texts_at, RowAt};
+ghost use Rattle.arena_tree.specs.FoldingParts.{IsClear, IsRowClear};
+ghost use Rattle.arena_tree.specs.Subtrees.{has_kids, HasTree};
+ghost use Rattle.arena_tree.specs.FoldingParts.{CanFold, CanFoldRow, IsFolded, AreFolded, IsRule};
+ghost use Rattle.arena_tree.specs.FoldingParts.{IsTotal, IsTotalNode, capped, added};
 
 use crate::build::number;
 use crate::node::{Kind, Node};
@@ -17,42 +19,6 @@ use arena_clone::ReplaceWith;
 use arena_vec::Vec;
 
 impl ReplaceWith for Node {}
-
-/// What a node is to folding: one with no kids, a negation, or a sum or a product.
-#[derive(Clone, Copy)]
-pub(crate) enum FoldShape {
-    Leaf,
-    Neg(Vec<Node>),
-    Total(Vec<Node>, bool),
-}
-
-fn shape_to_fold<C: ChunkSource>(a: &Allocator<C>, node: Node, room: u64) -> FoldShape
-    requires { CanFold a.now.memory node room }
-    ensures { IsFoldShape a.now.memory node room result }
-{
-    match node.kind {
-        Kind::Num => FoldShape::Leaf,
-        Kind::Name => FoldShape::Leaf,
-        Kind::Neg => FoldShape::Neg(kids(a, node)),
-        Kind::Sum => FoldShape::Total(kids(a, node), false),
-        Kind::Prod => FoldShape::Total(kids(a, node), true),
-        Kind::Let => unreachable!(),
-        Kind::Show => unreachable!(),
-        Kind::Block => unreachable!(),
-    }
-}
-
-// A kid that is to be folded.
-fn kid_to_fold<C: ChunkSource>(a: &Allocator<C>, list: Vec<Node>, i: u32, room: u64) -> Node
-    requires held { IsVecIn node_item a.now.memory list }
-    requires index { i < list.raw.len }
-    requires kid { CanFoldKid a.now.memory list i room }
-    ensures can { CanFold a.now.memory result (room - 1) }
-    ensures some { 0 < room }
-    ensures kid { slice_get (vec_list node_item a.now.memory list) i ≡ Some result }
-{
-    list.get(a, i)
-}
 
 // The total of numbers from the last one on, or none where it passes 64 bits.
 fn one_more(product: bool, total: Option<u64>, n: u64) -> Option<u64>
@@ -93,6 +59,50 @@ fn total<C: ChunkSource>(a: &Allocator<C>, list: Vec<Node>, product: bool, room:
     total
 }
 
+// The node of that number.
+fn total_node<C: ChunkSource>(
+    a: &Allocator<C>,
+    list: Vec<Node>,
+    product: bool,
+    room: u64,
+) -> Option<Node>
+    requires { ListHasRoom a.now.memory list room }
+    ensures { (es : Exprs) → ExprsAt es a.now.memory (vec_list node_item a.now.memory list)
+        → IsTotalNode product (numbers_of es) result }
+{
+    match total(a, list, product, room) {
+        Some(n) => Some(number(n)),
+        None => None,
+    }
+}
+
+// The node that comes in the place of one whose kids are folded, by the rule for its kind; none where it stays.
+fn rule<C: ChunkSource>(a: &Allocator<C>, node: Node, room: u64) -> Option<Node>
+    requires { HasTree a.now.memory node room }
+    ensures { IsRule a.now.memory node result }
+{
+    match node.kind {
+        Kind::Neg => {
+            let list = kids(a, node);
+            let kid = list.get(a, 0);
+            taken(a, kid, room)
+        }
+        Kind::Sum => total_node(a, kids(a, node), false, room),
+        Kind::Prod => total_node(a, kids(a, node), true, room),
+        _ => None,
+    }
+}
+
+fn has_kids(kind: Kind) -> bool
+    ensures { result ≡ has_kids kind }
+{
+    match kind {
+        Kind::Num => false,
+        Kind::Name => false,
+        _ => true,
+    }
+}
+
 // Puts a node in the place of another.
 fn replace(node: &mut Node, by: Node)
     ensures { node.new ≡ by }
@@ -100,53 +110,41 @@ fn replace(node: &mut Node, by: Node)
     node.replace_with(|_| by);
 }
 
-// Folds a node, whose kids come first, and counts the nodes that are folded.
+// Folds a node, whose kids come first, and counts the nodes to which a rule was applied.
 #[cycle(fold)]
 fn fold_node<C: ChunkSource>(a: &mut Allocator<C>, node: &mut Node, room: u64) -> u64
     requires { CanFold a.old.memory node.old room }
-    ensures folded { (e : Expr) → ExprAt e a.old.memory node.old
-        → IsClear (expr_lists e a.old.memory node.old) (expr_texts e a.old.memory node.old)
-        → IsFolded e a.old.memory a.new.memory node.old node.new result }
+    ensures folded { (t : Subtree) → SubtreeAt t a.old.memory node.old
+        → IsClear (lists_at t a.old.memory node.old) (texts_at t a.old.memory node.old)
+        → IsFolded t a.old.memory a.new.memory node.old node.new result }
     ensures places { SamePlaces a.old a.new }
 {
-    match shape_to_fold(a, *node, room) {
-        FoldShape::Leaf => 0,
-        FoldShape::Neg(list) => {
-            let count = fold_kids(a, list, room);
-            let kid = list.get(a, 0);
-            match taken(a, kid, room) {
-                Some(inner) => {
-                    replace(node, inner);
-                    count + 1
-                }
-                None => count,
-            }
+    if !has_kids(node.kind) {
+        return 0;
+    }
+    let list = kids(a, *node);
+    let count = fold_row(a, list, room);
+    match rule(a, *node, room) {
+        Some(by) => {
+            replace(node, by);
+            count + 1
         }
-        FoldShape::Total(list, product) => {
-            let count = fold_kids(a, list, room);
-            match total(a, list, product, room) {
-                Some(n) => {
-                    let folded = number(n);
-                    replace(node, folded);
-                    count + 1
-                }
-                None => count,
-            }
-        }
+        None => count,
     }
 }
 
+// Folds the nodes of a list, one after another.
 #[cycle(fold)]
-pub(crate) fn fold_kids<C: ChunkSource>(a: &mut Allocator<C>, list: Vec<Node>, room: u64) -> u64
-    requires { CanFoldKids a.old.memory list room }
-    ensures folded { (es : Exprs) → ExprsAt es a.old.memory (vec_list node_item a.old.memory list)
-        → IsListClear es a.old.memory list → AreFolded es a.old.memory a.new.memory list result }
+pub(crate) fn fold_row<C: ChunkSource>(a: &mut Allocator<C>, list: Vec<Node>, room: u64) -> u64
+    requires { CanFoldRow a.old.memory list room }
+    ensures folded { (ts : List Subtree) → RowAt ts a.old.memory (vec_list node_item a.old.memory list)
+        → IsRowClear ts a.old.memory list → AreFolded ts a.old.memory a.new.memory list result }
     ensures places { SamePlaces a.old a.new }
 {
     let mut count = 0;
     let mut i = 0;
     while i < list.len() {
-        let mut kid = kid_to_fold(a, list, i, room);
+        let mut kid = list.get(a, i);
         count += fold_node(a, &mut kid, room - 1);
         let mut slot = list;
         slot.set(a, i, kid);

@@ -9,7 +9,6 @@ mod clone_list;
 mod dummy;
 mod exprs;
 mod fold;
-mod fold_stmts;
 mod look;
 mod name;
 mod node;

@@ -11,6 +11,7 @@ use arena_items::Grown;
 use arena_place::Layout;
 
 // Places bytes.
+#[inline(always)]
 fn place_text<C: ChunkSource>(a: &mut Allocator<C>, bytes: &[u8]) -> Grown<Str>
     requires layout { IsTrue (is_layout (length bytes.now) 1) }
     requires small { length bytes.now + 64 ≤ 2 ^ 63 }

@@ -6,7 +6,7 @@ ghost use Rattle.arena_tree.specs.LineParts.{IsLinesPlace, IsLet, IsLine, AreLin
 ghost use Rattle.arena_tree.specs.Spending.{SpendsUpTo, SpendsAll, SpendsOrNot};
 
 use crate::begin::{LineStart, brace_at, line_at, semicolon_at};
-use crate::build::{let_node, only, push_node, with_kids};
+use crate::build::{let_node, number, only, push_node, with_kids};
 use crate::exprs::expr;
 use crate::name::place_name;
 use crate::node::{Kind, Node};
@@ -22,7 +22,8 @@ fn let_line<C: ChunkSource>(
     begin: usize,
     end: usize,
     behind: usize,
-) -> Grown<(Node, usize)>
+    node: &mut Node,
+) -> Grown<usize>
     requires small { length src.now ≤ 2 ^ 24 }
     requires name { begin ≤ end }
     requires first_name { at ≤ begin }
@@ -32,53 +33,65 @@ fn let_line<C: ChunkSource>(
     requires first { IsLet src.now at (slice_range src.now begin end) behind }
     requires factor { IsFactorPlace src.now behind }
     requires rest { behind ≤ length src.now }
-    ensures tree { IfOk result (λ r. IsLine src.now at r.1 a.old.memory a.new.memory r.0) }
+    ensures tree { IfOk result (λ end. IsLine src.now at end a.old.memory a.new.memory node.new) }
     ensures spends { SpendsUpTo at (length src.now) a.old a.new result }
 {
     let name = place_name(a, &src[begin..end])?;
-    let (value, stop) = expr(a, src, behind)?;
+    let stop = expr(a, src, behind, node)?;
     let last = semicolon_at(src, stop);
-    let list = only(a, value)?;
-    Ok((let_node(name, list), last))
+    let list = only(a, *node)?;
+    *node = let_node(name, list);
+    Ok(last)
 }
 
-fn show_line<C: ChunkSource>(a: &mut Allocator<C>, src: &[u8], at: usize) -> Grown<(Node, usize)>
+fn show_line<C: ChunkSource>(
+    a: &mut Allocator<C>,
+    src: &[u8],
+    at: usize,
+    node: &mut Node,
+) -> Grown<usize>
     requires small { length src.now ≤ 2 ^ 24 }
     requires within { at ≤ length src.now }
     requires place { IsLinesPlace src.now at }
     requires factor { IsFactorPlace src.now at }
     requires starts { ExprStarts src.now at at }
-    ensures tree { IfOk result (λ r. IsLine src.now at r.1 a.old.memory a.new.memory r.0) }
+    ensures tree { IfOk result (λ end. IsLine src.now at end a.old.memory a.new.memory node.new) }
     ensures spends { SpendsUpTo at (length src.now) a.old a.new result }
 {
-    let (value, stop) = expr(a, src, at)?;
+    let stop = expr(a, src, at, node)?;
     let last = semicolon_at(src, stop);
-    let list = only(a, value)?;
-    Ok((with_kids(Kind::Show, list), last))
+    let list = only(a, *node)?;
+    *node = with_kids(Kind::Show, list);
+    Ok(last)
 }
 
 #[cycle(lines)]
-fn line<C: ChunkSource>(a: &mut Allocator<C>, src: &[u8], at: usize) -> Grown<Option<(Node, usize)>>
+fn line<C: ChunkSource>(
+    a: &mut Allocator<C>,
+    src: &[u8],
+    at: usize,
+    node: &mut Node,
+) -> Grown<Option<usize>>
     requires small { length src.now ≤ 2 ^ 24 }
     requires within { at ≤ length src.now }
     requires place { IsLinesPlace src.now at }
-    ensures tree { IfOk result (λ o. LineOrStop src.now at a.old.memory a.new.memory o) }
+    ensures tree { IfOk result (LineOrStop src.now at a.old.memory a.new.memory node.new) }
     ensures spends { SpendsOrNot at (length src.now) a.old a.new result }
 {
     match line_at(src, at) {
         LineStart::End => Ok(None),
         LineStart::Let { begin, end, behind } => {
-            let found = let_line(a, src, at, begin, end, behind)?;
-            Ok(Some(found))
+            let last = let_line(a, src, at, begin, end, behind, node)?;
+            Ok(Some(last))
         }
         LineStart::Expr => {
-            let found = show_line(a, src, at)?;
-            Ok(Some(found))
+            let last = show_line(a, src, at, node)?;
+            Ok(Some(last))
         }
         LineStart::Block(behind) => {
             let (list, stop) = lines(a, src, behind)?;
-            let last = brace_at(src, stop);
-            Ok(Some((with_kids(Kind::Block, list), last)))
+            *node = with_kids(Kind::Block, list);
+            Ok(Some(brace_at(src, stop)))
         }
     }
 }
@@ -97,11 +110,12 @@ pub(crate) fn lines<C: ChunkSource>(
     ensures spends { SpendsAll at (length src.now) a.old a.new result }
 {
     let mut list = Vec::new_in();
+    let mut node = number(0);
     let mut here = at;
     loop {
-        match line(a, src, here)? {
+        match line(a, src, here, &mut node)? {
             None => return Ok((list, here)),
-            Some((node, end)) => {
+            Some(end) => {
                 push_node(a, &mut list, node)?;
                 here = end;
             }

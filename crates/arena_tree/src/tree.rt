@@ -6,8 +6,8 @@ ghost use Rattle.arena_tree.specs.Given.{IsTreeIn, Means};
 ghost use Rattle.arena_tree.specs.Folding.{Folds};
 ghost use Rattle.arena_tree.specs.Parsing.{Parses, TakesAtMost, parse_bytes, refusal_of};
 
-use crate::clone::clone_lines;
-use crate::fold_stmts::fold_lines;
+use crate::clone::clone_row;
+use crate::fold::fold_row;
 use crate::node::Node;
 use crate::print::put_lines;
 use crate::program::lines;
@@ -120,7 +120,7 @@ impl Tree {
             → TakesAtMost (clone_bytes trees) to.old to.new }
     {
         let room = from.used_bytes() / 88 + 1;
-        match clone_lines(from, to, self.stmts, room) {
+        match clone_row(from, to, self.stmts, room) {
             Ok(stmts) => Ok(Tree { stmts }),
             Err(AllocError::AllocErr { refused }) => Err(TreeErr::AllocErr { refused }),
             Err(AllocError::OutOfMemory) => Err(TreeErr::OutOfMemory),
@@ -139,6 +139,6 @@ impl Tree {
     {
         folding();
         let room = a.used_bytes() / 88 + 1;
-        fold_lines(a, self.stmts, room)
+        fold_row(a, self.stmts, room)
     }
 }

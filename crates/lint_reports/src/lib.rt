@@ -8,10 +8,12 @@ mod findings;
 pub mod laws;
 mod printing;
 mod report;
+mod source;
 mod sources;
 
 pub use findings::Findings;
 pub use printing::put_report;
 pub use report::FileReport;
+pub use source::Source;
 pub use sources::sources_of;
 pub use tree_rules::{FindKind, Finding};

@@ -3,7 +3,9 @@ ghost use Rattle.std.specs.Prelude.{◌≡◌, ◌≢◌, ◌<◌, ◌≤◌, �
 ghost use Rattle.std.specs.List.{slice_index};
 ghost use Rattle.lint_reports.specs.Sources.{is_mark, sources, IsFirstLine};
 
-use placement::{Bytes, OutOfMemory};
+use crate::source::Source;
+use memchr::memchr;
+use placement::OutOfMemory;
 use std::alloc::Global;
 
 // How many bytes come before the first line feed, or all of them.
@@ -12,10 +14,7 @@ fn len_before_feed(bytes: &[u8]) -> usize
     ensures before { All (λ b. b ≢ 10) (take result bytes.now) }
     ensures found { result < length bytes.now → slice_index bytes.now result ≡ 10 }
 {
-    bytes
-        .iter()
-        .position(|b| *b == b'\n')
-        .unwrap_or(bytes.len())
+    memchr(b'\n', bytes).unwrap_or(bytes.len())
 }
 
 // The first line with its line feed, if it has one.
@@ -45,23 +44,22 @@ fn is_mark(line: &[u8]) -> bool
     line == b"%%".as_slice() || line == b"%%\n".as_slice()
 }
 
-// Adds a copy of these bytes.
-fn add(alloc: Global, all: &mut Vec<Bytes>, source: &[u8]) -> Result<(), OutOfMemory>
-    ensures { OnOk result (all.new.items ≡ all.old.items ++ source.now ∷ []) }
+// Adds the source of these bytes.
+fn add<'a>(all: &mut Vec<Source<'a>>, bytes: &'a [u8]) -> Result<(), OutOfMemory>
+    ensures { OnOk result (all.new.items ≡ all.old.items ++ bytes.now ∷ []) }
 {
-    let source = Bytes::of(alloc, source)?;
-    match all.push(source) {
+    match all.push(Source::new(bytes)) {
         Ok(()) => Ok(()),
         Err(_) => Err(OutOfMemory),
     }
 }
 
-/// The sources of an input, of which each byte is copied once.
+/// The sources of an input, of which no byte is copied.
 ///
 /// # Errors
 ///
 /// Memory is wanting.
-pub fn sources_of(alloc: Global, bytes: &[u8]) -> Result<Vec<Bytes>, OutOfMemory>
+pub fn sources_of<'a>(alloc: Global, bytes: &'a [u8]) -> Result<Vec<Source<'a>>, OutOfMemory>
     ensures { IfOk result (λ all. all.items ≡ sources bytes.now) }
 {
     let mut all = Vec::new(alloc);
@@ -70,13 +68,13 @@ pub fn sources_of(alloc: Global, bytes: &[u8]) -> Result<Vec<Bytes>, OutOfMemory
     let mut seen: usize = 0;
     'lines: loop {
         if seen == rest.len() {
-            add(alloc, &mut all, rest)?;
+            add(&mut all, rest)?;
             return Ok(all);
         }
         let line = first_line(after(rest, seen));
         let end = seen + line.len();
         if is_mark(line) {
-            add(alloc, &mut all, &rest[..seen])?;
+            add(&mut all, &rest[..seen])?;
             rest = after(rest, end);
             seen = 0;
         } else {

@@ -14,7 +14,7 @@ use std::alloc::{AllocError, Global};
 use std::test::Fail;
 
 // Inputs, and their sources with a bar between each two.
-const INPUTS: [(&str, &str); 18] = [
+const INPUTS: [(&str, &str); 19] = [
     ("", ""),
     ("a;", "a;"),
     ("a;\n", "a;\n"),
@@ -30,6 +30,7 @@ const INPUTS: [(&str, &str); 18] = [
     ("a;\n%% \nb;", "a;\n%% \nb;"),
     ("a;\n %%\nb;", "a;\n %%\nb;"),
     ("a;\r\n%%\r\nb;\r\n", "a;\r\n%%\r\nb;\r\n"),
+    ("a;\r\n%%\nb;\r\n%%", "a;\r\n|b;\r\n|"),
     ("a;%%\nb;", "a;%%\nb;"),
     ("%%%\n%\n%", "%%%\n%\n%"),
     (

@@ -17,6 +17,7 @@ pub mod CreationLemmas
 pub mod RefusalLemmas
 pub mod CauseLemmas
 pub mod AskedSizeLemmas
+pub mod AnySizeLemmas
 pub mod GrownLemmas
 pub mod AskingLemmas
 pub mod DoublingLemmas

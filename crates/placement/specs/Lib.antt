@@ -19,3 +19,4 @@ pub mod PrintedBits
 pub mod Back
 pub mod Generator
 pub mod Summary
+pub mod Held

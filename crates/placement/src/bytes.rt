@@ -1,25 +1,35 @@
 // A list of bytes.
 ghost use Rattle.std.specs.Prelude.{◌≡◌, [], ◌∷◌, ◌++◌, length, IfOk, OnOk, OnErr};
 
-use std::alloc::Global;
+use crate::short::{SHORT, Short};
+use std::alloc::{AllocError, Global};
 use std::marker::Model;
 
 /// Memory is wanting.
 #[derive(Clone, Copy, PartialEq, Eq, Debug)]
 pub struct OutOfMemory;
 
-/// Bytes, which contracts see as their list.
+// Bytes that lie here, or in memory of their own.
+#[derive(Drop, Debug)]
+enum Held {
+    Short(Short),
+    Long(Box<Vec<u8>>),
+}
+
+/// Bytes, which contracts see as their list. Up to 14 of them take no memory.
 #[derive(Drop, Debug)]
 pub struct Bytes {
-    items: Vec<u8>,
+    alloc: Global,
+    held: Held,
 }
 
 impl Model for Bytes {
     ghost use Rattle.std.specs.Prelude.{ℕ, List};
+    ghost use Rattle.placement.specs.Held.{bytes_of};
 
     ghost Value = { List ℕ };
 
-    ghost view = { λ b. b.items.items };
+    ghost view = { λ b. bytes_of b.held };
 }
 
 impl PartialEq for Bytes {
@@ -42,36 +52,63 @@ impl Eq for Bytes {
     ghost laws = { nat_list_eq_equiv };
 }
 
+// These bytes and one more, in memory of their own with room for as many again.
+fn longer(alloc: Global, bytes: &[u8], b: u8) -> Result<Vec<u8>, AllocError>
+    ensures { IfOk result (λ all. all.items ≡ bytes.now ++ b ∷ []) }
+{
+    let mut all = Vec::with_capacity(alloc, 2 * SHORT)?;
+    all.extend_from_slice(bytes)?;
+    all.push(b)?;
+    Ok(all)
+}
+
 impl Bytes {
+    // Bytes that lie here.
+    fn short(alloc: Global, bytes: Short) -> Bytes
+        ensures { result ≡ bytes }
+    {
+        Bytes {
+            alloc,
+            held: Held::Short(bytes),
+        }
+    }
+
     /// No bytes. Takes no memory.
     pub fn new(alloc: Global) -> Bytes
         ensures { result ≡ [] }
     {
-        Bytes {
-            items: Vec::new(alloc),
+        Bytes::short(alloc, Short::new())
+    }
+
+    /// One byte. Takes no memory.
+    pub fn one(alloc: Global, b: u8) -> Bytes
+        ensures { result ≡ b ∷ [] }
+    {
+        Bytes::short(alloc, Short::one(b))
+    }
+
+    /// The bytes of a vector, of which none is copied.
+    pub fn from_vec(alloc: Global, items: Vec<u8>) -> Result<Bytes, OutOfMemory>
+        ensures { IfOk result (λ bytes. bytes ≡ items.items) }
+    {
+        match Box::new(alloc, items) {
+            Ok(items) => Ok(Bytes {
+                alloc,
+                held: Held::Long(items),
+            }),
+            Err(_) => Err(OutOfMemory),
         }
-    }
-
-    /// The bytes of a vector, which takes no memory.
-    pub fn from_vec(items: Vec<u8>) -> Bytes
-        ensures { result ≡ items.items }
-    {
-        Bytes { items }
-    }
-
-    /// The vector of the bytes, which takes no memory.
-    pub fn into_vec(self) -> Vec<u8>
-        ensures { result.items ≡ self }
-    {
-        self.items
     }
 
     /// A copy of these bytes.
     pub fn of(alloc: Global, src: &[u8]) -> Result<Bytes, OutOfMemory>
         ensures { IfOk result (λ bytes. bytes ≡ src.now) }
     {
+        if src.len() <= SHORT {
+            return Ok(Bytes::short(alloc, Short::of(src)));
+        }
         match Vec::from_slice(alloc, src) {
-            Ok(items) => Ok(Bytes { items }),
+            Ok(items) => Bytes::from_vec(alloc, items),
             Err(_) => Err(OutOfMemory),
         }
     }
@@ -81,9 +118,22 @@ impl Bytes {
         ensures ok { OnOk result (self.new ≡ self.old ++ b ∷ []) }
         ensures err { OnErr result (self.new ≡ self.old) }
     {
-        match self.items.push(b) {
-            Ok(()) => Ok(()),
-            Err(_) => Err(OutOfMemory),
+        match &mut self.held {
+            Held::Short(bytes) if bytes.len() < SHORT => {
+                bytes.push(b);
+                Ok(())
+            }
+            Held::Short(bytes) => {
+                let Ok(all) = longer(self.alloc, bytes.as_slice(), b) else {
+                    return Err(OutOfMemory);
+                };
+                *self = Bytes::from_vec(self.alloc, all)?;
+                Ok(())
+            }
+            Held::Long(items) => match items.push(b) {
+                Ok(()) => Ok(()),
+                Err(_) => Err(OutOfMemory),
+            },
         }
     }
 
@@ -91,13 +141,16 @@ impl Bytes {
     pub fn as_slice(&self) -> &[u8]
         ensures { result.now ≡ self.now }
     {
-        self.items.as_slice()
+        match &self.held {
+            Held::Short(bytes) => bytes.as_slice(),
+            Held::Long(items) => items.as_slice(),
+        }
     }
 
     /// How many bytes there are.
     pub fn len(&self) -> u64
         ensures { result ≡ length self.now }
     {
-        self.items.len() as u64
+        self.as_slice().len() as u64
     }
 }

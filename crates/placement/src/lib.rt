@@ -8,6 +8,7 @@ mod bytes;
 mod calls;
 pub mod laws;
 mod place;
+mod short;
 
 pub use bytes::{Bytes, OutOfMemory};
 pub use calls::{Call, Reply};

@@ -9,7 +9,7 @@ pub(crate) fn filled(alloc: Global, size: u64, fill: u8) -> Result<Bytes, OutOfM
     ensures { IfOk result (λ bytes. bytes ≡ replicate size fill) }
 {
     match vec![in alloc; fill; size as usize] {
-        Ok(items) => Ok(Bytes::from_vec(items)),
+        Ok(items) => Bytes::from_vec(alloc, items),
         Err(_) => Err(OutOfMemory),
     }
 }
@@ -23,7 +23,7 @@ pub(crate) fn grown(alloc: Global, old: &[u8], more: u64, fill: u8) -> Result<By
     };
     let more = filled(alloc, more, fill)?;
     match all.extend_from_slice(more.as_slice()) {
-        Ok(()) => Ok(Bytes::from_vec(all)),
+        Ok(()) => Bytes::from_vec(alloc, all),
         Err(_) => Err(OutOfMemory),
     }
 }
@@ -36,7 +36,7 @@ pub(crate) fn shrunk(alloc: Global, old: &[u8], size: u64) -> Result<Bytes, OutO
         return Err(OutOfMemory);
     };
     all.truncate(size as usize);
-    Ok(Bytes::from_vec(all))
+    Bytes::from_vec(alloc, all)
 }
 
 // So many bytes from this one on pass the end of a block.
@@ -62,7 +62,7 @@ pub(crate) fn splice(alloc: Global, old: &[u8], at: u64, new: &[u8]) -> Result<B
     if all.extend_from_slice(new).is_err() || all.extend_from_slice(rest).is_err() {
         return Err(OutOfMemory);
     }
-    Ok(Bytes::from_vec(all))
+    Bytes::from_vec(alloc, all)
 }
 
 // The bytes from this one on.

@@ -71,8 +71,8 @@ impl PlainScripts {
         if bytes.len() as usize + 1 > MOST_BYTES {
             return Ok(PlainEffect::Tells(ScriptReply::CapacityOverflow));
         }
-        let all = joined(alloc, &[byte], bytes.as_slice())?;
-        Ok(gives(name, Kind::Text(Bytes::from_vec(all)), ScriptReply::Done, 4))
+        let all = Bytes::from_vec(alloc, joined(alloc, &[byte], bytes.as_slice())?)?;
+        Ok(gives(name, Kind::Text(all), ScriptReply::Done, 4))
     }
 
     pub(crate) fn append(
@@ -96,13 +96,8 @@ impl PlainScripts {
         if bytes.len() as usize + more.len() > MOST_BYTES {
             return Ok(PlainEffect::Tells(ScriptReply::CapacityOverflow));
         }
-        let all = joined(alloc, bytes.as_slice(), more)?;
+        let all = Bytes::from_vec(alloc, joined(alloc, bytes.as_slice(), more)?)?;
         let cost = 4 * more.len() as u64;
-        Ok(gives(
-            name,
-            Kind::Text(Bytes::from_vec(all)),
-            ScriptReply::Done,
-            cost,
-        ))
+        Ok(gives(name, Kind::Text(all), ScriptReply::Done, cost))
     }
 }

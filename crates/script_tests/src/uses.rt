@@ -17,13 +17,13 @@ pub fn is_refused(
     ensures objects { OnOk result (machine.new ≡ (step command.now machine.old).objects) }
 {
     let answered = machine.step(alloc, command)?;
-    Ok(match answered.reply {
+    Ok(matches!(
+        &answered.reply,
         ScriptReply::NoSuchName
-        | ScriptReply::NameTaken
-        | ScriptReply::WrongKind
-        | ScriptReply::OutOfRange
-        | ScriptReply::NotAscii
-        | ScriptReply::CapacityOverflow => true,
-        _ => false,
-    })
+            | ScriptReply::NameTaken
+            | ScriptReply::WrongKind
+            | ScriptReply::OutOfRange
+            | ScriptReply::NotAscii
+            | ScriptReply::CapacityOverflow
+    ))
 }

@@ -3,7 +3,7 @@ use Rattle.std.proofs.Common.{◌≡◌, ◌≢◌, ℕ, zero, suc, ◌+◌, ◌
 use Rattle.std.proofs.Math.Seq.{drop-cons}
 use Rattle.std.proofs.Math.ListN.{drop_of_length-le}
 use Rattle.std.specs.Prelude.{slice_range}
-use Rattle.tree_rules.specs.Tokens.{Token, is_space, is_digit, is_name_start, is_name_byte, run, are_same, value, has_needless_zero, number_token, Number, Front, word_front, number_front, sign_front, front, Placed, placed, tokens_from}
+use Rattle.tree_rules.specs.Tokens.{Token, is_space, is_digit, is_name_start, is_name_byte, run, are_same, value, has_needless_zero, number_token, sign, Number, Front, word_front, number_front, sign_front, front, Placed, placed, tokens_from}
 use Rattle.tree_reader.specs.declared.token.Seen.{Seen}
 use Rattle.tree_reader.specs.Seen.{IsSeen, IsNext, IsFront, tokens_at}
 use Rattle.tree_reader.specs.declared.token.Lexeme.{Lexeme}
@@ -48,7 +48,7 @@ run_within passes (x ∷ xs) = by (passes x) (run_within passes xs)
     by true h = omega (arith, h)
     by false h = omega arith
 
-pub run_take : (passes : ℕ → Bool) (xs : List ℕ) → take (length (run passes xs)) xs ≡ run passes xs
+run_take : (passes : ℕ → Bool) (xs : List ℕ) → take (length (run passes xs)) xs ≡ run passes xs
 run_take passes [] = refl
 run_take passes (x ∷ xs) = by (passes x) (run_take passes xs)
   where
@@ -58,14 +58,14 @@ run_take passes (x ∷ xs) = by (passes x) (run_take passes xs)
     by false h = refl
 
 -- the part of a text that a run takes
-pub run_part : (passes : ℕ → Bool) (xs : List ℕ) (at n : ℕ) → n ≡ length (run passes (drop at xs))
-    → slice_range xs at (at + n) ≡ run passes (drop at xs)
-run_part passes xs at n is =
-    let same : at + n - at ≡ length (run passes (drop at xs)) = omega (arith, is) in
+run_part : (passes : ℕ → Bool) (xs : List ℕ) (at : ℕ) → slice_range xs at (at + length (run passes (drop at xs))) ≡ run passes (drop at xs)
+run_part passes xs at =
+    let n = length (run passes (drop at xs)) in
+    let same : at + n - at ≡ n = omega arith in
     ap (λ k. take k (drop at xs)) same ∙ run_take passes (drop at xs)
 
 -- a run that begins has a byte
-pub run_some : (passes : ℕ → Bool) (x : ℕ) (xs : List ℕ) → passes x ≡ true → 0 < length (run passes (x ∷ xs))
+run_some : (passes : ℕ → Bool) (x : ℕ) (xs : List ℕ) → passes x ≡ true → 0 < length (run passes (x ∷ xs))
 run_some passes x xs h = rw h (omega arith)
 
 tokens_skip : (at skip : ℕ) (bytes : List ℕ) → tokens_from at skip bytes ≡ tokens_from (at + skip) 0 (drop skip bytes)
@@ -193,7 +193,7 @@ pub word_at : (src : List ℕ) (at : ℕ) → at < length src → is_digit (get_
 word_at src at h d s = front_word (get_or src at 0) (drop (suc at) src) d s ∙ ap (λ xs. word_front (run is_name_byte xs)) (sym (drop-cons
     src at 0 h))
 
-pub sign_at : (src : List ℕ) (at : ℕ) → is_digit (get_or src at 0) ≡ false → is_name_start (get_or src at 0) ≡ false
+sign_at : (src : List ℕ) (at : ℕ) → is_digit (get_or src at 0) ≡ false → is_name_start (get_or src at 0) ≡ false
     → front_of src at ≡ sign_front (get_or src at 0)
 sign_at src at d s = front_sign (get_or src at 0) (drop (suc at) src) d s
 
@@ -219,20 +219,32 @@ front_some src at h = by (is_digit b) refl (is_name_start b) refl
     by false d false start = subst (λ (f : Front). 0 < f.length) (sym (sign_at src at d start)) (omega arith)
 
 -- what is seen of a run from a byte on
-pub run_front : (src : List ℕ) (at n : ℕ) (passes : ℕ → Bool) (seen : Seen) (token : List ℕ → Token) → n ≡ length (run passes (drop at src))
-    → IsSeen seen (slice_range src at (at + n)) (token (slice_range src at (at + n)))
+pub run_front : (src : List ℕ) (at end : ℕ) (passes : ℕ → Bool) (seen : Seen) (token : List ℕ → Token)
+    → end ≡ at + length (run passes (drop at src)) → IsSeen seen (slice_range src at end) (token (slice_range src at end))
     → IsFront src at (record { token = token (run passes (drop at src)); length = length (run passes (drop at src)) })
-    (record { seen = seen; at = at; end = at + n })
-run_front src at n passes seen token is h = record {
+    (record { seen = seen; at = at; end = end })
+run_front src at end passes seen token is h = record {
   at_is = refl;
-  end_is = ap (λ k. at + k) is;
-  seen = subst (λ xs. IsSeen seen (slice_range src at (at + n)) (token xs)) (run_part passes src at n is) h;
+  end_is = is;
+  seen = subst (λ xs. IsSeen seen (slice_range src at end) (token xs)) (ap (slice_range src at) is ∙ run_part passes src at) h;
 }
 
-pub one_byte : (src : List ℕ) (at : ℕ) → at < length src → slice_range src at (at + 1) ≡ get_or src at 0 ∷ []
+one_byte : (src : List ℕ) (at : ℕ) → at < length src → slice_range src at (at + 1) ≡ get_or src at 0 ∷ []
 one_byte src at h =
     let one : at + 1 - at ≡ 1 = omega arith in
     ap (λ k. take k (drop at src)) one ∙ ap (take 1) (drop-cons src at 0 h)
+
+-- what is seen of a byte that begins neither a number nor a name
+pub sign_seen : (src : List ℕ) (at : ℕ) (seen : Seen) → at < length src → is_digit (get_or src at 0) ≡ false
+    → is_name_start (get_or src at 0) ≡ false → IsSeen seen (get_or src at 0 ∷ []) (sign (get_or src at 0))
+    → IsFront src at (front_of src at) (record { seen = seen; at = at; end = at + 1 })
+sign_seen src at seen h d s is = subst (λ (f : Front). IsFront src at f (record { seen = seen; at = at; end = at + 1 })) (sym (sign_at src
+    at d s))
+    (record {
+      at_is = refl;
+      end_is = refl;
+      seen = subst (λ xs. IsSeen seen xs (sign (get_or src at 0))) (sym (one_byte src at h)) is;
+    })
 
 pub number_read : (digits : List ℕ) → has_needless_zero digits ≡ false → number_token digits ≡ Number (value 0 digits)
 number_read digits h = rw h refl

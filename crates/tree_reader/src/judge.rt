@@ -3,7 +3,7 @@ ghost use Rattle.std.specs.Prelude.{◌≡◌, ◌≤◌, ◌∷◌, List, lengt
 ghost use Rattle.tree_rules.specs.declared.machine.Open.{Open};
 ghost use Rattle.tree_rules.specs.Reading.{state, signs_ended, factor_step, line_step, name_step, equals_step, behind_step, close_paren, close_brace, end_line, step_in, within_limits, ended_in, judged, refusal_of};
 ghost use Rattle.tree_rules.specs.Refusals.{IsReading};
-ghost use Rattle.tree_reader.specs.Steps.{like, Stepped, answer};
+ghost use Rattle.tree_reader.specs.Steps.{like, Stepped, answer, GoesOn};
 
 use crate::stack::Stack;
 use crate::token::{self, Lexeme, Seen};
@@ -25,7 +25,16 @@ enum Judged {
     Refused(Refused),
 }
 
+// What comes next: the text ends, a token may stand there, or it is refused.
+#[derive(Clone, Copy)]
+enum Next {
+    Ended,
+    To { mode: Mode, end: usize },
+    Refused(Refused),
+}
+
 // Opens one more.
+#[inline(always)]
 fn open(opens: &mut Stack, one: Open, mode: Mode) -> Step
     ensures { Stepped (Some (state mode (one ∷ opens.old))) result opens.new }
 {
@@ -39,6 +48,7 @@ fn open(opens: &mut Stack, one: Open, mode: Mode) -> Step
 }
 
 // A factor ends.
+#[inline(always)]
 fn end_factor(opens: &mut Stack) -> Step
     ensures { Stepped (Some (state Mode.BehindFactor (signs_ended opens.old))) result opens.new }
 {
@@ -47,6 +57,7 @@ fn end_factor(opens: &mut Stack) -> Step
     Step::To(Mode::BehindFactor)
 }
 
+#[inline(always)]
 fn to(opens: &Stack, mode: Mode) -> Step
     ensures { Stepped (Some (state mode opens.now)) result opens.now }
 {
@@ -54,6 +65,7 @@ fn to(opens: &Stack, mode: Mode) -> Step
     Step::To(mode)
 }
 
+#[inline(always)]
 fn factor_step(seen: Seen, opens: &mut Stack) -> Step
     ensures { Stepped (factor_step (like seen) opens.old) result opens.new }
 {
@@ -67,6 +79,7 @@ fn factor_step(seen: Seen, opens: &mut Stack) -> Step
     }
 }
 
+#[inline(always)]
 fn close_paren(opens: &mut Stack) -> Step
     ensures { Stepped (close_paren opens.old) result opens.new }
 {
@@ -79,6 +92,7 @@ fn close_paren(opens: &mut Stack) -> Step
     }
 }
 
+#[inline(always)]
 fn close_brace(opens: &mut Stack) -> Step
     ensures { Stepped (close_brace opens.old) result opens.new }
 {
@@ -91,6 +105,7 @@ fn close_brace(opens: &mut Stack) -> Step
     }
 }
 
+#[inline(always)]
 fn end_line(opens: &Stack) -> Step
     ensures { Stepped (end_line opens.now) result opens.now }
 {
@@ -101,6 +116,7 @@ fn end_line(opens: &Stack) -> Step
     }
 }
 
+#[inline(always)]
 fn line_step(seen: Seen, opens: &mut Stack) -> Step
     ensures { Stepped (line_step (like seen) opens.old) result opens.new }
 {
@@ -117,6 +133,7 @@ fn line_step(seen: Seen, opens: &mut Stack) -> Step
     }
 }
 
+#[inline(always)]
 fn behind_step(seen: Seen, opens: &mut Stack) -> Step
     ensures { Stepped (behind_step (like seen) opens.old) result opens.new }
 {
@@ -130,6 +147,7 @@ fn behind_step(seen: Seen, opens: &mut Stack) -> Step
     }
 }
 
+#[inline(always)]
 fn name_step(seen: Seen, opens: &Stack) -> Step
     ensures { Stepped (name_step (like seen) opens.now) result opens.now }
 {
@@ -139,6 +157,7 @@ fn name_step(seen: Seen, opens: &Stack) -> Step
     }
 }
 
+#[inline(always)]
 fn equals_step(seen: Seen, opens: &Stack) -> Step
     ensures { Stepped (equals_step (like seen) opens.now) result opens.now }
 {
@@ -148,6 +167,7 @@ fn equals_step(seen: Seen, opens: &Stack) -> Step
     }
 }
 
+#[inline(always)]
 fn any_step(mode: Mode, seen: Seen, opens: &mut Stack) -> Step
     ensures { Stepped (step_in mode opens.old (like seen)) result opens.new }
 {
@@ -160,6 +180,7 @@ fn any_step(mode: Mode, seen: Seen, opens: &mut Stack) -> Step
     }
 }
 
+#[inline(always)]
 fn within_limits(l: Lexeme, mode: Mode) -> Judged
     ensures { (opens : List Open) → length opens ≤ 64 → within_limits (record { at = l.at; token = like l.seen }) (state mode opens)
         ≡ answer result opens }
@@ -171,6 +192,7 @@ fn within_limits(l: Lexeme, mode: Mode) -> Judged
 }
 
 // What a token comes to.
+#[inline(always)]
 fn judge(mode: Mode, l: Lexeme, opens: &mut Stack) -> Judged
     ensures { judged (state mode opens.old) (record { at = l.at; token = like l.seen }) ≡ answer result opens.new }
 {
@@ -196,6 +218,38 @@ fn ended(end: u64, mode: Mode, opens: &Stack) -> Option<Refused>
     }
 }
 
+// What the next token comes to, in a mode that the caller knows: so each mode has a lexer of its own.
+#[inline(always)]
+fn next_in(mode: Mode, src: &[u8], at: usize, opens: &mut Stack) -> Next
+    requires { at ≤ length src.now }
+    ensures { GoesOn src.now at (state mode opens.old) result opens.new }
+{
+    let Some(l) = token::next(src, at) else {
+        return Next::Ended;
+    };
+    match judge(mode, l, opens) {
+        Judged::To(to) => Next::To {
+            mode: to,
+            end: l.end,
+        },
+        Judged::Refused(refused) => Next::Refused(refused),
+    }
+}
+
+#[inline(always)]
+fn any_next(mode: Mode, src: &[u8], at: usize, opens: &mut Stack) -> Next
+    requires { at ≤ length src.now }
+    ensures { GoesOn src.now at (state mode opens.old) result opens.new }
+{
+    match mode {
+        Mode::AtLine => next_in(Mode::AtLine, src, at, opens),
+        Mode::AtName => next_in(Mode::AtName, src, at, opens),
+        Mode::AtEquals => next_in(Mode::AtEquals, src, at, opens),
+        Mode::AtFactor => next_in(Mode::AtFactor, src, at, opens),
+        Mode::BehindFactor => next_in(Mode::BehindFactor, src, at, opens),
+    }
+}
+
 // Why the machine refuses a text; none where it doesn't.
 fn judge_all(src: &[u8]) -> Option<Refused>
     ensures { result ≡ refusal_of src.now }
@@ -203,14 +257,16 @@ fn judge_all(src: &[u8]) -> Option<Refused>
     let mut mode = Mode::AtLine;
     let mut opens = Stack::new();
     let mut at = 0;
-    while let Some(l) = token::next(src, at) {
-        match judge(mode, l, &mut opens) {
-            Judged::To(next) => mode = next,
-            Judged::Refused(refused) => return Some(refused),
+    loop {
+        match any_next(mode, src, at, &mut opens) {
+            Next::Ended => return ended(src.len() as u64, mode, &opens),
+            Next::Refused(refused) => return Some(refused),
+            Next::To { mode: to, end } => {
+                mode = to;
+                at = end;
+            }
         }
-        at = l.end;
     }
-    ended(src.len() as u64, mode, &opens)
 }
 
 /// Why a text is refused, and where: at its first token that is. None where it is a program within the limits. Takes no memory.

@@ -1,12 +1,10 @@
 // Makes the calls.
-ghost use Rattle.std.specs.Prelude.{◌≡◌, ◌∷◌, [], IfOk, length};
+ghost use Rattle.std.specs.Prelude.{◌≡◌};
 ghost use Rattle.placement.specs.declared.calls.Call.{Call};
 ghost use Rattle.placement.specs.Generator.{next_seed, drawn, size_in, align_in, fill_in, call_at, seed_behind};
-ghost use Rattle.arena_calls.specs.Draws.{HasByte};
 
-use placement::{Bytes, Call, OutOfMemory};
+use placement::{Bytes, Call};
 use std::alloc::Global;
-use std::mem;
 
 // One call of so many gives all blocks back: the last one.
 const TURN: usize = 65_536;
@@ -37,64 +35,31 @@ fn block_from(q: u64) -> Wanted
     }
 }
 
-/// Draws numbers, one after another, and makes calls of them. The one byte that a call may write is lent to the call, so that
-/// no call takes memory. The next seed is there before it is asked for: the machine would wait for it.
+/// Draws numbers, one after another, and makes calls of them. No call takes memory: one that writes has one byte. The next seed is
+/// there before it is asked for: the machine would wait for it.
 #[derive(Drop)]
 pub struct Draws {
     alloc: Global,
     seed: u64,
     next: u64,
-    spare: Vec<u8>,
     ghost ahead: { next ≡ next_seed seed },
 }
 
 impl Draws {
     /// Draws from this seed on.
-    ///
-    /// # Errors
-    ///
-    /// `OutOfMemory` where there is none for one byte.
-    pub fn new(alloc: Global, seed: u64) -> Result<Draws, OutOfMemory>
-        ensures seed { IfOk result (λ draws. draws.seed ≡ seed) }
-        ensures byte { IfOk result (λ draws. length draws.spare.items ≡ 1) }
+    pub fn new(alloc: Global, seed: u64) -> Draws
+        ensures { result.seed ≡ seed }
     {
-        match Vec::from_slice(alloc, &[0]) {
-            Ok(spare) => Ok(Draws {
-                alloc,
-                seed,
-                next: after(seed),
-                spare,
-            }),
-            Err(_) => Err(OutOfMemory),
-        }
-    }
-
-    // The bytes of a call that writes this one.
-    fn one_byte(&mut self, byte: u8) -> Bytes
-        requires { length self.old.spare.items ≡ 1 }
-        ensures bytes { result ≡ byte ∷ [] }
-        ensures seed { self.new.seed ≡ self.old.seed }
-    {
-        let mut items = mem::replace(&mut self.spare, Vec::new(self.alloc));
-        items[0] = byte;
-        Bytes::from_vec(items)
-    }
-
-    /// Takes back the byte of a call that was made.
-    pub fn take_back(&mut self, call: Call)
-        requires { HasByte call self.old.spare.items }
-        ensures byte { length self.new.spare.items ≡ 1 }
-        ensures seed { self.new.seed ≡ self.old.seed }
-    {
-        if let Call::Write { bytes, .. } = call {
-            self.spare = bytes.into_vec();
+        Draws {
+            alloc,
+            seed,
+            next: after(seed),
         }
     }
 
     // Draws a number, where the seed two further is this.
     fn draw_before(&mut self, second: u64) -> u64
         requires { second ≡ next_seed (next_seed self.old.seed) }
-        ensures spare { self.new.spare ≡ self.old.spare }
         ensures seed { self.new.seed ≡ next_seed self.old.seed }
         ensures value { result ≡ drawn self.old.seed }
     {
@@ -106,7 +71,6 @@ impl Draws {
     // A call that places a block.
     fn alloc(&mut self, name: u32, second: u64) -> Call
         requires { second ≡ next_seed (next_seed self.old.seed) }
-        ensures spare { self.new.spare ≡ self.old.spare }
         ensures seed { self.new.seed ≡ next_seed self.old.seed }
         ensures call { result ≡ Call.Alloc name (size_in (drawn self.old.seed)) (align_in (drawn self.old.seed))
             (fill_in (drawn self.old.seed)) }
@@ -120,13 +84,11 @@ impl Draws {
         }
     }
 
-    /// The call with this index, where that before it was taken back.
+    /// The call with this index.
     #[inline(always)]
     pub fn call(&mut self, i: usize) -> Call
-        requires { length self.old.spare.items ≡ 1 }
         ensures call { result ≡ call_at i self.old.seed }
         ensures seed { self.new.seed ≡ seed_behind i self.old.seed }
-        ensures byte { HasByte result self.new.spare.items }
     {
         if i % TURN == TURN - 1 {
             return Call::Reset;
@@ -156,7 +118,7 @@ impl Draws {
             5 => Call::Dealloc { name },
             6 => {
                 let q = self.draw_before(second);
-                let bytes = self.one_byte((q / 512 % 256) as u8);
+                let bytes = Bytes::one(self.alloc, (q / 512 % 256) as u8);
                 Call::Write {
                     name,
                     at: q % 512,

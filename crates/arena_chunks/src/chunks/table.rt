@@ -26,9 +26,10 @@ pub(crate) struct Kept {
     used: u64,
 }
 
-// Where a chunk's used part begins, and its bytes.
+// Where a chunk begins and where its used part does, and the bytes of that.
 #[derive(Drop)]
 pub(crate) struct Used<'a> {
+    pub(crate) base: u64,
     pub(crate) start: u64,
     pub(crate) bytes: &'a [u8],
 }
@@ -211,13 +212,16 @@ impl Table {
         requires index { i < length self.now.items }
         requires ordered { All IsOrdered self.now.items }
         ensures { (c : StoredChunk) → c ≡ get_or self.now.items i c
-            → (result.start ≡ c.cursor) × (result.bytes.now ≡ drop (c.cursor - c.base) c.bytes.items) }
+            → (result.base ≡ c.base) × (result.start ≡ c.cursor)
+            × (result.bytes.now ≡ drop (c.cursor - c.base) c.bytes.items) }
     {
         let kept = &self.kept[i];
         let len = kept.bytes.len();
         let from = len - kept.used as usize;
+        let base = base(&self.bases, i as u64);
         Used {
-            start: base(&self.bases, i as u64) + from as u64,
+            base,
+            start: base + from as u64,
             bytes: kept.bytes.part(from, kept.used as usize),
         }
     }

@@ -1,7 +1,7 @@
 // What calls on blocks ask the source for, and why they are refused.
-ghost use Rattle.std.specs.Prelude.{◌≡◌, ℕ, ◌+◌, ◌-◌, ◌^◌, ◌≤◌, true, false, IsTrue};
+ghost use Rattle.std.specs.Prelude.{◌≡◌, ℕ, ◌+◌, ◌-◌, ◌^◌, ◌<◌, ◌≤◌, true, false, IsTrue};
 ghost use Rattle.placement.specs.Rounding.{is_layout, is_power};
-ghost use Rattle.placement.specs.State.{top_of, used_bytes};
+ghost use Rattle.placement.specs.State.{allocated_bytes, top_of, used_bytes};
 ghost use Rattle.placement.specs.Moves.{Resizing};
 ghost use Rattle.placement.specs.Used.{unit_of};
 ghost use Rattle.arena_chunks.specs.Source.{View};
@@ -28,11 +28,15 @@ pub fn asks()
 {}
 
 /// Where an arena that grows has no place for a block of at most 2^60 bytes, its source has refused, unless its newest data
-/// end lies far up.
+/// end lies far up; and so of any size, where it holds less than 2^60 bytes and that end lies lower.
 pub fn starved()
     ensures placed { (old new : View) (size align k : ℕ) → IsTrue (is_layout size align) → align ≤ 16
         → size ≤ 2 ^ 60 → old.memory.state.is_growing ≡ true → PlacesBlock old new size align (Refused k)
         → top_of old.memory.state.chunks ≤ 2 ^ 63 + 2 ^ 62 → IsRefusedBySource old new }
+    ensures any_size { (old new : View) (size align k : ℕ) → IsTrue (is_layout size align) → align ≤ 16
+        → size + 64 ≤ 2 ^ 63 → old.memory.state.is_growing ≡ true → PlacesBlock old new size align (Refused k)
+        → allocated_bytes old.memory.state < 2 ^ 60 → top_of old.memory.state.chunks ≤ 2 ^ 62 + 2 ^ 61
+        → IsRefusedBySource old new }
     ensures grown { (old new : View) (block : Block) (size align k : ℕ) → IsTrue (is_layout size align)
         → align ≤ 16 → IsTrue (is_power block.align) → block.align ≤ 16 → size ≤ 2 ^ 60
         → old.memory.state.is_growing ≡ true → GrowsBlock old new block size align (Refused k)

@@ -28,7 +28,7 @@ fn buffers_and_bytes_grow(rt: HostRuntime) -> Result<(), Fail> {
     let mut bytes = Bytes::of(rt.alloc(), &[1, 2])?;
     bytes.push(3)?;
     same(&rt, bytes.as_slice(), [1, 2, 3].as_slice());
-    let again = Bytes::from_vec(bytes.into_vec());
+    let again = Bytes::from_vec(rt.alloc(), vec![in rt.alloc(); 1, 2, 3]?)?;
     same(
         &rt,
         (again.as_slice(), again.len()),

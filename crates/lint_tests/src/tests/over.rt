@@ -80,16 +80,19 @@ fn lint_with<
     workers: u32,
     gate: &G,
     input: &[u8],
-) -> Result<Told, Fail> {
-    let sources = ok(sources_of(alloc, input))?;
+) -> Result<Vec<Linted<K::Chunks>>, Fail> {
+    let mut sources = Vec::new(alloc);
+    for source in &ok(sources_of(alloc, input))? {
+        sources.push(ok(Bytes::of(alloc, source.as_slice()))?)?;
+    }
     assert!(rt; workers > 0 && workers <= 64);
     assert!(rt; sources.len() < 1 << 20 && are_short(&sources));
     let linted = lint_all(rt, alloc, pool, workers, gate, &sources);
     let all = linted.ok().expect(rt, "reports");
-    let told = put_all(rt, alloc, &all)?;
+    let starved = all.iter().filter(|linted| linted.starved.is_some()).count();
     let counts = pool.counts(rt);
-    assert!(rt; counts.lent == 0 && counts.given_up == told.starved);
-    Ok(told)
+    assert!(rt; counts.lent == 0 && counts.given_up == starved as u64);
+    Ok(all)
 }
 
 // The pool is named by L, which stands in no type of the signature.
@@ -106,7 +109,7 @@ fn lint_named<
     gate: &G,
     input: &[u8],
     blank: Blank,
-) -> Result<Told, Fail>
+) -> Result<Vec<Linted<K::Chunks>>, Fail>
     requires blank { IsBlankOf L.name L.parts blank }
     requires kind { L.kind ≡ over.kind }
     requires limit { L.limit ≡ None }
@@ -122,6 +125,19 @@ fn lint_named<
     lint_with(rt, alloc, &pool, over.workers, gate, input)
 }
 
+/// What came of each source of an input, over a new pool.
+pub fn linted_over<K: ChunkMaker + Drop + Send, R: Threads + Wait + Abort + Sync, G: Gate + Sync>(
+    rt: &R,
+    alloc: Global,
+    over: Over,
+    maker: K,
+    gate: &G,
+    input: &[u8],
+) -> Result<Vec<Linted<K::Chunks>>, Fail> {
+    let blank = Blank::new(MOST_LENT);
+    lint_named::<Brand, K, R, G>(rt, alloc, over, maker, gate, input, blank)
+}
+
 /// What is told of the sources of an input, over a new pool.
 pub fn lint_over<K: ChunkMaker + Drop + Send, R: Threads + Wait + Abort + Sync, G: Gate + Sync>(
     rt: &R,
@@ -131,6 +147,6 @@ pub fn lint_over<K: ChunkMaker + Drop + Send, R: Threads + Wait + Abort + Sync, 
     gate: &G,
     input: &[u8],
 ) -> Result<Told, Fail> {
-    let blank = Blank::new(MOST_LENT);
-    lint_named::<Brand, K, R, G>(rt, alloc, over, maker, gate, input, blank)
+    let all = linted_over(rt, alloc, over, maker, gate, input)?;
+    put_all(rt, alloc, &all)
 }

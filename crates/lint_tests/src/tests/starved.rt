@@ -1,7 +1,7 @@
 // Sources on arenas that may not have their chunks, beside others.
-use super::over::{Over, Told, lint_over};
+use super::over::{Over, Told, lint_over, linted_over};
 use arena_chunks::RefusingChunks;
-use arena_lint::NoGate;
+use arena_lint::{NoGate, Starved};
 use arena_pool::{ChunkMaker, MemoryMaker, PoolKind};
 use std::alloc::Global;
 use std::process::Abort;
@@ -130,5 +130,48 @@ fn all_requests_from_one_on_are_refused(rt: HostRuntime) -> Result<(), Fail> {
         before = starved;
     }
     assert_eq!(rt; before, 0);
+    Ok(())
+}
+
+// Which requests are refused, from this one on, and of which sources the source of chunks is handed back.
+const HANDED_BACK: [(u64, [bool; 4]); 3] = [
+    (1, [true, false, false, true]),
+    (2, [true, false, false, false]),
+    (20, [false, false, false, false]),
+];
+
+// A source of chunks that is handed back tells each of its requests, and that it refused all from this one on. No other is handed
+// back.
+fn tells(rt: &impl Abort, starved: &Option<Starved<RefusingChunks>>, first: u64) -> bool {
+    let Some(Starved::Refused(source)) = starved else {
+        return false;
+    };
+    let requests = source.requests().expect(rt, "requests").len() as u64;
+    assert!(rt; source.count == requests && source.refuse.len() == 100);
+    assert!(rt;
+        source.refused > 0 && source.refused == requests.saturating_sub(first.saturating_sub(1))
+    );
+    true
+}
+
+#[test]
+fn starved_sources_tell_their_requests(rt: HostRuntime) -> Result<(), Fail> {
+    let alloc = rt.alloc();
+    let input = input(alloc)?;
+    for (first, wanted) in HANDED_BACK {
+        let maker = RefusingMaker {
+            alloc,
+            first,
+            count: 100,
+        };
+        let all = linted_over(&rt, alloc, ALONE, maker, &NoGate, &input)?;
+        assert_eq!(rt; all.len(), 4);
+        for (linted, is_back) in all.iter().zip(wanted) {
+            assert!(rt;
+                tells(&rt, &linted.starved, first) == is_back,
+                "from {first}"
+            );
+        }
+    }
     Ok(())
 }

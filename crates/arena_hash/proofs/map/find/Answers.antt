@@ -32,35 +32,35 @@ slots-init g c =
 
 pub bounds-bytes-at : goal.bounds-bytes-at
 bounds-bytes-at g c =
-    rw c.read-bytes.ensures (omega (arith, c.slots.invariant.shape.long, c.slots.invariant.seeking.within))
+    rw c.requires.bytes (omega (arith, c.slots.invariant.shape.long, c.slots.invariant.seeking.within))
 
 pub key_at-requires-clause-shape : goal.key_at-requires-clause-shape
-key_at-requires-clause-shape g c = rw c.read-bytes.ensures c.slots.invariant.shape
+key_at-requires-clause-shape g c = rw c.requires.bytes c.slots.invariant.shape
 
 pub holds-requires : goal.holds-requires
 holds-requires g c =
     let m = c.args.a.now.memory in
-    let is = rw c.read-bytes.ensures at c.if-found-mark.true in
+    let is = rw c.requires.bytes at c.if-found-mark.true in
     let s = c.slots.invariant in
     let x = slot-taken g.K.Item g.V.Item c.args.table.slots (bytes_of m c.args.table.block) s.shape c.slots.at s.seeking.within
     (omega (arith, is, s.seeking.mark_is, mark-some c.args.hash c.slots.counter)) in
-    let key = (rw c.read-bytes.ensures at c.key_at.ensures) x.0 x.1 in
+    let key = (rw c.requires.bytes at c.key_at.ensures) x.0 x.1 in
     subst (λ k. IsTrue (is_readable m.state (g.K.ArenaKey.key.text k))) (sym key) (c.requires.texts x.0 (c.slots.at, x.1))
 
 pub returns-then-holds : goal.returns-then-holds
 returns-then-holds g c = λ h table same.
     let m = c.args.a.now.memory in
-    let is = rw c.read-bytes.ensures at c.if-found-mark.true in
+    let is = rw c.requires.bytes at c.if-found-mark.true in
     let s = c.slots.invariant in
     let x = slot-taken g.K.Item g.V.Item c.args.table.slots (bytes_of m c.args.table.block) s.shape c.slots.at s.seeking.within
     (omega (arith, is, s.seeking.mark_is, mark-some c.args.hash c.slots.counter)) in
-    let key = (rw c.read-bytes.ensures at c.key_at.ensures) x.0 x.1 in
+    let key = (rw c.requires.bytes at c.key_at.ensures) x.0 x.1 in
     (x.0, x.1, ap (content_in g.K.ArenaKey.key m) (sym key) ∙ c.holds.ensures.0 c.if-holds.true)
 
 pub returns-then-found-least : goal.returns-then-found-least
 returns-then-found-least g c = λ h table same.
     let m = c.args.a.now.memory in
-    let low = rw (c.read-bytes.ensures, c.least.ensures) at c.if-found-least.true in
+    let low = rw (c.requires.bytes, c.least.ensures) at c.if-found-least.true in
     let s = c.slots.invariant in
     let n : ℕ = c.args.table.slots in (
       seeking-lacks g.K.Item g.V.Item n (bytes_of m c.args.table.block) c.args.hash s.some s.shape c.slots.counter c.slots.at c.slots.mark
@@ -77,7 +77,7 @@ pub slots-preserved : goal.slots-preserved
 slots-preserved g c =
     let m = c.args.a.now.memory in
     let n : ℕ = c.args.table.slots in
-    let high = rw (c.read-bytes.ensures, c.least.ensures) at c.if-found-least.false in
+    let high = rw (c.requires.bytes, c.least.ensures) at c.if-found-least.false in
     let s = c.slots.invariant in
     record {
       some = s.some;
@@ -94,9 +94,9 @@ slots-preserved g c =
           (λ x e. ap h e ∙ same)
           (λ is x t e. elim c.else-found-mark.branch [
             | else-found-mark-via-then-found-mark+else-holds w ↦
-                let key = (rw c.read-bytes.ensures at w.key_at.ensures) x t in
+                let key = (rw c.requires.bytes at w.key_at.ensures) x t in
                 differ (w.holds.ensures.1 (ap (content_in g.K.ArenaKey.key m) key ∙ e)) w.if-holds.false
-            | else-found-mark-via-else-found-mark w ↦ w.if-found-mark.false (rw c.read-bytes.ensures is)
+            | else-found-mark-via-else-found-mark w ↦ w.if-found-mark.false (rw c.requires.bytes is)
           ])
           (s.passed h table same);
     }

@@ -1,6 +1,3 @@
-use Rattle.std.proofs.Common.{sym, subst}
-use Rattle.arena_lint.specs.Knowing.{known_blocks}
-use Rattle.arena_lint.specs.Rooms.{HaveStmts}
 use Rattle.arena_lint.proofs.LintLemmas.{tree_room, nothing_spends}
 use Rattle.arena_lint.proofs.SpendingLemmas.{err_takes}
 use Rattle.arena_lint.proofs.lint.findings.Goals as goal
@@ -9,20 +6,12 @@ pub walk-requires-clause-known : goal.walk-requires-clause-known
 walk-requires-clause-known g c = c.nothing-known.ensures.known c.args.a.now.memory
 
 pub walk-requires-clause-trees : goal.walk-requires-clause-trees
-walk-requires-clause-trees g c =
-    let k = c.nothing-known.result in
-    let m = c.args.a.now.memory in
-    subst (λ room. HaveStmts m c.args.tree.stmts room (known_blocks k)) (sym c.used_bytes-room.ensures)
-    (tree_room m c.args.tree k c.requires c.nothing-known.ensures)
+walk-requires-clause-trees g c = rw c.used_bytes-room.ensures (tree_room c.requires c.nothing-known.ensures)
 
 pub returns-in_err-walk-clause-spends : goal.returns-in_err-walk-clause-spends
-returns-in_err-walk-clause-spends g c trees means =
-    nothing_spends c.args.a.now c.walk.new.a c.args.tree c.nothing-known.result c.walk.new.known _ trees c.requires
-    c.nothing-known.ensures
-    means (err_takes c.from_residual.result _ c.from_residual.ensures (c.in_err-walk.ensures.takes trees means))
+returns-in_err-walk-clause-spends g c trees means = nothing_spends trees c.requires c.nothing-known.ensures means
+    (err_takes c.from_residual.result c.from_residual.ensures (c.in_err-walk.ensures.takes trees means))
 
 pub returns-clause-spends : goal.returns-clause-spends
 returns-clause-spends g c trees means =
-    nothing_spends c.args.a.now c.walk.new.a c.args.tree c.nothing-known.result c.walk.new.known _ trees c.requires
-    c.nothing-known.ensures
-    means (c.in_ok-walk.ensures.takes trees means)
+    nothing_spends trees c.requires c.nothing-known.ensures means (c.in_ok-walk.ensures.takes trees means)

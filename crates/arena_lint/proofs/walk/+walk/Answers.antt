@@ -1,99 +1,75 @@
 use Rattle.std.proofs.Common.{arith}
 use Rattle.arena_tree.specs.Spending.{error_of}
-use Rattle.arena_lint.proofs.NameLemmas.{list_length}
-use Rattle.arena_lint.proofs.SpendingLemmas.{err_takes, takes_none, takes_then, takes_more}
+use Rattle.arena_lint.proofs.SpendingLemmas.{err_takes, takes_wanting, takes_then, takes_more}
 use Rattle.arena_lint.proofs.StatementLemmas.{moves_then, moves_none, list_moved, show_finds}
 use Rattle.arena_lint.proofs.WalkLemmas.{block_weight, body_takes, block_finds, walking_begin, walking_next, walking_end, walking_takes, walked_takes}
 use Rattle.arena_lint.specs.Weights.{weight}
 use Rattle.arena_lint.proofs.walk.+walk.Goals as goal
 
 pub walk-stmt-node-requires-clause-trees : goal.walk-stmt-node-requires-clause-trees
-walk-stmt-node-requires-clause-trees g t c =
-    (list_moved c.args.a.now.memory c.stmts.a.memory c.args.known.now c.stmts.known c.args.list c.args.room c.stmts.invariant.moves
-    c.requires.trees).have
+walk-stmt-node-requires-clause-trees g t c = list_moved c.stmts.invariant.moves c.requires.trees
 
 pub walk-returns-in_err-walk_stmt-clause-moves : goal.walk-returns-in_err-walk_stmt-clause-moves
-walk-returns-in_err-walk_stmt-clause-moves g t c =
-    moves_then c.args.a.now.memory c.stmts.a.memory c.walk_stmt.new.a.memory c.args.known.now c.stmts.known c.walk_stmt.new.known
-    c.stmts.invariant.moves
-    c.walk_stmt.ensures.moves
+walk-returns-in_err-walk_stmt-clause-moves g t c = moves_then c.stmts.invariant.moves c.walk_stmt.ensures.moves
 
 pub walk-returns-in_err-walk_stmt-clause-takes : goal.walk-returns-in_err-walk_stmt-clause-takes
 walk-returns-in_err-walk_stmt-clause-takes g t c ss at =
-    walking_takes c.args.a.now c.stmts.a c.walk_stmt.new.a c.args.known.now c.stmts.known c.walk_stmt.new.known c.args.found.now
-    c.stmts.found
-    c.args.list c.args.room c.stmts.i c.stmt-node.result _ ss c.requires.trees c.stmts.invariant c.stmt-node.ensures.stmt
-    (λ s stands. err_takes c.from_residual.result _ c.from_residual.ensures (c.in_err-walk_stmt.ensures.takes s stands)) at
+    walking_takes c.args.list c.stmts.invariant c.requires.trees c.stmt-node.ensures.stmt ss at
+    (λ s stands. err_takes c.from_residual.result c.from_residual.ensures (c.in_err-walk_stmt.ensures.takes s stands))
 
 pub walk-stmts-init : goal.walk-stmts-init
-walk-stmts-init g t c = walking_begin c.args.a.now c.args.known.now c.args.found.now _ c.requires.known
+walk-stmts-init g t c = walking_begin c.requires.known
 
 pub walk-stmts-preserved : goal.walk-stmts-preserved
-walk-stmts-preserved g t c =
-    walking_next c.args.a.now c.stmts.a c.walk_stmt.new.a c.args.known.now c.stmts.known c.walk_stmt.new.known c.args.found.now
-    c.stmts.found c.walk_stmt.new.found c.args.list c.args.room c.stmts.i c.stmt-node.result c.requires.trees c.stmts.invariant
-    c.stmt-node.ensures.stmt c.walk_stmt.ensures.moves (λ s at sets knows. c.in_ok-walk_stmt.ensures.finds s at sets knows)
+walk-stmts-preserved g t c = walking_next c.args.list c.stmts.invariant c.requires.trees c.stmt-node.ensures.stmt
+    c.walk_stmt.ensures.moves (λ s at sets knows. c.in_ok-walk_stmt.ensures.finds s at sets knows)
     (λ s at. c.in_ok-walk_stmt.ensures.takes s at)
 
 pub walk-returns-clause-finds : goal.walk-returns-clause-finds
-walk-returns-clause-finds g t c ss at sets knows =
-    walking_end c.args.a.now c.stmts.a c.args.known.now c.stmts.known c.args.found.now c.stmts.found c.args.list c.stmts.i ss sets
-    c.stmts.invariant
-    (omega (arith, c.stmts-test.false, c.stmts.auto.i-end, c.len-i-end.ensures, list_length c.args.a.now.memory c.args.list)) at knows
+walk-returns-clause-finds g t c ss at sets knows = walking_end c.args.list c.stmts.invariant ss at
+    (omega (arith, c.stmts-test.false, c.stmts.auto.i-end, c.len-i-end.ensures)) sets knows
 
 pub walk-returns-clause-takes : goal.walk-returns-clause-takes
-walk-returns-clause-takes g t c ss at =
-    walked_takes c.args.a.now c.stmts.a c.args.known.now c.stmts.known c.args.found.now c.stmts.found c.args.list c.stmts.i ss
-    c.stmts.invariant
-    (omega (arith, c.stmts-test.false, c.stmts.auto.i-end, c.len-i-end.ensures, list_length c.args.a.now.memory c.args.list)) at
+walk-returns-clause-takes g t c ss at = walked_takes c.args.list c.stmts.invariant ss at
+    (omega (arith, c.stmts-test.false, c.stmts.auto.i-end, c.len-i-end.ensures))
 
 pub walk_stmt-returns-in_err-walk-in-Block-clause-moves : goal.walk_stmt-returns-in_err-walk-in-Block-clause-moves
-walk_stmt-returns-in_err-walk-in-Block-clause-moves g t c =
-    moves_then c.args.a.now.memory c.enter_block.new.a.memory c.walk.new.a.memory c.args.known.now c.enter_block.new.known
-    c.walk.new.known
-    c.enter_block.ensures.moves c.walk.ensures.moves
+walk_stmt-returns-in_err-walk-in-Block-clause-moves g t c = moves_then c.enter_block.ensures.moves c.walk.ensures.moves
 
 pub walk_stmt-returns-in_ok-walk-in-Block-clause-moves : goal.walk_stmt-returns-in_ok-walk-in-Block-clause-moves
 walk_stmt-returns-in_ok-walk-in-Block-clause-moves g t c =
-    moves_then c.args.a.now.memory c.walk.new.a.memory c.leave_block.new.a.memory c.args.known.now c.walk.new.known
-    c.leave_block.new.known
-    (moves_then c.args.a.now.memory c.enter_block.new.a.memory c.walk.new.a.memory c.args.known.now c.enter_block.new.known
-    c.walk.new.known
-    c.enter_block.ensures.moves c.walk.ensures.moves) c.leave_block.ensures.moves
+    moves_then (moves_then c.enter_block.ensures.moves c.walk.ensures.moves) c.leave_block.ensures.moves
 
 pub walk_stmt-returns-in_ok-walk-in-Block-clause-finds : goal.walk_stmt-returns-in_ok-walk-in-Block-clause-finds
 walk_stmt-returns-in_ok-walk-in-Block-clause-finds g t c s at sets knows =
     let enters = c.in_ok-list-in-Block.ensures.enters in
     let body = enters.body s at in
     block_finds c.args.a.now.memory c.enter_block.new.a.memory c.walk.new.a.memory c.leave_block.new.a.memory c.args.known.now
-    c.enter_block.new.known
-    c.walk.new.known c.leave_block.new.known c.args.found.now c.walk.new.found s body.0 body.1 enters.knows
-    (λ sets knows. c.in_ok-walk-in-Block.ensures.finds body.0 body.2 sets knows)
-    c.leave_block.ensures.leaves sets knows
+    c.enter_block.new.known c.walk.new.known c.leave_block.new.known c.args.found.now c.walk.new.found s body.0 body.1 enters.knows
+    (λ sets knows. c.in_ok-walk-in-Block.ensures.finds body.0 body.2 sets knows) c.leave_block.ensures.leaves sets knows
 
 pub walk_stmt-returns-in_err-list-in-Block-clause-takes : goal.walk_stmt-returns-in_err-list-in-Block-clause-takes
 walk_stmt-returns-in_err-list-in-Block-clause-takes g t c s at =
-    err_takes c.from_residual.result _ c.from_residual.ensures
+    err_takes c.from_residual.result c.from_residual.ensures
     (takes_more (weight s) (block_weight s c.args.a.now.memory c.args.node at c.in-Block.is) c.in_err-list-in-Block.ensures.takes)
 
 pub walk_stmt-returns-in_err-walk-in-Block-clause-takes : goal.walk_stmt-returns-in_err-walk-in-Block-clause-takes
 walk_stmt-returns-in_err-walk-in-Block-clause-takes g t c s at =
     let body = c.in_ok-list-in-Block.ensures.enters.body s at in
-    err_takes c.from_residual-in_err-walk-in-Block.result _ c.from_residual-in_err-walk-in-Block.ensures
-    (body_takes s body.0 body.1 c.in_ok-list-in-Block.ensures.takes (c.in_err-walk-in-Block.ensures.takes body.0 body.2))
+    err_takes c.from_residual-in_err-walk-in-Block.result c.from_residual-in_err-walk-in-Block.ensures
+    (body_takes body.1 c.in_ok-list-in-Block.ensures.takes (c.in_err-walk-in-Block.ensures.takes body.0 body.2))
 
 pub walk_stmt-returns-in_ok-walk-in-Block-clause-takes : goal.walk_stmt-returns-in_ok-walk-in-Block-clause-takes
 walk_stmt-returns-in_ok-walk-in-Block-clause-takes g t c s at =
     let body = c.in_ok-list-in-Block.ensures.enters.body s at in
-    let walked = body_takes s body.0 body.1 c.in_ok-list-in-Block.ensures.takes (c.in_ok-walk-in-Block.ensures.takes body.0 body.2) in
-    takes_more (weight s) (omega arith) (takes_then walked c.leave_block.ensures.takes)
+    takes_more (weight s) (omega arith) (takes_then
+    (body_takes body.1 c.in_ok-list-in-Block.ensures.takes (c.in_ok-walk-in-Block.ensures.takes body.0 body.2))
+    c.leave_block.ensures.takes)
 
 pub walk_stmt-returns-in_default : goal.walk_stmt-returns-in_default
 walk_stmt-returns-in_default g t c = record {
-  moves = moves_none c.args.a.now.memory c.args.known.now c.requires.known;
-  finds = λ s at. show_finds c.args.a.now.memory c.args.known.now c.args.found.now c.use_names.new.found c.use_names.result s
-      c.args.node at
-      c.in_default.not-Let c.in_default.not-Block (λ sets knows. c.use_names.ensures.finds s sets at knows);
-  takes = λ s at. takes_more (weight s) (omega arith)
-      (takes_none c.args.a.now c.args.known.now (error_of c.use_names.result) c.use_names.ensures.wanting);
+  moves = moves_none c.requires.known;
+  finds = λ s at. show_finds c.args.a.now.memory c.args.known.now c.args.found.now c.use_names.new.found c.use_names.result s c.args.node
+      at c.in_default.not-Let c.in_default.not-Block (λ sets knows. c.use_names.ensures.finds s sets at knows);
+  takes = λ s at. takes_wanting c.args.a.now c.args.known.now (error_of c.use_names.result) c.use_names.ensures.wanting;
 }

@@ -8,41 +8,30 @@ use Rattle.arena_lint.proofs.walk.define_name.Goals as goal
 pub returns-in_err-id-clause-means : goal.returns-in_err-id-clause-means
 returns-in_err-id-clause-means g c =
     let p = err_from_is_err_and c.from_residual.result c.from_residual.ensures.1 in
-    rw p.1 (defines_unnamed c.args.a.now c.intern.new.a c.args.known.now c.intern.new.self c.args.name.now p.0 c.intern.result
-    c.requires.known c.intern.ensures)
+    rw p.1 (defines_unnamed p.0 c.requires.known c.intern.ensures)
 
 pub returns-in_err-id-clause-takes : goal.returns-in_err-id-clause-takes
-returns-in_err-id-clause-takes g c = err_takes c.from_residual.result _ c.from_residual.ensures
-    (unnamed_takes c.args.a.now c.intern.new.a c.args.known.now c.intern.new.self c.args.name.now _ c.requires.known
-    c.in_err-id.ensures)
+returns-in_err-id-clause-takes g c =
+    err_takes c.from_residual.result c.from_residual.ensures (unnamed_takes c.in_err-id.ensures)
 
 pub lookup-requires : goal.lookup-requires
-lookup-requires g c = (interned c.args.a.now c.intern.new.a c.args.known.now c.intern.new.self c.args.name.now c.intern.result
-    c.requires.known c.intern.ensures).known.scopes
+lookup-requires g c = (interned c.requires.known c.intern.ensures).known.scopes
 
 pub define-requires : goal.define-requires
-define-requires g c = (interned c.args.a.now c.intern.new.a c.args.known.now c.intern.new.self c.args.name.now c.intern.result
-    c.requires.known c.intern.ensures).known.scopes
+define-requires g c = (interned c.requires.known c.intern.ensures).known.scopes
 
 pub returns-in_err-is_new-clause-means : goal.returns-in_err-is_new-clause-means
 returns-in_err-is_new-clause-means g c =
     let p = err_from_is_err_and c.from_residual-in_err-is_new.result c.from_residual-in_err-is_new.ensures.1 in
-    rw p.1 (defines_unput c.args.a.now c.intern.new.a c.define.new.a c.args.known.now c.intern.new.self c.define.new.self
-    c.args.name.now
-    c.in_ok-id.id c.requires.known c.in_ok-id.ensures p.0 c.define.result c.define.ensures)
+    rw p.1 (defines_unput c.requires.known c.in_ok-id.ensures p.0 c.define.ensures)
 
 pub returns-in_err-is_new-clause-takes : goal.returns-in_err-is_new-clause-takes
-returns-in_err-is_new-clause-takes g c = err_takes c.from_residual-in_err-is_new.result _ c.from_residual-in_err-is_new.ensures
-    (unput_takes c.args.a.now c.intern.new.a c.define.new.a c.args.known.now c.intern.new.self c.define.new.self c.args.name.now
-    c.in_ok-id.id _ c.requires.known c.in_ok-id.ensures c.in_err-is_new.ensures)
+returns-in_err-is_new-clause-takes g c = err_takes c.from_residual-in_err-is_new.result c.from_residual-in_err-is_new.ensures
+    (unput_takes c.requires.known c.in_ok-id.ensures c.in_err-is_new.ensures)
 
 pub returns-clause-means : goal.returns-clause-means
-returns-clause-means g c =
-    rw c.finding.ensures (defines_put c.args.a.now c.intern.new.a c.define.new.a c.args.known.now c.intern.new.self c.define.new.self
-    c.args.name.now c.in_ok-id.id c.requires.known c.in_ok-id.ensures c.in_ok-is_new.is_new c.is_some-is_seen.result
-    c.in_ok-is_new.ensures (c.is_some-is_seen.ensures ∙ ap is_some c.lookup.ensures))
+returns-clause-means g c = rw c.finding.ensures (defines_put c.requires.known c.in_ok-id.ensures c.in_ok-is_new.ensures
+    (c.is_some-is_seen.ensures ∙ ap is_some c.lookup.ensures))
 
 pub returns-clause-takes : goal.returns-clause-takes
-returns-clause-takes g c =
-    put_takes c.args.a.now c.intern.new.a c.define.new.a c.args.known.now c.intern.new.self c.define.new.self c.args.name.now
-    c.in_ok-id.id c.in_ok-is_new.is_new c.requires.known c.in_ok-id.ensures c.in_ok-is_new.ensures
+returns-clause-takes g c = put_takes c.requires.known c.in_ok-id.ensures c.in_ok-is_new.ensures

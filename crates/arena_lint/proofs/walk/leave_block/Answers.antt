@@ -3,13 +3,10 @@ use Rattle.arena_lint.proofs.TakingLemmas.{ended_takes}
 use Rattle.arena_lint.proofs.walk.leave_block.Goals as goal
 
 pub returns-clause-moves : goal.returns-clause-moves
-returns-clause-moves g c = ended c.args.a.now c.leave.new.a c.args.known.now c.leave.new.self c.leave.result c.requires c.leave.ensures
+returns-clause-moves g c = ended c.requires c.leave.ensures
 
 pub returns-clause-leaves : goal.returns-clause-leaves
-returns-clause-leaves g c names sets knows some =
-    ended_knows c.args.a.now c.leave.new.a c.args.known.now c.leave.new.self c.leave.result names sets c.requires c.leave.ensures knows
-    some
+returns-clause-leaves g c names sets knows some = ended_knows names sets c.requires c.leave.ensures knows some
 
 pub returns-clause-takes : goal.returns-clause-takes
-returns-clause-takes g c = ended_takes c.args.a.now c.leave.new.a c.args.known.now c.leave.new.self c.leave.result c.requires
-    c.leave.ensures
+returns-clause-takes g c = ended_takes c.requires c.leave.ensures

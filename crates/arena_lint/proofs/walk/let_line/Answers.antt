@@ -1,33 +1,26 @@
-use Rattle.std.proofs.Common.{Some, arith}
-use Rattle.arena_lint.specs.Weights.{weight}
-use Rattle.arena_lint.specs.Knowing.{known_blocks}
-use Rattle.arena_lint.proofs.SpendingLemmas.{err_takes, takes_none, takes_more, takes_same}
+use Rattle.std.proofs.Common.{Some}
+use Rattle.arena_lint.proofs.SpendingLemmas.{err_takes, takes_wanting}
 use Rattle.arena_lint.proofs.StatementLemmas.{has_let, let_finds, let_weight}
 use Rattle.arena_lint.proofs.walk.let_line.Goals as goal
 
 pub define-requires-clause-held : goal.define-requires-clause-held
-define-requires-clause-held g c =
-    (has_let c.args.a.now.memory c.args.node c.args.room (known_blocks c.args.known.now) c.requires.tree c.requires.kind).held
+define-requires-clause-held g c = (has_let c.requires.tree c.requires.kind).held
 
 pub define-requires-clause-utf8 : goal.define-requires-clause-utf8
-define-requires-clause-utf8 g c =
-    (has_let c.args.a.now.memory c.args.node c.args.room (known_blocks c.args.known.now) c.requires.tree c.requires.kind).text
+define-requires-clause-utf8 g c = (has_let c.requires.tree c.requires.kind).text
 
 pub define-requires-clause-short : goal.define-requires-clause-short
-define-requires-clause-short g c =
-    (has_let c.args.a.now.memory c.args.node c.args.room (known_blocks c.args.known.now) c.requires.tree c.requires.kind).short
+define-requires-clause-short g c = (has_let c.requires.tree c.requires.kind).short
 
 pub returns-clause-finds : goal.returns-clause-finds
 returns-clause-finds g c s at =
     let_finds c.args.a.now.memory c.define.new.a.memory c.args.known.now c.define.new.known c.args.found.now c.use_names.new.found
-    c.define.new.found
-    c.define.result s c.args.node at c.requires.kind (λ sets knows. c.in_ok-use_names.ensures.finds s sets at knows)
+    c.define.new.found c.define.result s c.args.node at c.requires.kind (λ sets knows. c.in_ok-use_names.ensures.finds s sets at knows)
     c.define.ensures.finds
 
 pub returns-in_err-use_names-clause-takes : goal.returns-in_err-use_names-clause-takes
-returns-in_err-use_names-clause-takes g c s at =
-    err_takes c.from_residual.result _ c.from_residual.ensures
-    (takes_more (weight s) (omega arith) (takes_none c.args.a.now c.args.known.now (Some _) c.in_err-use_names.ensures.wanting))
+returns-in_err-use_names-clause-takes g c s at = err_takes c.from_residual.result c.from_residual.ensures
+    (takes_wanting c.args.a.now c.args.known.now (Some _) c.in_err-use_names.ensures.wanting)
 
 pub returns-clause-takes : goal.returns-clause-takes
-returns-clause-takes g c s at = takes_same (let_weight s c.args.a.now.memory c.args.node at c.requires.kind) c.define.ensures.takes
+returns-clause-takes g c s at = rw (let_weight s c.args.a.now.memory c.args.node at c.requires.kind) at c.define.ensures.takes

@@ -1,172 +1,198 @@
-use Rattle.std.proofs.Common.{◌≤◌, length, arith, ◌∙◌}
+use Rattle.std.proofs.Common.{rules, ◌≡◌, ◌-◌, ◌≤◌, ◌∙◌, ap, sym, take, length, inl, inr, add-one, arith}
 use Rattle.arena_vec.specs.Vecs.{vec_list}
-use Rattle.tree_rules.specs.Trees.{NoExprs}
-use Rattle.arena_items.specs.Values.{text_bytes}
-use Rattle.arena_tree.specs.Cloning.{below_bytes}
 use Rattle.arena_tree.specs.TreesAt.{node_item}
+use Rattle.arena_tree.specs.Subtrees.{has_kids, HasTree, HasRow}
 use Rattle.arena_tree.proofs.WalkLemmas.{list_len}
-use Rattle.arena_tree.proofs.BuildLemmas.{built_held}
-use Rattle.arena_tree.proofs.PrintLemmas.{kid_is}
-use Rattle.arena_tree.proofs.SpendingLemmas.{spends_nothing, spends_then, spends_more, spends_less, frees}
-use Rattle.arena_tree.proofs.CloneLemmas.{exprs_to, kids_copied, kids_all, neg_copied}
-use Rattle.arena_tree.proofs.CloneCostLemmas.{err_spends, kids_begin, kids_refused, kids_spent, kid_refused, name_cost, neg_cost, sum_cost, prod_cost}
+use Rattle.arena_tree.proofs.SpendingLemmas.{frees}
 use Rattle.arena_tree.proofs.BlockCostLemmas.{spends_same}
+use Rattle.arena_tree.proofs.SubtreeLemmas.{kids_it, kids_at}
+use Rattle.arena_tree.proofs.RowLemmas.{row_held, kid_of, kid_can, row_whole}
+use Rattle.arena_tree.proofs.CloneLemmas.{more_kinds, number_copied, name_copied, let_copied, kids_copied, text_of, row_at, has_row}
+use Rattle.arena_tree.proofs.CloneCostLemmas.{err_spends, forget, row_room, row_kid, text_spends, kids_spend, both_spend}
 use Rattle.arena_tree.proofs.clone.+clone.Goals as goal
 
--- ---- Kids
+-- ---- A number, a name
 
-pub clone_kids-loop-i-init : goal.clone_kids-loop-i-init
-clone_kids-loop-i-init g t c =
+pub clone_node-returns-in-Num-clause-tree : goal.clone_node-returns-in-Num-clause-tree
+clone_node-returns-in-Num-clause-tree g t c = λ tree at.
+    number_copied c.args.from.now.memory c.args.node c.number.result c.args.to.now.memory c.args.to.now.memory c.args.to.now.memory tree at
+    c.in-Num.is c.number.ensures.kind c.number.ensures.number
+
+pub clone_node-clone_text-requires : goal.clone_node-clone_text-requires
+clone_node-clone_text-requires g t c =
+    (text_of c.args.from.now.memory c.args.node c.requires.tree c.requires.stands (inl c.in-Name.is)).0
+
+pub clone_node-returns-in_ok-name-in-Name-clause-tree : goal.clone_node-returns-in_ok-name-in-Name-clause-tree
+clone_node-returns-in_ok-name-in-Name-clause-tree g t c = λ tree at.
+    let text = c.in_ok-name-in-Name.ensures in
+    name_copied c.args.from.now.memory c.args.node c.named.result c.args.to.now.memory c.args.to.now.memory c.clone_text.new.to.memory tree
+    c.in_ok-name-in-Name.name at c.in-Name.is text.held text.text text.frame c.named.ensures.kind c.named.ensures.text
+
+pub clone_node-returns-in_ok-name-in-Name-clause-spends : goal.clone_node-returns-in_ok-name-in-Name-clause-spends
+clone_node-returns-in_ok-name-in-Name-clause-spends g t c = λ tree at.
+    text_spends tree (text_of c.args.from.now.memory c.args.node tree at (inl c.in-Name.is)).1 c.in_ok-name-in-Name.ensures.spends
+
+pub clone_node-returns-in_err-name-in-Name-clause-spends : goal.clone_node-returns-in_err-name-in-Name-clause-spends
+clone_node-returns-in_err-name-in-Name-clause-spends g t c = λ tree at.
+    err_spends c.from_residual.result _ c.from_residual.ensures
+    (text_spends tree (text_of c.args.from.now.memory c.args.node tree at (inl c.in-Name.is)).1 c.in_err-name-in-Name.ensures.spends)
+
+-- ---- A definition
+
+pub clone_node-clone_text-requires-in-Let : goal.clone_node-clone_text-requires-in-Let
+clone_node-clone_text-requires-in-Let g t c =
+    (text_of c.args.from.now.memory c.args.node c.requires.tree c.requires.stands (inr c.in-Let.is)).0
+
+pub clone_node-kids-requires : goal.clone_node-kids-requires
+clone_node-kids-requires g t c =
+    (kids_at c.requires.tree c.args.from.now.memory c.args.node c.requires.stands (ap has_kids c.in-Let.is)).held
+
+pub clone_node-clone_row-requires : goal.clone_node-clone_row-requires
+clone_node-clone_row-requires g t c κs within =
+    let can : HasRow c.args.from.now.memory c.kids.result c.args.room
+    = has_row c.args.from.now.memory c.args.node c.kids.result (ap has_kids c.in-Let.is) c.kids.ensures c.requires.tree c.requires.stands
+    c.args.room c.requires.low in
+    search (rules, can)
+
+pub clone_node-returns-in_ok-value-in-Let-clause-tree : goal.clone_node-returns-in_ok-value-in-Let-clause-tree
+clone_node-returns-in_ok-value-in-Let-clause-tree g t c = λ tree at.
+    let text = c.in_ok-name-in-Let in
+    let row = row_at c.args.from.now.memory c.args.node c.kids.result (ap has_kids c.in-Let.is) c.kids.ensures tree at in
+    let_copied c.args.from.now.memory c.args.node c.let_node.result c.args.to.now.memory c.clone_text-in-Let.new.to.memory
+    c.clone_row.new.to.memory tree text.name c.in_ok-value-in-Let.value at c.in-Let.is text.ensures.held text.ensures.text
+    text.ensures.frame (c.in_ok-value-in-Let.ensures.trees (kids_it tree) row) c.let_node.ensures.kind c.let_node.ensures.text
+    c.let_node.ensures.kids
+
+pub clone_node-returns-in_ok-value-in-Let-clause-spends : goal.clone_node-returns-in_ok-value-in-Let-clause-spends
+clone_node-returns-in_ok-value-in-Let-clause-spends g t c = λ tree at.
+    let text = c.in_ok-name-in-Let.ensures in
+    both_spend tree (text_of c.args.from.now.memory c.args.node tree at (inr c.in-Let.is)).1 text.spends (frees text.frame)
+    (c.in_ok-value-in-Let.ensures.spends (kids_it tree)
+    (row_at c.args.from.now.memory c.args.node c.kids.result (ap has_kids c.in-Let.is) c.kids.ensures tree at))
+
+pub clone_node-returns-in_err-name-in-Let-clause-spends : goal.clone_node-returns-in_err-name-in-Let-clause-spends
+clone_node-returns-in_err-name-in-Let-clause-spends g t c = λ tree at.
+    err_spends c.from_residual-in_err-name-in-Let.result _ c.from_residual-in_err-name-in-Let.ensures
+    (text_spends tree (text_of c.args.from.now.memory c.args.node tree at (inr c.in-Let.is)).1 c.in_err-name-in-Let.ensures.spends)
+
+pub clone_node-returns-in_err-value-in-Let-clause-spends : goal.clone_node-returns-in_err-value-in-Let-clause-spends
+clone_node-returns-in_err-value-in-Let-clause-spends g t c = λ tree at.
+    let text = c.in_ok-name-in-Let.ensures in
+    err_spends c.from_residual-in_err-value-in-Let.result _ c.from_residual-in_err-value-in-Let.ensures
+    (both_spend tree (text_of c.args.from.now.memory c.args.node tree at (inr c.in-Let.is)).1 text.spends (frees text.frame)
+    (c.in_err-value-in-Let.ensures.spends (kids_it tree)
+    (row_at c.args.from.now.memory c.args.node c.kids.result (ap has_kids c.in-Let.is) c.kids.ensures tree at)))
+
+-- ---- The other nodes
+
+pub clone_node-kids-requires-in_default : goal.clone_node-kids-requires-in_default
+clone_node-kids-requires-in_default g t c =
+    (kids_at c.requires.tree c.args.from.now.memory c.args.node c.requires.stands
+    (more_kinds c.args.node.kind c.in_default.not-Num c.in_default.not-Name)).held
+
+pub clone_node-clone_row-requires-in_default : goal.clone_node-clone_row-requires-in_default
+clone_node-clone_row-requires-in_default g t c κs within =
+    let can : HasRow c.args.from.now.memory c.kids-in_default.result c.args.room
+    = has_row c.args.from.now.memory c.args.node c.kids-in_default.result
+    (more_kinds c.args.node.kind c.in_default.not-Num c.in_default.not-Name) c.kids-in_default.ensures c.requires.tree c.requires.stands
+    c.args.room c.requires.low in
+    search (rules, can)
+
+pub clone_node-returns-in_ok-list-in_default : goal.clone_node-returns-in_ok-list-in_default
+clone_node-returns-in_ok-list-in_default g t c =
     let m = c.args.from.now.memory in
-    let ns = vec_list node_item m c.args.kids in
+    let more = more_kinds c.args.node.kind c.in_default.not-Num c.in_default.not-Name in
+    let named : c.with_kids.result.kind ≡ c.args.node.kind = cc in
+    record {
+      tree = λ tree at.
+          kids_copied m c.args.node c.with_kids.result c.args.to.now.memory c.args.to.now.memory c.clone_row-in_default.new.to.memory tree
+          c.in_ok-list-in_default.list at c.in_default.not-Num c.in_default.not-Name c.in_default.not-Let
+          (c.in_ok-list-in_default.ensures.trees (kids_it tree)
+          (row_at m c.args.node c.kids-in_default.result more c.kids-in_default.ensures tree at)) named c.with_kids.ensures.kids;
+      spends = λ tree at. kids_spend tree (c.in_ok-list-in_default.ensures.spends (kids_it tree)
+          (row_at m c.args.node c.kids-in_default.result more c.kids-in_default.ensures tree at));
+    }
+
+pub clone_node-returns-in_err-list-in_default-clause-spends : goal.clone_node-returns-in_err-list-in_default-clause-spends
+clone_node-returns-in_err-list-in_default-clause-spends g t c = λ tree at.
+    let more = more_kinds c.args.node.kind c.in_default.not-Num c.in_default.not-Name in
+    err_spends c.from_residual-in_err-list-in_default.result _ c.from_residual-in_err-list-in_default.ensures
+    (kids_spend tree (c.in_err-list-in_default.ensures.spends (kids_it tree)
+    (row_at c.args.from.now.memory c.args.node c.kids-in_default.result more c.kids-in_default.ensures tree at)))
+
+-- ---- A list of nodes
+
+pub clone_row-loop-i-init : goal.clone_row-loop-i-init
+clone_row-loop-i-init g t c =
+    let m = c.args.from.now.memory in
     let room = c.in_ok-list.ensures in
     record {
       within = omega arith;
       len = room.len;
       cap = room.cap ∙ c.len.ensures;
-      built = λ es at. room.kids;
-      spends = λ es at. kids_begin es m ns c.args.kids.raw.len at (list_len m c.args.kids)
-          (spends_more room.spends (omega (arith, c.len.ensures)) (omega (arith, c.len.ensures)));
+      built = λ ts at. room.row;
+      spends = λ ts at. row_room ts m (vec_list node_item m c.args.nodes) c.len.result at
+          (list_len m c.args.nodes ∙ sym c.len.ensures) room.spends;
     }
 
-pub clone_kids-fill-requires : goal.clone_kids-fill-requires
-clone_kids-fill-requires g t c =
+pub clone_row-clone_node-requires : goal.clone_row-clone_node-requires
+clone_row-clone_node-requires g t c κs within =
     let m = c.args.from.now.memory in
-    let i = c.loop-i.invariant in
-    let trees = c.requires.trees in
-    let k = kid_is trees m (vec_list node_item m c.args.kids) c.loop-i.i c.kid_at-kid.result c.requires.stand c.kid_at-kid.ensures.kid in
-    record {
-      held = built_held (exprs_to c.loop-i.i trees) k.kid c.args.to.now.memory c.loop-i.to.memory c.clone_node.new.to.memory c.loop-i.list
-          c.in_ok-copy.copy (i.built trees c.requires.stand) (c.in_ok-copy.ensures.tree k.kid k.stands);
-      room = omega (arith, i.len, i.cap, c.loop-i-test.true, c.len-in-loop-i.ensures);
-    }
+    let h = c.requires in
+    let can : HasTree m c.get-node.result (c.args.room - 1)
+    = kid_can h.trees m (vec_list node_item m c.args.nodes) c.loop-i.i c.args.room c.get-node.result h.stand c.get-node.ensures h.low in
+    search (rules, can)
 
-pub clone_kids-loop-i-preserved : goal.clone_kids-loop-i-preserved
-clone_kids-loop-i-preserved g t c =
+pub clone_row-fill-requires-clause-held : goal.clone_row-fill-requires-clause-held
+clone_row-fill-requires-clause-held g t c =
     let m = c.args.from.now.memory in
-    let ns = vec_list node_item m c.args.kids in
-    let old = c.args.to.now.memory in
-    let one = c.loop-i.to.memory in
+    let h = c.requires in
+    let k = kid_of h.trees m (vec_list node_item m c.args.nodes) c.loop-i.i c.get-node.result h.stand c.get-node.ensures in
+    row_held (take c.loop-i.i h.trees) k.tree c.args.to.now.memory c.loop-i.to.memory c.clone_node.new.to.memory c.loop-i.list
+    c.in_ok-copy.copy (c.loop-i.invariant.built h.trees h.stand) (c.in_ok-copy.ensures.tree k.tree k.stands)
+
+pub clone_row-loop-i-preserved : goal.clone_row-loop-i-preserved
+clone_row-loop-i-preserved g t c =
+    let m = c.args.from.now.memory in
+    let ns = vec_list node_item m c.args.nodes in
     let i = c.loop-i.invariant in
     let put = c.fill.ensures in
     record {
       within = omega (arith, c.loop-i-test.true, c.len-in-loop-i.ensures);
       len = omega (arith, put.len, i.len);
       cap = put.cap ∙ i.cap;
-      built = λ es at.
-          kids_copied es m ns c.loop-i.i c.kid_at-kid.result c.in_ok-copy.copy old one c.clone_node.new.to.memory c.fill.new.a.memory
-          c.loop-i.list c.fill.new.list at c.kid_at-kid.ensures.kid c.in_ok-copy.ensures.tree
-          (λ fs e built placed. put.kids fs e old one built placed) (i.built es at);
-      spends = λ es at. kids_spent es m ns c.loop-i.i c.kid_at-kid.result at c.kid_at-kid.ensures.kid (frees (i.built es at).frame)
-          c.in_ok-copy.ensures.spends put.places (i.spends es at);
+      built = λ ts at.
+          let k = kid_of ts m ns c.loop-i.i c.get-node.result at c.get-node.ensures in
+          rw (add-one, k.front) (put.row (take c.loop-i.i ts) k.tree c.args.to.now.memory c.loop-i.to.memory (i.built ts at)
+          (c.in_ok-copy.ensures.tree k.tree k.stands));
+      spends = λ ts at.
+          let k = kid_of ts m ns c.loop-i.i c.get-node.result at c.get-node.ensures in
+          rw add-one (spends_same put.places (row_kid ts m c.loop-i.i c.get-node.result k (frees (i.built ts at).frame)
+          (c.in_ok-copy.ensures.spends k.tree k.stands) (i.spends ts at)));
     }
 
-pub clone_kids-returns-clause-tree : goal.clone_kids-returns-clause-tree
-clone_kids-returns-clause-tree g t c = λ es at.
+pub clone_row-returns-clause-trees : goal.clone_row-returns-clause-trees
+clone_row-returns-clause-trees g t c = λ ts at.
     let m = c.args.from.now.memory in
-    let ns = vec_list node_item m c.args.kids in
-    let done : length ns ≤ c.loop-i.i = omega (arith, c.loop-i-test.false, c.len-in-loop-i.ensures, list_len m c.args.kids) in
-    kids_all es m ns c.loop-i.i c.args.to.now.memory c.loop-i.to.memory c.loop-i.list at done (c.loop-i.invariant.built es at)
+    let ns = vec_list node_item m c.args.nodes in
+    let done : length ns ≤ c.loop-i.i = omega (arith, c.loop-i-test.false, c.len-in-loop-i.ensures, list_len m c.args.nodes) in
+    rw (row_whole ts m ns c.loop-i.i at done) at (c.loop-i.invariant.built ts at)
 
-pub clone_kids-returns-clause-spends : goal.clone_kids-returns-clause-spends
-clone_kids-returns-clause-spends g t c = λ es at. spends_less _ 0 _ 0 _ _ _ (omega arith) (c.loop-i.invariant.spends es at)
+pub clone_row-returns-clause-spends : goal.clone_row-returns-clause-spends
+clone_row-returns-clause-spends g t c = λ ts at. forget (c.loop-i.invariant.spends ts at)
 
-pub clone_kids-returns-in_err-list-clause-spends : goal.clone_kids-returns-in_err-list-clause-spends
-clone_kids-returns-in_err-list-clause-spends g t c = λ es at.
+pub clone_row-returns-in_err-list-clause-spends : goal.clone_row-returns-in_err-list-clause-spends
+clone_row-returns-in_err-list-clause-spends g t c = λ ts at.
     let m = c.args.from.now.memory in
     err_spends c.from_residual.result _ c.from_residual.ensures
-    (kids_refused es m (vec_list node_item m c.args.kids) c.args.kids.raw.len at (list_len m c.args.kids)
-    (spends_more c.in_err-list.ensures.spends (omega (arith, c.len.ensures)) (omega (arith, c.len.ensures))))
+    (forget (row_room ts m (vec_list node_item m c.args.nodes) c.len.result at (list_len m c.args.nodes ∙ sym c.len.ensures)
+    c.in_err-list.ensures.spends))
 
-pub clone_kids-returns-in_err-copy-clause-spends : goal.clone_kids-returns-in_err-copy-clause-spends
-clone_kids-returns-in_err-copy-clause-spends g t c = λ es at.
+pub clone_row-returns-in_err-copy-clause-spends : goal.clone_row-returns-in_err-copy-clause-spends
+clone_row-returns-in_err-copy-clause-spends g t c = λ ts at.
     let m = c.args.from.now.memory in
     let i = c.loop-i.invariant in
+    let k = kid_of ts m (vec_list node_item m c.args.nodes) c.loop-i.i c.get-node.result at c.get-node.ensures in
     err_spends c.from_residual-in_err-copy.result _ c.from_residual-in_err-copy.ensures
-    (kid_refused es m (vec_list node_item m c.args.kids) c.loop-i.i c.kid_at-kid.result at c.kid_at-kid.ensures.kid
-    (frees (i.built es at).frame) c.in_err-copy.ensures.spends (i.spends es at))
-
--- ---- A list of one
-
-pub clone_only-returns-clause-tree : goal.clone_only-returns-clause-tree
-clone_only-returns-clause-tree g t c = λ e at.
-    c.fill.ensures.kids NoExprs e c.args.to.now.memory c.roomy.new.a.memory c.in_ok-list.ensures.kids (c.in_ok-copy.ensures.tree e at)
-
-pub clone_only-fill-requires : goal.clone_only-fill-requires
-clone_only-fill-requires g t c =
-    let room = c.in_ok-list.ensures in
-    let own = c.requires in
-    record {
-      held = built_held NoExprs own.tree c.args.to.now.memory c.roomy.new.a.memory c.clone_node.new.to.memory c.in_ok-list.list
-          c.in_ok-copy.copy room.kids (c.in_ok-copy.ensures.tree own.tree own.stands);
-      room = omega (arith, room.len, room.cap);
-    }
-
-pub clone_only-returns-clause-spends : goal.clone_only-returns-clause-spends
-clone_only-returns-clause-spends g t c = λ e at.
-    let room = c.in_ok-list.ensures in
-    spends_same c.fill.ensures.places
-    (spends_then room.spends (c.in_ok-copy.ensures.spends e at) (frees room.kids.frame) (omega arith) (omega arith) (omega arith))
-
-pub clone_only-returns-in_err-list-clause-spends : goal.clone_only-returns-in_err-list-clause-spends
-clone_only-returns-in_err-list-clause-spends g t c = λ e at.
-    err_spends c.from_residual.result _ c.from_residual.ensures (spends_more c.in_err-list.ensures.spends (omega arith) (omega arith))
-
-pub clone_only-returns-in_err-copy-clause-spends : goal.clone_only-returns-in_err-copy-clause-spends
-clone_only-returns-in_err-copy-clause-spends g t c = λ e at.
-    let room = c.in_ok-list.ensures in
-    err_spends c.from_residual-in_err-copy.result _ c.from_residual-in_err-copy.ensures
-    (spends_then room.spends (c.in_err-copy.ensures.spends e at) (frees room.kids.frame) (omega arith) (omega arith) (omega arith))
-
--- ---- A node
-
-pub clone_node-returns-in_ok-list-in-Neg-clause-tree : goal.clone_node-returns-in_ok-list-in-Neg-clause-tree
-clone_node-returns-in_ok-list-in-Neg-clause-tree g t c = λ e at.
-    let o = c.in-Neg.ensures.tree e at in
-    neg_copied e c.args.from.now.memory c.in-Neg.kid c.args.to.now.memory c.clone_only.new.to.memory c.in_ok-list-in-Neg.list
-    c.with_kids.result o (c.in_ok-list-in-Neg.ensures.tree o.kid o.stands) c.with_kids.ensures.kind c.with_kids.ensures.kids
-
-pub clone_node-returns-in_ok-list-in-Neg-clause-spends : goal.clone_node-returns-in_ok-list-in-Neg-clause-spends
-clone_node-returns-in_ok-list-in-Neg-clause-spends g t c = λ e at.
-    let o = c.in-Neg.ensures.tree e at in
-    neg_cost e o.kid o.is (c.in_ok-list-in-Neg.ensures.spends o.kid o.stands)
-
-pub clone_node-returns-in_err-list-in-Neg-clause-spends : goal.clone_node-returns-in_err-list-in-Neg-clause-spends
-clone_node-returns-in_err-list-in-Neg-clause-spends g t c = λ e at.
-    let o = c.in-Neg.ensures.tree e at in
-    err_spends c.from_residual-in_err-list-in-Neg.result _ c.from_residual-in_err-list-in-Neg.ensures
-    (neg_cost e o.kid o.is (c.in_err-list-in-Neg.ensures.spends o.kid o.stands))
-
-pub clone_node-returns-in-Number-clause-spends : goal.clone_node-returns-in-Number-clause-spends
-clone_node-returns-in-Number-clause-spends g t c = λ e at. spends_nothing (below_bytes e) 0 0 c.args.to.now (omega arith)
-
-pub clone_node-returns-in_ok-copy-in-Name-clause-spends : goal.clone_node-returns-in_ok-copy-in-Name-clause-spends
-clone_node-returns-in_ok-copy-in-Name-clause-spends g t c = λ e at.
-    name_cost e (text_bytes c.args.from.now.memory c.in-Name.text) (c.in-Name.ensures.1 e at) c.in_ok-copy-in-Name.ensures.spends
-
-pub clone_node-returns-in_err-copy-in-Name-clause-spends : goal.clone_node-returns-in_err-copy-in-Name-clause-spends
-clone_node-returns-in_err-copy-in-Name-clause-spends g t c = λ e at.
-    err_spends c.from_residual.result _ c.from_residual.ensures
-    (name_cost e (text_bytes c.args.from.now.memory c.in-Name.text) (c.in-Name.ensures.1 e at) c.in_err-copy-in-Name.ensures.spends)
-
-pub clone_node-returns-in_ok-list-in-Sum-clause-spends : goal.clone_node-returns-in_ok-list-in-Sum-clause-spends
-clone_node-returns-in_ok-list-in-Sum-clause-spends g t c = λ e at.
-    let o = c.in-Sum.ensures.1 e at in
-    sum_cost e o.kids o.is (c.in_ok-list-in-Sum.ensures.spends o.kids o.stand)
-
-pub clone_node-returns-in_err-list-in-Sum-clause-spends : goal.clone_node-returns-in_err-list-in-Sum-clause-spends
-clone_node-returns-in_err-list-in-Sum-clause-spends g t c = λ e at.
-    let o = c.in-Sum.ensures.1 e at in
-    err_spends c.from_residual-in_err-list-in-Sum.result _ c.from_residual-in_err-list-in-Sum.ensures
-    (sum_cost e o.kids o.is (c.in_err-list-in-Sum.ensures.spends o.kids o.stand))
-
-pub clone_node-returns-in_ok-list-in-Prod-clause-spends : goal.clone_node-returns-in_ok-list-in-Prod-clause-spends
-clone_node-returns-in_ok-list-in-Prod-clause-spends g t c = λ e at.
-    let o = c.in-Prod.ensures.1 e at in
-    prod_cost e o.kids o.is (c.in_ok-list-in-Prod.ensures.spends o.kids o.stand)
-
-pub clone_node-returns-in_err-list-in-Prod-clause-spends : goal.clone_node-returns-in_err-list-in-Prod-clause-spends
-clone_node-returns-in_err-list-in-Prod-clause-spends g t c = λ e at.
-    let o = c.in-Prod.ensures.1 e at in
-    err_spends c.from_residual-in_err-list-in-Prod.result _ c.from_residual-in_err-list-in-Prod.ensures
-    (prod_cost e o.kids o.is (c.in_err-list-in-Prod.ensures.spends o.kids o.stand))
+    (forget (row_kid ts m c.loop-i.i c.get-node.result k (frees (i.built ts at).frame) (c.in_err-copy.ensures.spends k.tree k.stands)
+    (i.spends ts at)))

@@ -1,7 +1,6 @@
 use Rattle.std.proofs.Common.{◌+◌, arith}
 use Rattle.arena_vec.specs.Growth.{amortised}
-use Rattle.arena_tree.proofs.BuildLemmas.{built_more}
-use Rattle.arena_tree.proofs.LinesLemmas.{lines_more}
+use Rattle.arena_tree.proofs.RowLemmas.{row_more}
 use Rattle.arena_tree.proofs.CloneListLemmas.{never_refused, fills}
 use Rattle.arena_tree.proofs.clone_list.fill.Goals as goal
 
@@ -12,16 +11,10 @@ unreachable-requires g c =
     (c.growth_rule.ensures.stays 88 v.raw.cap (v.raw.len + 1) (amortised 88 v.raw.cap (v.raw.len + 1)) (omega (arith, c.requires.room)))
     c.in-Err.field-0 c.in-Err.ensures
 
-pub returns-clause-kids : goal.returns-clause-kids
-returns-clause-kids g c = λ es e old one built placed.
+pub returns-clause-row : goal.returns-clause-row
+returns-clause-row g c = λ ts t old one built placed.
     let grows = c.in-Ok.ensures in
-    built_more es e old one c.args.a.now.memory c.push.new.a.memory c.args.list.now c.push.new.self c.args.node built placed grows.held
-    grows.list_is grows.frame
-
-pub returns-clause-lines : goal.returns-clause-lines
-returns-clause-lines g c = λ ss s old one built placed.
-    let grows = c.in-Ok.ensures in
-    lines_more ss s old one c.args.a.now.memory c.push.new.a.memory c.args.list.now c.push.new.self c.args.node built placed grows.held
+    row_more ts t old one c.args.a.now.memory c.args.list.now c.args.node built placed c.push.new.a.memory c.push.new.self grows.held
     grows.list_is grows.frame
 
 pub returns-clause-len : goal.returns-clause-len

@@ -9,7 +9,9 @@ use Rattle.arena_tree.specs.NodeForms.{plain_88_8}
 use Rattle.arena_tree.specs.TreesAt.{node_item}
 use Rattle.arena_tree.proofs.SpendingLemmas.{spends_more}
 use Rattle.arena_tree.proofs.CloneCostLemmas.{err_spends}
-use Rattle.arena_tree.proofs.CloneListLemmas.{room_built, room_lines}
+use Rattle.arena_tree.proofs.CloneListLemmas.{room_built}
+use Rattle.arena_tree.proofs.RowLemmas.{exprs_built}
+use Rattle.tree_rules.specs.Trees.{NoExprs}
 use Rattle.arena_tree.proofs.clone_list.roomy.Goals as goal
 
 false_true : false ≡ true → ⊥
@@ -28,8 +30,8 @@ place_block-requires g c =
     let is = c.in-Some.ensures.value in
     record { aligned = omega (arith, is.1); small = omega (arith, is.0) }
 
-pub returns-clause-kids : goal.returns-clause-kids
-returns-clause-kids g c =
+pub returns-clause-row : goal.returns-clause-row
+returns-clause-row g c =
     let new = c.place_block.new.a.memory in
     let v = c.from_raw_parts_in.ensures in
     let block = c.in_ok-block.ensures in
@@ -38,15 +40,8 @@ returns-clause-kids g c =
     (v.list new ∙ elements-empty 88 node_item.decoded 0 _ refl)
     (subst (λ (b : Block). Frame c.args.a.now.memory new [] (b ∷ [])) (sym v.block) block.frame)
 
-pub returns-clause-lines : goal.returns-clause-lines
-returns-clause-lines g c =
-    let new = c.place_block.new.a.memory in
-    let v = c.from_raw_parts_in.ensures in
-    let block = c.in_ok-block.ensures in
-    room_lines c.args.a.now.memory new c.from_raw_parts_in.result
-    (v.held new (held_as new c.in-Some.layout c.in_ok-block.block c.args.len c.in-Some.ensures.value block.held))
-    (v.list new ∙ elements-empty 88 node_item.decoded 0 _ refl)
-    (subst (λ (b : Block). Frame c.args.a.now.memory new [] (b ∷ [])) (sym v.block) block.frame)
+pub returns-clause-kids : goal.returns-clause-kids
+returns-clause-kids g c = exprs_built NoExprs _ _ _ (returns-clause-row g c)
 
 pub returns-clause-spends : goal.returns-clause-spends
 returns-clause-spends g c =

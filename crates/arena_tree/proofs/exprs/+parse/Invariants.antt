@@ -12,22 +12,22 @@ decreases-factor g l = 3 * (length l.src.now - l.at)
 abbrev pub decreases-term : goal.decreases-term
 decreases-term g l = 3 * (length l.src.now - l.at) + 1
 
-abbrev pub invariant-expr-loop-kid : goal.invariant-expr-loop-kid
-invariant-expr-loop-kid g l = record {
+abbrev pub invariant-expr-loop-stop : goal.invariant-expr-loop-stop
+invariant-expr-loop-stop g l = record {
   read : AreTerms l.src l.at l.here l.minus l.fn.a.memory l.a.memory l.list;
   few : l.list.raw.len ≤ l.here - l.at;
   spends : SpendsOnList (l.here - l.at) l.fn.a l.a l.list;
 }
 
-abbrev pub decreases-expr-loop-kid : goal.decreases-expr-loop-kid
-decreases-expr-loop-kid g l = length l.src - l.here
+abbrev pub decreases-expr-loop-stop : goal.decreases-expr-loop-stop
+decreases-expr-loop-stop g l = length l.src - l.here
 
-abbrev pub invariant-term-loop-kid : goal.invariant-term-loop-kid
-invariant-term-loop-kid g l = record {
+abbrev pub invariant-term-loop-stop : goal.invariant-term-loop-stop
+invariant-term-loop-stop g l = record {
   read : AreFactors l.src l.at l.here l.fn.a.memory l.a.memory l.list;
   few : l.list.raw.len ≤ l.here - l.at;
   spends : SpendsOnList (l.here - l.at) l.fn.a l.a l.list;
 }
 
-abbrev pub decreases-term-loop-kid : goal.decreases-term-loop-kid
-decreases-term-loop-kid g l = length l.src - l.here
+abbrev pub decreases-term-loop-stop : goal.decreases-term-loop-stop
+decreases-term-loop-stop g l = length l.src - l.here

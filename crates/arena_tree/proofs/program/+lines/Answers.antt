@@ -7,8 +7,8 @@ use Rattle.arena_tree.proofs.LinesLemmas.{lines_none, block_placed}
 use Rattle.arena_tree.proofs.StatementLemmas.{must_close_block, block_line, no_lines, one_line_more}
 use Rattle.arena_tree.proofs.program.+lines.Goals as goal
 
-pub line-brace_at-last-requires-clause-must : goal.line-brace_at-last-requires-clause-must
-line-brace_at-last-requires-clause-must g t c =
+pub line-brace_at-requires-clause-must : goal.line-brace_at-requires-clause-must
+line-brace_at-requires-clause-must g t c =
     let k = c.in_ok-list-in-Block.ensures.trees in
     must_close_block c.args.src.now c.args.at c.in-Block.behind c.in_ok-list-in-Block.stop c.args.a.now.memory c.lines.new.a.memory
     c.in_ok-list-in-Block.list
@@ -19,9 +19,9 @@ line-returns-in_ok-list-in-Block-clause-tree g t c =
     let k = c.in_ok-list-in-Block.ensures.trees.0 in
     let old = c.args.a.now.memory in
     let new = c.lines.new.a.memory in
-    block_line c.args.src.now c.args.at c.in-Block.behind c.in_ok-list-in-Block.stop c.brace_at-last.result old old new new
+    block_line c.args.src.now c.args.at c.in-Block.behind c.in_ok-list-in-Block.stop c.brace_at.result old old new new
     c.in_ok-list-in-Block.list c.with_kids.result
-    c.in-Block.ensures.0 k c.brace_at-last.ensures
+    c.in-Block.ensures.0 k c.brace_at.ensures
     (block_placed (trees_of k.part) old new c.in_ok-list-in-Block.list c.with_kids.result k.built c.with_kids.ensures.kind
     c.with_kids.ensures.kids)
 
@@ -58,7 +58,7 @@ lines-loop-list-preserved g t c = record {
       let old = c.args.a.now.memory in
       let one = c.loop-list.a.memory in
       one_line_more c.args.src.now c.args.at c.loop-list.here c.in-Some.end old one c.line.new.a.memory c.push_node.new.a.memory
-      c.in-Some.node c.loop-list.list
+      c.line.new.node c.loop-list.list
       c.push_node.new.list ks k (c.in_ok-push_node-in-Some.ensures.lines (trees_of ks.part) (line_tree k.part) old one ks.built k.placed);
 }
 
@@ -68,12 +68,12 @@ line-returns-in_ok-list-in-Block-clause-spends g t c =
       arith,
       c.in-Block.ensures.2,
       c.in_ok-list-in-Block.ensures.trees.0.later,
-      c.brace_at-last.ensures.later,
+      c.brace_at.ensures.later,
     )) (omega (
       arith,
       c.in-Block.ensures.2,
       c.in_ok-list-in-Block.ensures.trees.0.later,
-      c.brace_at-last.ensures.later,
+      c.brace_at.ensures.later,
     ))
 
 pub line-returns-in_err-list-in-Block-clause-spends : goal.line-returns-in_err-list-in-Block-clause-spends

@@ -9,9 +9,9 @@ use Rattle.arena_tree.proofs.program.let_line.Goals as goal
 
 pub semicolon_at-last-requires-clause-must : goal.semicolon_at-last-requires-clause-must
 semicolon_at-last-requires-clause-must g c =
-    must_end c.args.src.now c.args.at c.args.behind c.in_ok-value.stop c.place_name.new.a.memory c.expr.new.a.memory c.in_ok-value.value
+    must_end c.args.src.now c.args.at c.args.behind c.in_ok-stop.stop c.place_name.new.a.memory c.expr.new.a.memory c.expr.new.node
     c.requires.place
-    c.requires.first.passes c.in_ok-value.ensures.tree
+    c.requires.first.passes c.in_ok-stop.ensures.tree
 
 pub returns-clause-tree : goal.returns-clause-tree
 returns-clause-tree g c =
@@ -19,10 +19,10 @@ returns-clause-tree g c =
     let old = c.args.a.now.memory in
     let one = c.place_name.new.a.memory in
     let new = c.only.new.a.memory in
-    let e = c.in_ok-value.ensures.tree in
+    let e = c.in_ok-stop.ensures.tree in
     let text = c.in_ok-name.ensures in
-    let_line c.args.src.now c.args.at c.args.behind c.in_ok-value.stop c.semicolon_at-last.result name old one c.expr.new.a.memory new
-    c.in_ok-value.value
+    let_line c.args.src.now c.args.at c.args.behind c.in_ok-stop.stop c.semicolon_at-last.result name old one c.expr.new.a.memory new
+    c.expr.new.node
     c.let_node.result c.requires.first e c.semicolon_at-last.ensures
     (let_node_placed name (terms_tree e.part) old one new c.in_ok-name.name c.in_ok-list.list c.let_node.result text.held text.text
     text.frame
@@ -45,11 +45,11 @@ returns-in_err-name-clause-spends g c =
       c.requires.last_name,
     )))
 
-pub returns-in_err-value-clause-spends : goal.returns-in_err-value-clause-spends
-returns-in_err-value-clause-spends g c =
+pub returns-in_err-stop-clause-spends : goal.returns-in_err-stop-clause-spends
+returns-in_err-stop-clause-spends g c =
     let text = c.in_ok-name.ensures in
-    err_up_to c.args.at (length c.args.src.now) c.from_residual-in_err-value.result _ c.from_residual-in_err-value.ensures (spends_then
-    (text.spends) (c.in_err-value.ensures.spends) (frees text.frame) (omega (
+    err_up_to c.args.at (length c.args.src.now) c.from_residual-in_err-stop.result _ c.from_residual-in_err-stop.ensures (spends_then
+    (text.spends) (c.in_err-stop.ensures.spends) (frees text.frame) (omega (
       arith,
       range_length c.args.src.now c.args.begin
           c.args.end,
@@ -75,8 +75,8 @@ returns-in_err-value-clause-spends g c =
 pub returns-in_err-list-clause-spends : goal.returns-in_err-list-clause-spends
 returns-in_err-list-clause-spends g c =
     let text = c.in_ok-name.ensures in
-    let e = c.in_ok-value.ensures in
-    let read = spends_then {all = most_for (c.in_ok-value.stop - c.args.at)} {rest = 512} (text.spends) (e.spends) (frees text.frame)
+    let e = c.in_ok-stop.ensures in
+    let read = spends_then {all = most_for (c.in_ok-stop.stop - c.args.at)} {rest = 512} (text.spends) (e.spends) (frees text.frame)
     (omega (arith, range_length c.args.src.now c.args.begin c.args.end, e.tree.later, c.requires.first_name, c.requires.last_name))
     (omega (arith, range_length c.args.src.now c.args.begin c.args.end, e.tree.later, c.requires.first_name, c.requires.last_name))
     (omega (arith, range_length c.args.src.now c.args.begin c.args.end, e.tree.later, c.requires.first_name, c.requires.last_name)) in
@@ -89,8 +89,8 @@ returns-in_err-list-clause-spends g c =
 pub returns-clause-spends : goal.returns-clause-spends
 returns-clause-spends g c =
     let text = c.in_ok-name.ensures in
-    let e = c.in_ok-value.ensures in
-    let read = spends_then {all = most_for (c.in_ok-value.stop - c.args.at)} {rest = 512} (text.spends) (e.spends) (frees text.frame)
+    let e = c.in_ok-stop.ensures in
+    let read = spends_then {all = most_for (c.in_ok-stop.stop - c.args.at)} {rest = 512} (text.spends) (e.spends) (frees text.frame)
     (omega (arith, range_length c.args.src.now c.args.begin c.args.end, e.tree.later, c.requires.first_name, c.requires.last_name))
     (omega (arith, range_length c.args.src.now c.args.begin c.args.end, e.tree.later, c.requires.first_name, c.requires.last_name))
     (omega (arith, range_length c.args.src.now c.args.begin c.args.end, e.tree.later, c.requires.first_name, c.requires.last_name)) in

@@ -5,7 +5,7 @@ use Rattle.script_lines.proofs.outcomes.room_of.Goals as goal
 pub loop-i-preserved : goal.loop-i-preserved
 loop-i-preserved c =
     let before = c.loop-i.invariant in
-    let held = c.in_ok-room_held.ensures in
+    let held = c.in_ok-room_held.ensures.value in
     let line = c.in_ok-checked_add.ensures in
     let sum = c.in_ok-room.ensures in
     omega (

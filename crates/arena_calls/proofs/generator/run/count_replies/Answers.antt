@@ -1,4 +1,4 @@
-use Rattle.std.proofs.Common.{◌≡◌, ◌++◌, ◌∷◌, [], inr, ap, sym, ◌∙◌, arith, length, take}
+use Rattle.std.proofs.Common.{◌≡◌, ◌++◌, ◌∷◌, [], inr, ◌∙◌, arith, length}
 use Rattle.std.proofs.lemmas.List.{length-append}
 use Rattle.placement.specs.Generator.{gen_calls}
 use Rattle.arena_calls.proofs.GeneratingLemmas.{seed_first, seed_more, calls_more, calls_first, call_next}
@@ -10,8 +10,7 @@ loop-i-init g c =
     record {
       list = [];
       running = c.in_ok-run.ensures _;
-      seed = c.in_ok-draws.ensures.seed ∙ seed_first c.args.start;
-      byte = c.in_ok-draws.ensures.byte;
+      seed = c.new-draws.ensures ∙ seed_first c.args.start;
       tally = none;
       calls = none.calls;
       most = omega (arith, c.in_ok-reserve.ensures.room);
@@ -26,9 +25,7 @@ loop-i-preserved g c =
       list = now.list ++ served.0 ∷ [];
       running = rw (calls_more c.args.start c.loop-i.i c.loop-i.draws.seed c.call-call.result now.seed c.call-call.ensures.call)
           (served.1 _ (gen_calls c.args.start c.loop-i.i) now.list now.running);
-      seed = seed_more c.args.start c.loop-i.i c.loop-i.draws.seed c.take_back.new.self.seed now.seed
-          (c.take_back.ensures.seed ∙ c.call-call.ensures.seed);
-      byte = c.take_back.ensures.byte;
+      seed = seed_more c.args.start c.loop-i.i c.loop-i.draws.seed c.call-call.new.self.seed now.seed c.call-call.ensures.seed;
       tally = counted;
       calls = omega (arith, counted.calls, now.tally.calls, now.calls, length-append now.list (served.0 ∷ []));
       most = now.most;

@@ -1,4 +1,4 @@
-use Rattle.std.proofs.Common.{◌≡◌, ◌-◌, ◌^◌, ◌≤◌, List, length}
+use Rattle.std.proofs.Common.{◌≡◌, ◌-◌, ◌^◌, ◌≤◌, List}
 use Rattle.placement.specs.Generator.{gen_calls, seed_before}
 use Rattle.placement.specs.declared.calls.Reply.{Reply}
 use Rattle.arena_chunks.specs.Source.{view}
@@ -12,7 +12,6 @@ invariant-loop-i g l = record {
   running : IsRunning (view l.initial.arena (g.C.ChunkSource.source l.initial.chunks))
       (view l.arena (g.C.ChunkSource.source l.chunks)) l.run.names l.run.marks (gen_calls l.start l.i) list;
   seed : l.draws.seed ≡ seed_before l.start l.i;
-  byte : length l.draws.spare.items ≡ 1;
   tally : IsTally l.tally list;
   calls : l.tally.calls ≡ l.i;
   most : l.count ≤ 2 ^ 32 - 1;

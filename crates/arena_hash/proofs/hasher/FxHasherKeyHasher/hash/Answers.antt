@@ -14,3 +14,7 @@ returns-in-8 c = grind (arith, nat_tests)
 pub returns-in_default : goal.returns-in_default
 unfolding fx_of
 returns-in_default c = grind (arith, nat_tests)
+
+pub returns-then-n-gt8 : goal.returns-then-n-gt8
+unfolding fx_of
+returns-then-n-gt8 c = grind (arith, nat_tests)

@@ -1,6 +1,6 @@
 use Rattle.std.proofs.Common.{arith}
 use Rattle.arena_symbols.specs.Tables.{entry_item}
-use Rattle.arena_symbols.proofs.TableCallLemmas.{depth_is}
+use Rattle.arena_symbols.proofs.TableLemmas.{depth_is}
 use Rattle.arena_symbols.proofs.scopes.Scopes.depth.Goals as goal
 
 pub returns : goal.returns

@@ -1,7 +1,7 @@
 use Rattle.std.proofs.Common.{◌<◌, sym, ◌∙◌, arith}
 use Rattle.std.proofs.lemmas.Result.{err_from_is_err_and}
 use Rattle.arena_symbols.specs.Interner.{most_texts}
-use Rattle.arena_symbols.proofs.InternCalls.{interns_known, interns_full, interns_unplaced, interns_placed, stays, fresh}
+use Rattle.arena_symbols.proofs.InternCalls.{interns_known, interns_full, interns_unplaced, interns_placed, can_list}
 use Rattle.arena_symbols.proofs.symbols.Symbols.intern.Goals as goal
 
 pub returns-in-Some : goal.returns-in-Some
@@ -20,26 +20,16 @@ returns-in_err-placed g c =
     rw (p.1, p.2) (interns_unplaced c.args.a.now c.args.self.now c.args.text.now c.requires.held (sym c.find.ensures ∙ c.in_default.is) few
     c.min_align.ensures.state c.requires.length c.place_text.new.a c.in_err-placed.field-0.0 c.in_err-placed.ensures.placed)
 
-pub append-requires : goal.append-requires
-append-requires g c =
-    let few : c.args.self.now.texts.raw.len < most_texts = omega (arith, c.len.ensures, c.if-len-ge-MOST_TEXTS.false) in
-    let none = sym c.find.ensures ∙ c.in_default.is in
-    let placed = c.in_ok-placed.ensures in
-    let text = fresh c.args.a.now c.args.self.now c.args.text.now c.requires.held none few c.min_align.ensures.state c.requires.length
-    c.place_text.new.a c.in_ok-placed.placed placed.placed placed.text in
-    record {
-      held = (stays c.args.a.now c.args.self.now c.args.text.now c.requires.held none few c.min_align.ensures.state c.requires.length
-          c.place_text.new.a c.in_ok-placed.placed placed.placed placed.text).held;
-      text = text.readable;
-      apart = text.apart;
-      new = text.new;
-      few = few;
-    }
+pub put_listed-requires : goal.put_listed-requires
+put_listed-requires g c =
+    can_list c.args.a.now c.args.self.now c.args.text.now c.requires.held (sym c.find.ensures ∙ c.in_default.is)
+    (omega (arith, c.len.ensures, c.if-len-ge-MOST_TEXTS.false)) c.min_align.ensures.state c.requires.length c.place_text.new.a
+    c.in_ok-placed.placed c.in_ok-placed.ensures.placed c.in_ok-placed.ensures.text
 
 pub returns : goal.returns
 returns g c =
     let few : c.args.self.now.texts.raw.len < most_texts = omega (arith, c.len.ensures, c.if-len-ge-MOST_TEXTS.false) in
     interns_placed c.args.a.now c.args.self.now c.args.text.now c.requires.held (sym c.find.ensures ∙ c.in_default.is) few
     c.min_align.ensures.state c.requires.length c.place_text.new.a c.in_ok-placed.placed c.in_ok-placed.ensures.placed
-    c.in_ok-placed.ensures.text
-    c.append.new.a c.append.new.self c.append.result c.append.ensures.appends c.append.ensures.pays c.append.ensures.fits
+    c.in_ok-placed.ensures.text c.put_listed.new.a c.put_listed.new.map c.put_listed.new.list c.put_listed.result
+    (λ memory m held b. c.texts_law.ensures.texts memory m b held) c.put_listed.ensures

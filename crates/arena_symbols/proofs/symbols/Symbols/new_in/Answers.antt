@@ -1,25 +1,42 @@
-use Rattle.std.proofs.Common.{List, sym, subst, ap, arith}
+use Rattle.std.proofs.Common.{ℕ, List, [], map, refl, sym, subst, ap, ◌∙◌, arith}
+use Rattle.std.specs.List.{Contains}
+use Rattle.std.proofs.lemmas.List.{nil_from_length}
 use Rattle.arena_chunks.specs.Frame.{AreAllApart}
+use Rattle.arena_chunks.specs.declared.block.Block.{Block}
 use Rattle.arena_chunks.specs.declared.allocator.text.Str.{Str}
 use Rattle.arena_chunks.proofs.Layers.{apart_empty}
-use Rattle.arena_symbols.specs.Names.{blocks_of, contents_of}
-use Rattle.arena_symbols.proofs.InternLemmas.{new_held}
+use Rattle.arena_hash.specs.Finite.{Finite, value_of}
+use Rattle.arena_hash.specs.Maps.{pairs_in}
+use Rattle.arena_symbols.specs.NameLaws.{interner_of}
+use Rattle.arena_symbols.specs.Names.{name_kind, blocks_of, contents_of}
+use Rattle.arena_symbols.proofs.NumberLemmas.{distinct_none}
 use Rattle.arena_symbols.proofs.symbols.Symbols.new_in.Goals as goal
+
+nowhere : (b : Block) → Contains [] b → ⊥
+nowhere b among = omega (arith, among.1)
 
 pub returns : goal.returns
 returns c =
-    let map = c.new_in.ensures in
+    let map_is = c.new_in.ensures in
     let vec = c.new_in-2.ensures in
+    let none = ap (λ b. b.size) vec.block in
     record {
-      held = λ memory. new_held memory _ (map.held memory) (map.map_is memory) map.len map.block (vec.held memory) (vec.list memory)
-          vec.len;
+      held = λ memory. interner_of memory _ [] [] (vec.list memory) refl (record {
+        numbers = map_is.held memory;
+        texts = vec.held memory;
+        readable = tt;
+        apart = (((λ some more. absurd (omega (arith, map_is.block, some))), tt), (tt, tt));
+        texts_apart = tt;
+        keys = λ b among. absurd (nowhere b (subst (λ (bs : List Block). Contains bs b) (ap (map (λ (p : Str × ℕ). p.0.block))
+            (nil_from_length (pairs_in name_kind memory c.new_in.result) (sym (map_is.held memory).count ∙ map_is.len))) among));
+        count = map_is.len ∙ sym vec.len;
+        places = λ q. ap (λ (f : Finite Str ℕ). value_of (f q)) (map_is.map_is memory);
+        distinct = distinct_none;
+      });
       names = λ memory. ap (contents_of memory) (vec.list memory);
       apart = λ memory others. (
-        apart_empty _ _ others map.block,
-        (
-          apart_empty _ _ others (ap (λ b. b.size) vec.block),
-          subst (λ (l : List Str). AreAllApart (blocks_of l) others) (sym (vec.list memory)) tt,
-        ),
+        apart_empty _ _ others map_is.block,
+        (apart_empty _ _ others none, subst (λ (l : List Str). AreAllApart (blocks_of l) others) (sym (vec.list memory)) tt),
       );
-      credit = omega (arith, map.credit, vec.len, vec.cap);
+      credit = omega (arith, map_is.credit, vec.len, vec.cap);
     }

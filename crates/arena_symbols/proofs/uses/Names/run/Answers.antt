@@ -9,14 +9,10 @@ loop-call-init g c = ran_none _ _ _ c.requires
 pub loop-call-preserved : goal.loop-call-preserved
 loop-call-preserved g c =
     rw (c.push_within.ensures, c.reserve.ensures.items)
-    (ran_next _ _ _ _ _ _ c.args.calls.now c.loop-call.call-index _ _ _ c.in_ok-reply.reply
-    (omega arith) c.loop-call.invariant c.in_ok-reply.ensures)
+    (ran_next c.args.calls.now c.loop-call.call-index _ (omega arith) c.loop-call.invariant c.in_ok-reply.ensures)
 
 pub returns-in_err-reply-clause-err : goal.returns-in_err-reply-clause-err
 returns-in_err-reply-clause-err g c =
     let p = err_from_is_err_and c.from_residual.result c.from_residual.ensures.1 in
-    rw (p.1, c.reserve.ensures.items) (
-      c.loop-call.call-index,
-      omega arith,
-      ran_stopped _ _ _ _ _ _ _ _ _ _ c.loop-call.invariant _ c.in_err-reply.ensures,
-    )
+    rw (p.1, c.reserve.ensures.items)
+    (c.loop-call.call-index, omega arith, ran_stopped c.loop-call.invariant c.in_err-reply.ensures)

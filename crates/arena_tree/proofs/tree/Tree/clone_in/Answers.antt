@@ -1,41 +1,53 @@
 use Rattle.std.proofs.Common.{◌+◌, ◌/◌, subst, sym, arith}
 use Rattle.arena_tree.specs.Cloning.{clone_bytes}
-use Rattle.arena_tree.specs.Walks.{LinesHaveRoom}
-use Rattle.arena_tree.proofs.GivenLemmas.{given_room, built_given}
+use Rattle.arena_tree.specs.Subtrees.{stmt_row, HasRow}
+use Rattle.arena_tree.proofs.CloneCostLemmas.{spends_tree}
+use Rattle.arena_tree.proofs.FoldTreeLemmas.{given_row}
+use Rattle.arena_tree.proofs.GivenLemmas.{built_given}
 use Rattle.arena_tree.proofs.ParseLemmas.{spends_takes, short}
+use Rattle.arena_tree.proofs.RowLemmas.{stmts_built}
+use Rattle.arena_tree.proofs.SubtreeLemmas.{stmt_row_at}
 use Rattle.arena_tree.proofs.tree.Tree.clone_in.Goals as goal
 
-pub clone_lines-requires : goal.clone_lines-requires
-clone_lines-requires g c =
-    subst (λ used. LinesHaveRoom c.args.from.now.memory c.args.self.now.stmts (used / 88 + 1)) (sym c.used_bytes.ensures)
-    (given_room c.args.from.now.memory c.args.self.now c.requires)
+pub clone_row-requires : goal.clone_row-requires
+clone_row-requires g c =
+    subst (λ used. HasRow c.args.from.now.memory c.args.self.now.stmts (used / 88 + 1)) (sym c.used_bytes.ensures)
+    (given_row c.args.from.now.memory c.args.self.now c.requires)
+
+pub returns-in-Ok-clause-clones : goal.returns-in-Ok-clause-clones
+returns-in-Ok-clause-clones g c = λ trees means.
+    stmts_built trees _ _ _ (c.in-Ok.ensures.trees (stmt_row trees) (stmt_row_at trees _ _ means))
 
 pub returns-in-Ok-clause-tree : goal.returns-in-Ok-clause-tree
 returns-in-Ok-clause-tree g c =
-    built_given c.requires.trees c.args.to.now.memory c.clone_lines.new.to.memory (record { stmts = c.in-Ok.stmts }) c.requires.plain
-    (c.in-Ok.ensures.trees c.requires.trees c.requires.means)
+    built_given c.requires.trees c.args.to.now.memory c.clone_row.new.to.memory (record { stmts = c.in-Ok.stmts }) c.requires.plain
+    (returns-in-Ok-clause-clones g c c.requires.trees c.requires.means)
 
 pub returns-in-Ok-clause-bytes : goal.returns-in-Ok-clause-bytes
-returns-in-Ok-clause-bytes g c = λ trees means. spends_takes (clone_bytes trees) (c.in-Ok.ensures.spends trees means) (omega arith)
+returns-in-Ok-clause-bytes g c = λ trees means.
+    spends_takes (clone_bytes trees) (spends_tree trees (c.in-Ok.ensures.spends (stmt_row trees) (stmt_row_at trees _ _ means))) (omega arith)
 
 pub returns-in-Err-AllocErr-clause-clones : goal.returns-in-Err-AllocErr-clause-clones
 returns-in-Err-AllocErr-clause-clones g c = λ trees means.
-    short (clone_bytes trees) c.in-Err-AllocErr.refused
-    ((rw c.in-Err-AllocErr.field-0-is at c.in-Err-AllocErr.ensures.spends) trees means) (omega arith)
+    short (clone_bytes trees) c.in-Err-AllocErr.refused (spends_tree trees
+    ((rw c.in-Err-AllocErr.field-0-is at c.in-Err-AllocErr.ensures.spends) (stmt_row trees) (stmt_row_at trees _ _ means))) (omega arith)
 
 pub returns-in-Err-AllocErr-clause-bytes : goal.returns-in-Err-AllocErr-clause-bytes
 returns-in-Err-AllocErr-clause-bytes g c = λ trees means.
-    spends_takes (clone_bytes trees) ((rw c.in-Err-AllocErr.field-0-is at c.in-Err-AllocErr.ensures.spends) trees means) (omega arith)
+    spends_takes (clone_bytes trees) (spends_tree trees
+    ((rw c.in-Err-AllocErr.field-0-is at c.in-Err-AllocErr.ensures.spends) (stmt_row trees) (stmt_row_at trees _ _ means))) (omega arith)
 
 pub returns-in-Err-OutOfMemory-clause-clones : goal.returns-in-Err-OutOfMemory-clause-clones
 returns-in-Err-OutOfMemory-clause-clones g c = λ trees means.
-    ((rw c.in-Err-OutOfMemory.field-0-is at c.in-Err-OutOfMemory.ensures.spends) trees means).stops
+    ((rw c.in-Err-OutOfMemory.field-0-is at c.in-Err-OutOfMemory.ensures.spends) (stmt_row trees) (stmt_row_at trees _ _ means)).stops
 
 pub returns-in-Err-OutOfMemory-clause-bytes : goal.returns-in-Err-OutOfMemory-clause-bytes
 returns-in-Err-OutOfMemory-clause-bytes g c = λ trees means.
-    spends_takes (clone_bytes trees) ((rw c.in-Err-OutOfMemory.field-0-is at c.in-Err-OutOfMemory.ensures.spends) trees means)
+    spends_takes (clone_bytes trees) (spends_tree trees
+    ((rw c.in-Err-OutOfMemory.field-0-is at c.in-Err-OutOfMemory.ensures.spends) (stmt_row trees) (stmt_row_at trees _ _ means)))
     (omega arith)
 
 pub unreachable-requires : goal.unreachable-requires
 unreachable-requires g c =
-    ((rw c.in-Err-CapacityOverflow.field-0-is at c.in-Err-CapacityOverflow.ensures.spends) c.requires.trees c.requires.means).stops
+    ((rw c.in-Err-CapacityOverflow.field-0-is at c.in-Err-CapacityOverflow.ensures.spends) (stmt_row c.requires.trees)
+    (stmt_row_at c.requires.trees _ _ c.requires.means)).stops

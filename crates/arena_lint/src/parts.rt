@@ -1,0 +1,71 @@
+// Parts of one input over one pool.
+ghost use Rattle.std.specs.Prelude.{◌≡◌, ◌<◌, ◌≤◌, ◌^◌, All, length, IfOk};
+ghost use Rattle.std.specs.List.{AllZip};
+ghost use Rattle.arena_lint.specs.All.{IsLintedAlone, is_refused};
+
+use crate::all::{LintErr, Linted};
+use crate::lint::lint_one;
+use arena_chunks::{Allocator, ChunkSource};
+use arena_pool::{AllocatorPool, ChunkMaker, PoolName};
+use arena_workers::{Gate, Work, run_all};
+use lint_reports::{FileReport, Source};
+use std::alloc::Global;
+use std::sync::Wait;
+use std::thread::Threads;
+
+// Parts of an input, each of which has its report. The slice has no bytes, and is there for their lifetime alone.
+#[derive(Drop)]
+struct Parts<'a> {
+    of: &'a [u8],
+}
+
+impl<'a, C: ChunkSource> Work<C> for Parts<'a> {
+    type Piece = Source<'a>;
+
+    type Outcome = FileReport;
+
+    ghost use Rattle.arena_lint.specs.All.{lint_terms};
+
+    ghost terms = { lint_terms };
+
+    #[tactic(auto, using(crate::proofs::AllLemmas::kind_kept))]
+    fn run(&self, alloc: Global, a: &mut Allocator<C>, piece: &Source<'a>) -> FileReport {
+        lint_one(alloc, a, piece.as_slice())
+    }
+
+    fn unserved(&self, _alloc: Global) -> FileReport {
+        FileReport::OutOfMemory
+    }
+
+    fn is_refused(&self, outcome: &FileReport) -> bool {
+        matches!(outcome, FileReport::Refused)
+    }
+}
+
+/// As `lint_all`, of sources that are parts of one input, of which no byte is copied.
+///
+/// # Errors
+///
+/// Memory for the claims, the workers or their reports is wanting.
+#[tactic(auto, using(crate::proofs::AllLemmas::all_alone))]
+pub fn lint_parts<
+    R: Threads + Wait + Sync,
+    K: ChunkMaker + Drop + Send,
+    L: PoolName + Send + Sync,
+    G: Gate + Sync,
+>(
+    rt: &R,
+    alloc: Global,
+    pool: &AllocatorPool<K, L>,
+    workers: u32,
+    gate: &G,
+    sources: &[Source<'_>],
+) -> Result<Vec<Linted<K::Chunks>>, LintErr>
+    requires workers { (0 < workers) × (workers ≤ 64) }
+    requires few { length sources.now < 2 ^ 32 }
+    requires short { All (λ bytes. length bytes ≤ 2 ^ 24) sources.now }
+    ensures { IfOk result (λ all. AllZip (IsLintedAlone K.Chunks.source L.kind) sources.now all.items) }
+{
+    let work = Parts { of: &[] };
+    Ok(run_all(rt, alloc, pool, workers, gate, &work, sources)?)
+}

@@ -1,0 +1,5 @@
+pub mod TextLemmas
+pub mod ShapeLemmas
+pub mod PlaceLemmas
+pub mod EndLemmas
+pub mod MessageLemmas

@@ -1,0 +1,63 @@
+-- What the program says by its picture, its status and its message.
+use Rattle.std.specs.Prelude.{◌≡◌, ℕ, ◌+◌, ◌<◌, ◌≤◌, List, [], ◌∷◌, ◌++◌, map, codes, Option, Some, ◌⊎◌, Err}
+use Rattle.std.specs.FinMap as finite
+use Rattle.placement.specs.State.{State}
+use Rattle.placement.specs.Grammar.{CallsOf}
+use Rattle.placement.specs.declared.place.Place.{Place}
+use Rattle.placement.specs.declared.calls.Call.{Call}
+use Rattle.placement.specs.declared.calls.Reply.{Reply}
+use Rattle.arena_chunks.specs.Runs.{Runs, block_at}
+use Rattle.arena_chunks.specs.Walks.{told_chunk}
+use Rattle.arena_chunks.specs.declared.block.Block.{Block}
+use Rattle.arena_calls.specs.Streams.{Writes, WritesPart}
+use Rattle.arena_calls.specs.Ends.{Outside, HasNoFault, HasReadFault, HasWriteFault, IsUntouched}
+use Rattle.arena_calls.specs.Ends.{ReadsWhole, ReadsCalls, StopsBefore, StopsIn}
+use Rattle.arena_calls.specs.ReadAll.{limit, TakesFront}
+use Rattle.arena_calls.specs.declared.status.Status.{Status}
+use Rattle.arena_calls.specs.declared.status.Status.TheVariants.{Done, Usage, BadLine, OutOfMemory, ReadFault, WriteFault, InputTooLong}
+use Rattle.arena_picture.specs.Shapes.{shapes_of, place_from, StandsIn}
+use Rattle.arena_picture.specs.Text.{filled, svg_text}
+
+-- the picture of an arena in this state, with these blocks by name
+abbrev pub picture_of : State → List (ℕ × Block) → List ℕ
+picture_of state held =
+    let chunks = map told_chunk state.chunks in svg_text chunks (shapes_of chunks held)
+
+-- the block stands in the used part of a chunk of this state
+abbrev pub HasPlace : State → Block → Type 0
+HasPlace state block =
+    let chunks = map told_chunk state.chunks in StandsIn 0 chunks block (place_from 0 chunks block)
+
+-- The calls were run, and the picture of the arena and of the blocks that names hold then was written, as this says. Each of
+-- those that has bytes has its place in a chunk.
+pub record RunsToPicture (old new : Outside) (calls : List Call)
+    (IsWritten : Option (List ℕ) → Option (List ℕ) → List ℕ → Type 0) : Type 0 where
+  pub replies : List Reply
+  pub held : List (ℕ × Block)
+  pub runs : Runs old.arena new.arena calls replies held
+  pub written : IsWritten old.written new.written (picture_of new.arena.memory.state held)
+  pub placed : (name : ℕ) (p : Place) → finite.get runs.last.held name ≡ Some p → 0 < p.size
+      → HasPlace new.arena.memory.state (block_at runs.last.state.generation p)
+
+-- what each status says of the input, the output and the arena
+abbrev pub Draws : Status → Outside → Outside → Type 0
+Draws Done old new = HasNoFault old new × ((calls : List Call) × ReadsCalls old new calls × RunsToPicture old new calls Writes)
+Draws Usage old new = ⊥
+Draws (BadLine n) old new =
+    HasNoFault old new × IsUntouched old new × ((bytes : List ℕ) × ReadsWhole old new bytes × CallsOf bytes (Err n))
+Draws OutOfMemory old new =
+    HasNoFault old new × (StopsBefore old new ⊎ ((calls : List Call) × ReadsCalls old new calls × StopsIn old new calls))
+Draws ReadFault old new = HasReadFault old new × IsUntouched old new × TakesFront old.left new.left (λ n. n ≤ limit)
+Draws WriteFault old new =
+    HasWriteFault old new × ((calls : List Call) × ReadsCalls old new calls × RunsToPicture old new calls WritesPart)
+Draws InputTooLong old new = HasNoFault old new × IsUntouched old new × TakesFront old.left new.left (λ n. n ≡ limit + 1)
+
+-- the line that explains a status
+abbrev pub message_of : Status → List ℕ
+message_of Done = []
+message_of Usage = []
+message_of (BadLine n) = filled (codes "line $ is not understood" ++ 10 ∷ []) (n ∷ [])
+message_of OutOfMemory = codes "out of memory" ++ 10 ∷ []
+message_of ReadFault = codes "read fault" ++ 10 ∷ []
+message_of WriteFault = codes "write fault" ++ 10 ∷ []
+message_of InputTooLong = codes "input too long" ++ 10 ∷ []

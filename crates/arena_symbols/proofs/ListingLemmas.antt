@@ -1,0 +1,165 @@
+-- A value at a list's end, and its place in a map.
+use Rattle.std.proofs.Common.{◌≡◌, ℕ, ◌+◌, ◌*◌, ◌^◌, ◌<◌, ◌≤◌, List, [], ◌∷◌, ◌++◌, length, take, refl, sym, ap, subst, ◌∙◌, arith, Option, Ok, Err, length-append}
+use Rattle.std.specs.Prelude.{Result, OnErr, if◌then◌else◌}
+use Rattle.std.proofs.lemmas.List.{length-take, take_at}
+use Rattle.std.proofs.Math.Nat.{mul-le-mul_left}
+use Rattle.arena_chunks.specs.Memory.{Memory}
+use Rattle.arena_chunks.specs.Source.{View}
+use Rattle.arena_chunks.specs.Frame.{Frame, Stays}
+use Rattle.arena_chunks.specs.declared.block.Block.{Block}
+use Rattle.arena_chunks.proofs.Layers.{blocks_turned, frame_behind, frame_both, frame_keeps}
+use Rattle.arena_items.specs.Costs.{Costs, farthest}
+use Rattle.arena_items.specs.Layout.{IsItemLayout}
+use Rattle.arena_items.specs.declared.item.Item.{Ghosts}
+use Rattle.arena_items.specs.declared.room.AllocError.{AllocError}
+use Rattle.arena_items.specs.declared.room.AllocError.TheVariants.{CapacityOverflow}
+use Rattle.arena_items.proofs.Layers.{length-elements}
+use Rattle.arena_vec.specs.Changes.{Grows, Becomes}
+use Rattle.arena_vec.specs.Credit.{credit_of as list_credit}
+use Rattle.arena_vec.specs.Growth.{amortised_growth}
+use Rattle.arena_vec.specs.Vecs.{IsVecIn, vec_list}
+use Rattle.arena_vec.specs.declared.vec.Vec.{Vec}
+use Rattle.arena_hash.specs.Accounts.{unit_of, credit_of}
+use Rattle.arena_hash.specs.Changes.{Puts, is_value}
+use Rattle.arena_hash.specs.Contents.{Kind, content_in}
+use Rattle.arena_hash.specs.Finite.{has, with_pair}
+use Rattle.arena_hash.specs.Maps.{StaysMap, map_in, footprint}
+use Rattle.arena_hash.specs.declared.hasher.FxHasher.{FxHasher}
+use Rattle.arena_hash.specs.declared.map.HashMap.{HashMap}
+use Rattle.arena_symbols.specs.Listing.{CanList, Lists}
+use Rattle.arena_symbols.specs.Paying.{Pays, far_up}
+use Rattle.arena_symbols.proofs.BesideLemmas.{map_beside, vec_beside}
+use Rattle.arena_symbols.proofs.PayLemmas.{Paid, pays_more, pays_told, pays_then, pays_push, pays_insert, insert_fits, credit_less}
+
+pub other_error : {X Y : Type 0} (e d : AllocError) → ◌≡◌ {A = Result X AllocError} (Err e) (Err d)
+    → ◌≡◌ {A = Result Y AllocError} (Err e) (Err d)
+other_error e d is = grind (arith, is)
+
+-- so many values, and their bytes, fit 32 bits
+pub fits_both : (n size : ℕ) → 4 ≤ size → n * (2 * size) ≤ 2 ^ 32 → (n < 2 ^ 32) × (n * size < 2 ^ 32)
+fits_both n size some few =
+    let eight : n * 8 ≤ n * (2 * size) = mul-le-mul_left n (let h : 8 ≤ 2 * size = omega (arith, some) in h) in
+    (omega (arith, eight, few), omega (arith, few))
+
+module _ {K T : Type 0} {item : Ghosts T} {k : Kind K ℕ FxHasher} {old mid : Memory} {m : HashMap K ℕ FxHasher} {v : Vec T} {key : K}
+    {after : List Block} (can : CanList item k old m v key) (frame : Frame old mid (v.raw.block ∷ []) after) where
+  -- Beside a push the map is as it was, and so is the key's text.
+  pub stays : StaysMap k old mid after m
+  stays = map_beside frame k m can.map can.beside
+
+  pub text : Stays old mid after (k.key.text key)
+  text = frame_keeps old mid (v.raw.block ∷ []) after (k.key.text key) frame can.readable can.apart.1
+
+module _ {K T : Type 0} (paid : Paid) {item : Ghosts T} (plain : IsItemLayout item.SIZE item.ALIGN) {k : Kind K ℕ FxHasher}
+    (old mid : View) {m : HashMap K ℕ FxHasher} {v : Vec T} (w : Vec T) {key : K} (value : T) (can : CanList item k old.memory m v key)
+    (one : old.memory.state.min_align ≡ 1) where
+  abbrev list : List T
+  list = vec_list item old.memory v
+
+  abbrev Pushes : Result (Unit {0}) AllocError → Type 0
+  Pushes result = Grows item old mid v (amortised_growth item.SIZE v.raw.cap (v.raw.len + 1))
+      (vec_list item old.memory v ++ value ∷ []) w result
+
+  many : length (vec_list item old.memory v ++ value ∷ []) ≡ v.raw.len + 1
+  many = simp (length-append, length-elements) (omega arith)
+
+  pays_list : (result : Result (Unit {0}) AllocError) → (result ≡ Err CapacityOverflow → ⊥) → Pushes result
+      → Pays farthest (4 * item.SIZE + 7) (list_credit item.SIZE v.raw.len v.raw.cap) (list_credit item.SIZE w.raw.len w.raw.cap) old mid
+      result
+  pays_list result fits grows =
+      pays_push paid item plain can.some can.small can.low old mid v w (list ++ value ∷ []) one can.list can.few many result fits grows
+
+  -- The push is refused.
+  pub unlisted : (e : AllocError) → (◌≡◌ {A = Result (Unit {0}) AllocError} (Err e) (Err CapacityOverflow) → ⊥) → Pushes (Err e)
+      → Lists item k old mid m v key value m w (Err e)
+  unlisted e fits grows =
+      let same = stays can grows.frame in
+      record {
+        map = same.held;
+        list = grows.held;
+        apart = same.apart.0.0;
+        place = tt;
+        list_is = tt;
+        map_is = tt;
+        len = tt;
+        kept = (refl, (λ i. vec_list item (grows.err.1 i) (grows.err.0 i)), same.means, same.blocks);
+        fits = λ is. fits (other_error {X = ℕ} e CapacityOverflow is);
+        pays = pays_told (λ _. 0) (Err e) (pays_more (credit_of k m) (omega arith) (omega arith) refl (omega arith)
+            (pays_list (Err e) fits grows));
+        frame = frame_behind old.memory mid.memory (v.raw.block ∷ []) (w.raw.block ∷ []) (m.table.block ∷ []) grows.frame;
+      }
+
+  module _ (grows : Pushes (Ok tt)) (new : View) (n : HashMap K ℕ FxHasher) (result : Result (Option ℕ) AllocError)
+      (costs : Costs farthest (2 * unit_of k) (credit_of k m) (credit_of k n) mid new result)
+      (puts : Puts k mid new m key v.raw.len is_value n result) where
+    -- A push, and then an insert, after which some of the credit may be gone.
+    both : (after : ℕ) → after ≤ list_credit item.SIZE w.raw.len w.raw.cap + credit_of k n
+        → OnErr result (after ≤ list_credit item.SIZE v.raw.len v.raw.cap + credit_of k m)
+        → Pays (far_up + 2 ^ 61) (4 * item.SIZE + 7 + 2 * unit_of k) (list_credit item.SIZE v.raw.len v.raw.cap + credit_of k m) after old
+        new result
+    both after less err =
+        let first : Pays (far_up + 2 ^ 61) (4 * item.SIZE + 7) (list_credit item.SIZE v.raw.len v.raw.cap + credit_of k m)
+        (list_credit item.SIZE w.raw.len w.raw.cap + credit_of k m) old mid (Ok tt) =
+        pays_more (credit_of k m) (omega arith) (omega arith) refl (omega arith) (pays_list (Ok tt) (λ no. cc) grows) in
+        let second : Pays (far_up + 2 ^ 61 + 2 ^ 61) (2 * unit_of k) (list_credit item.SIZE w.raw.len w.raw.cap + credit_of k m) after
+        mid new result =
+        pays_more (list_credit item.SIZE w.raw.len w.raw.cap) (omega arith) (omega arith) (omega arith) (omega (arith, less))
+        (pays_insert k is_value mid new m n key v.raw.len (2 * unit_of k) result costs puts) in
+        pays_then tt grows.frame.is_growing grows.frame.allocated err first second
+
+  module _ (grows : Pushes (Ok tt)) (new : View) (n : HashMap K ℕ FxHasher) where
+    pub listed : (before : Option ℕ) → Costs farthest (2 * unit_of k) (credit_of k m) (credit_of k n) mid new (Ok before)
+        → Puts k mid new m key v.raw.len is_value n (Ok before) → Lists item k old new m v key value n w (Ok v.raw.len)
+    listed before costs puts =
+        let same = stays can grows.frame in
+        let vec = vec_beside puts.frame item w grows.held (blocks_turned m.table.block w.raw.block same.apart.0.0, tt) in
+        let content : content_in k.key mid.memory key ≡ content_in k.key old.memory key =
+        ap (k.key.content key) (text can grows.frame).bytes in
+        record {
+          map = puts.held;
+          list = vec.held;
+          apart = blocks_turned w.raw.block n.table.block vec.apart.0;
+          place = refl;
+          list_is = vec.list_is ∙ grows.list_is;
+          map_is = puts.map_is ∙ (λ i. with_pair (same.means i) (content i) key v.raw.len);
+          len = puts.len ∙ (λ i. if has (same.means i) (content i) then m.len else m.len + 1);
+          kept = tt;
+          fits = λ no. cc;
+          pays = pays_told (λ _. v.raw.len) (Ok before) (both grows new n (Ok before) costs puts _ (omega arith) tt);
+          frame = frame_both old.memory mid.memory new.memory (m.table.block ∷ []) (v.raw.block ∷ []) (n.table.block ∷ [])
+              (w.raw.block ∷ []) grows.frame puts.frame;
+        }
+
+    -- The insert is refused, and the list's end is cut off.
+    pub cut_off : (u : Vec T) (e : AllocError)
+        → Costs {X = Option ℕ} farthest (2 * unit_of k) (credit_of k m) (credit_of k n) mid new (Err e)
+        → Puts {X = Option ℕ} k mid new m key v.raw.len is_value n (Err e) → v.raw.cap ≤ w.raw.cap
+        → Becomes item mid mid w (take v.raw.len (vec_list item mid.memory w)) u → Lists item k old new m v key value n u (Err e)
+    cut_off u e costs puts room cut =
+        let same = stays can grows.frame in
+        let more : w.raw.len ≡ v.raw.len + 1 = grows.len ∙ many in
+        let len : u.raw.len ≡ v.raw.len = cut.len ∙ simp (length-take, length-elements) (omega (arith, more)) in
+        let front : vec_list item mid.memory u ≡ list = cut.list_is ∙ ap (take v.raw.len) grows.list_is
+        ∙ take_at list (value ∷ []) v.raw.len (length-elements _ _ _ _) in
+        let back = credit_less item.SIZE u.raw.len v.raw.len v.raw.cap u.raw.cap (omega (arith, len)) (omega (arith, cut.cap, room)) in
+        let less = credit_less item.SIZE u.raw.len w.raw.len w.raw.cap u.raw.cap (omega (arith, len, more)) (omega (arith, cut.cap)) in
+        record {
+          map = puts.held;
+          list = subst (λ (x : Memory). IsVecIn item x u) (sym puts.err.1) cut.held;
+          apart = rw (puts.err.0, cut.block) same.apart.0.0;
+          place = tt;
+          list_is = tt;
+          map_is = tt;
+          len = tt;
+          kept = (
+            puts.err.0,
+            ap (λ (x : Memory). vec_list item x u) puts.err.1 ∙ front,
+            ap (λ (x : Memory). map_in k x m) puts.err.1 ∙ same.means,
+            ap (λ (x : Memory). footprint k x m) puts.err.1 ∙ same.blocks,
+          );
+          fits = λ is. insert_fits k is_value mid new m n key v.raw.len (Err e) can.few_keys puts (other_error e CapacityOverflow is);
+          pays = pays_told (λ _. 0) (Err e) (both grows new n (Err e) costs puts _ (omega (arith, less))
+              (omega (arith, back, puts.costs.refused.1)));
+          frame = rw cut.block (frame_both old.memory mid.memory new.memory (m.table.block ∷ []) (v.raw.block ∷ []) (n.table.block ∷ [])
+              (w.raw.block ∷ []) grows.frame puts.frame);
+        }

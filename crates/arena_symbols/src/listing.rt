@@ -1,0 +1,36 @@
+// A list of values, and a map that tells under each key where one of them stands.
+ghost use Rattle.arena_symbols.specs.Listing.{CanList, Lists, place_kind};
+
+use arena_chunks::{Allocator, ChunkSource};
+use arena_hash::{ArenaKey, FxHasher, HashMap, insert_law};
+use arena_items::{Grown, Item};
+use arena_vec::Vec;
+use arena_vec::laws::{growth_costs, vector_costs};
+
+// Puts a value at the list's end, and its place under a key into the map. Refused, both are as they were.
+#[inline]
+pub(crate) fn put_listed<K: ArenaKey, T: Item, C: ChunkSource>(
+    map: &mut HashMap<K, u32>,
+    list: &mut Vec<T>,
+    a: &mut Allocator<C>,
+    key: K,
+    value: T,
+) -> Grown<u32>
+    requires { CanList T.Item (place_kind K.Item K.key) a.old.memory map.old list.old key }
+    ensures { Lists T.Item (place_kind K.Item K.key) a.old a.new map.old list.old key value map.new list.new result }
+{
+    insert_law::<K, u32, FxHasher>();
+    growth_costs();
+    vector_costs::<T, ()>();
+    // So the least alignment is known to be 1.
+    let _ = a.min_align();
+    let at = list.len();
+    list.push(a, value)?;
+    match map.insert(a, key, at) {
+        Ok(_) => Ok(at),
+        Err(e) => {
+            list.truncate(at);
+            Err(e)
+        }
+    }
+}

@@ -1,0 +1,186 @@
+-- Lists of nodes that are built, one tree after another.
+use Rattle.std.proofs.Common.{◌≡◌, ℕ, suc, zero, ◌+◌, ◌-◌, ◌<◌, ◌≤◌, ap, sym, refl, subst, ◌∙◌, Some, List, [], ◌∷◌, ◌++◌, append_assoc, take, drop, length, arith}
+use Rattle.std.specs.Prelude.{slice_get}
+use Rattle.arena_chunks.specs.Memory.{Memory}
+use Rattle.arena_chunks.specs.Frame.{Frame, ArePairwiseApart}
+use Rattle.arena_chunks.proofs.Layers.{all_apart, apart_both, pairwise_both, all_from_both, frame_then, frame_beside}
+use Rattle.arena_items.specs.Footprint.{AreReadable, Agree}
+use Rattle.arena_vec.specs.Vecs.{IsVecIn, vec_list}
+use Rattle.arena_vec.specs.declared.vec.Vec.{Vec}
+use Rattle.tree_rules.specs.Trees.{Exprs, And, Stmt, Stmts, NoStmts, Then, with_stmt}
+use Rattle.arena_tree.specs.declared.node.Node.{Node}
+use Rattle.arena_tree.specs.TreesAt.{node_item, exprs_blocks, expr_blocks, IsBuilt}
+use Rattle.arena_tree.specs.StmtsAt.{stmts_blocks, stmt_blocks, AreBuilt}
+use Rattle.arena_tree.specs.TreeLaws.{list_same, list_held, expr_readable, expr_names, expr_again, readable_both, readable_each, agree_each}
+use Rattle.arena_tree.specs.StmtLaws.{stmt_readable, stmt_names, stmt_again}
+use Rattle.arena_tree.specs.Subtrees.{Subtree, OfExpr, OfStmt, SubtreeAt, blocks_at, below_it, row_nodes, HasTree, expr_row, stmt_row, RowAt, row_blocks, IsTreePlaced, IsRowBuilt}
+use Rattle.arena_tree.proofs.StayLemmas.{stay_all, turned_one, frame_behind}
+use Rattle.arena_tree.proofs.WalkLemmas.{some_node, none_node}
+use Rattle.arena_tree.proofs.SubtreeLemmas.{row_exprs_at, stmt_row_at, row_stmts_at, append_none}
+
+-- ---- The same bytes in all blocks: the same trees on the same blocks
+
+it_readable : (t : Subtree) (m : Memory) (n : Node) → SubtreeAt t m n → AreReadable m.state (blocks_at t m n)
+it_readable (OfExpr e) m n at = expr_readable e m n at
+it_readable (OfStmt s) m n at = stmt_readable s m n at
+
+row_readable : (ts : List Subtree) (m : Memory) (ns : List Node) → RowAt ts m ns → AreReadable m.state (row_blocks ts m ns)
+row_readable (t ∷ ts) m (n ∷ ns) at =
+    readable_both m (blocks_at t m n) (row_blocks ts m ns) (it_readable t m n at.0) (row_readable ts m ns at.1)
+row_readable [] m ns at = tt
+row_readable (t ∷ ts) m [] at = absurd at
+
+it_stays : (t : Subtree) (a c : Memory) (n : Node) → SubtreeAt t a n → Agree a c (blocks_at t a n) → AreReadable c.state (blocks_at t a n)
+    → SubtreeAt t c n × (blocks_at t c n ≡ blocks_at t a n)
+it_stays (OfExpr e) a c n at same reads = (expr_again e a c n at same reads, expr_names e a c n same)
+it_stays (OfStmt s) a c n at same reads = (stmt_again s a c n at same reads, stmt_names s a c n same)
+
+row_stays : (ts : List Subtree) (a c : Memory) (ns : List Node) → RowAt ts a ns → Agree a c (row_blocks ts a ns)
+    → AreReadable c.state (row_blocks ts a ns) → RowAt ts c ns × (row_blocks ts c ns ≡ row_blocks ts a ns)
+row_stays (t ∷ ts) a c (n ∷ ns) at same reads =
+    let agree = agree_each a c (blocks_at t a n) (row_blocks ts a ns) same in
+    let read = readable_each c (blocks_at t a n) (row_blocks ts a ns) reads in
+    let one = it_stays t a c n at.0 agree.0 read.0 in
+    let rest = row_stays ts a c ns at.1 agree.1 read.1 in
+    ((one.0, rest.0), λ i. one.1 i ++ rest.1 i)
+row_stays [] a c [] at same reads = (tt, refl)
+row_stays ts a c ns at same reads = absurd at
+
+-- ---- One tree more at the end
+
+one_more : (ts : List Subtree) (t : Subtree) (m : Memory) (ns : List Node) (n : Node) → RowAt ts m ns → SubtreeAt t m n
+    → RowAt (ts ++ t ∷ []) m (ns ++ n ∷ []) × (row_blocks (ts ++ t ∷ []) m (ns ++ n ∷ []) ≡ row_blocks ts m ns ++ blocks_at t m n)
+one_more [] t m [] n at one = ((one, tt), append_none (blocks_at t m n))
+one_more (r ∷ ts) t m (k ∷ ns) n at one =
+    let more = one_more ts t m ns n at.1 one in (
+      (at.0, more.0),
+      ap (λ bs. blocks_at r m k ++ bs) more.1 ∙ sym (append_assoc (blocks_at r m k) (row_blocks ts m ns) (blocks_at t m n)),
+    )
+one_more ts t m ns n at one = absurd at
+
+-- A tree is placed, and put at the end of a list that is built.
+module _ (ts : List Subtree) (t : Subtree) (old one two : Memory) (v : Vec Node) (n : Node) (built : IsRowBuilt ts old one v)
+    (placed : IsTreePlaced t one two n) where
+  stands : SubtreeAt t two n × ArePairwiseApart (blocks_at t two n) × Frame one two [] (blocks_at t two n)
+  stands = by t placed
+    where
+      by : (t : Subtree) → IsTreePlaced t one two n
+          → SubtreeAt t two n × ArePairwiseApart (blocks_at t two n) × Frame one two [] (blocks_at t two n)
+      by (OfExpr e) p = (p.stands, p.apart, p.frame)
+      by (OfStmt s) p = (p.stands, p.apart, p.frame)
+
+  pub row_held : IsVecIn node_item two v
+  row_held = list_held one two v built.held
+      (stay_all one two [] (blocks_at t two n) (v.raw.block ∷ []) stands.2 (built.held.place.readable, tt) (tt, tt)).readable.0
+
+  pub row_more : (new : Memory) (w : Vec Node) → IsVecIn node_item new w
+      → vec_list node_item new w ≡ vec_list node_item two v ++ n ∷ []
+      → Frame two new (v.raw.block ∷ []) (w.raw.block ∷ []) → IsRowBuilt (ts ++ t ∷ []) old new w
+  row_more new w held list_is frame =
+      let vb = v.raw.block in
+      let wb = w.raw.block in
+      let ns = vec_list node_item one v in
+      let eb = row_blocks ts one ns in
+      let nb = blocks_at t two n in
+      let own = stay_all one two [] nb (vb ∷ []) stands.2 (built.held.place.readable, tt) (tt, tt) in
+      let both : Frame one new (vb ∷ []) (wb ∷ nb)
+      = frame_then one two new (vb ∷ []) (vb ∷ nb) (wb ∷ nb) (frame_behind one two nb (vb ∷ []) stands.2)
+      (frame_beside two new (vb ∷ []) (wb ∷ []) nb frame) in
+      let rest = stay_all one new (vb ∷ []) (wb ∷ nb) eb both (row_readable ts one ns built.stand) (all_apart vb eb built.apart.0) in
+      let last = stay_all two new (vb ∷ []) (wb ∷ []) nb frame (it_readable t two n stands.0) (all_apart vb nb own.apart.0) in
+      let trees = row_stays ts one new ns built.stand rest.agree rest.readable in
+      let tree = it_stays t two new n stands.0 last.agree last.readable in
+      let more = one_more ts t new ns n trees.0 tree.0 in
+      let list : vec_list node_item new w ≡ ns ++ n ∷ [] = list_is ∙ ap (λ ks. ks ++ n ∷ []) (list_same one two v own.agree.0) in
+      let blocks : row_blocks (ts ++ t ∷ []) new (vec_list node_item new w) ≡ eb ++ nb
+      = ap (row_blocks (ts ++ t ∷ []) new) list ∙ more.1 ∙ (λ i. trees.1 i ++ tree.1 i) in
+      let each = (all_from_both eb (wb ∷ []) nb).0 rest.apart in
+      record {
+        held = held;
+        stand = subst (RowAt (ts ++ t ∷ []) new) (sym list) more.0;
+        apart = subst (λ bs. ArePairwiseApart (wb ∷ bs)) (sym blocks) (
+          apart_both wb.addr wb.size eb nb (turned_one wb eb each.0) (turned_one wb nb last.apart),
+          pairwise_both eb nb built.apart.1 stands.1 each.1,
+        );
+        frame = subst (λ bs. Frame old new [] (wb ∷ bs)) (sym blocks) (frame_then old two new [] (vb ∷ (eb ++ nb)) (wb ∷ (eb ++ nb))
+            (frame_then old one two [] (vb ∷ eb) (vb ∷ (eb ++ nb)) built.frame (frame_behind one two nb (vb ∷ eb) stands.2))
+            (frame_beside two new (vb ∷ []) (wb ∷ []) (eb ++ nb) frame));
+      }
+
+-- ---- Lists of expressions, and of statements
+
+expr_blocks_are : (es : Exprs) (m : Memory) (ns : List Node) → row_blocks (expr_row es) m ns ≡ exprs_blocks es m ns
+expr_blocks_are (And e rest) m (n ∷ ns) = ap (λ bs. expr_blocks e m n ++ bs) (expr_blocks_are rest m ns)
+expr_blocks_are es m ns = refl
+
+pub exprs_built : (es : Exprs) (old new : Memory) (v : Vec Node) → IsRowBuilt (expr_row es) old new v → IsBuilt es old new v
+exprs_built es old new v b =
+    let ns = vec_list node_item new v in
+    let is = expr_blocks_are es new ns in
+    record {
+      held = b.held;
+      stand = row_exprs_at es new ns b.stand;
+      apart = subst (λ bs. ArePairwiseApart (v.raw.block ∷ bs)) is b.apart;
+      frame = subst (λ bs. Frame old new [] (v.raw.block ∷ bs)) is b.frame;
+    }
+
+stmt_blocks_are : (ss : Stmts) (m : Memory) (ns : List Node) → row_blocks (stmt_row ss) m ns ≡ stmts_blocks ss m ns
+stmt_blocks_are (Then s rest) m (n ∷ ns) = ap (λ bs. stmt_blocks s m n ++ bs) (stmt_blocks_are rest m ns)
+stmt_blocks_are ss m ns = refl
+
+pub stmts_built : (ss : Stmts) (old new : Memory) (v : Vec Node) → IsRowBuilt (stmt_row ss) old new v → AreBuilt ss old new v
+stmts_built ss old new v b =
+    let ns = vec_list node_item new v in
+    let is = stmt_blocks_are ss new ns in
+    record {
+      held = b.held;
+      stand = row_stmts_at ss new ns b.stand;
+      apart = subst (λ bs. ArePairwiseApart (v.raw.block ∷ bs)) is b.apart;
+      frame = subst (λ bs. Frame old new [] (v.raw.block ∷ bs)) is b.frame;
+    }
+
+pub stmts_row : (ss : Stmts) (old new : Memory) (v : Vec Node) → AreBuilt ss old new v → IsRowBuilt (stmt_row ss) old new v
+stmts_row ss old new v b =
+    let ns = vec_list node_item new v in
+    let is = sym (stmt_blocks_are ss new ns) in
+    record {
+      held = b.held;
+      stand = stmt_row_at ss new ns b.stand;
+      apart = subst (λ bs. ArePairwiseApart (v.raw.block ∷ bs)) is b.apart;
+      frame = subst (λ bs. Frame old new [] (v.raw.block ∷ bs)) is b.frame;
+    }
+
+pub row_with : (ss : Stmts) (s : Stmt) → stmt_row (with_stmt ss s) ≡ stmt_row ss ++ OfStmt s ∷ []
+row_with NoStmts s = refl
+row_with (Then r ss) s = ap (λ ts. OfStmt r ∷ ts) (row_with ss s)
+
+-- ---- The tree whose turn it is
+
+pub record Kid (ts : List Subtree) (m : Memory) (i : ℕ) (k : Node) : Type 0 where
+  pub tree : Subtree
+  pub stands : SubtreeAt tree m k
+  pub front : take (suc i) ts ≡ take i ts ++ tree ∷ []
+  pub rest : drop i ts ≡ tree ∷ drop (suc i) ts
+  pub low : 1 + below_it tree ≤ row_nodes ts
+
+pub kid_of : (ts : List Subtree) (m : Memory) (ns : List Node) (i : ℕ) (k : Node) → RowAt ts m ns → slice_get ns i ≡ Some k → Kid ts m i k
+kid_of [] m [] i k at is = absurd (none_node k is)
+kid_of (t ∷ ts) m (n ∷ ns) zero k at is =
+    record { tree = t; stands = subst (SubtreeAt t m) (some_node n k is) at.0; front = refl; rest = refl; low = omega arith }
+kid_of (t ∷ ts) m (n ∷ ns) (suc i) k at is =
+    let r = kid_of ts m ns i k at.1 is in
+    record { tree = r.tree; stands = r.stands; front = ap (λ rs. t ∷ rs) r.front; rest = r.rest; low = omega (arith, r.low) }
+kid_of ts m ns i k at is = absurd at
+
+pub kid_can : (ts : List Subtree) (m : Memory) (ns : List Node) (i room : ℕ) (k : Node) → RowAt ts m ns → slice_get ns i ≡ Some k
+    → row_nodes ts < room → HasTree m k (room - 1)
+kid_can ts m ns i room k at is low =
+    let r = kid_of ts m ns i k at is in
+    record { tree = r.tree; stands = r.stands; low = omega (arith, r.low, low) }
+
+pub row_whole : (ts : List Subtree) (m : Memory) (ns : List Node) (i : ℕ) → RowAt ts m ns → length ns ≤ i → take i ts ≡ ts
+row_whole [] m ns zero at h = refl
+row_whole [] m ns (suc i) at h = refl
+row_whole (t ∷ ts) m (n ∷ ns) zero at h = absurd (omega (arith, h))
+row_whole (t ∷ ts) m (n ∷ ns) (suc i) at h = ap (λ rs. t ∷ rs) (row_whole ts m ns i at.1 (omega (arith, h)))
+row_whole (t ∷ ts) m [] i at h = absurd at
