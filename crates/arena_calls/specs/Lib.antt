@@ -4,3 +4,4 @@ pub mod Lines
 pub mod Ends
 pub mod Tallies
 pub mod Arguments
+pub mod Messages

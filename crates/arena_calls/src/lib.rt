@@ -5,6 +5,7 @@ mod arguments;
 mod generator;
 pub mod laws;
 mod lines;
+mod messages;
 mod replies;
 mod status;
 mod streams;
@@ -14,6 +15,7 @@ mod whole_run;
 
 pub use arguments::is_one_word;
 pub use lines::{LinesErr, parse_calls};
+pub use messages::explain;
 pub use replies::Text;
 pub use status::Status;
 pub use streams::{

@@ -142,7 +142,8 @@ pub let_weight : (s : Stmt) (m : Memory) (n : Node) → StmtAt s m n → n.kind 
 let_weight s m n at is = sym (ap weight (line_seen kind.Let m n is s at).3)
 
 pub let_finds : (old new : Memory) (k l : Known) (first mid found : List Finding) (result : Result (Unit {0}) AllocError) (s : Stmt)
-    (n : Node) → StmtAt s old n → n.kind ≡ kind.Let → ((sets : List Names) → Knows old k sets → mid ≡ first ++ undefined sets (stmt_names s))
+    (n : Node) → StmtAt s old n → n.kind ≡ kind.Let
+    → ((sets : List Names) → Knows old k sets → mid ≡ first ++ undefined sets (stmt_names s))
     → Finds old new k l mid found result (defined (text_bytes old n.text)) → Finds old new k l first found result (walk_stmt s)
 unfolding walk_stmt
 let_finds old new k l first mid found (Err e) s n at is uses finds sets knows = tt

@@ -217,7 +217,8 @@ module _ {old now : View} {k l : Known} {first found : List Finding} (v : Vec No
   -- All are behind.
   module _ (ss : Stmts) (at : StmtsAt ss old.memory (vec_list node_item old.memory v)) (last : i ≡ v.raw.len) where
     none : stmts_from i ss ≡ NoStmts
-    none = ap (λ (k : ℕ). stmts_from k ss) (last ∙ sym (list_len old.memory v)) ∙ all_from ss old.memory (vec_list node_item old.memory v) at
+    none = ap (λ (k : ℕ). stmts_from k ss) (last ∙ sym (list_len old.memory v))
+        ∙ all_from ss old.memory (vec_list node_item old.memory v) at
 
     pub walking_end : (sets : List Names) → Knows old.memory k sets
         → Knows now.memory l (walk ss sets).known × (found ≡ first ++ (walk ss sets).findings)

@@ -2,4 +2,3 @@ pub mod TextLemmas
 pub mod ShapeLemmas
 pub mod PlaceLemmas
 pub mod EndLemmas
-pub mod MessageLemmas

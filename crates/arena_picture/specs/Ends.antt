@@ -1,5 +1,5 @@
 -- What the program says by its picture, its status and its message.
-use Rattle.std.specs.Prelude.{◌≡◌, ℕ, ◌+◌, ◌<◌, ◌≤◌, List, [], ◌∷◌, ◌++◌, map, codes, Option, Some, ◌⊎◌, Err}
+use Rattle.std.specs.Prelude.{◌≡◌, ℕ, ◌+◌, ◌<◌, ◌≤◌, List, map, Option, Some, ◌⊎◌, Err}
 use Rattle.std.specs.FinMap as finite
 use Rattle.placement.specs.State.{State}
 use Rattle.placement.specs.Grammar.{CallsOf}
@@ -16,7 +16,7 @@ use Rattle.arena_calls.specs.ReadAll.{limit, TakesFront}
 use Rattle.arena_calls.specs.declared.status.Status.{Status}
 use Rattle.arena_calls.specs.declared.status.Status.TheVariants.{Done, Usage, BadLine, OutOfMemory, ReadFault, WriteFault, InputTooLong}
 use Rattle.arena_picture.specs.Shapes.{shapes_of, place_from, StandsIn}
-use Rattle.arena_picture.specs.Text.{filled, svg_text}
+use Rattle.arena_picture.specs.Text.{svg_text}
 
 -- the picture of an arena in this state, with these blocks by name
 abbrev pub picture_of : State → List (ℕ × Block) → List ℕ
@@ -51,13 +51,3 @@ Draws ReadFault old new = HasReadFault old new × IsUntouched old new × TakesFr
 Draws WriteFault old new =
     HasWriteFault old new × ((calls : List Call) × ReadsCalls old new calls × RunsToPicture old new calls WritesPart)
 Draws InputTooLong old new = HasNoFault old new × IsUntouched old new × TakesFront old.left new.left (λ n. n ≡ limit + 1)
-
--- the line that explains a status
-abbrev pub message_of : Status → List ℕ
-message_of Done = []
-message_of Usage = []
-message_of (BadLine n) = filled (codes "line $ is not understood" ++ 10 ∷ []) (n ∷ [])
-message_of OutOfMemory = codes "out of memory" ++ 10 ∷ []
-message_of ReadFault = codes "read fault" ++ 10 ∷ []
-message_of WriteFault = codes "write fault" ++ 10 ∷ []
-message_of InputTooLong = codes "input too long" ++ 10 ∷ []

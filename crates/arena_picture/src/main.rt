@@ -1,12 +1,11 @@
 //! Reads calls on a bump arena from standard input, and prints a picture of the arena after them, as SVG.
 #![tactic(auto)]
 
-mod messages;
 mod picture;
 mod shapes;
 mod text;
 
-use arena_calls::{StdInput, StdOutput};
+use arena_calls::{StdInput, StdOutput, explain};
 use arena_chunks::{Arena, MemoryChunks};
 use std::io::{self, Lock};
 use std::process::ExitCode;
@@ -19,6 +18,6 @@ fn main(rt: HostRuntime) -> ExitCode {
     let mut output = StdOutput::new(io::writer(&rt));
     let mut messages = StdOutput::new(rt.stderr().lock());
     let status = picture::draw_lines(rt.alloc(), &mut arena, &mut chunks, &mut input, &mut output);
-    let _ = messages::explain(rt.alloc(), &mut messages, &status);
+    let _ = explain(&mut messages, &status, b"");
     ExitCode::from(status.code())
 }

@@ -32,7 +32,7 @@ grey: free. hatched: used by no block. blue: blocks, name:bytes. red: empty bloc
 </text></svg></svg></svg>
 ";
 
-// The template with a number in place of each `$`.
+/// The template with a number in place of each `$`.
 pub fn put(out: &mut Vec<u8>, template: &[u8], numbers: &[u128]) -> Result<(), AllocError>
     ensures { OnOk result (out.new.items ≡ out.old.items ++ filled template.now numbers.now) }
 {
@@ -49,7 +49,7 @@ pub fn put(out: &mut Vec<u8>, template: &[u8], numbers: &[u128]) -> Result<(), A
     Ok(())
 }
 
-// A block is told its name and its size where an `em` of so many bytes leaves room for them.
+// A block that is at least 9 `em` wide is told its name and its size.
 fn put_shape(out: &mut Vec<u8>, em: u64, shape: &Shape) -> Result<(), AllocError>
     ensures { OnOk result (out.new.items ≡ out.old.items ++ shape_text em shape.now) }
 {

@@ -8,16 +8,16 @@ use Rattle.std.specs.declared.io.ErrorKind.{ErrorKind}
 use Rattle.std.specs.declared.io.ErrorKind.TheVariants.{OutOfMemory as NoMemory}
 use Rattle.std.specs.declared.vec.IntoIter.{IntoIter}
 use Rattle.placement.specs.Causes.{counted}
-use Rattle.placement.specs.Grammar.{number}
 use Rattle.arena_calls.specs.Streams.{Writes, WritesPart}
 use Rattle.arena_calls.specs.Ends.{Outside}
+use Rattle.arena_calls.specs.Messages as messages
 use Rattle.arena_chunks.specs.Source.{Source}
 use Rattle.script_rules.specs.declared.commands.Command.{Command}
 use Rattle.script_rules.specs.declared.outcome.Outcome.{Outcome}
 use Rattle.arena_workers.specs.declared.served.Starved.{Starved}
 use Rattle.arena_program.specs.MainEnds.{MainEnds}
 use Rattle.arena_calls.specs.declared.status.Status.{Status}
-use Rattle.arena_calls.specs.declared.status.Status.TheVariants.{Done, Usage, BadLine, OutOfMemory, ReadFault, WriteFault, InputTooLong}
+use Rattle.arena_calls.specs.declared.status.Status.TheVariants.{Done, Usage, OutOfMemory, WriteFault}
 
 -- how many bytes the arena's chunks may have together: 1 GiB
 abbrev pub budget : ℕ
@@ -70,18 +70,11 @@ Answers help version source worked (Err error) status old new before after =
     (status ≡ status_without (error_kind error)) × (new ≡ old) × (after ≡ before)
 
 -- the line on standard error
-abbrev pub line_message : ℕ → List ℕ
-line_message n = codes "line " ++ (number n ++ (codes " is not understood" ++ 10 ∷ []))
+abbrev pub usage : List ℕ
+usage = codes "usage: arena_run calls | gen START COUNT | scripts WORKERS [fixed BYTES ARENAS | keep BYTES] | lint WORKERS" ++ 10 ∷ []
 
 abbrev pub message_of : Status → List ℕ
-message_of Done = []
-message_of Usage =
-    codes "usage: arena_run calls | gen START COUNT | scripts WORKERS [fixed BYTES ARENAS | keep BYTES] | lint WORKERS" ++ 10 ∷ []
-message_of (BadLine n) = line_message n
-message_of OutOfMemory = codes "out of memory" ++ 10 ∷ []
-message_of ReadFault = codes "read fault" ++ 10 ∷ []
-message_of WriteFault = codes "write fault" ++ 10 ∷ []
-message_of InputTooLong = codes "input too long" ++ 10 ∷ []
+message_of = messages.message_of usage
 
 -- The status's line was written, or a first part of it and then writing failed once.
 abbrev pub Explains : Status → Option (List ℕ) → ℕ → Option (List ℕ) → ℕ → Type 0

@@ -5,7 +5,6 @@ mod arguments;
 mod budget;
 pub mod laws;
 mod lint;
-mod messages;
 mod pools;
 mod program;
 mod run;

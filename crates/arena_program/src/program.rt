@@ -10,9 +10,8 @@ ghost use Rattle.arena_calls.specs.declared.status.Status.{Status};
 
 use crate::arguments::{without_words, words};
 use crate::budget::{Budgeted, BudgetedMaker};
-use crate::messages::explain;
 use crate::whole::arena_main;
-use arena_calls::{Input, Output, Status, is_one_word, write_all};
+use arena_calls::{Input, Output, Status, explain, is_one_word, write_all};
 use arena_chunks::{Arena, Bytes};
 use arena_script::Job;
 use script_workers::Starved;
@@ -22,6 +21,9 @@ use std::io;
 use std::process::ExitCode;
 use std::sync::Wait;
 use std::thread::Threads;
+
+const USAGE: &[u8] =
+    b"usage: arena_run calls | gen START COUNT | scripts WORKERS [fixed BYTES ARENAS | keep BYTES] | lint WORKERS\n";
 
 const HELP: &str = "\
 Runs calls on a bump arena, or scripts on arenas of a pool, and prints their replies; or lints sources.
@@ -161,6 +163,6 @@ pub fn run_program<
         },
         Err(error) => without_words(&error),
     };
-    let _ = explain(messages, &status);
+    let _ = explain(messages, &status, USAGE);
     ExitCode::from(status.code())
 }

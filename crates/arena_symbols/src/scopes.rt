@@ -65,6 +65,7 @@ impl Scopes {
     }
 
     /// The value of an id in the innermost map that has it.
+    #[inline(always)]
     pub fn lookup<C: ChunkSource>(&self, a: &Allocator<C>, id: u32) -> Option<u32>
         requires { IsTableIn entry_item a.now.memory self.now }
         ensures { result ≡ lookup (scopes_in entry_item a.now.memory self.now) id }
@@ -132,6 +133,7 @@ impl Scopes {
         requires { IsTableIn entry_item a.old.memory self.old }
         ensures { Defines entry_item a.old a.new self.old self.new id value result }
     {
+        // So the least alignment is known to be 1.
         let _ = a.min_align();
         let hidden = self.newest.get(a, id);
         if self.is_inner(a, hidden) {

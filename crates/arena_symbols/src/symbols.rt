@@ -45,6 +45,7 @@ impl Symbols {
     }
 
     /// The number of a text, if it has one.
+    #[inline(always)]
     pub fn find<C: ChunkSource>(&self, a: &Allocator<C>, text: &str) -> Option<u32>
         requires { IsInternerIn a.now.memory self.now }
         ensures { result ≡ number_of (names_in a.now.memory self.now) text.now }

@@ -129,7 +129,7 @@ impl Names {
     }
 
     /// What a name means in a scope of its own, in which it has this value. Then that scope has ended, and the others are as they
-    /// were, whatever they say of the name. The name has a number from then on, and no other name that had none.
+    /// were, whatever they say of the name. The name has a number from then on, and no other name gains one.
     ///
     /// # Errors
     ///

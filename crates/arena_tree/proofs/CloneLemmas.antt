@@ -34,7 +34,8 @@ module _ (m : Memory) (source n : Node) (old one new : Memory) where
   pub name_copied : (t : Subtree) (text : Str) → SubtreeAt t m source → source.kind ≡ kind.Name → IsTextIn new text
       → text_bytes new text ≡ text_bytes m source.text → Frame old new [] (text.block ∷ []) → n.kind ≡ kind.Name → n.text ≡ text
       → IsTreePlaced t old new n
-  name_copied (OfExpr (Name bytes)) text at is held same frame named txt = name_placed old new bytes text n held (same ∙ at.2) frame named txt
+  name_copied (OfExpr (Name bytes)) text at is held same frame named txt =
+      name_placed old new bytes text n held (same ∙ at.2) frame named txt
   name_copied (OfStmt (Let name e)) text at is held same frame named txt = cc
   name_copied t text at is held same frame named txt = cc
 

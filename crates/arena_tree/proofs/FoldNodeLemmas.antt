@@ -111,7 +111,8 @@ module _ (m : Memory) (n : Node) (t : Subtree) (at : SubtreeAt t m n) (is : has_
 
 -- what a fold of a list says
 abbrev pub FoldsRow : Memory → Memory → Vec Node → ℕ → Type 0
-FoldsRow old new v count = (ts : List Subtree) → RowAt ts old (vec_list node_item old v) → IsRowClear ts old v → AreFolded ts old new v count
+FoldsRow old new v count = (ts : List Subtree) → RowAt ts old (vec_list node_item old v) → IsRowClear ts old v
+    → AreFolded ts old new v count
 
 pub record KidsFolded (t : Subtree) (old new : Memory) (n : Node) (count : ℕ) : Type 0 where
   pub stands : SubtreeAt (kids_folded t) new n

@@ -100,7 +100,8 @@ first_folded t ts m two mid new v k l ns ms once s f set kept rest =
 -- ---- The loop
 
 -- What is left of a list when its first nodes are folded; when the rest is, the list is.
-pub record Rest (es : List Subtree) (old m : Memory) (v : Vec Node) (count : ℕ) (front nodes : List Node) (trees : List Subtree) : Type 0 where
+pub record Rest (es : List Subtree) (old m : Memory) (v : Vec Node) (count : ℕ) (front nodes : List Node)
+    (trees : List Subtree) : Type 0 where
   pub stand : RowAt trees m nodes
   pub clear : IsClear (v.raw.block ∷ row_lists trees m nodes) (row_texts trees m nodes)
   pub few : row_nodes trees ≤ row_nodes es

@@ -62,7 +62,8 @@ done old new t count h fold =
       means = row_stmts_at (folded_stmts ss) new ns (rw is.2 f.row.stand);
       count_is = f.count_is ∙ sym is.1;
       blocks = shrinks_as (ap (λ bs. t.stmts.raw.block ∷ bs) before.0) before.1
-          (ap (λ bs. t.stmts.raw.block ∷ bs) (after.0 ∙ ap (λ ts. row_lists ts new ns) is.2)) (after.1 ∙ ap (λ ts. row_texts ts new ns) is.2)
+          (ap (λ bs. t.stmts.raw.block ∷ bs) (after.0 ∙ ap (λ ts. row_lists ts new ns) is.2))
+          (after.1 ∙ ap (λ ts. row_texts ts new ns) is.2)
           f.row.blocks;
     }
 

@@ -85,8 +85,10 @@ one_kid : (own : List Block) (e : Expr) (m : Memory) (n : Node) → IsVecIn node
 one_kid own e m n held only = record {
   held = held;
   stand = at (kids_in m n) only;
-  lists_are = ap (λ bs. n.kids ∷ bs) (blocks (kids_in m n) (λ k. expr_lists e m k) (λ ns. row_lists (OfExpr e ∷ []) m ns) refl (λ k ks. refl));
-  texts_are = ap (λ bs. own ++ bs) (blocks (kids_in m n) (λ k. expr_texts e m k) (λ ns. row_texts (OfExpr e ∷ []) m ns) refl (λ k ks. refl));
+  lists_are = ap (λ bs. n.kids ∷ bs) (blocks (kids_in m n) (λ k. expr_lists e m k) (λ ns. row_lists (OfExpr e ∷ []) m ns) refl
+      (λ k ks. refl));
+  texts_are = ap (λ bs. own ++ bs) (blocks (kids_in m n) (λ k. expr_texts e m k) (λ ns. row_texts (OfExpr e ∷ []) m ns) refl
+      (λ k ks. refl));
 }
   where
     at : (ns : List Node) → IsOnly ns (λ k. ExprAt e m k) → RowAt (OfExpr e ∷ []) m ns

@@ -16,6 +16,7 @@ use arena_items::Grown;
 use arena_vec::Vec;
 use arena_vec::laws::{growth_costs, growth_rule, vector_costs};
 
+#[inline(always)]
 pub(crate) fn number(n: u64) -> Node
     ensures kind { result.kind ≡ Kind.Num }
     ensures number { result.number ≡ n }
@@ -33,6 +34,7 @@ pub(crate) fn number(n: u64) -> Node
     }
 }
 
+#[inline(always)]
 pub(crate) fn named(text: Str) -> Node
     ensures kind { result.kind ≡ Kind.Name }
     ensures text { result.text ≡ text }
@@ -48,6 +50,7 @@ pub(crate) fn named(text: Str) -> Node
 }
 
 // The node of a kind that has these kids.
+#[inline(always)]
 pub(crate) fn with_kids(kind: Kind, list: Vec<Node>) -> Node
     ensures kind { result.kind ≡ kind }
     ensures kids { kids_of result ≡ list }
@@ -101,6 +104,7 @@ pub(crate) fn negated<C: ChunkSource>(a: &mut Allocator<C>, node: Node) -> Grown
 }
 
 // The node as it is, or its negation.
+#[inline(always)]
 pub(crate) fn signed<C: ChunkSource>(a: &mut Allocator<C>, minus: bool, node: Node) -> Grown<Node>
     ensures tree { (e : Expr) (old : Memory) → IsPlaced e old a.old.memory node
         → IfOk result (IsPlaced (signed_tree minus e) old a.new.memory) }
@@ -141,6 +145,7 @@ pub(crate) fn first_of<C: ChunkSource>(a: &mut Allocator<C>, node: Node) -> Grow
 }
 
 // The node of a definition.
+#[inline(always)]
 pub(crate) fn let_node(text: Str, list: Vec<Node>) -> Node
     ensures kind { result.kind ≡ Kind.Let }
     ensures text { result.text ≡ text }

@@ -10,7 +10,7 @@ use crate::node::{Kind, Node};
 use arena_chunks::{Allocator, ChunkSource};
 use arena_items::Grown;
 
-// Each part that is read writes its node.
+// This and what follows read a part each, write its node, and answer where it ends.
 #[cycle(parse)]
 fn factor<C: ChunkSource>(
     a: &mut Allocator<C>,

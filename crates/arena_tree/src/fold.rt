@@ -5,11 +5,8 @@ ghost use Rattle.arena_vec.specs.Vecs.{vec_list};
 ghost use Rattle.tree_rules.specs.Trees.{Exprs, numbers_of};
 ghost use Rattle.arena_tree.specs.TreesAt.{node_item, ExprsAt};
 ghost use Rattle.arena_tree.specs.Walks.{ListHasRoom};
-ghost use Rattle.arena_tree.specs.Subtrees.{Subtree, SubtreeAt, lists_at, texts_at, RowAt};
-ghost use Rattle.arena_tree.specs.FoldingParts.{IsClear, IsRowClear};
-ghost use Rattle.arena_tree.specs.Subtrees.{has_kids, HasTree};
-ghost use Rattle.arena_tree.specs.FoldingParts.{CanFold, CanFoldRow, IsFolded, AreFolded, IsRule};
-ghost use Rattle.arena_tree.specs.FoldingParts.{IsTotal, IsTotalNode, capped, added};
+ghost use Rattle.arena_tree.specs.Subtrees.{Subtree, SubtreeAt, HasTree, RowAt, has_kids, lists_at, texts_at};
+ghost use Rattle.arena_tree.specs.FoldingParts.{CanFold, CanFoldRow, IsClear, IsRowClear, IsFolded, AreFolded, IsRule, IsTotal, IsTotalNode, capped, added};
 
 use crate::build::number;
 use crate::node::{Kind, Node};
@@ -59,7 +56,7 @@ fn total<C: ChunkSource>(a: &Allocator<C>, list: Vec<Node>, product: bool, room:
     total
 }
 
-// The node of that number.
+// The node of the total, or none where there is no total.
 fn total_node<C: ChunkSource>(
     a: &Allocator<C>,
     list: Vec<Node>,

@@ -36,19 +36,22 @@ fold_node-overflow_add-result g t c =
     let h = c.requires in
     let fits = count_fits h.tree c.args.a.now.memory c.fold_row-count.new.a.memory c.args.node.now c.fold_row-count.result c.args.room
     (kids_done h.tree c.args.a.now.memory c.fold_row-count.new.a.memory c.args.node.now c.kids-list.result c.fold_row-count.result h.stands
-    h.clear (sym c.has_kids.ensures ∙ c.if-not-has_kids.false) c.kids-list.ensures c.fold_row-count.ensures.folded) h.low c.ranges.room.fits in
+    h.clear (sym c.has_kids.ensures ∙ c.if-not-has_kids.false) c.kids-list.ensures c.fold_row-count.ensures.folded) h.low c.ranges.room.fits
+    in
     omega (arith, fits)
 
 pub fold_node-returns-in-Some-clause-folded : goal.fold_node-returns-in-Some-clause-folded
 fold_node-returns-in-Some-clause-folded g t c = λ tree at clear.
-    let done = kids_done tree c.args.a.now.memory c.fold_row-count.new.a.memory c.args.node.now c.kids-list.result c.fold_row-count.result at
+    let done = kids_done tree c.args.a.now.memory c.fold_row-count.new.a.memory c.args.node.now c.kids-list.result c.fold_row-count.result
+    at
     clear (sym c.has_kids.ensures ∙ c.if-not-has_kids.false) c.kids-list.ensures c.fold_row-count.ensures.folded in
     rw c.replace.ensures (rule_done tree c.args.a.now.memory c.fold_row-count.new.a.memory c.args.node.now c.in-Some.by
     c.fold_row-count.result 1 (c.fold_row-count.result + 1) done (c.in-Some.ensures _ done.stands) refl)
 
 pub fold_node-returns-in-None-clause-folded : goal.fold_node-returns-in-None-clause-folded
 fold_node-returns-in-None-clause-folded g t c = λ tree at clear.
-    let done = kids_done tree c.args.a.now.memory c.fold_row-count.new.a.memory c.args.node.now c.kids-list.result c.fold_row-count.result at
+    let done = kids_done tree c.args.a.now.memory c.fold_row-count.new.a.memory c.args.node.now c.kids-list.result c.fold_row-count.result
+    at
     clear (sym c.has_kids.ensures ∙ c.if-not-has_kids.false) c.kids-list.ensures c.fold_row-count.ensures.folded in
     rule_done tree c.args.a.now.memory c.fold_row-count.new.a.memory c.args.node.now c.args.node.now c.fold_row-count.result 0
     c.fold_row-count.result done (c.in-None.ensures _ done.stands) (omega arith)
@@ -68,7 +71,8 @@ fold_row-fold_node-count-requires g t c κs within =
     let turn = turn_of h.trees c.args.a.now.memory c.loop-i.a.memory c.args.list c.loop-i.i c.loop-i.count c.get-kid.result
     (c.loop-i.invariant.row h.trees h.stand h.clear) c.get-kid.ensures in
     let can : CanFold c.loop-i.a.memory c.get-kid.result (c.args.room - 1)
-    = turn_can h.trees c.args.a.now.memory c.loop-i.a.memory c.args.list c.loop-i.i c.loop-i.count c.args.room c.get-kid.result turn h.low in
+    = turn_can h.trees c.args.a.now.memory c.loop-i.a.memory c.args.list c.loop-i.i c.loop-i.count c.args.room c.get-kid.result turn h.low
+    in
     search (rules, can)
 
 pub fold_row-overflow_add-count : goal.fold_row-overflow_add-count
@@ -76,7 +80,8 @@ fold_row-overflow_add-count g t c =
     let h = c.requires in
     let turn = turn_of h.trees c.args.a.now.memory c.loop-i.a.memory c.args.list c.loop-i.i c.loop-i.count c.get-kid.result
     (c.loop-i.invariant.row h.trees h.stand h.clear) c.get-kid.ensures in
-    let low = count_low h.trees c.args.a.now.memory c.loop-i.a.memory c.args.list c.loop-i.i c.loop-i.count c.args.room c.get-kid.result turn
+    let low = count_low h.trees c.args.a.now.memory c.loop-i.a.memory c.args.list c.loop-i.i c.loop-i.count c.args.room c.get-kid.result
+    turn
     h.low c.fold_node-count.new.a.memory c.fold_node-count.new.node c.fold_node-count.result
     (c.fold_node-count.ensures.folded turn.tree turn.rest.stand.0 turn.split.first) in
     omega (arith, low, c.ranges.room.fits)
@@ -102,5 +107,6 @@ fold_row-loop-i-preserved g t c =
 
 pub fold_row-returns-clause-folded : goal.fold_row-returns-clause-folded
 fold_row-returns-clause-folded g t c = λ ts at clear.
-    row_done ts c.args.a.now.memory c.loop-i.a.memory c.args.list c.loop-i.i c.loop-i.count (omega (arith, c.loop-i-test.false, c.len.ensures))
+    row_done ts c.args.a.now.memory c.loop-i.a.memory c.args.list c.loop-i.i c.loop-i.count
+    (omega (arith, c.loop-i-test.false, c.len.ensures))
     (c.loop-i.invariant.row ts at clear)

@@ -25,7 +25,8 @@ returns-in-Ok-clause-tree g c =
 
 pub returns-in-Ok-clause-bytes : goal.returns-in-Ok-clause-bytes
 returns-in-Ok-clause-bytes g c = λ trees means.
-    spends_takes (clone_bytes trees) (spends_tree trees (c.in-Ok.ensures.spends (stmt_row trees) (stmt_row_at trees _ _ means))) (omega arith)
+    spends_takes (clone_bytes trees) (spends_tree trees (c.in-Ok.ensures.spends (stmt_row trees) (stmt_row_at trees _ _ means)))
+    (omega arith)
 
 pub returns-in-Err-AllocErr-clause-clones : goal.returns-in-Err-AllocErr-clause-clones
 returns-in-Err-AllocErr-clause-clones g c = λ trees means.

@@ -54,7 +54,8 @@ returns-in-Err-OutOfMemory-clause-parses g c =
 
 pub returns-in-Err-OutOfMemory-clause-bytes : goal.returns-in-Err-OutOfMemory-clause-bytes
 returns-in-Err-OutOfMemory-clause-bytes g c =
-    spends_takes (parse_bytes (length c.args.src.now)) (rw c.in-Err-OutOfMemory.field-0-is at c.in-Err-OutOfMemory.ensures.spends) (omega arith)
+    spends_takes (parse_bytes (length c.args.src.now)) (rw c.in-Err-OutOfMemory.field-0-is at c.in-Err-OutOfMemory.ensures.spends)
+    (omega arith)
 
 pub unreachable-requires : goal.unreachable-requires
 unreachable-requires g c =

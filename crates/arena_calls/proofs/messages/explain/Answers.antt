@@ -1,4 +1,4 @@
-use Rattle.arena_program.proofs.messages.explain.Goals as goal
+use Rattle.arena_calls.proofs.messages.explain.Goals as goal
 
 pub returns-in-Usage-clause-part : goal.returns-in-Usage-clause-part
 returns-in-Usage-clause-part g c = rw c.in-Usage.is c.write_all.ensures.part

@@ -1,25 +1,24 @@
-// What the program says beside its replies.
+// What a program over calls says beside its output.
 ghost use Rattle.std.specs.Prelude.{◌≡◌, OnOk, OnErr};
 ghost use Rattle.placement.specs.Causes.{counted};
 ghost use Rattle.arena_calls.specs.Streams.{Writes, WritesPart};
-ghost use Rattle.arena_program.specs.Program.{line_message, message_of};
+ghost use Rattle.arena_calls.specs.Messages.{line_message, message_of};
 
-use arena_calls::{Failed, Output, Status, write_all};
+use crate::status::Status;
+use crate::streams::{Failed, Output, write_all};
 use itoa::Buffer;
 
-/// Writes the line that explains the status, or a first part of it and then a fault. `Done` has none.
-pub fn explain<E: Output>(messages: &mut E, status: &Status) -> Result<(), Failed>
-    ensures ok { OnOk result (Writes (E.written messages.old) (E.written messages.new) (message_of status.now)) }
-    ensures part { OnErr result (WritesPart (E.written messages.old) (E.written messages.new) (message_of status.now)) }
+/// Writes the line that explains the status, or a first part of it and then a fault. `Done` has none, and that of `Usage` is
+/// handed in.
+pub fn explain<E: Output>(messages: &mut E, status: &Status, usage: &[u8]) -> Result<(), Failed>
+    ensures ok { OnOk result (Writes (E.written messages.old) (E.written messages.new) (message_of usage.now status.now)) }
+    ensures part { OnErr result (WritesPart (E.written messages.old) (E.written messages.new) (message_of usage.now status.now)) }
     ensures no_fault { OnOk result (E.faults messages.new ≡ E.faults messages.old) }
     ensures one_fault { OnErr result (E.faults messages.new ≡ counted (E.faults messages.old) 1) }
 {
     match status {
         Status::Done => Ok(()),
-        Status::Usage => write_all(
-            messages,
-            b"usage: arena_run calls | gen START COUNT | scripts WORKERS [fixed BYTES ARENAS | keep BYTES] | lint WORKERS\n",
-        ),
+        Status::Usage => write_all(messages, usage),
         Status::BadLine(n) => explain_line(messages, *n),
         Status::OutOfMemory => write_all(messages, b"out of memory\n"),
         Status::ReadFault => write_all(messages, b"read fault\n"),
