@@ -3,13 +3,9 @@
 set -u
 here=$(dirname "$(readlink -f "$0")")
 program=$("$here/../../tools/program.sh" arena_run --version) || exit 1
-failed=0
+. "$here/../checking.sh"
 for run in first second; do
-    if "$program" gen 1 1000000 < /dev/null | cmp -s - "$here/million.summary"; then
-        echo "ok   a million calls from 1, $run run"
-    else
-        echo "FAIL a million calls from 1, $run run"
-        failed=1
-    fi
+    "$program" gen 1 1000000 < /dev/null | cmp -s - "$here/million.summary"
+    told "a million calls from 1, $run run"
 done
 exit $failed

@@ -3,17 +3,13 @@
 set -u
 here=$(dirname "$(readlink -f "$0")")
 program=$("$here/../../tools/program.sh" arena_run --version) || exit 1
-failed=0
+. "$here/../checking.sh"
 
 for input in "$here"/*.txt; do
     name=$(basename "$input" .txt)
     for workers in 1 2 7 64; do
-        if "$program" lint $workers < "$input" | cmp -s - "$here/$name.replies"; then
-            echo "ok   $name, lint $workers"
-        else
-            echo "FAIL $name, lint $workers"
-            failed=1
-        fi
+        "$program" lint $workers < "$input" | cmp -s - "$here/$name.replies"
+        told "$name, lint $workers"
     done
 done
 exit $failed

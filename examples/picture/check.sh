@@ -5,17 +5,7 @@
 set -u
 here=$(dirname "$(readlink -f "$0")")
 program=$("$here/../../tools/program.sh" arena_picture) || exit 1
-failed=0
-
-# told NAME: says whether the comparison before held.
-told() {
-    if [ "$?" = 0 ]; then
-        echo "ok   $1"
-    else
-        echo "FAIL $1"
-        failed=1
-    fi
-}
+. "$here/../checking.sh"
 
 for input in "$here"/*.txt; do
     name=$(basename "$input" .txt)

@@ -4,16 +4,12 @@
 set -u
 here=$(dirname "$(readlink -f "$0")")
 program=$("$here/../../tools/program.sh" arena_run --version) || exit 1
-failed=0
+. "$here/../checking.sh"
 
 # replies NAME REPLIES WORD..: runs an example with these words.
 replies() {
-    if "$program" "${@:3}" < "$here/$1.txt" | cmp -s - "$2"; then
-        echo "ok   $1, ${*:3}"
-    else
-        echo "FAIL $1, ${*:3}"
-        failed=1
-    fi
+    "$program" "${@:3}" < "$here/$1.txt" | cmp -s - "$2"
+    told "$1, ${*:3}"
 }
 
 for input in "$here"/*.txt; do
