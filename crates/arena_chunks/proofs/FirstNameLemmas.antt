@@ -17,9 +17,11 @@ use Rattle.arena_chunks.proofs.HeldLemmas.{agree, get-inserted, get-insert_other
 with_other : (i : ℕ) (places : List (Option Place)) (others : Held) (q : ℕ) → (q < i) ⊎ (i + length places ≤ q)
     → finite.get (held_with i places others) q ≡ finite.get others q
 with_other i [] others q out = refl
-with_other i (None ∷ places) others q out = with_other (i + 1) places others q (elim out [ inl below ↦ inl (omega arith) | inr past ↦ inr (omega arith) ])
+with_other i (None ∷ places) others q out =
+    with_other (i + 1) places others q (elim out [ inl below ↦ inl (omega arith) | inr past ↦ inr (omega arith) ])
 with_other i (Some p ∷ places) others q out =
-    get-insert_other (held_with (i + 1) places others) i q p (λ same. elim out [ inl below ↦ absurd (omega arith) | inr past ↦ absurd (omega arith) ])
+    get-insert_other (held_with (i + 1) places others) i q p
+    (λ same. elim out [ inl below ↦ absurd (omega arith) | inr past ↦ absurd (omega arith) ])
     ∙ with_other (i + 1) places others q (elim out [ inl below ↦ inl (omega arith) | inr past ↦ inr (omega arith) ])
 
 -- a name that it has
@@ -54,7 +56,8 @@ pub get_other : (places : List (Option Place)) (others : Held) (q : ℕ) → len
 get_other places others q past = sym (with_other 0 places others q (inr (omega arith)))
 
 -- a place in the list that becomes another
-set_other : (places : List (Option Place)) (others : Held) (k : ℕ) (o : Option Place) (q : ℕ) → HoldsNoneBelow (length places) others → q ≢ k
+set_other : (places : List (Option Place)) (others : Held) (k : ℕ) (o : Option Place) (q : ℕ) → HoldsNoneBelow (length places) others
+    → q ≢ k
     → finite.get (held_with 0 (slice_set places k o) others) q ≡ finite.get (held_with 0 places others) q
 set_other places others k o q none differs =
     let long = length-set places k o in
@@ -68,7 +71,8 @@ set_own : (places : List (Option Place)) (others : Held) (k : ℕ) (o : Option P
     → k < length places → finite.get (held_with 0 (slice_set places k o) others) k ≡ o
 set_own places others k o none within =
     let long = length-set places k o in
-    with_first 0 (slice_set places k o) others k k None (omega arith) (omega (arith, long)) (none k within) ∙ get_or-set_same places k o None within
+    with_first 0 (slice_set places k o) others k k None (omega arith) (omega (arith, long)) (none k within)
+    ∙ get_or-set_same places k o None within
 
 pub insert_first : (places : List (Option Place)) (others : Held) (k : ℕ) (p : Place) → HoldsNoneBelow (length places) others
     → k < length places → held_with 0 (slice_set places k (Some p)) others ≡ finite.insert (held_with 0 places others) k p

@@ -27,7 +27,8 @@ module _ {X : Type 0} where
   get-remove_other m k q other = get-remove nat_cmp_total m k q ∙ rw (differs q k other)
 
   -- maps that agree at a key and at all others are one
-  pub agree : (m n : finite.FinMap nat_cmp X) (k : ℕ) → finite.get m k ≡ finite.get n k → ((q : ℕ) → q ≢ k → finite.get m q ≡ finite.get n q)
+  pub agree : (m n : finite.FinMap nat_cmp X) (k : ℕ) → finite.get m k ≡ finite.get n k
+      → ((q : ℕ) → q ≢ k → finite.get m q ≡ finite.get n q)
       → m ≡ n
   agree m n k own others = same_map nat_cmp_total nat_cmp-IsAntisymmetric m n (λ q. elim (cases_eq q k) [
     | inl same ↦ subst (λ (x : ℕ). finite.get m x ≡ finite.get n x) (sym same) own

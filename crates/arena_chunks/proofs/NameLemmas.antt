@@ -18,5 +18,6 @@ pub copied_tree : {X : Type 0} (m tree : BTreeMap ℕ X) → IsStrictlySortedBy 
     → map.from_entries {R = nat_cmp} tree.entries ≡ map.from_entries m.entries
 copied_tree {X = X} m tree sorted filled = same_map nat_cmp_total nat_cmp-IsAntisymmetric _ _ (λ q.
     tree_get tree q ∙ ap (λ (f : ℕ → Option X). f q) filled
-    ∙ update_all_none (eq_by_cmp_equiv nat_cmp_total) (eq_by_cmp nat_cmp) (λ x y. refl) m.entries q (IsDistinct-from_sorted nat_cmp (keys_of m.entries) sorted)
+    ∙ update_all_none (eq_by_cmp_equiv nat_cmp_total) (eq_by_cmp nat_cmp) (λ x y. refl) m.entries q
+    (IsDistinct-from_sorted nat_cmp (keys_of m.entries) sorted)
     ∙ sym (tree_get m q))

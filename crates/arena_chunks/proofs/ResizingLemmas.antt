@@ -117,7 +117,7 @@ serves_shrink old new names name size align k a block before later holds found g
     (record { answer = Some p; state = new.state }) accepted resized.step))
     (λ marks bytes held. found_at old names marks bytes name k a _ held found
     ∙ rw (← good, range, resized.step, kept, take_bytes (image old) a.addr a.size size smaller) refl)
-    (record { asked = λ marks bytes. rw (found, ← good, range) resized.asked; statistics = λ marks bytes. rw found resized.statistics }) in (
+    (record { asked = λ marks b. rw (found, ← good, range) resized.asked; statistics = λ marks b. rw found resized.statistics }) in (
       served,
       λ moved. inserted_at_cursor new.state names name b served.holds
           (resize_at_cursor (shrinking old.state a.addr a.size a.align size align) old.state a.addr size align k p

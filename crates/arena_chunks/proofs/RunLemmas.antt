@@ -165,5 +165,6 @@ stays_at call old new names noted wants = λ entry calls done replies running at
 
 pub stays_behind : (now : View) (names : Held) (noted : Noted) → StaysBehind now names noted
 stays_behind now names noted = λ entry calls replies running.
-    running_stopped entry now names noted calls (length calls) replies (omega arith) (rw (take_all (length calls) calls (omega arith)) running)
+    running_stopped entry now names noted calls (length calls) replies (omega arith)
+    (rw (take_all (length calls) calls (omega arith)) running)
     (λ call some at. absurd (omega (arith, slice_get_within calls (length calls) call at)))

@@ -232,7 +232,7 @@ serves_alloc old mid new names name size align fill k block before later holds n
       zero,
       same,
     ) refl)
-    (record { asked = λ marks bytes. rw (none, ← good) placed.asked; statistics = λ marks bytes. wrote.statistics ∙ placed.statistics }) in (
+    (record { asked = λ marks b. rw (none, ← good) placed.asked; statistics = λ marks b. wrote.statistics ∙ placed.statistics }) in (
       served,
       inserted_at_cursor new.state names name b served.holds
           (rw same (alloc_at_cursor old.state size align k (record { answer = Some p; state = mid.state }) placed.step p refl)),

@@ -1,5 +1,5 @@
 // Maps: their handles, and calls on one key.
-ghost use Rattle.std.specs.Prelude.{◌≡◌, ℕ, List, ◌*◌, ◌+◌, ◌^◌, ◌<◌, ◌≤◌, ◌==◌, ◌↔◌, [], ◌∷◌, Some, IsTrue};
+ghost use Rattle.std.specs.Prelude.{◌≡◌, ℕ, List, ◌+◌, ◌^◌, ◌<◌, ◌≤◌, ◌==◌, ◌↔◌, [], ◌∷◌, Some, IsTrue};
 ghost use Rattle.std.specs.Prelude.{slice_get, slice_set};
 ghost use Rattle.arena_chunks.specs.Memory.{is_readable};
 ghost use Rattle.arena_chunks.specs.Frame.{AreBlocksApart, Frame};
@@ -47,7 +47,6 @@ pub(crate) struct Look {
     pub(crate) spot: Spot,
 }
 
-#[tactic(auto, using(crate::proofs::WordLemmas::word_laws))]
 // Whether a key has this content.
 #[inline(always)]
 fn holds<K: ArenaKey, C: ChunkSource>(a: &Allocator<C>, key: K, wanted: &[u8]) -> bool

@@ -60,7 +60,8 @@ module _ {things : Things} {m : Memory} {name : ℕ} {s : BitSet} (h : Holds thi
 
 -- ---- A set that becomes another
 
-module _ {things : Things} {old new : View} {name : ℕ} {s : BitSet} (h : Holds things old.memory name (thing.Bits s)) (small : s.capacity < 2 ^ 32) where
+module _ {things : Things} {old new : View} {name : ℕ} {s : BitSet} (h : Holds things old.memory name (thing.Bits s))
+    (small : s.capacity < 2 ^ 32) where
   becomes : {set : Set} {all : Bits} {command : Command} → bits_below (end h) set ≡ all
       → effect command (seen old.memory things) ≡ Gives name (ASet s.capacity all) Done 0 → BecomesSet old new s set
       → GivesThing command things old new name (thing.Bits s) Done
@@ -114,7 +115,8 @@ module _ {command : Command} {things : Things} {old new : View} {name capacity :
       placed_least old new (words_for capacity * 8) 8 s.words.block (set_layout capacity small) places.placed,
       places.placed.1.outcome.of_layout.of_size,
     );
-    costs = block_given old new new (words_for capacity * 8) 8 (8 * words_for capacity + 7) 0 0 one (set_layout capacity small) (omega arith)
+    costs = block_given old new new (words_for capacity * 8) 8 (8 * words_for capacity + 7) 0 0 one (set_layout capacity small)
+        (omega arith)
         (omega (arith, small)) (omega arith) (still new) s.words.block places.placed;
     frame = places.frame;
   })

@@ -144,7 +144,8 @@ module _ (script : List Command) (start : View) {replies : List ScriptReply} {i 
           starved = costs.starved (sym (stopped_kind c at.more after stops).is_growing ∙ grows) k (ap Err refused);
         }) (λ _. no_place k refused Refused)
     run_refused {k} refused false stays =
-        let short = (stopped_costs c at.more after stops).full (sym (stopped_kind c at.more after stops).is_growing ∙ stays) k (ap Err refused) in
+        let short = (stopped_costs c at.more after stops).full (sym (stopped_kind c at.more after stops).is_growing ∙ stays) k
+        (ap Err refused) in
         run_stopped Full (λ e. cc)
         (λ _. record { still = short.still; short = omega (arith, short.short, unused, next_cost Full bytes) }) (λ e. absurd (cc))
         (λ _. no_place k refused Full)

@@ -55,7 +55,8 @@ module _ {things : Things} {m : Memory} {name : ℕ} {v : Vec ℕ} (h : Holds th
   pub insert_full : (at value : ℕ) → at ≤ v.raw.len → most_items ≤ v.raw.len
       → effect (Insert name at value) (seen m things) ≡ Tells CapacityOverflow
   unfolding effect
-  insert_full at value inside full = let test : nat_le most_items (length items) ≡ true = grind (arith, nat_tests, counted) in rw (h.found, inside_told at inside, test) refl
+  insert_full at value inside full = let test : nat_le most_items (length items) ≡ true = grind (arith, nat_tests, counted) in
+      rw (h.found, inside_told at inside, test) refl
 
   pub remove_past : (at : ℕ) → v.raw.len ≤ at → effect (Remove name at) (seen m things) ≡ Tells OutOfRange
   unfolding effect

@@ -57,7 +57,8 @@ module _ {things : Things} {m : Memory} {name : ℕ} {h : HashMap ℕ ℕ FxHash
   abbrev es : Entries ℕ
   es = pairs_of is
 
-  pub find_told : (key : ℕ) → key < 2 ^ 32 → effect (Find name key) (seen m things) ≡ Tells (number_or_nothing (value_of (is (content key))))
+  pub find_told : (key : ℕ) → key < 2 ^ 32
+      → effect (Find name key) (seen m things) ≡ Tells (number_or_nothing (value_of (is (content key))))
   unfolding effect
   find_told key small = rw (holds.found, get_pair is key small) refl
 

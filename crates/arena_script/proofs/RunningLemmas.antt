@@ -74,7 +74,8 @@ module _ {script : List Command} {start now : View} {things : Things} {i : ℕ} 
   cost_more = ap (λ o. cost_of (take i script) + (step c o).cost) after.objects ∙ sym more.cost
 
   -- After one more command that was served.
-  pub after_more : {next : View} {later : Things} {reply : ScriptReply} → Serves c now next things later reply → IsAfter script start next later (i + 1)
+  pub after_more : {next : View} {later : Things} {reply : ScriptReply} → Serves c now next things later reply
+      → IsAfter script start next later (i + 1)
   after_more {next} {later} serves = record {
     are = serves.are;
     objects = serves.objects ∙ ap (λ o. (step c o).objects) after.objects ∙ sym more.objects;
@@ -86,7 +87,8 @@ module _ {script : List Command} {start now : View} {things : Things} {i : ℕ} 
     kind = kind_then start now next after.kind serves.kind;
   }
 
-  pub reply_more : {next : View} {later : Things} {reply : ScriptReply} {replies : List ScriptReply} → replies ≡ (run (take i script)).replies
+  pub reply_more : {next : View} {later : Things} {reply : ScriptReply} {replies : List ScriptReply}
+      → replies ≡ (run (take i script)).replies
       → Serves c now next things later reply → replies ++ reply ∷ [] ≡ (run (take (i + 1) script)).replies
   reply_more are serves =
       (λ p. are p ++ (serves.reply_is ∙ ap (λ o. (step c o).reply) after.objects) p ∷ []) ∙ sym more.replies

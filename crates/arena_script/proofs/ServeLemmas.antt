@@ -267,7 +267,8 @@ pub acted_settled : (command : Command) (things after : Things) (old new : View)
     → ServesOrStops command old new things after result
 acted_settled command things after old new (Tells reply) result are acts settles =
     rw (settles.0, settles.1, acts.1) (told_serves command old are acts.0)
-acted_settled command things after old new (Gives name thing reply) (Ok told) are acts settles = rw (settles.0, settles.1) (given_serves are acts)
+acted_settled command things after old new (Gives name thing reply) (Ok told) are acts settles =
+    rw (settles.0, settles.1) (given_serves are acts)
 acted_settled command things after old new (Gives name thing reply) (Err e) are acts settles = rw settles.0 (given_stops are acts settles.1)
 acted_settled command things after old new (LetsGo name) result are acts settles =
     rw (settles.0, settles.1, acts.1) (let_go_serves command old are acts.0)

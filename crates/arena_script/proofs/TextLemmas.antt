@@ -42,8 +42,15 @@ module _ (rule : GrowthRule) {m : Memory} (t : StringBuilder) (n : ℕ) (held : 
     | inr there ↦ rw (rule.stays t.cap t.len n (omega arith)) (omega (arith, held.room), omega (arith, held.room))
     | inl full ↦ (
         let room : t.cap + max n (max t.cap 8) ≤ 2 * (t.len + n) + 8 = omega (arith, held.held.within) in
-        rw (rule.grows t.cap t.len n full held.held.within (omega (arith, room)))
-        ((omega arith, bytes_layout ((t.cap + max n (max t.cap 8)) * 1) (omega (arith, room)), omega (arith, room), omega (arith, room, held.room)), room))
+        rw (rule.grows t.cap t.len n full held.held.within (omega (arith, room))) (
+          (
+            omega arith,
+            bytes_layout ((t.cap + max n (max t.cap 8)) * 1) (omega (arith, room)),
+            omega (arith, room),
+            omega (arith, room, held.room),
+          ),
+          room,
+        ))
   ]
 
   pub text_place : IsHeld (t.cap * 1) 1 m.state t.block

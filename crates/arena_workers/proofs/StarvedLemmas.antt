@@ -31,7 +31,8 @@ within_more few many requests less is =
 -- The requests of a run, of which there is one at least.
 ends_within : (most : ℕ) (some all : List (ℕ × ℕ)) → AddsWithin most some all → length some < length all → EndsWithin most all
 ends_within most some all adds longer =
-    subst (EndsWithin most) (sym adds.all) (last_added most some adds.added (λ none. absurd (omega (arith, longer, grows none))) adds.within)
+    subst (EndsWithin most) (sym adds.all) (last_added most some adds.added
+    (λ none. absurd (omega (arith, longer, grows none))) adds.within)
   where
     grows : adds.added ≡ [] → length all ≡ length some
     grows none = ap length adds.all ∙ length-append some adds.added ∙ ap (λ (l : List (ℕ × ℕ)). length some + length l) none ∙ plus_none

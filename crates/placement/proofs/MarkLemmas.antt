@@ -43,10 +43,10 @@ used_moved : (c p addr k : ℕ) (chunks : List Chunk) → IsTrue (is_range_used 
     → IsTrue (is_range_used (raised c chunks) addr k)
     → IsTrue (is_range_used (raised c (with_newest_cursor p chunks)) addr k)
 used_moved c p addr k [] used marked = used
-used_moved c p addr k (newest ∷ older) used marked =
+used_moved c p addr k (newest ∷ older) used told =
     elim (or_cases (is_used_by addr k (record newest { cursor = p })) (is_range_used older addr k) used) [
       | inr there ↦ or_right (is_used_by addr k (record newest { cursor = max p c })) (is_range_used older addr k) there
-      | inl here ↦ elim (or_cases (is_used_by addr k (record newest { cursor = max newest.cursor c })) (is_range_used older addr k) marked) [
+      | inl here ↦ elim (or_cases (is_used_by addr k (record newest { cursor = max newest.cursor c })) (is_range_used older addr k) told) [
         | inr there ↦ or_right (is_used_by addr k (record newest { cursor = max p c })) (is_range_used older addr k) there
         | inl too ↦ or_left (is_used_by addr k (record newest { cursor = max p c })) (is_range_used older addr k) (both here too)
       ]

@@ -52,7 +52,7 @@ impl Eq for Bytes {
     ghost laws = { nat_list_eq_equiv };
 }
 
-// These bytes and one more, in memory of their own with room for as many again.
+// These bytes and one more, in memory of their own with room for 28.
 fn longer(alloc: Global, bytes: &[u8], b: u8) -> Result<Vec<u8>, AllocError>
     ensures { IfOk result (λ all. all.items ≡ bytes.now ++ b ∷ []) }
 {
@@ -87,10 +87,13 @@ impl Bytes {
         Bytes::short(alloc, Short::one(b))
     }
 
-    /// The bytes of a vector, of which none is copied.
+    /// The bytes of a vector. More than 14 stay where they are.
     pub fn from_vec(alloc: Global, items: Vec<u8>) -> Result<Bytes, OutOfMemory>
         ensures { IfOk result (λ bytes. bytes ≡ items.items) }
     {
+        if items.len() <= SHORT {
+            return Ok(Bytes::short(alloc, Short::of(items.as_slice())));
+        }
         match Box::new(alloc, items) {
             Ok(items) => Ok(Bytes {
                 alloc,

@@ -5,10 +5,18 @@ use Rattle.arena_script.specs.declared.thing.Thing.TheVariants as thing
 use Rattle.arena_script.proofs.bits.union.Goals as goal
 
 pub returns-in-Err : goal.returns-in-Err
-returns-in-Err g c = (first_wrong c.args.things.now c.args.a.now.memory c.args.name c.args.other c.in-Some._other (sym c.get-2.ensures ∙ c.in-Some.is) c.in-Err.ensures, refl)
+returns-in-Err g c = (
+  first_wrong c.args.things.now c.args.a.now.memory c.args.name c.args.other c.in-Some._other
+      (sym c.get-2.ensures ∙ c.in-Some.is) c.in-Err.ensures,
+  refl,
+)
 
 pub returns-in-Err-set_of : goal.returns-in-Err-set_of
-returns-in-Err-set_of g c = (second_wrong (holds c.requires c.args.name (thing.Bits c.in-Ok.set) c.in-Ok.ensures) c.args.other c.in-Err-set_of.ensures, refl)
+returns-in-Err-set_of g c = (
+  second_wrong (holds c.requires c.args.name (thing.Bits c.in-Ok.set) c.in-Ok.ensures) c.args.other
+      c.in-Err-set_of.ensures,
+  refl,
+)
 
 pub union-requires-clause-apart : goal.union-requires-clause-apart
 union-requires-clause-apart g c = one_or_apart c.requires (holds c.requires c.args.name (thing.Bits c.in-Ok.set) c.in-Ok.ensures)

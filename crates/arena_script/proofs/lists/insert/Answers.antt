@@ -6,7 +6,11 @@ use Rattle.arena_script.specs.declared.thing.Thing.TheVariants as thing
 use Rattle.arena_script.proofs.lists.insert.Goals as goal
 
 pub returns-then-at-len : goal.returns-then-at-len
-returns-then-at-len g c = (insert_past (holds c.requires c.args.name (thing.List c.in-Ok.list) c.in-Ok.ensures) c.args.at c.args.value (omega (arith, c.len.ensures)), refl)
+returns-then-at-len g c = (
+  insert_past (holds c.requires c.args.name (thing.List c.in-Ok.list) c.in-Ok.ensures) c.args.at c.args.value
+      (omega (arith, c.len.ensures)),
+  refl,
+)
 
 pub returns-then-len-ge-MOST_ITEMS : goal.returns-then-len-ge-MOST_ITEMS
 returns-then-len-ge-MOST_ITEMS g c = (

@@ -6,7 +6,11 @@ use Rattle.arena_script.specs.declared.thing.Thing.TheVariants as thing
 use Rattle.arena_script.proofs.lists.push.Goals as goal
 
 pub returns-then-len-ge-MOST_ITEMS : goal.returns-then-len-ge-MOST_ITEMS
-returns-then-len-ge-MOST_ITEMS g c = (push_full (holds c.requires c.args.name (thing.List c.in-Ok.list) c.in-Ok.ensures) c.args.value (omega (arith, c.len.ensures)), refl)
+returns-then-len-ge-MOST_ITEMS g c = (
+  push_full (holds c.requires c.args.name (thing.List c.in-Ok.list) c.in-Ok.ensures) c.args.value
+      (omega (arith, c.len.ensures)),
+  refl,
+)
 
 pub returns-in_err-push : goal.returns-in_err-push
 returns-in_err-push g c =

@@ -7,8 +7,11 @@ use Rattle.arena_script.proofs.maps.bind.Goals as goal
 
 pub returns-then-has_no_room : goal.returns-then-has_no_room
 returns-then-has_no_room g c =
-    let full = c.has_no_room.ensures.full c.if-has_no_room.true in
-    (bind_full (holds c.requires c.args.name (thing.Map c.in-Ok.map) c.in-Ok.ensures) c.args.key c.args.value c.ranges.key.fits full.0 full.1, refl)
+    let full = c.has_no_room.ensures.full c.if-has_no_room.true in (
+      bind_full (holds c.requires c.args.name (thing.Map c.in-Ok.map) c.in-Ok.ensures) c.args.key c.args.value c.ranges.key.fits full.0
+          full.1,
+      refl,
+    )
 
 pub returns-in_err-old : goal.returns-in_err-old
 returns-in_err-old g c =
@@ -20,4 +23,5 @@ returns-in_err-old g c =
 pub returns : goal.returns
 returns g c =
     let h = holds c.requires c.args.name (thing.Map c.in-Ok.map) c.in-Ok.ensures in rw c.number_or_nothing.ensures
-    (bind_gives _ _ _ _ h c.ranges.key.fits (c.has_no_room.ensures.room c.if-has_no_room.false) c.min_align.ensures.state c.in_ok-old.ensures)
+    (bind_gives _ _ _ _ h c.ranges.key.fits (c.has_no_room.ensures.room c.if-has_no_room.false) c.min_align.ensures.state
+    c.in_ok-old.ensures)

@@ -8,8 +8,11 @@ use Rattle.arena_workers.proofs.order.in_order.Goals as goal
 pub loop-piece-preserved : goal.loop-piece-preserved
 loop-piece-preserved g c =
     let i = c.loop-piece.invariant in
-    let p = c.push_reserved.ensures in
-    (omega (arith, p.len, i.0), omega (arith, p.capacity, i.1), rw p.items (All-push (IsUnserved g.W.Work.terms) _ _ i.2 c.unserved.ensures))
+    let p = c.push_reserved.ensures in (
+      omega (arith, p.len, i.0),
+      omega (arith, p.capacity, i.1),
+      rw p.items (All-push (IsUnserved g.W.Work.terms) _ _ i.2 c.unserved.ensures),
+    )
 
 pub loop-shift-init : goal.loop-shift-init
 loop-shift-init g c =
@@ -24,11 +27,13 @@ loop-shift-init g c =
 pub place-requires-clause-shift : goal.place-requires-clause-shift
 place-requires-clause-shift g c κs within =
     let served = IsServed g.K.Chunks.ChunkSource.source g.L.PoolName.kind g.W.Work.terms in
-    (first_and_rest (λ shift. IsShift served c.args.pieces.now shift.items) _ _ c.in-Some.shift c.in-Some.ensures.steps.0 c.loop-shift.invariant.1).0
+    (first_and_rest (λ shift. IsShift served c.args.pieces.now shift.items) _ _ c.in-Some.shift c.in-Some.ensures.steps.0
+    c.loop-shift.invariant.1).0
 
 pub loop-shift-preserved : goal.loop-shift-preserved
 loop-shift-preserved g c =
     let served = IsServed g.K.Chunks.ChunkSource.source g.L.PoolName.kind g.W.Work.terms in (
       c.place.ensures,
-      (first_and_rest (λ shift. IsShift served c.args.pieces.now shift.items) _ _ c.in-Some.shift c.in-Some.ensures.steps.0 c.loop-shift.invariant.1).1,
+      (first_and_rest (λ shift. IsShift served c.args.pieces.now shift.items) _ _ c.in-Some.shift c.in-Some.ensures.steps.0
+          c.loop-shift.invariant.1).1,
     )

@@ -18,5 +18,8 @@ returns-clause-ok c = rw (← c.self.view_is, c.in-Ok.ensures.ok)
     (insert_other c.self.inside.first.items c.self.inside.others c.args.name c.args.place (omega arith))
 
 pub returns-in_default-clause-held : goal.returns-in_default-clause-held
-returns-in_default-clause-held c = rw (← c.self.view_is, ← get_other c.self.inside.first.items c.self.inside.others c.args.name (omega arith))
+returns-in_default-clause-held c = rw (
+  ← c.self.view_is,
+  ← get_other c.self.inside.first.items c.self.inside.others c.args.name (omega arith),
+)
     c.in_default.ensures.held
