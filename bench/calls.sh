@@ -7,12 +7,8 @@
 # PROFILE=marks a third of the lines set marks, each inside the one before, a third place a block behind each, and a third go back
 # to them from the newest on; with PROFILE=stay these blocks are empty, so that they stay. The Rust crate has no such calls, so
 # NATIVE isn't run then.
-set -euo pipefail
-here=$(dirname "$(readlink -f "$0")")
-. "$here/measure.sh"
-seed=${1:-1}
-[ $# -eq 0 ] || shift
-[ $# -gt 0 ] || set -- 1000000
+. "$(dirname "$(readlink -f "$0")")/measure.sh"
+seeded 1000000 "$@"
 
 # mix LINES: prints so many lines.
 mix() {
@@ -52,9 +48,8 @@ profile=${PROFILE:-mix}
 [ "$profile" = mix ] || NATIVE=
 
 head_of line
-for lines; do
+for lines in "${sizes[@]}"; do
     "$profile" "$lines" > "$input"
-    size=$(stat -c %s "$input")
-    [ "$size" -le 16777216 ] || { echo "the input has $size bytes, past the limit" >&2; exit 1; }
+    must_fit
     measure "$lines" calls
 done

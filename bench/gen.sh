@@ -3,9 +3,7 @@
 #     NATIVE=bench/driver/target/release/native bench/gen.sh [COUNT..]
 # For each count (a million if none is given) it prints the least wall time of ROUNDS runs (5 if not set) by turns, with the
 # start of the process, and the peak memory. Then both programs make calls from fifty starts, and must print the same lines.
-set -euo pipefail
-here=$(dirname "$(readlink -f "$0")")
-. "$here/measure.sh"
+. "$(dirname "$(readlink -f "$0")")/measure.sh"
 [ $# -gt 0 ] || set -- 1000000
 input=/dev/null
 

@@ -4,12 +4,8 @@
 # For each size (16,000,000 if none is given), and each number of workers in WORKERS ("1 4" if not set), it prints the least wall time
 # of ROUNDS runs (5 if not set) by turns, with the start of the process, and the peak memory. Both programs must print the same text.
 # The input has sources of 700 lines: seeded definitions and uses of 400 names, in blocks one in another. It is cut after so many bytes.
-set -euo pipefail
-here=$(dirname "$(readlink -f "$0")")
-. "$here/measure.sh"
-seed=${1:-1}
-[ $# -eq 0 ] || shift
-[ $# -gt 0 ] || set -- 16000000
+. "$(dirname "$(readlink -f "$0")")/measure.sh"
+seeded 16000000 "$@"
 
 # sources BYTES: prints sources, at least so many bytes.
 sources() {
@@ -40,14 +36,9 @@ sources() {
         }'
 }
 
-read -ra numbers <<< "${WORKERS:-1 4}"
-for bytes; do
-    [ "$bytes" -le 16777216 ] || { echo "$bytes bytes are past the limit" >&2; exit 1; }
+for bytes in "${sizes[@]}"; do
     sources "$bytes" > "$folder/sources"
     head -c "$bytes" "$folder/sources" > "$input"
-    for workers in "${numbers[@]}"; do
-        echo "workers: $workers"
-        head_of byte
-        measure "$bytes" lint "$workers"
-    done
+    must_fit
+    by_workers "$bytes" byte lint
 done

@@ -1,11 +1,26 @@
-# What the scripts share that time `arena_run` beside the driver over the Rust crate whose program is in NATIVE, if set: the `program`, a
-# scratch `folder`, and `input`, the file that both read.
+# What the scripts share that time `arena_run` beside the driver over the Rust crate whose program is in NATIVE, if set; they read it
+# by `.`. It sets `program`, a scratch `folder`, and `input`, the file that both read.
+set -euo pipefail
 export LC_ALL=C
 [ -x /usr/bin/time ] || { echo "peak memory is measured with GNU time, /usr/bin/time" >&2; exit 1; }
 program=$("$(dirname "${BASH_SOURCE[0]}")/../tools/program.sh" arena_run --version)
 folder=$(mktemp -d)
 trap 'rm -rf "$folder"' EXIT
 input=$folder/input
+
+# seeded SIZE [SEED] [SIZE..]: sets `seed`, 1 if none is given, and `sizes`, that first one if none is given.
+seeded() {
+    seed=${2:-1}
+    sizes=("${@:3}")
+    [ ${#sizes[@]} -gt 0 ] || sizes=("$1")
+}
+
+# must_fit: ends where the input is longer than `arena_run` may read.
+must_fit() {
+    local size
+    size=$(stat -c %s "$input")
+    [ "$size" -le 16777216 ] || { echo "the input has $size bytes, past the limit" >&2; exit 1; }
+}
 
 # weigh WHO COMMAND..: notes the peak memory in KiB, and the sum of the text.
 weigh() {
@@ -58,4 +73,14 @@ measure() {
     else
         tell "$1" here
     fi
+}
+
+# by_workers COUNT UNIT WORD: prints a table of this word with each number of workers in WORKERS ("1 4" if not set).
+by_workers() {
+    local workers
+    for workers in ${WORKERS:-1 4}; do
+        echo "workers: $workers"
+        head_of "$2"
+        measure "$1" "$3" "$workers"
+    done
 }

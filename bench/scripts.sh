@@ -5,12 +5,8 @@
 # ROUNDS runs (5 if not set) by turns, with the start of the process, and the peak memory. Both programs must print the same text.
 # The input has 1,200 scripts, each of so many commands: a seeded mix on four objects of each kind. With PROFILE=falling, rising or
 # random it has one script, of so many names (at most 400,000) that are made in this order, dropped and made again.
-set -euo pipefail
-here=$(dirname "$(readlink -f "$0")")
-. "$here/measure.sh"
-seed=${1:-1}
-[ $# -eq 0 ] || shift
-[ $# -gt 0 ] || set -- 1000
+. "$(dirname "$(readlink -f "$0")")/measure.sh"
+seeded 1000 "$@"
 
 # mix COUNT: prints the scripts.
 mix() {
@@ -69,14 +65,8 @@ rising() { names rising "$1"; }
 random() { names random "$1"; }
 
 profile=${PROFILE:-mix}
-read -ra numbers <<< "${WORKERS:-1 4}"
-for count; do
+for count in "${sizes[@]}"; do
     "$profile" "$count" > "$input"
-    size=$(stat -c %s "$input")
-    [ "$size" -le 16777216 ] || { echo "the input has $size bytes, past the limit" >&2; exit 1; }
-    for workers in "${numbers[@]}"; do
-        echo "workers: $workers"
-        head_of line
-        measure "$(wc -l < "$input")" scripts "$workers"
-    done
+    must_fit
+    by_workers "$(wc -l < "$input")" line scripts
 done

@@ -1,6 +1,6 @@
 -- Reads and writes one after another.
-use Rattle.std.proofs.Common.{◌≡◌, ℕ, ◌+◌, ◌-◌, ◌≤◌, List, ◌++◌, length, take, drop, Option, Some, None, sym, ap, ◌∙◌, subst, arith, append_assoc, length-append, length-take, Ok, Err}
-use Rattle.std.specs.Prelude.{Result, OnErr}
+use Rattle.std.proofs.Common.{◌≡◌, ℕ, ◌+◌, ◌-◌, ◌≤◌, List, ◌++◌, length, take, drop, Option, Some, None, sym, ap, ◌∙◌, subst, arith, append_assoc, length-append, length-take, Ok, Err, inl, inr}
+use Rattle.std.specs.Prelude.{Result, OnOk, OnErr, ◌⊎◌}
 use Rattle.std.proofs.lemmas.List.{take_rest, take-append-le}
 use Rattle.std.proofs.Math.Seq.{take-add, take-append-add}
 use Rattle.arena_calls.specs.Streams.{Takes, Writes, WritesPart}
@@ -64,3 +64,8 @@ part_of_second old mid new xs ys first p = record {
 pub on_err : {A E P : Type 0} (r : Result A E) → P → OnErr r P
 on_err (Ok a) p = tt
 on_err (Err e) p = p
+
+-- it was written, or a first part of it
+pub in_either : {X E A B C D : Type 0} (r : Result X E) → OnOk r A → OnErr r B → OnOk r C → OnErr r D → (A × C) ⊎ (B × D)
+in_either (Ok x) a b c d = inl (a, c)
+in_either (Err e) a b c d = inr (b, d)

@@ -5,3 +5,4 @@ pub mod Ends
 pub mod Tallies
 pub mod Arguments
 pub mod Messages
+pub mod Budget

@@ -1,6 +1,8 @@
 -- What a program over calls says on standard error.
-use Rattle.std.specs.Prelude.{ℕ, List, [], ◌∷◌, ◌++◌, codes}
+use Rattle.std.specs.Prelude.{◌≡◌, ℕ, List, [], ◌∷◌, ◌++◌, Option, ◌⊎◌, codes}
+use Rattle.placement.specs.Causes.{counted}
 use Rattle.placement.specs.Grammar.{number}
+use Rattle.arena_calls.specs.Streams.{Writes, WritesPart}
 use Rattle.arena_calls.specs.declared.status.Status.{Status}
 use Rattle.arena_calls.specs.declared.status.Status.TheVariants.{Done, Usage, BadLine, OutOfMemory, ReadFault, WriteFault, InputTooLong}
 
@@ -16,3 +18,9 @@ message_of usage OutOfMemory = codes "out of memory" ++ 10 ∷ []
 message_of usage ReadFault = codes "read fault" ++ 10 ∷ []
 message_of usage WriteFault = codes "write fault" ++ 10 ∷ []
 message_of usage InputTooLong = codes "input too long" ++ 10 ∷ []
+
+-- The status's line was written, or a first part of it and then writing failed once.
+abbrev pub Explains : List ℕ → Status → Option (List ℕ) → ℕ → Option (List ℕ) → ℕ → Type 0
+Explains usage status old before new after =
+    (Writes old new (message_of usage status) × (after ≡ before))
+    ⊎ (WritesPart old new (message_of usage status) × (after ≡ counted before 1))

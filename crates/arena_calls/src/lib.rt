@@ -2,6 +2,7 @@
 #![tactic(auto)]
 
 mod arguments;
+mod budget;
 mod generator;
 pub mod laws;
 mod lines;
@@ -14,8 +15,9 @@ mod tests;
 mod whole_run;
 
 pub use arguments::is_one_word;
+pub use budget::{Budgeted, program_chunks};
 pub use lines::{LinesErr, parse_calls};
-pub use messages::explain;
+pub use messages::exit_with;
 pub use replies::Text;
 pub use status::Status;
 pub use streams::{

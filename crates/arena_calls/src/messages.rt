@@ -1,16 +1,29 @@
 // What a program over calls says beside its output.
 ghost use Rattle.std.specs.Prelude.{◌≡◌, OnOk, OnErr};
+ghost use Rattle.std.specs.Process.{exit_status};
 ghost use Rattle.placement.specs.Causes.{counted};
 ghost use Rattle.arena_calls.specs.Streams.{Writes, WritesPart};
-ghost use Rattle.arena_calls.specs.Messages.{line_message, message_of};
+ghost use Rattle.arena_calls.specs.Ends.{code_of};
+ghost use Rattle.arena_calls.specs.Messages.{line_message, message_of, Explains};
 
 use crate::status::Status;
 use crate::streams::{Failed, Output, write_all};
 use itoa::Buffer;
+use std::process::ExitCode;
 
-/// Writes the line that explains the status, or a first part of it and then a fault. `Done` has none, and that of `Usage` is
-/// handed in.
-pub fn explain<E: Output>(messages: &mut E, status: &Status, usage: &[u8]) -> Result<(), Failed>
+/// Says on `messages` why a program with this status ends, in a line, and answers the exit status, which is the same where
+/// `messages` can't be written. `Done` has no line, and that of `Usage` is handed in.
+pub fn exit_with<E: Output>(messages: &mut E, status: &Status, usage: &[u8]) -> ExitCode
+    ensures code { exit_status result ≡ code_of status.now }
+    ensures said { Explains usage.now status.now
+        (E.written messages.old) (E.faults messages.old) (E.written messages.new) (E.faults messages.new) }
+{
+    let _ = explain(messages, status, usage);
+    ExitCode::from(status.code())
+}
+
+// Writes the line that explains the status, or a first part of it and then a fault.
+fn explain<E: Output>(messages: &mut E, status: &Status, usage: &[u8]) -> Result<(), Failed>
     ensures ok { OnOk result (Writes (E.written messages.old) (E.written messages.new) (message_of usage.now status.now)) }
     ensures part { OnErr result (WritesPart (E.written messages.old) (E.written messages.new) (message_of usage.now status.now)) }
     ensures no_fault { OnOk result (E.faults messages.new ≡ E.faults messages.old) }

@@ -12,7 +12,7 @@ use Rattle.arena_hash.specs.Tables.{home_of, mark_of, pair_hash, slots_in, HasFr
 use Rattle.arena_hash.specs.declared.table.Table.{Table}
 use Rattle.arena_hash.proofs.HandleLemmas.{edited-whole, in-edited}
 use Rattle.arena_hash.proofs.MarkLemmas.{mark-away}
-use Rattle.arena_hash.proofs.Order.{away-of, away-same}
+use Rattle.arena_hash.proofs.Order.{away-by, away-of, away-same}
 use Rattle.arena_hash.proofs.Ring.{spot-less}
 
 module _ {K V S : Type 0} (k : Kind K V S) (old new : Memory) (hasher : S) (t : Table K V) (held : IsTableIn k old hasher t) where
@@ -82,9 +82,5 @@ module _ {K V S : Type 0} (k : Kind K V S) (memory : Memory) (hasher : S) (t : T
       → e ≡ back-away.0 + 1
   back-distance h e same less place =
       let slots = slots_in k.keys k.values memory t in
-      let a : IsAway (λ p. home_of t.slots (pair_hash k memory hasher p)) t.slots slots from x e = record {
-        there = there;
-        less = less;
-        place = place ∙ ap (λ w. spot t.slots (home_of t.slots w) e) same;
-      } in
+      let a = away-by (pair_hash k memory hasher) t.slots slots from h e x there same less place in
       away-same (λ p. home_of t.slots (pair_hash k memory hasher p)) t.slots homes slots from e (back-away.0 + 1) x x a back-away.1

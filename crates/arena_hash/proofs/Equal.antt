@@ -32,6 +32,14 @@ none-member : (ks : List (List ℕ)) (q : List ℕ) → is_member bytes_eq ks q 
 none-member [] q e = tt
 none-member (k ∷ ks) q e = let r = or_parts (bytes_eq q k) (is_member bytes_eq ks q) e in (r.0, none-member ks q r.1)
 
+-- where values are equal, or there are none, something stands in both or in neither
+pub both-has : {K V : Type 0} (eq : V → V → Bool) (one other : Option (K × V)) → AreBoth eq (value_of one) (value_of other)
+    → is_some one ≡ is_some other
+both-has eq None None b = refl
+both-has eq None (Some y) b = absurd b
+both-has eq (Some x) None b = absurd b
+both-has eq (Some x) (Some y) b = refl
+
 module _ {K V : Type 0} (content : K → List ℕ) where
   -- a content stands in the list where the map has it
   has-member : (pairs : List (K × V)) (q : List ℕ) → is_member bytes_eq (map (λ p. content p.0) pairs) q ≡ has (first_of content pairs) q
@@ -74,20 +82,14 @@ module _ {K V : Type 0} (content : K → List ℕ) where
   ]
 
   module _ (eq : V → V → Bool) (xs ys : List (K × V)) where
-    both-has : (one other : Option (K × V)) → AreBoth eq (value_of one) (value_of other) → is_some one ≡ is_some other
-    both-has None None b = refl
-    both-has None (Some y) b = absurd b
-    both-has (Some x) None b = absurd b
-    both-has (Some x) (Some y) b = refl
-
     -- equal maps have as many pairs
     pub equal-length : AreOnce content xs → AreOnce content ys → AreEqual {K = K} eq (first_of content xs) (first_of content ys)
         → length xs ≡ length ys
     equal-length one other equal =
         let l : length xs ≤ length ys =
-        few-contents content content xs ys one (λ q e. sym (both-has (first_of content xs q) (first_of content ys q) (equal q)) ∙ e) in
+        few-contents content content xs ys one (λ q e. sym (both-has eq (first_of content xs q) (first_of content ys q) (equal q)) ∙ e) in
         let m : length ys ≤ length xs =
-        few-contents content content ys xs other (λ q e. both-has (first_of content xs q) (first_of content ys q) (equal q) ∙ e) in
+        few-contents content content ys xs other (λ q e. both-has eq (first_of content xs q) (first_of content ys q) (equal q) ∙ e) in
         omega arith
 
     -- Maps with as many pairs are equal where each pair of one list has its content in the other, with an equal value.
@@ -116,7 +118,7 @@ module _ {K V : Type 0} (content : K → List ℕ) where
         within : (q : List ℕ) → has (first_of content xs) q ≡ true → has (first_of content ys) q ≡ true
         within q e = elim (option-cases (first_of content xs q)) [
           | inl n ↦ absurd (both_ways (has (first_of content xs) q) (ap is_some n) e)
-          | inr r ↦ sym (both-has (first_of content xs q) (first_of content ys q) (there q r.0 r.1)) ∙ e
+          | inr r ↦ sym (both-has eq (first_of content xs q) (first_of content ys q) (there q r.0 r.1)) ∙ e
         ]
 
 -- ---- A search for each pair of a list in another map

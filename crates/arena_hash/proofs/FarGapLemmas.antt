@@ -36,15 +36,24 @@ module _ {K V S : Type 0} (k : Kind K V S) (old new : Memory) (hasher : S) (t : 
     (room : length (items from) < t.slots) (within : gap < t.slots) (is : next ≡ (gap + 1) % t.slots)
     (closing : Closing (λ p. home_of t.slots (pair_hash k old hasher p)) t.slots start from steps (slots_in k.keys k.values old t) gap)
   where
-    homes : (p : K × V) → home_of t.slots (pair_hash k old hasher p) < t.slots
+    abbrev home : K × V → ℕ
+    home p = home_of t.slots (pair_hash k old hasher p)
+
+    homes : (p : K × V) → home p < t.slots
     homes p = mod-lt (pair_hash k old hasher p) some
+
+    -- what stands in the slots, and what does afterwards
+    abbrev slots : List (Option (K × V))
+    slots = slots_in k.keys k.values old t
+
+    abbrev after : List (Option (K × V))
+    after = slots_in k.keys k.values new t
 
     next-is : next ≡ spot t.slots gap 1
     next-is = is ∙ next-spot t.slots gap within
 
     -- What stands behind the gap was written into it.
-    module _ (x : K × V) (d mark : ℕ) (away : IsAway (λ p. home_of t.slots (pair_hash k old hasher p)) t.slots
-        (slots_in k.keys k.values old t) next x (d + 1))
+    module _ (x : K × V) (d mark : ℕ) (away : IsAway home t.slots slots next x (d + 1))
         (marked : mark ≡ mark_of (pair_hash k old hasher x) d)
         (edits : EditsBlock old new t.block 0 t.block.size (λ xs ys. CopiesSlot k.keys k.values t.slots xs ys next gap mark)) where
       sets : SetsSlot k.keys k.values t.slots (bytes_of old t.block) (bytes_of new t.block) gap mark (Some x)
@@ -53,21 +62,15 @@ module _ {K V S : Type 0} (k : Kind K V S) (old new : Memory) (hasher : S) (t : 
           edits in
           copies.sets x away.there (omega (arith, marked, mark-some (pair_hash k old hasher x) d))
 
-      on : Closing (λ p. home_of t.slots (pair_hash k old hasher p)) t.slots start from (steps + 1) (slots_in k.keys k.values new t) next
+      on : Closing home t.slots start from (steps + 1) after next
       on =
-          let a : IsAway (λ p. home_of t.slots (pair_hash k old hasher p)) t.slots (slots_in k.keys k.values old t) (spot t.slots gap 1) x
-          (d + 1) =
-          subst (λ p. IsAway (λ p. home_of t.slots (pair_hash k old hasher p)) t.slots (slots_in k.keys k.values old t) p x (d + 1)) next-is
-          away in
-          let c = closing-pull (λ p. home_of t.slots (pair_hash k old hasher p)) t.slots homes start from steps
-          (slots_in k.keys k.values old t) gap begun closing room x d a in
-          subst (λ p. Closing (λ p. home_of t.slots (pair_hash k old hasher p)) t.slots start from (steps + 1)
-          (slots_in k.keys k.values new t) p) (sym next-is)
-          (subst (λ q. Closing (λ p. home_of t.slots (pair_hash k old hasher p)) t.slots start from (steps + 1) q (spot t.slots gap 1))
-          (sym sets.slots) c)
+          let a = subst (λ p. IsAway home t.slots slots p x (d + 1)) next-is away in
+          let c = closing-pull home t.slots homes start from steps slots gap begun closing room x d a in
+          subst (λ p. Closing home t.slots start from (steps + 1) after p) (sym next-is)
+          (subst (λ q. Closing home t.slots start from (steps + 1) q (spot t.slots gap 1)) (sym sets.slots) c)
 
-      texts : (y : K × V) → Has (slots_in k.keys k.values new t) y → IsTextBeside k.key old t.block y.0
-      texts y h = elim (put-cases (slots_in k.keys k.values old t) gap h.0 (Some closing.stale) x y closing.there
+      texts : (y : K × V) → Has after y → IsTextBeside k.key old t.block y.0
+      texts y h = elim (put-cases slots gap h.0 (Some closing.stale) x y closing.there
           (ap (λ s. slice_get s h.0) (sym sets.slots) ∙ h.1)) [
             | inl i ↦ subst (λ p. IsTextBeside k.key old t.block p.0) (sym i.1) (held.texts x (next, away.there))
             | inr i ↦ held.texts y (h.0, i.1)
@@ -76,23 +79,19 @@ module _ {K V S : Type 0} (k : Kind K V S) (old new : Memory) (hasher : S) (t : 
       pub far-held : IsTableIn k new hasher t
       far-held =
           let low : d < t.slots = omega (arith, away.less) in
-          let home : ℕ = home_of t.slots (pair_hash k old hasher x) in
-          let here : gap ≡ spot t.slots (home_of t.slots (pair_hash k old hasher x)) d =
-          spot-before t.slots gap (spot t.slots home d) within
-          (spot-less t.slots home d (homes x) low) (sym next-is ∙ (away.place ∙ sym (spot-next t.slots home d (homes x) low))) in
-          let ordered = subst (λ q. IsOrdered (λ p. home_of t.slots (pair_hash k old hasher p)) t.slots q) sets.slots on.ordered in
+          let here : gap ≡ spot t.slots (home x) d =
+          spot-before t.slots gap (spot t.slots (home x) d) within (spot-less t.slots (home x) d (homes x) low)
+          (sym next-is ∙ (away.place ∙ sym (spot-next t.slots (home x) d (homes x) low))) in
+          let ordered = subst (λ q. IsOrdered home t.slots q) sets.slots on.ordered in
           in-edited k old new hasher t held edits.writes.frame edits.writes.state
           (table-put k.keys k.values (pair_hash k old hasher) t.slots some (bytes_of old t.block) (bytes_of new t.block)
           (handle-shape k.keys k.values old t small few held.handle some) held.table gap x d mark within low here marked sets ordered)
           texts
 
-      pub far-closing : Closing (λ p. home_of t.slots (pair_hash k new hasher p)) t.slots start from (steps + 1)
-          (slots_in k.keys k.values new t) next
+      pub far-closing : Closing (λ p. home_of t.slots (pair_hash k new hasher p)) t.slots start from (steps + 1) after next
       far-closing =
-          closing-agree (λ p. home_of t.slots (pair_hash k old hasher p)) (λ p. home_of t.slots (pair_hash k new hasher p)) t.slots start
-          from (steps + 1)
-          (slots_in k.keys k.values new t) next (λ y h. ap (home_of t.slots)
-          (hash-stays k old new hasher t.block edits.writes.frame y (texts y h))) on
+          closing-agree home (λ p. home_of t.slots (pair_hash k new hasher p)) t.slots start from (steps + 1) after next
+          (λ y h. ap (home_of t.slots) (hash-stays k old new hasher t.block edits.writes.frame y (texts y h))) on
 
     -- Nothing moves back from behind the gap: its mark was cleared.
     module _ (low : slice_index (bytes_of old t.block) next < 32)
@@ -110,13 +109,9 @@ module _ {K V S : Type 0} (k : Kind K V S) (old new : Memory) (hasher : S) (t : 
           subst (λ ys. SetsSlot k.keys k.values t.slots (bytes_of old t.block) ys gap 0 None) (sym is_set)
           (slot-clear k.keys k.values t.slots (bytes_of old t.block) shape gap within)
 
-      done : IsOrdered (λ p. home_of t.slots (pair_hash k old hasher p)) t.slots (set (slots_in k.keys k.values old t) gap None)
-          × Closed from (set (slots_in k.keys k.values old t) gap None) start
-      done = closing-free (λ p. home_of t.slots (pair_hash k old hasher p)) t.slots homes start from steps (slots_in k.keys k.values old t)
-          gap begun closing (λ y e a.
-          let a' : IsAway (λ p. home_of t.slots (pair_hash k old hasher p)) t.slots (slots_in k.keys k.values old t) next y e =
-          subst (λ p. IsAway (λ p. home_of t.slots (pair_hash k old hasher p)) t.slots (slots_in k.keys k.values old t) p y e) (sym next-is)
-          a in
+      done : IsOrdered home t.slots (set slots gap None) × Closed from (set slots gap None) start
+      done = closing-free home t.slots homes start from steps slots gap begun closing (λ y e a.
+          let a' = subst (λ p. IsAway home t.slots slots p y e) (sym next-is) a in
           mark-home (pair_hash k old hasher y) e (subst (λ m. m < 32) (held.table.marks next e y a') low))
 
       pub far-freed : IsTableIn k new hasher t
@@ -126,9 +121,9 @@ module _ {K V S : Type 0} (k : Kind K V S) (old new : Memory) (hasher : S) (t : 
           (handle-shape k.keys k.values old t small few held.handle some) held.table gap within cleared done.0)
           (λ y h. held.texts y (
             h.0,
-            (free-cases (slots_in k.keys k.values old t) gap h.0 (Some closing.stale) y closing.there
+            (free-cases slots gap h.0 (Some closing.stale) y closing.there
                 (ap (λ s. slice_get s h.0) (sym cleared.slots) ∙ h.1)).1,
           ))
 
-      pub far-closed : Closed from (slots_in k.keys k.values new t) start
+      pub far-closed : Closed from after start
       far-closed = subst (λ q. Closed from q start) (sym cleared.slots) done.1

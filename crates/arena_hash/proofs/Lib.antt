@@ -42,3 +42,5 @@ pub mod EqualLemmas
 pub mod CollectLemmas
 pub mod GrowLemmas
 pub mod WordLemmas
+pub mod FrameLemmas
+pub mod Layers

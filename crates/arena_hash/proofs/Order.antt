@@ -6,6 +6,7 @@ use Rattle.std.proofs.lemmas.Option.{slice_get_within}
 use Rattle.std.proofs.lemmas.Bool.{cases_eq}
 use Rattle.std.specs.Prelude.{slice_get}
 use Rattle.arena_hash.specs.Slots.{spot, IsAway, IsBehind, IsOrdered, IsPlaceFor}
+use Rattle.arena_hash.specs.Tables.{home_of}
 use Rattle.arena_hash.proofs.Ring.{spot-same, spot-next, spot-of, spot-on, spot-back}
 use Rattle.arena_hash.proofs.Places.{get_set_same, get_set_other, one-item, put-cases, free-cases}
 
@@ -20,6 +21,12 @@ module _ {X : Type 0} (home : X → ℕ) (n : ℕ) where
   pub carried-from_place : (slots : List (Option X)) (x : X) (at d : ℕ) → IsPlaceFor home n slots (home x) at d → IsCarried slots x at d
   carried-from_place slots x at d p =
       record { less = p.less; place = p.place; fits = p.fits; over = λ y e a. omega (arith, p.nearer y e a) }
+
+-- What has this hash and stands so far from its home is so far away.
+pub away-by : {X : Type 0} (hash : X → ℕ) (n : ℕ) (slots : List (Option X)) (at h d : ℕ) (x : X) → slice_get slots at ≡ Some (Some x)
+    → h ≡ hash x → d < n → at ≡ spot n (home_of n h) d → IsAway (λ y. home_of n (hash y)) n slots at x d
+away-by hash n slots at h d x there same less place =
+    record { there = there; less = less; place = place ∙ ap (λ w. spot n (home_of n w) d) same }
 
 module _ {X : Type 0} (home : X → ℕ) (n : ℕ) (homes : (x : X) → home x < n) where
   -- what a slot holds is some way from its home

@@ -15,6 +15,7 @@ use Rattle.arena_hash.specs.Walks.{AreBoth, AreEqual}
 use Rattle.arena_hash.specs.Policy.{slot_size, table_align}
 use Rattle.arena_hash.specs.declared.map.HashMap.{HashMap}
 use Rattle.arena_hash.proofs.AccountLemmas.{answer-refused}
+use Rattle.arena_hash.proofs.Equal.{both-has}
 
 module _ {K V S X Y : Type 0} (k : Kind K V S) (old new : View) (m : HashMap K V S) (key : K) (value : V) (tells : Option V → X → Type 0)
     (says : Option V → Y → Type 0) (w : HashMap K V S) where
@@ -83,14 +84,6 @@ pub takes-as : {K V S X Y : Type 0} (k : Kind K V S) (old new : View) (m : HashM
 takes-as k old new m key tells says w x y told t = record { becomes = t.becomes; says = told _ t.says; len = t.len }
 
 -- ---- Equality: that of two maps with no values
-
--- where a content stands in both or in neither, so do its values
-both-has : {K : Type 0} (eq : Unit {0} → Unit {0} → Bool) (one other : Option (K × Unit {0})) → AreBoth eq (value_of one) (value_of other)
-    → is_some one ≡ is_some other
-both-has eq None None b = refl
-both-has eq None (Some y) b = absurd b
-both-has eq (Some x) None b = absurd b
-both-has eq (Some x) (Some y) b = refl
 
 has-both : {K : Type 0} (eq : Unit {0} → Unit {0} → Bool) → ((x y : Unit {0}) → IsTrue (eq x y)) → (one other : Option (K × Unit {0}))
     → is_some one ≡ is_some other → AreBoth eq (value_of one) (value_of other)

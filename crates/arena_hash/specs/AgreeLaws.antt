@@ -29,7 +29,7 @@ module _ {X : Type 0} (one other : X → ℕ) (n : ℕ) (slots : List (Option X)
   pub away-agree : (i : ℕ) (x : X) (d : ℕ) → IsAway one n slots i x d → IsAway other n slots i x d
   away-agree i x d a = record { there = a.there; less = a.less; place = a.place ∙ ap (λ h. spot n h d) (sym (same x (i, a.there))) }
 
-  behind-agree : (i d : ℕ) → IsBehind one n slots i d → IsBehind other n slots i d
+  pub behind-agree : (i d : ℕ) → IsBehind one n slots i d → IsBehind other n slots i d
   behind-agree i d b = record { item = b.item; distance = b.distance; away = away-agree i b.item b.distance b.away; far = b.far }
 
   pub ordered-agree : IsOrdered one n slots → IsOrdered other n slots
@@ -65,10 +65,10 @@ module _ {K V S : Type 0} (k : Kind K V S) (a c : Memory) (m : HashMap K V S) (a
   abbrev slots : Memory → List (Option (K × V))
   slots memory = slots_in k.keys k.values memory m.table
 
-  slots-same : slots a ≡ slots c
+  pub slots-same : slots a ≡ slots c
   slots-same = ap (slots_of k.keys k.values m.table.slots) agree.0
 
-  content-same : (p : K × V) → Has (slots a) p → content_in k.key c p.0 ≡ content_in k.key a p.0
+  pub content-same : (p : K × V) → Has (slots a) p → content_in k.key c p.0 ≡ content_in k.key a p.0
   content-same p h =
       ap (k.key.content p.0)
       (sym (has-items (λ b. bytes_of a b ≡ bytes_of c b) (λ p. k.key.text p.0) (slots a) h.0 p h.1 agree.1))
@@ -76,10 +76,10 @@ module _ {K V S : Type 0} (k : Kind K V S) (a c : Memory) (m : HashMap K V S) (a
   hash-same : (p : K × V) → Has (slots a) p → pair_hash k c m.hasher p ≡ pair_hash k a m.hasher p
   hash-same p h = ap (k.hash m.hasher) (content-same p h)
 
-  abbrev home_by : Memory → K × V → ℕ
+  abbrev pub home_by : Memory → K × V → ℕ
   home_by memory p = home_of m.table.slots (pair_hash k memory m.hasher p)
 
-  homes-same : (p : K × V) → Has (slots a) p → home_by c p ≡ home_by a p
+  pub homes-same : (p : K × V) → Has (slots a) p → home_by c p ≡ home_by a p
   homes-same p h = ap (home_of m.table.slots) (hash-same p h)
 
   texts-same : texts_in k a m ≡ texts_in k c m

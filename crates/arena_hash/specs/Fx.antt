@@ -6,9 +6,12 @@ use Rattle.std.specs.Int.{w32, w64, from_le_bytes, rotate_left}
 abbrev pub factor : ℕ
 factor = 0xf1357aea2e62a9c5
 
--- the two halves of a product, joined
+-- the two halves of a product, joined; and of one with the factor
+abbrev pub crossed : ℕ → ℕ → ℕ
+crossed one other = let product = one * other in bit_xor (product % 2 ^ 64) (product / 2 ^ 64)
+
 abbrev pub mixed : ℕ → ℕ
-mixed word = let product = word * factor in bit_xor (product % 2 ^ 64) (product / 2 ^ 64)
+mixed word = crossed word factor
 
 -- a length, spread over the bits of a word
 abbrev pub spread : ℕ → ℕ
@@ -23,6 +26,12 @@ abbrev pub short_of : List ℕ → ℕ
 short_of content =
     if nat_lt (length content) 4 then number_of content
     else from_le_bytes w32 (take 4 content) + 2 ^ 32 * from_le_bytes w32 (drop (length content - 4) content)
+
+-- the hash of nine to sixteen bytes: the first eight and the last eight, which may overlap, with the length
+abbrev pub medium_of : List ℕ → ℕ
+medium_of content =
+    let n = length content in
+    crossed (bit_xor (from_le_bytes w64 (take 8 content)) (spread n)) ((from_le_bytes w64 (drop (n - 8) content) + factor) % 2 ^ 64)
 
 -- a hash, and one more word of eight bytes, to which the factor is added: so a hash that became 0 doesn't stay 0 over words of 0
 abbrev pub joined : ℕ → List ℕ → ℕ
@@ -43,7 +52,8 @@ long_of content =
 unfoldable pub fx_of : List ℕ → ℕ
 fx_of content =
     let n = length content in
-    if nat_lt 8 n then long_of content
+    if nat_lt 16 n then long_of content
+    else (if nat_lt 8 n then medium_of content
     else (if n == 4 then rotate_left w64 (from_le_bytes w32 content * factor % 2 ^ 64) 26
     else (if n == 8 then mixed (from_le_bytes w64 content)
-    else mixed (bit_xor (spread n) ((short_of content + factor) % 2 ^ 64))))
+    else mixed (bit_xor (spread n) ((short_of content + factor) % 2 ^ 64)))))

@@ -1,5 +1,5 @@
 -- Maps in an arena, and what they mean.
-use Rattle.std.specs.Prelude.{◌≡◌, ◌≤◌, List, [], ◌∷◌, map, length}
+use Rattle.std.specs.Prelude.{◌≡◌, ◌≤◌, ℕ, List, [], ◌∷◌, map, length}
 use Rattle.arena_chunks.specs.Memory.{Memory}
 use Rattle.arena_chunks.specs.Frame.{AreAllApart}
 use Rattle.arena_chunks.specs.declared.block.Block.{Block}
@@ -8,9 +8,11 @@ use Rattle.arena_items.specs.Values.{bytes_of}
 use Rattle.arena_hash.specs.Contents.{Kind, content_in}
 use Rattle.arena_hash.specs.Finite.{Finite, first_of, AreOnce}
 use Rattle.arena_hash.specs.Policy.{limit}
+use Rattle.arena_hash.specs.Searches.{Ends}
 use Rattle.arena_hash.specs.Slots.{items}
-use Rattle.arena_hash.specs.Tables.{slots_in, pair_hash, IsTable, IsTableHandle}
+use Rattle.arena_hash.specs.Tables.{home_of, slots_in, pair_hash, IsTable, IsTableHandle}
 use Rattle.arena_hash.specs.declared.map.HashMap.{HashMap}
+use Rattle.arena_hash.specs.declared.map.Look.{Look}
 
 -- the pairs of a map, in the order of its slots
 abbrev pub pairs_in : {K V S : Type 0} → Kind K V S → Memory → HashMap K V S → List (K × V)
@@ -38,10 +40,17 @@ pub record IsMapIn {K V S : Type 0} (k : Kind K V S) (memory : Memory) (m : Hash
   pub count : m.len ≡ length (pairs_in k memory m)
   pub within : m.len ≤ limit m.table.slots
 
--- After a call that has other blocks then, the map is held, names the same blocks and means the same, and its blocks lie apart from the
--- call's.
+-- The search of a map for a content ended here: in the slot of the key that has it, or where such a key would go.
+pub record IsLookIn {K V S : Type 0} (k : Kind K V S) (memory : Memory) (m : HashMap K V S) (q : List ℕ) (look : Look) : Type 0 where
+  pub hash : look.hash ≡ k.hash m.hasher q
+  pub ends : Ends (λ p. home_of m.table.slots (pair_hash k memory m.hasher p)) m.table.slots
+      (slots_in k.keys k.values memory m.table) (λ p. content_in k.key memory p.0) q look.hash look.spot
+
+-- After a call that has other blocks then, the map is held, names the same blocks and means the same, its blocks lie apart from the
+-- call's, and searches of it end where they did.
 pub record StaysMap {K V S : Type 0} (k : Kind K V S) (old new : Memory) (after : List Block) (m : HashMap K V S) : Type 0 where
   pub held : IsMapIn k new m
   pub blocks : footprint k new m ≡ footprint k old m
   pub means : map_in k new m ≡ map_in k old m
   pub apart : AreAllApart (footprint k new m) after
+  pub looks : (q : List ℕ) (look : Look) → IsLookIn k old m q look → IsLookIn k new m q look

@@ -1,6 +1,6 @@
 // Hashes of contents.
 ghost use Rattle.std.specs.Prelude.{◌≡◌, ℕ, ◌+◌, ◌<◌, ◌≤◌, List, take, drop, length};
-ghost use Rattle.arena_hash.specs.Fx.{mixed, spread, number_of, short_of, joined, long_of, fx_of};
+ghost use Rattle.arena_hash.specs.Fx.{spread, crossed, mixed, number_of, short_of, medium_of, joined, long_of, fx_of};
 
 use arena_items::Item;
 
@@ -29,11 +29,19 @@ const HALF: u64 = 0x1_0000_0000;
 
 // The two halves of a product, joined.
 #[inline]
+fn crossed(one: u64, other: u64) -> u64
+    ensures { result ≡ crossed one other }
+{
+    let product = one as u128 * other as u128;
+    (product % SPAN) as u64 ^ (product / SPAN) as u64
+}
+
+// The same of a product with the factor.
+#[inline]
 fn mixed(word: u64) -> u64
     ensures { result ≡ mixed word }
 {
-    let product = word as u128 * FACTOR as u128;
-    (product % SPAN) as u64 ^ (product / SPAN) as u64
+    crossed(word, FACTOR)
 }
 
 // The number of a few bytes.
@@ -80,6 +88,19 @@ fn short_of(content: &[u8]) -> u64
     low + HALF * high
 }
 
+// The hash of a content of nine to sixteen bytes, by one product of two words, which may overlap.
+#[inline(always)]
+fn medium_of(content: &[u8]) -> u64
+    requires least { 8 < length content.now }
+    requires most { length content.now ≤ 16 }
+    ensures { result ≡ medium_of content.now }
+{
+    let n = content.len();
+    let first = u64::decode(&content[..8]);
+    let last = u64::decode(&content[n - 8..]);
+    crossed(first ^ spread(n), last.wrapping_add(FACTOR))
+}
+
 // The hash of a content of more than eight bytes, word after word. The last eight bytes are a word of their own, which
 // may overlap the one before it.
 #[inline]
@@ -102,8 +123,11 @@ impl KeyHasher for FxHasher {
     #[inline]
     fn hash(&self, content: &[u8]) -> u64 {
         let n = content.len();
-        if n > 8 {
+        if n > 16 {
             return long_of(content);
+        }
+        if n > 8 {
+            return medium_of(content);
         }
         match n {
             4 => {

@@ -34,8 +34,8 @@ pub fn bytes_law<K: ArenaKey, V: Item, S: KeyHasher>()
 
 /// The frame law of maps under every hasher, also of one that isn't `Copy`, whose maps and sets
 /// `arena_items::laws::frame_law` doesn't take. A call on some blocks leaves a map whose footprint lies apart from
-/// them: it is held, names the same blocks, means the same, and its footprint lies apart from the blocks that the
-/// call has then. For a set take the law of its map, whose values are `()`.
+/// them: it is held, names the same blocks, means the same, its footprint lies apart from the blocks that the call has
+/// then, and searches of it end where they did. For a set take the law of its map, whose values are `()`.
 pub fn map_frame_law<K: ArenaKey, V: Item, S: KeyHasher>()
     ensures { (old new : Memory) (before after : List Block) (m : HashMap K V S) → Frame old new before after
         → IsMapIn (kind K.Item K.key V.Item S.hash_of) old m

@@ -24,7 +24,7 @@ mod whole;
 pub use hasher::{FxHasher, KeyHasher};
 pub use key::ArenaKey;
 pub use laws::{bytes_law, costs_law, insert_law, lengths_law, map_frame_law, texts_law};
-pub use map::{ArenaHashMap, HashMap};
+pub use map::{ArenaHashMap, HashMap, Look};
 pub use set::{ArenaHashSet, HashSet, SetIter};
 pub use table::Table;
 pub use walk::{IntoKeys, IntoValues, Iter};

@@ -7,11 +7,11 @@ ghost use Rattle.arena_items.specs.Room.{SamePlaces};
 ghost use Rattle.arena_items.specs.Values.{bytes_of};
 ghost use Rattle.arena_hash.specs.Searches.{Ends};
 ghost use Rattle.arena_hash.specs.Slots.{Has};
-ghost use Rattle.arena_hash.specs.Tables.{home_of, pair_hash, slots_in, HasFree, IsTable, IsTableHandle};
+ghost use Rattle.arena_hash.specs.Tables.{home_of, slots_in, HasFree, IsTable, IsTableHandle};
 ghost use Rattle.arena_hash.specs.Tables.{IsTableIn};
 ghost use Rattle.arena_hash.specs.Contents.{kind, content_in};
 ghost use Rattle.arena_hash.specs.Finite.{has, value_of};
-ghost use Rattle.arena_hash.specs.Maps.{IsMapIn, map_in};
+ghost use Rattle.arena_hash.specs.Maps.{IsMapIn, IsLookIn, map_in};
 ghost use Rattle.arena_hash.specs.Changes.{Puts, TakesOut, is_value};
 
 use crate::hasher::{FxHasher, KeyHasher};
@@ -40,9 +40,10 @@ pub struct HashMap<K, V, S = FxHasher> {
 /// The name by which users of the Rust crate know it.
 pub type ArenaHashMap<K, V, S = FxHasher> = HashMap<K, V, S>;
 
-// The hash of a content, and where the search for it ended.
+/// Where the search of a map for a content ended, with the content's hash. While the map is as it was, a key of that content goes
+/// there.
 #[derive(Clone, Copy)]
-pub(crate) struct Look {
+pub struct Look {
     pub(crate) hash: u64,
     pub(crate) spot: Spot,
 }
@@ -121,11 +122,8 @@ impl<K: ArenaKey, V: Item, S: KeyHasher> HashMap<K, V, S> {
             (kind K.Item K.key V.Item S.hash_of) a.now.memory self.now.hasher self.now.table }
         requires bytes { bytes.now ≡ bytes_of a.now.memory self.now.table.block }
         requires free { 0 < self.now.table.slots → HasFree K.Item V.Item a.now.memory self.now.table }
-        ensures hash { result.hash ≡ S.hash_of self.now.hasher wanted.now }
-        ensures ends { Ends (λ p. home_of self.now.table.slots (pair_hash
-            (kind K.Item K.key V.Item S.hash_of) a.now.memory self.now.hasher p))
-            self.now.table.slots (slots_in K.Item V.Item a.now.memory self.now.table)
-            (λ p. content_in K.key a.now.memory p.0) wanted.now result.hash result.spot }
+        ensures { IsLookIn
+            (kind K.Item K.key V.Item S.hash_of) a.now.memory self.now wanted.now result }
     {
         let hash = self.hasher.hash(wanted);
         let spot = if self.table.slots == 0 {
@@ -145,12 +143,8 @@ impl<K: ArenaKey, V: Item, S: KeyHasher> HashMap<K, V, S> {
             (kind K.Item K.key V.Item S.hash_of) a.now.memory self.now.hasher self.now.table }
         requires free { 0 < self.now.table.slots → HasFree K.Item V.Item a.now.memory self.now.table }
         requires text { IsTrue (is_readable a.now.memory.state (K.key.text key)) }
-        ensures hash { result.hash ≡ S.hash_of self.now.hasher (content_in K.key a.now.memory key) }
-        ensures ends { Ends (λ p. home_of self.now.table.slots (pair_hash
-            (kind K.Item K.key V.Item S.hash_of) a.now.memory self.now.hasher p))
-            self.now.table.slots (slots_in K.Item V.Item a.now.memory self.now.table)
-            (λ p. content_in K.key a.now.memory p.0)
-            (content_in K.key a.now.memory key) result.hash result.spot }
+        ensures { IsLookIn (kind K.Item K.key V.Item S.hash_of) a.now.memory self.now
+            (content_in K.key a.now.memory key) result }
     {
         let mut room = [0u8; 16];
         let wanted = key.content(a, &mut room);
@@ -210,10 +204,25 @@ impl<K: ArenaKey, V: Item, S: KeyHasher> HashMap<K, V, S> {
         ensures { result ≡ value_of (map_in (kind K.Item K.key V.Item S.hash_of) a.now.memory self.now
             content.now) }
     {
+        self.search(a, content).0
+    }
+
+    /// The value of the key with this content, and where the search for it ended: there `insert_at` puts a key of this content.
+    #[inline(always)]
+    pub fn search<C: ChunkSource>(&self, a: &Allocator<C>, content: &[u8]) -> (Option<V>, Look)
+        requires keys_small { K.SIZE ≤ 2 ^ 24 }
+        requires values_small { V.SIZE ≤ 2 ^ 24 }
+        requires held { IsMapIn (kind K.Item K.key V.Item S.hash_of) a.now.memory self.now }
+        ensures value { result.0 ≡ value_of (map_in
+            (kind K.Item K.key V.Item S.hash_of) a.now.memory self.now content.now) }
+        ensures look { IsLookIn
+            (kind K.Item K.key V.Item S.hash_of) a.now.memory self.now content.now result.1 }
+    {
         let bytes = a.read(self.table.block);
-        match self.look_by(a, bytes, content).spot {
-            Spot::Taken { at } => Some(value_at::<K, V>(bytes, self.table.slots, at)),
-            Spot::Open { .. } => None,
+        let look = self.look_by(a, bytes, content);
+        match look.spot {
+            Spot::Taken { at } => (Some(value_at::<K, V>(bytes, self.table.slots, at)), look),
+            Spot::Open { .. } => (None, look),
         }
     }
 
@@ -227,10 +236,7 @@ impl<K: ArenaKey, V: Item, S: KeyHasher> HashMap<K, V, S> {
         ensures { result ≡ has (map_in (kind K.Item K.key V.Item S.hash_of) a.now.memory self.now)
             (content_in K.key a.now.memory key) }
     {
-        match self.look(a, key).spot {
-            Spot::Taken { .. } => true,
-            Spot::Open { .. } => false,
-        }
+        self.get(a, key).is_some()
     }
 
     /// Puts a pair, and answers the value that the key had. A key that is there stays, with the new value.
@@ -256,6 +262,32 @@ impl<K: ArenaKey, V: Item, S: KeyHasher> HashMap<K, V, S> {
             self.new result }
     {
         let look = self.look(a, key);
+        self.insert_at(a, look, key, value)
+    }
+
+    /// Puts a pair as `insert` does, where the search for the key's content ended. The map is as it was then.
+    ///
+    /// # Errors
+    ///
+    /// As of `insert`.
+    #[inline(always)]
+    pub fn insert_at<C: ChunkSource>(
+        &mut self,
+        a: &mut Allocator<C>,
+        look: Look,
+        key: K,
+        value: V,
+    ) -> Grown<Option<V>>
+        requires keys_small { K.SIZE ≤ 2 ^ 24 }
+        requires values_small { V.SIZE ≤ 2 ^ 24 }
+        requires held { IsMapIn (kind K.Item K.key V.Item S.hash_of) a.old.memory self.old }
+        requires text { IsTrue (is_readable a.old.memory.state (K.key.text key)) }
+        requires apart { AreBlocksApart (K.key.text key) self.old.table.block }
+        requires look { IsLookIn (kind K.Item K.key V.Item S.hash_of) a.old.memory self.old
+            (content_in K.key a.old.memory key) look }
+        ensures { Puts (kind K.Item K.key V.Item S.hash_of) a.old a.new self.old key value is_value
+            self.new result }
+    {
         match look.spot {
             Spot::Taken { at } => Ok(Some(self.replace(a, at, value))),
             Spot::Open { at, mark } => {

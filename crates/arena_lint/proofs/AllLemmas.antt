@@ -18,6 +18,7 @@ use Rattle.lint_reports.specs.declared.report.FileReport.{FileReport}
 use Rattle.lint_reports.specs.declared.report.FileReport.TheVariants.{Checked, Syntax, TooDeep, NumberTooBig, Full, Refused, OutOfMemory}
 use Rattle.arena_lint.specs.Linting.{lint_bytes}
 use Rattle.arena_lint.specs.All.{IsLintedAlone, is_refused, lint_terms}
+use Rattle.arena_lint.proofs.KnowLemmas.{zip_weaker}
 
 -- An arena that keeps its kind is of the pool's still.
 pub kind_kept : (old new : View) → KeepsKind old.memory new.memory → (kind : PoolKind) → IsOfKind kind old.memory.state
@@ -25,13 +26,8 @@ pub kind_kept : (old new : View) → KeepsKind old.memory new.memory → (kind :
 kind_kept old new keeps = still_of_kind old.memory.state new.memory.state keeps.is_growing keeps.allocated
 
 not_refused : (report : FileReport) → report ≢ Refused → is_refused report ≡ false
-not_refused (Checked findings) other = refl
-not_refused (Syntax at) other = refl
-not_refused (TooDeep at) other = refl
-not_refused (NumberTooBig at) other = refl
-not_refused Full other = refl
 not_refused Refused other = absurd (other refl)
-not_refused OutOfMemory other = refl
+not_refused _ other = refl
 
 -- only a program isn't told of
 stopped_still : (o : Option (Result (List Finding) Reason)) (bytes : List ℕ) (report : FileReport) → IfNone o (IsProgram bytes)
@@ -67,8 +63,4 @@ module _ {C : Type 0} (source : C → Source) (kind : PoolKind) (bytes : List �
 
 pub all_alone : {C : Type 0} (source : C → Source) (kind : PoolKind) (sources : List (List ℕ)) (all : List (Served FileReport C))
     → AllZip (IsServed source kind lint_terms) sources all → AllZip (IsLintedAlone source kind) sources all
-all_alone source kind [] [] are = tt
-all_alone source kind [] (linted ∷ all) are = are
-all_alone source kind (bytes ∷ sources) [] are = are
-all_alone source kind (bytes ∷ sources) (linted ∷ all) are =
-    (alone source kind bytes linted are.0, all_alone source kind sources all are.1)
+all_alone source kind = zip_weaker (IsServed source kind lint_terms) (IsLintedAlone source kind) (alone source kind)

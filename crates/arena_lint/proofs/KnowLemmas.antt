@@ -1,51 +1,143 @@
--- What a walk knows of names, and what it finds.
-use Rattle.std.proofs.Common.{◌≡◌, ℕ, List, [], ◌∷◌, ◌++◌, refl, sym, ap, ◌∙◌, inl, inr, Some, None, Option, true, false, Bool, ◌||◌, is_some}
-use Rattle.std.proofs.lemmas.Bool.{cases_Bool}
-use Rattle.arena_symbols.specs.Interner.{number_of}
-use Rattle.arena_symbols.specs.Scoping.{seen, value_in, lookup}
-use Rattle.tree_rules.specs.Report.{Names, has_name, have_name, undefined, finding}
-use Rattle.tree_rules.specs.declared.finding.Finding.{Finding}
-use Rattle.tree_rules.specs.declared.finding.FindKind.TheVariants.{Undefined}
-use Rattle.arena_lint.specs.Knowing.{has_number, have_number, AreScopes}
+-- Sets of names and scopes, as texts are given numbers and names are defined.
+use Rattle.std.proofs.Common.{◌≡◌, ℕ, ◌<◌, List, [], ◌∷◌, ◌++◌, length, length-append, refl, sym, ap, ◌∙◌, inl, inr, Some, None, Option, true, false, Bool, ◌||◌, ◌&&◌, is_some, not, arith}
+use Rattle.std.specs.Prelude.{Decides, if◌then◌else◌, bytes_eq, ◌==◌, slice_get}
+use Rattle.std.specs.List.{AllZip}
+use Rattle.std.proofs.lemmas.Bool.{cases_Bool, cond-false, eqb-true, eq-eqb, ne_eqb}
+use Rattle.std.proofs.lemmas.Bool.Decides.{Decides-at, same_from_decides}
+use Rattle.std.proofs.lemmas.Option.{same_Some, slice_get_within}
+use Rattle.std.proofs.lemmas.Slice.Eq.{bytes_eq-Decides}
+use Rattle.arena_symbols.specs.Interner.{number_of, with_text}
+use Rattle.arena_symbols.specs.Named.{meant}
+use Rattle.arena_symbols.specs.Scoping.{seen, value_in, lookup, is_in_last, with_pair}
+use Rattle.arena_symbols.proofs.Layers.{number_push, number_there, value_push}
+use Rattle.tree_rules.specs.Tokens.{are_same}
+use Rattle.tree_rules.specs.Report.{Names, has_name, have_name, defined}
+use Rattle.tree_rules.specs.declared.finding.FindKind.TheVariants.{Redefined, Shadowed}
+use Rattle.tree_rules.specs.declared.finding.FindKind.{FindKind}
+use Rattle.arena_lint.specs.Knowing.{has_number, IsScope, AreScopes, found_of}
+
+-- What follows of each two follows of all.
+pub zip_weaker : {A B : Type 0} (R S : A → B → Type 0) → ((a : A) (b : B) → R a b → S a b) → (xs : List A) (ys : List B) → AllZip R xs ys
+    → AllZip S xs ys
+zip_weaker R S follows [] [] all = tt
+zip_weaker R S follows (x ∷ xs) (y ∷ ys) all = (follows x y all.0, zip_weaker R S follows xs ys all.1)
+zip_weaker R S follows _ _ all = absurd all
 
 -- ---- Whether a name is known
 
-pub some_seen : (a b : Option ℕ) → is_some (seen a b) ≡ (is_some a || is_some b)
-some_seen None b = refl
-some_seen (Some v) b = refl
+some_seen : (a b : Option ℕ) → is_some (seen a b) ≡ (is_some a || is_some b)
+some_seen a b = grind arith
 
-have_none : (o : Option ℕ) → have_number [] o ≡ false
-have_none None = refl
-have_none (Some id) = refl
+-- A scope more has what its own set has.
+meant_more : (scope : List (ℕ × ℕ)) (scopes : List (List (ℕ × ℕ))) (o : Option ℕ)
+    → is_some (meant (scope ∷ scopes) o) ≡ (has_number scope o || is_some (meant scopes o))
+meant_more scope scopes o = grind arith
 
-have_first : (scope : List (ℕ × ℕ)) (scopes : List (List (ℕ × ℕ))) (o : Option ℕ)
-    → have_number (scope ∷ scopes) o ≡ (has_number scope o || have_number scopes o)
-have_first scope scopes None = refl
-have_first scope scopes (Some id) = some_seen (value_in scope id) (lookup scopes id)
+no_meaning : (o : Option ℕ) → is_some (meant [] o) ≡ false
+no_meaning o = grind arith
 
-pub known_has : (texts : List (List ℕ)) (known : List Names) (scopes : List (List (ℕ × ℕ))) (name : List ℕ)
-    → AreScopes texts known scopes
-    → have_number scopes (number_of texts name) ≡ have_name known name
-known_has texts [] [] name are = have_none (number_of texts name)
-known_has texts [] (scope ∷ scopes) name are = absurd are
-known_has texts (names ∷ known) [] name are = absurd are
-known_has texts (names ∷ known) (scope ∷ scopes) name are =
-    have_first scope scopes (number_of texts name)
-    ∙ ap (λ (b : Bool). b || have_number scopes (number_of texts name)) (sym (are.0.same name))
-    ∙ ap (λ (b : Bool). has_name names name || b) (known_has texts known scopes name are.1)
+pub known_has : (texts : List (List ℕ)) (sets : List Names) (scopes : List (List (ℕ × ℕ))) (name : List ℕ) → AreScopes texts sets scopes
+    → is_some (meant scopes (number_of texts name)) ≡ have_name sets name
+known_has texts [] [] name are = no_meaning (number_of texts name)
+known_has texts (names ∷ sets) (scope ∷ scopes) name are =
+    meant_more scope scopes (number_of texts name)
+    ∙ ap (λ (b : Bool). has_number scope (number_of texts name) || b) (known_has texts sets scopes name are.1)
+    ∙ ap (λ (b : Bool). b || have_name sets name) (sym (are.0.same name))
+known_has texts _ _ name are = absurd are
 
--- ---- What isn't
+-- ---- Numbers
 
-pub undefined_both : (known : List Names) (a b : Names) → undefined known (a ++ b) ≡ undefined known a ++ undefined known b
-undefined_both known [] b = refl
-undefined_both known (n ∷ a) b = elim (cases_Bool (have_name known n)) [
-  | inl is ↦ rw is (undefined_both known a b)
-  | inr away ↦ rw away (ap (λ (l : List Finding). finding Undefined n ∷ l) (undefined_both known a b))
-]
+same_bytes : (a b : List ℕ) → are_same a b ≡ bytes_eq a b
+same_bytes [] [] = refl
+same_bytes [] (c ∷ b) = refl
+same_bytes (c ∷ a) [] = refl
+same_bytes (c ∷ a) (d ∷ b) = ap (λ (x : Bool). (c == d) && x) (same_bytes a b)
 
-pub undefined_not : (known : List Names) (name : List ℕ) → have_name known name ≡ true → undefined known (name ∷ []) ≡ []
-undefined_not known name is = rw is refl
+abbrev is_number : ℕ → Option ℕ → Bool
+is_number id None = false
+is_number id (Some j) = id == j
 
-pub undefined_one : (known : List Names) (name : List ℕ) → have_name known name ≡ false
-    → undefined known (name ∷ []) ≡ finding Undefined name ∷ []
-undefined_one known name is = rw is refl
+-- A text is one with a number exactly where it has that number.
+same_number : (texts : List (List ℕ)) (name other : List ℕ) (id : ℕ) → number_of texts name ≡ Some id
+    → are_same name other ≡ is_number id (number_of texts other)
+same_number texts name other id is = same_from_decides (are_same name other) (is_number id (number_of texts other))
+    (Decides-at (are_same name other) (bytes_eq name other) (same_bytes name other) (bytes_eq-Decides name other))
+    (to (number_of texts other) refl, λ e. ap (is_number id) (ap (number_of texts) (sym e) ∙ is) ∙ eq-eqb id id refl)
+  where
+    to : (o : Option ℕ) → number_of texts other ≡ o → is_number id o ≡ true → name ≡ other
+    to None none here = absurd (cc)
+    to (Some j) there here = same_Some name other
+        (sym (number_there name texts id is) ∙ ap (slice_get texts) (eqb-true id j here) ∙ number_there other texts j there)
+
+-- ---- A text more has a number
+
+scope_grown : (texts : List (List ℕ)) (text : List ℕ) → number_of texts text ≡ None → (names : Names) (scope : List (ℕ × ℕ))
+    → IsScope texts names scope → IsScope (texts ++ text ∷ []) names scope
+scope_grown texts text none names scope is = record {
+  same = λ name. is.same name ∙ sym (ap (has_number scope) (number_push texts text name none) ∙ by name (bytes_eq name text) refl);
+  within = λ id far. is.within id (omega (arith, far, length-append texts (text ∷ [])));
+}
+  where
+    by : (name : List ℕ) (b : Bool) → bytes_eq name text ≡ b
+        → has_number scope (if b then Some (length texts) else number_of texts name) ≡ has_number scope (number_of texts name)
+    by name false differ = refl
+    by name true equal = ap is_some (is.within (length texts) (omega arith))
+        ∙ sym (ap (has_number scope) (ap (number_of texts) ((bytes_eq-Decides name text).0 equal) ∙ none))
+
+pub scopes_grown : (texts : List (List ℕ)) (text : List ℕ) (sets : List Names) (scopes : List (List (ℕ × ℕ)))
+    → AreScopes texts sets scopes → AreScopes (with_text texts text) sets scopes
+scopes_grown texts text sets scopes are = by (number_of texts text) refl
+  where
+    by : (o : Option ℕ) → number_of texts text ≡ o → AreScopes (if is_some o then texts else texts ++ text ∷ []) sets scopes
+    by None none = zip_weaker (IsScope texts) (IsScope (texts ++ text ∷ [])) (scope_grown texts text none) sets scopes are
+    by (Some i) some = are
+
+-- ---- A pair more in a scope
+
+has_push : (scope : List (ℕ × ℕ)) (id v : ℕ) (o : Option ℕ) → has_number (scope ++ (id, v) ∷ []) o ≡ (is_number id o || has_number scope o)
+has_push scope id v o = grind (arith, value_push)
+
+scope_defined : {texts : List (List ℕ)} {name : List ℕ} {names : Names} {scope : List (ℕ × ℕ)} {id : ℕ} (v : ℕ)
+    → number_of texts name ≡ Some id → IsScope texts names scope → IsScope texts (name ∷ names) (scope ++ (id, v) ∷ [])
+scope_defined {texts} {name} {names} {scope} {id} v number is = record {
+  same = λ n. rw (same_number texts name n id number, is.same n) (sym (has_push scope id v (number_of texts n)));
+  within = λ j far.
+      let low = slice_get_within texts id name (number_there name texts id number) in
+      value_push scope id v j ∙ cond-false _ _ _ (ne_eqb id j (λ e. omega (arith, e, far, low))) ∙ is.within j far;
+}
+
+-- ---- A definition
+
+-- what is found, by whether the name is new in its set, and whether any set has it
+abbrev pub answer : Bool → Bool → Option FindKind
+answer is_new is_seen = if is_new then (if is_seen then Some Shadowed else None) else Some Redefined
+
+pub defined_is : (texts : List (List ℕ)) (sets : List Names) (scopes after : List (List (ℕ × ℕ))) (name : List ℕ) (id : ℕ)
+    (is_new is_seen : Bool) → 0 < length scopes → number_of texts name ≡ Some id → AreScopes texts sets scopes
+    → is_new ≡ not (is_in_last scopes id) → is_seen ≡ is_some (lookup scopes id)
+    → after ≡ (if is_new then with_pair scopes id 0 else scopes)
+    → AreScopes texts (defined name sets).known after × ((defined name sets).findings ≡ found_of (answer is_new is_seen) name)
+defined_is texts [] [] after name id is_new is_seen some number are new saw becomes = absurd (omega (arith, some))
+defined_is texts (names ∷ outer) (scope ∷ scopes) after name id is_new is_seen some number are new saw becomes =
+    let has : has_name names name ≡ is_some (value_in scope id) = are.0.same name ∙ ap (has_number scope) number in
+    elim (cases_Bool (is_some (value_in scope id))) [
+      | inl there ↦ rw (becomes, new ∙ ap not there, has ∙ there) (are, refl)
+      | inr away ↦
+          let any : is_seen ≡ have_name outer name = saw ∙ some_seen (value_in scope id) (lookup scopes id)
+          ∙ ap (λ (b : Bool). b || is_some (lookup scopes id)) away ∙ sym (ap (λ (o : Option ℕ). is_some (meant scopes o)) number)
+          ∙ known_has texts outer scopes name are.1 in
+          let more : AreScopes texts ((name ∷ names) ∷ outer) ((scope ++ (id, 0) ∷ []) ∷ scopes) = (scope_defined 0 number are.0, are.1) in
+          elim (cases_Bool (have_name outer name)) [
+            | inl inside ↦ rw (becomes, new ∙ ap not away, has ∙ away, any, inside) (more, refl)
+            | inr outside ↦ rw (becomes, new ∙ ap not away, has ∙ away, any, outside) (more, refl)
+          ]
+    ]
+defined_is texts _ _ after name id is_new is_seen some number are new saw becomes = absurd are
+
+-- ---- A set more, and one less
+
+none : (o : Option ℕ) → false ≡ has_number [] o
+none o = grind arith
+
+pub no_names : (texts : List (List ℕ)) → IsScope texts [] []
+no_names texts = record { same = λ name. none (number_of texts name); within = λ id far. refl }

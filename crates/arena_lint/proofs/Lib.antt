@@ -1,11 +1,9 @@
 pub mod KnowLemmas
-pub mod NameLemmas
-pub mod DefineLemmas
 pub mod KnownLemmas
+pub mod NameLemmas
+pub mod StatementLemmas
 pub mod SpendingLemmas
 pub mod TakingLemmas
-pub mod StatementLemmas
 pub mod WalkLemmas
-pub mod WeightLemmas
 pub mod LintLemmas
 pub mod AllLemmas

@@ -1,33 +1,27 @@
 -- What calls spend that are made one after another.
-use Rattle.std.proofs.Common.{◌≡◌, ℕ, ◌+◌, ◌^◌, ◌<◌, ◌≤◌, ◌⊎◌, inl, inr, refl, ◌∙◌, arith, false, Ok, Err, Some, None, List}
+use Rattle.std.proofs.Common.{◌≡◌, ℕ, ◌+◌, ◌^◌, ◌<◌, ◌≤◌, inl, inr, refl, ap, ◌∙◌, arith, Ok, Err, Some, None, List}
 use Rattle.std.specs.Prelude.{Result, Option, IsErr, IsErrAnd}
-use Rattle.placement.specs.State.{allocated_bytes, top_of}
+use Rattle.std.proofs.lemmas.Option.{none-some, same_Some}
 use Rattle.placement.proofs.AskingLemmas.{asks_more, asks_then, refused_after}
 use Rattle.arena_chunks.specs.Memory.{Memory}
 use Rattle.arena_chunks.specs.Source.{View}
 use Rattle.arena_chunks.specs.Frame.{Frame}
-use Rattle.arena_chunks.specs.Asking.{IsRefusedBySource, IsFull}
 use Rattle.arena_chunks.specs.declared.block.Block.{Block}
 use Rattle.arena_chunks.proofs.Layers.{asks_same}
 use Rattle.arena_items.specs.Costs.{Costs, used}
 use Rattle.arena_items.specs.declared.room.AllocError.{AllocError}
 use Rattle.arena_items.specs.declared.room.AllocError.TheVariants.{AllocErr, CapacityOverflow, OutOfMemory}
 use Rattle.arena_symbols.specs.Paying.{far_up}
+use Rattle.arena_symbols.specs.declared.uses.Names.{Names as Known}
 use Rattle.arena_tree.specs.Spending.{KeepsKind, error_of}
-use Rattle.arena_lint.specs.Spending.{IsStarvedSince, Stops, Spends, HasNumbers, Takes, IsWanting}
-use Rattle.arena_lint.specs.declared.names.Known.{Known}
+use Rattle.arena_lint.specs.Spending.{Spends, Takes, IsWanting}
 
 pub frame_kind : {old new : Memory} {before after : List Block} → Frame old new before after → KeepsKind old new
 frame_kind frame = record { is_growing = frame.is_growing; allocated = frame.allocated }
 
-pub kind_then : {old mid new : Memory} → KeepsKind old mid → KeepsKind mid new → KeepsKind old new
-kind_then one two = record {
-  is_growing = two.is_growing ∙ one.is_growing;
-  allocated = λ still. two.allocated (one.is_growing ∙ still) ∙ one.allocated still;
-}
-
-pub kind_same : {m : Memory} → KeepsKind m m
-kind_same = record { is_growing = refl; allocated = λ still. refl }
+err_is : {X : Type 0} (result : Result X AllocError) (e : AllocError) → error_of result ≡ Some e → result ≡ Err e
+err_is (Ok x) e is = absurd (none-some e is)
+err_is (Err f) e is = ap Err (same_Some f e is)
 
 -- ---- Spending
 
@@ -39,95 +33,79 @@ spends_costs {X} {few} {many} {before} {after} {all} {left} {old} {new} {result}
   takes = omega (arith, costs.takes, paid);
   asks = asks_more _ _ old.memory.state new.memory.state old.source new.source (omega (arith, less)) costs.asks;
   kind = kind;
-  stops = by result refl;
+  fits = λ is. fits (err_is result CapacityOverflow is);
+  starved = λ growing k is. elim (costs.starved growing k (err_is result (AllocErr k) is)).cause [
+    | inl up ↦ inl (omega (arith, up, costs.asks.chunks.allocated))
+    | inr other ↦ inr other
+  ];
+  full = λ still k is.
+      let full = costs.full still k (err_is result (AllocErr k) is) in
+      record { still = full.still; short = omega (arith, full.short, less) };
 }
-  where
-    far : (far_up < top_of old.memory.state.chunks) ⊎ (2 ^ 60 ≤ allocated_bytes new.memory.state) ⊎ IsRefusedBySource old new
-        → IsStarvedSince old new
-    far (inl up) = inr (inr (omega (arith, up, costs.asks.chunks.allocated)))
-    far (inr (inl much)) = inr (inl much)
-    far (inr (inr refused)) = inl refused
-
-    by : (r : Result X AllocError) → result ≡ r → Stops (used old + (many + all)) old new (error_of r)
-    by (Ok x) is = tt
-    by (Err (AllocErr k)) is = record {
-      starved = λ growing. far (costs.starved growing k is).cause;
-      full = λ still. let full = costs.full still k is in record { still = full.still; short = omega (arith, full.short, less) };
-    }
-    by (Err OutOfMemory) is = tt
-    by (Err CapacityOverflow) is = absurd (fits is)
 
 -- Calls, and then others.
 pub spends_then : {one two all before between after : ℕ} {old mid new : View} {error : Option AllocError}
     → Spends one before between old mid None → Spends two between after mid new error → one + two ≤ all
     → Spends all before after old new error
-spends_then {one} {two} {all} {before} {between} {after} {old} {mid} {new} {error} first second less = record {
-  takes = omega (arith, first.takes, second.takes, less);
-  asks = asks_then _ old.memory.state mid.memory.state new.memory.state old.source mid.source new.source
-      (asks_more _ _ old.memory.state mid.memory.state old.source mid.source (omega (arith, less)) first.asks)
-      (asks_more _ _ mid.memory.state new.memory.state mid.source new.source within second.asks);
-  kind = kind_then first.kind second.kind;
-  stops = by error second.stops;
-}
-  where
-    within : used mid + (two + between) ≤ used old + (all + before)
-    within = omega (arith, first.takes, less)
-
-    starved : IsStarvedSince mid new → IsStarvedSince old new
-    starved (inl refused) = inl (refused_after _ old.memory.state mid.memory.state old.source mid.source new.source first.asks refused)
-    starved (inr (inl much)) = inr (inl much)
-    starved (inr (inr up)) = inr (inr (omega (arith, up, first.asks.chunks.top)))
-
-    full : IsFull (used mid + (two + between)) mid → old.memory.state.is_growing ≡ false → IsFull (used old + (all + before)) old
-    full short still = record { still = still; short = omega (arith, short.short, first.kind.allocated still, within) }
-
-    by : (e : Option AllocError) → Stops (used mid + (two + between)) mid new e → Stops (used old + (all + before)) old new e
-    by None h = tt
-    by (Some (AllocErr k)) h = record {
-      starved = λ growing. starved (h.starved (first.kind.is_growing ∙ growing));
-      full = λ still. full (h.full (first.kind.is_growing ∙ still)) still;
+spends_then {one} {two} {all} {before} {between} {after} {old} {mid} {new} {error} first second less =
+    let within : used mid + (two + between) ≤ used old + (all + before) = omega (arith, first.takes, less) in record {
+      takes = omega (arith, first.takes, second.takes, less);
+      asks = asks_then _ old.memory.state mid.memory.state new.memory.state old.source mid.source new.source
+          (asks_more _ _ old.memory.state mid.memory.state old.source mid.source (omega (arith, less)) first.asks)
+          (asks_more _ _ mid.memory.state new.memory.state mid.source new.source within second.asks);
+      kind = record {
+        is_growing = second.kind.is_growing ∙ first.kind.is_growing;
+        allocated = λ still. second.kind.allocated (first.kind.is_growing ∙ still) ∙ first.kind.allocated still;
+      };
+      fits = second.fits;
+      starved = λ growing k is. elim (second.starved (first.kind.is_growing ∙ growing) k is) [
+        | inl up ↦ inl (omega (arith, up, first.asks.chunks.top))
+        | inr other ↦ inr (elim other [
+          | inl much ↦ inl much
+          | inr refused ↦ inr
+              (refused_after _ old.memory.state mid.memory.state old.source mid.source new.source first.asks refused)
+        ])
+      ];
+      full = λ still k is.
+          let full = second.full (first.kind.is_growing ∙ still) k is in
+          record { still = still; short = omega (arith, full.short, first.kind.allocated still, within) };
     }
-    by (Some OutOfMemory) h = tt
-    by (Some CapacityOverflow) h = h
 
 -- Nothing is done, and memory may be wanting.
 pub spends_nothing : {bytes saved : ℕ} {a : View} {error : Option AllocError} → IsWanting error → Spends bytes saved saved a a error
-spends_nothing {bytes} {saved} {a} {error} wanting =
-    record { takes = omega arith; asks = asks_same _ a a refl refl; kind = kind_same; stops = by error wanting }
+spends_nothing {bytes} {saved} {a} {error} wanting = record {
+  takes = omega arith;
+  asks = asks_same _ a a refl refl;
+  kind = record { is_growing = refl; allocated = λ still. refl };
+  fits = λ is. let no = only CapacityOverflow is in cc;
+  starved = λ growing k is. let no = only (AllocErr k) is in absurd (cc);
+  full = λ still k is. let no = only (AllocErr k) is in absurd (cc);
+}
   where
-    by : (e : Option AllocError) → IsWanting e → Stops (used a + (bytes + saved)) a a e
-    by None wanting = tt
-    by (Some (AllocErr k)) wanting = absurd wanting
-    by (Some OutOfMemory) wanting = tt
-    by (Some CapacityOverflow) wanting = wanting
+    only : (e : AllocError) → error ≡ Some e → e ≡ OutOfMemory
+    only e is = rw is at wanting
 
 -- ---- Statements
 
-numbers_less : {m : Memory} {k : Known} {more fewer : ℕ} → fewer ≤ more → HasNumbers m k more → HasNumbers m k fewer
-numbers_less less has = record {
-  texts = omega (arith, has.texts, less);
-  pairs = omega (arith, has.pairs, less);
-  maps = omega (arith, has.maps, less);
-}
-
 pub takes_then : {one two : ℕ} {old mid new : View} {k j l : Known} {error : Option AllocError} → Takes one old mid k j None
     → Takes two mid new j l error → Takes (one + two) old new k l error
-takes_then {one} {two} first second more has =
-    let one_walked = first (two + more) (numbers_less (omega arith) has) in
-    let two_walked = second more (one_walked.numbers refl) in
-    record { spends = spends_then one_walked.spends two_walked.spends (omega arith); numbers = two_walked.numbers }
+takes_then first second = record {
+  numbers = λ is. omega (arith, first.numbers refl, second.numbers is);
+  spends = λ few. spends_then (first.spends (omega (arith, few))) (second.spends (omega (arith, few, first.numbers refl))) (omega arith);
+}
 
 -- More may be taken than was.
 pub takes_more : {few : ℕ} {old new : View} {k l : Known} {error : Option AllocError} (many : ℕ) → few ≤ many
     → Takes few old new k l error → Takes many old new k l error
-takes_more many less takes more has =
-    let walked = takes more (numbers_less (omega (arith, less)) has) in
-    record { spends = spends_then (spends_nothing {bytes = 0} tt) walked.spends (omega (arith, less)); numbers = walked.numbers }
+takes_more many less takes = record {
+  numbers = λ is. omega (arith, less, takes.numbers is);
+  spends = λ room.
+      spends_then (spends_nothing {bytes = 0} tt) (takes.spends (omega (arith, less, room))) (omega (arith, less));
+}
 
 -- Nothing is taken, and memory may be wanting.
 pub takes_wanting : {weight : ℕ} (a : View) (k : Known) (error : Option AllocError) → IsWanting error → Takes weight a a k k error
-takes_wanting a k error wanting more has =
-    record { spends = spends_nothing wanting; numbers = λ is. numbers_less (omega arith) has }
+takes_wanting a k error wanting = record { numbers = λ is. omega arith; spends = λ few. spends_nothing wanting }
 
 -- what `?` hands on
 pub err_takes : {X : Type 0} {weight : ℕ} {old new : View} {k l : Known} (result : Result X AllocError) {e : AllocError}

@@ -1,142 +1,77 @@
 -- Statements of a tree, one by one, and in a later arena.
-use Rattle.std.proofs.Common.{◌≡◌, ℕ, zero, suc, ◌+◌, ◌-◌, ◌<◌, ◌≤◌, ◌^◌, List, [], ◌∷◌, ◌++◌, length, refl, sym, ap, subst, ◌∙◌, Some, Ok, Err, arith, append-nil}
+use Rattle.std.proofs.Common.{◌≡◌, ℕ, zero, suc, ◌+◌, ◌-◌, ◌<◌, ◌≤◌, ◌^◌, List, [], ◌∷◌, ◌++◌, length, refl, sym, ap, subst, ◌∙◌, Some, Ok, Err, arith}
 use Rattle.std.specs.Prelude.{slice_get, Result, OnOk}
 use Rattle.std.specs.Str.{IsUtf8}
 use Rattle.std.proofs.lemmas.List.{append_assoc}
-use Rattle.std.proofs.lemmas.Option.{none-some}
 use Rattle.arena_chunks.specs.Memory.{Memory}
 use Rattle.arena_chunks.specs.Frame.{AreAllApart}
 use Rattle.arena_chunks.specs.declared.block.Block.{Block}
-use Rattle.arena_chunks.proofs.Layers.{all_of_both}
-use Rattle.arena_items.specs.Footprint.{Agree}
+use Rattle.arena_chunks.proofs.Layers.{all_of_both, frame_keeps_all, frame_reflexive}
+use Rattle.arena_items.specs.Footprint.{AreReadable, Agree}
 use Rattle.arena_items.specs.Values.{IsTextIn, text_bytes}
 use Rattle.arena_items.specs.declared.room.AllocError.{AllocError}
+use Rattle.arena_items.proofs.Layers.{stays_readable, stays_agree, stays_apart}
 use Rattle.arena_vec.specs.Vecs.{IsVecIn, vec_list}
 use Rattle.arena_vec.specs.declared.vec.Vec.{Vec}
-use Rattle.tree_rules.specs.Trees.{Expr, NoExprs, And, Stmt, Let, Show, Stmts, NoStmts, Then, IsExpr, IsStmt, AreStmts}
+use Rattle.arena_symbols.specs.Named.{Moves, all_blocks}
+use Rattle.arena_symbols.specs.declared.uses.Names.{Names as Known}
+use Rattle.tree_rules.specs.Trees.{Expr, Stmt, Let, Show, Stmts, NoStmts, Then, IsStmt, AreStmts}
 use Rattle.tree_rules.specs.Trees as tree
-use Rattle.tree_rules.specs.Report.{Names, names_of, undefined, defined, Walk, found_first, walk_stmt}
+use Rattle.tree_rules.specs.Weights.{weight, weights}
+use Rattle.tree_rules.specs.Report.{Names, undefined, defined, Walk, found_first, walk_stmt}
 use Rattle.tree_rules.specs.declared.finding.Finding.{Finding}
+use Rattle.tree_rules.proofs.NameLemmas.{name_text}
 use Rattle.arena_tree.specs.declared.node.Kind.TheVariants as kind
 use Rattle.arena_tree.specs.declared.node.Node.{Node}
-use Rattle.arena_tree.specs.Counts.{below, below_stmt, stmt_nodes}
-use Rattle.arena_tree.specs.TreesAt.{node_item, kids_of, kids_in, ExprsAt}
+use Rattle.arena_tree.specs.Counts.{below_stmt, stmt_nodes}
+use Rattle.arena_tree.specs.TreesAt.{node_item, kids_of, kids_in}
 use Rattle.arena_tree.specs.TreeLaws.{list_same, list_held}
 use Rattle.arena_tree.specs.StmtsAt.{StmtAt, StmtsAt, stmt_blocks, stmts_blocks}
 use Rattle.arena_tree.specs.StmtLaws.{stmt_readable, stmts_readable, stmt_names as blocks_same, stmts_names as all_blocks_same, stmt_again, stmts_again}
-use Rattle.arena_tree.proofs.Layers.{one_row, one_stmts, line_seen, some_node}
-use Rattle.arena_lint.specs.Knowing.{IsKnownIn, Knows, known_blocks, Kept}
-use Rattle.arena_lint.specs.Weights.{weight, weights}
-use Rattle.arena_lint.specs.Rooms.{HaveExprs, AreNamed, HasStmt, HaveStmts, stmt_names, stmts_from}
-use Rattle.arena_lint.specs.Steps.{Moves, Finds}
-use Rattle.arena_lint.specs.declared.names.Known.{Known}
-use Rattle.arena_lint.proofs.KnownLemmas.{kept_then}
-use Rattle.arena_lint.proofs.NameLemmas.{name_text}
-use Rattle.arena_lint.proofs.SpendingLemmas.{kind_same}
+use Rattle.arena_tree.proofs.Layers.{one_stmts, line_seen}
+use Rattle.arena_lint.specs.Knowing.{Knows}
+use Rattle.arena_lint.specs.Rooms.{HasStmt, HaveStmts, ListHasStmts, stmt_names}
+use Rattle.arena_lint.specs.Steps.{Finds}
+use Rattle.arena_lint.proofs.NameLemmas.{from}
 
 -- ---- Statements one by one
 
-pub record HasLine (ss : Stmts) (m : Memory) (ns : List Node) (i : ℕ) (n : Node) : Type 0 where
-  pub stmt : Stmt
-  pub stands : StmtAt stmt m n
-  pub from : stmts_from i ss ≡ Then stmt (stmts_from (i + 1) ss)
-  pub few : 1 + below_stmt stmt ≤ stmt_nodes ss
-  pub good : AreStmts ss → IsStmt stmt
-  pub light : weight stmt ≤ weights ss
-  pub apart : (others : List Block) → AreAllApart (stmts_blocks ss m ns) others → AreAllApart (stmt_blocks stmt m n) others
+-- the first one, and those behind it
+pub first_line : {m : Memory} {n : Node} {ns : List Node} {room : ℕ} {others : List Block} → HaveStmts m (n ∷ ns) room others
+    → HasStmt m n (room - 1) others × (1 ≤ room) × HaveStmts m ns room others
+first_line {m} {n} {ns} {room} {others} have = by have.stmts have.stand have.good have.light have.few have.apart
+  where
+    by : (ss : Stmts) → StmtsAt ss m (n ∷ ns) → AreStmts ss → weights ss ≤ 2 ^ 24 → stmt_nodes ss ≤ room
+        → AreAllApart (stmts_blocks ss m (n ∷ ns)) others → HasStmt m n (room - 1) others × (1 ≤ room) × HaveStmts m ns room others
+    by NoStmts at good light few apart = absurd at
+    by (Then s rest) at good light few apart =
+        let each = (all_of_both (stmt_blocks s m n) (stmts_blocks rest m ns) others).0 apart in (
+          record { stmt = s; stands = at.0; good = good.0; light = omega (arith, light); few = omega (arith, few); apart = each.0 },
+          omega (arith, few),
+          record { stmts = rest; stand = at.1; good = good.1; light = omega (arith, light); few = omega (arith, few); apart = each.1 },
+        )
 
-pub line_at : (ss : Stmts) (m : Memory) (ns : List Node) (i : ℕ) (n : Node) → StmtsAt ss m ns → slice_get ns i ≡ Some n
-    → HasLine ss m ns i n
-line_at NoStmts m [] i n at is = absurd (none-some n is)
-line_at NoStmts m (k ∷ ns) i n at is = absurd at
-line_at (Then s rest) m [] i n at is = absurd at
-line_at (Then s rest) m (k ∷ ns) zero n at is = let same = some_node k n is in record {
-  stmt = s;
-  stands = subst (StmtAt s m) same at.0;
-  from = refl;
-  few = omega arith;
-  good = λ good. good.0;
-  light = omega arith;
-  apart = λ others apart. subst (λ (x : Node). AreAllApart (stmt_blocks s m x) others) same
-      ((all_of_both (stmt_blocks s m k) (stmts_blocks rest m ns) others).0 apart).0;
-}
-line_at (Then s rest) m (k ∷ ns) (suc i) n at is =
-    let next = line_at rest m ns i n at.1 is in
-    let j : suc (i + 1) ≡ suc i + 1 = omega arith in
-    record {
-      stmt = next.stmt;
-      stands = next.stands;
-      from = next.from ∙ ap (λ (j : ℕ). Then next.stmt (stmts_from j (Then s rest))) j;
-      few = omega (arith, next.few);
-      good = λ good. next.good good.1;
-      light = omega (arith, next.light);
-      apart = λ others apart. next.apart others ((all_of_both (stmt_blocks s m k) (stmts_blocks rest m ns) others).0 apart).1;
-    }
+pub line_within : {m : Memory} {ns : List Node} {room : ℕ} {others : List Block} (i : ℕ) (n : Node) → HaveStmts m ns room others
+    → slice_get ns i ≡ Some n → HasStmt m n (room - 1) others × (1 ≤ room)
+line_within {m} {ns} {room} {others} i n have is =
+    let first = first_line (from (λ (l : List Node). HaveStmts m l room others) (λ n ns have. (first_line have).2) i n ns is have) in
+    (first.0, first.1)
 
-pub all_from : (ss : Stmts) (m : Memory) (ns : List Node) → StmtsAt ss m ns → stmts_from (length ns) ss ≡ NoStmts
-all_from NoStmts m [] at = refl
-all_from NoStmts m (n ∷ ns) at = absurd at
-all_from (Then s rest) m [] at = absurd at
-all_from (Then s rest) m (n ∷ ns) at = all_from rest m ns at.1
-
-pub stmt_within : {m : Memory} {v : Vec Node} {room : ℕ} (i : ℕ) (n : Node) {others : List Block} → HaveStmts m v room others
-    → slice_get (vec_list node_item m v) i ≡ Some n → HasStmt m n (room - 1) others × (1 ≤ room)
-stmt_within {m} {v} {room} i n {others} have is =
-    let l = line_at have.stmts m (vec_list node_item m v) i n have.stand is in (
-      record {
-        stmt = l.stmt;
-        stands = l.stands;
-        good = l.good have.good;
-        light = omega (arith, l.light, have.light);
-        few = omega (arith, l.few, have.few);
-        apart = l.apart others have.apart.1;
-      },
-      omega (arith, l.few, have.few),
-    )
-
--- ---- Statements that are no block
-
-pub record HasOne (s : Stmt) (m : Memory) (n : Node) : Type 0 where
-  pub expr : Expr
-  pub held : IsVecIn node_item m (kids_of n)
-  pub stand : ExprsAt (And expr NoExprs) m (kids_in m n)
-  pub names : stmt_names s ≡ names_of expr
-  pub below_is : below_stmt s ≡ 1 + below expr
-  pub good : IsStmt s → IsExpr expr
-
-pub has_one : (s : Stmt) (m : Memory) (n : Node) → StmtAt s m n → (n.kind ≡ kind.Block → ⊥) → HasOne s m n
-has_one (Let name e) m n at not = let row = one_row e m (kids_in m n) at.4 in
-    record { expr = e; held = at.3; stand = row; names = refl; below_is = refl; good = λ good. good.1 }
-has_one (Show e) m n at not = let row = one_row e m (kids_in m n) at.2 in
-    record { expr = e; held = at.1; stand = row; names = refl; below_is = refl; good = λ good. good }
-has_one (tree.Block body) m n at not = absurd (not at.0)
-
-pub one_has : {m : Memory} {n : Node} {room : ℕ} {others : List Block} → HasStmt m n room others → (n.kind ≡ kind.Block → ⊥)
-    → HaveExprs m (kids_in m n) room
-one_has {m} {n} has not =
-    let one = has_one has.stmt m n has.stands not in
-    let few = one.below_is in
-    record { exprs = And one.expr NoExprs; stand = one.stand; good = (one.good has.good, tt); few = omega (arith, has.few, few) }
-
-pub one_named : (s : Stmt) (m : Memory) (n : Node) → StmtAt s m n → (n.kind ≡ kind.Block → ⊥) → AreNamed m (kids_in m n) (stmt_names s)
-one_named s m n at not =
-    let one = has_one s m n at not in
-    record { exprs = And one.expr NoExprs; stand = one.stand; names_are = one.names ∙ sym (append-nil (names_of one.expr)) }
+-- A node stands for one statement at most.
+one_stmt : (s t : Stmt) (m : Memory) (n : Node) → StmtAt s m n → StmtAt t m n → s ≡ t
+one_stmt s t m n one two = same (one_stmts (Then s NoStmts) (Then t NoStmts) m (n ∷ []) (one, tt) (two, tt))
+  where
+    same : Then s NoStmts ≡ Then t NoStmts → s ≡ t
+    same is = cc
 
 -- ---- Definitions
 
-pub record HasName (m : Memory) (n : Node) : Type 0 where
-  pub held : IsTextIn m n.text
-  pub text : IsUtf8 (text_bytes m n.text)
-  pub short : length (text_bytes m n.text) < 2 ^ 32
-
-pub has_let : {m : Memory} {n : Node} {room : ℕ} {others : List Block} → HasStmt m n room others → n.kind ≡ kind.Let → HasName m n
-has_let {m} {n} has is =
-    let s = line_seen kind.Let m n is has.stmt has.stands in record {
-      held = s.1;
-      text = name_text (text_bytes m n.text) (subst IsStmt s.3 has.good).0;
-      short = omega (arith, ap weight s.3, has.light);
-    }
+-- its name may be read, and is a short text
+pub let_name : {m : Memory} {n : Node} {room : ℕ} {others : List Block} → HasStmt m n room others → n.kind ≡ kind.Let
+    → IsTextIn m n.text × IsUtf8 (text_bytes m n.text) × (length (text_bytes m n.text) < 2 ^ 32)
+let_name {m} {n} has is =
+    let s = line_seen kind.Let m n is has.stmt has.stands in
+    (s.1, name_text (text_bytes m n.text) (subst IsStmt s.3 has.good).0, omega (arith, ap weight s.3, has.light))
 
 pub let_weight : (s : Stmt) (m : Memory) (n : Node) → StmtAt s m n → n.kind ≡ kind.Let → 1 + length (text_bytes m n.text) ≡ weight s
 let_weight s m n at is = sym (ap weight (line_seen kind.Let m n is s at).3)
@@ -154,7 +89,7 @@ let_finds old new k l first mid found (Ok x) s n at is uses finds sets knows =
     let walks : walk_stmt s sets ≡ found_first used (defined name sets) = rw (line_seen kind.Let old n is s at).3 refl in
     let all = one.1 ∙ ap (λ (f : List Finding). f ++ (defined name sets).findings) (uses sets knows)
     ∙ append_assoc first used (defined name sets).findings in
-    (subst (λ (w : Walk). Knows new l w.known) (sym walks) one.0, all ∙ ap (λ (w : Walk). first ++ w.findings) (sym walks))
+    rw walks (one.0, all)
 
 -- ---- Statements that show
 
@@ -170,88 +105,88 @@ show_finds m k first found result (tree.Block body) n at no-let no-block uses se
 
 -- ---- Trees stay
 
-pub moves_none : {m : Memory} {k : Known} → IsKnownIn m k → Moves m m k k
-moves_none {m} known = record {
-  known = known;
-  keeps = λ blocks readable apart. record { readable = readable; agree = same blocks; apart = apart; kind = kind_same };
-}
-  where
-    same : (bs : List Block) → Agree m m bs
-    same [] = tt
-    same (b ∷ bs) = (refl, same bs)
-
-pub moves_then : {old mid new : Memory} {k l j : Known} → Moves old mid k l → Moves mid new l j → Moves old new k j
-moves_then {old} {mid} {new} {k} {l} {j} one two =
-    record { known = two.known; keeps = kept_then (known_blocks k) (known_blocks l) (known_blocks j) one.keeps two.keeps }
+-- What stands on blocks that lie apart from the names' stands after a call that moved these, and its blocks lie apart still.
+still : {old new : Memory} {k l : Known} → Moves old new k l → (P : Memory → Type 0) (blocks : Memory → List Block)
+    → AreReadable old.state (blocks old) → AreAllApart (blocks old) (all_blocks old k)
+    → (Agree old new (blocks old) → AreReadable new.state (blocks old) → P new × (blocks new ≡ blocks old))
+    → P new × AreAllApart (blocks new) (all_blocks new l)
+still {old} {new} {k} {l} moves P blocks readable apart again =
+    let after = all_blocks new l in
+    let stay = frame_keeps_all old new (all_blocks old k) after (blocks old) moves.frame readable apart in
+    let is = again (stays_agree old new after (blocks old) stay) (stays_readable old new after (blocks old) stay) in
+    (is.0, subst (λ (bs : List Block). AreAllApart bs after) (sym is.1) (stays_apart old new after (blocks old) stay))
 
 module _ {old new : Memory} {k l : Known} (moves : Moves old new k l) where
-  module _ {n : Node} {room : ℕ} (has : HasStmt old n room (known_blocks k)) where
-    stay : Kept old new (known_blocks l) (stmt_blocks has.stmt old n)
-    stay = moves.keeps (stmt_blocks has.stmt old n) (stmt_readable has.stmt old n has.stands) has.apart
+  module _ {n : Node} {room : ℕ} (has : HasStmt old n room (all_blocks old k)) where
+    stmt_still : StmtAt has.stmt new n × AreAllApart (stmt_blocks has.stmt new n) (all_blocks new l)
+    stmt_still = still moves (λ m. StmtAt has.stmt m n) (λ m. stmt_blocks has.stmt m n) (stmt_readable has.stmt old n has.stands) has.apart
+        (λ agree readable. (stmt_again has.stmt old new n has.stands agree readable, blocks_same has.stmt old new n agree))
 
-    stands_moved : StmtAt has.stmt new n
-    stands_moved = stmt_again has.stmt old new n has.stands stay.agree stay.readable
-
-    pub stmt_moved : HasStmt new n room (known_blocks l)
+    pub stmt_moved : HasStmt new n room (all_blocks new l)
     stmt_moved = record {
       stmt = has.stmt;
-      stands = stands_moved;
+      stands = stmt_still.0;
       good = has.good;
       light = has.light;
       few = has.few;
-      apart = subst (λ (bs : List Block). AreAllApart bs (known_blocks l)) (sym (blocks_same has.stmt old new n stay.agree)) stay.apart;
+      apart = stmt_still.1;
     }
 
-    -- the statements of a block
-    pub body_moved : (s : Stmt) → n.kind ≡ kind.Block → StmtAt s old n → (ss : Stmts) × (s ≡ tree.Block ss) × StmtsAt ss new (kids_in new n)
-    body_moved s is at =
-        let same : Then s NoStmts ≡ Then has.stmt NoStmts
-        = one_stmts (Then s NoStmts) (Then has.stmt NoStmts) old (n ∷ []) (at, tt) (has.stands, tt) in
-        let v = line_seen kind.Block new n is has.stmt stands_moved in
-        (v.1, one s has.stmt same ∙ v.2, v.3)
-      where
-        one : (s t : Stmt) → Then s NoStmts ≡ Then t NoStmts → s ≡ t
-        one s t same = cc
+    pub stands_still : (s : Stmt) → StmtAt s old n → StmtAt s new n
+    stands_still s at = subst (λ (t : Stmt). StmtAt t new n) (one_stmt has.stmt s old n has.stands at) stmt_still.0
 
-  -- a list of statements
-  module _ {v : Vec Node} {room : ℕ} (have : HaveStmts old v room (known_blocks k)) where
+  module _ {v : Vec Node} {room : ℕ} (has : ListHasStmts old v room (all_blocks old k)) where
     abbrev ns : List Node
     ns = vec_list node_item old v
 
-    all_stay : Kept old new (known_blocks l) (v.raw.block ∷ stmts_blocks have.stmts old ns)
-    all_stay = moves.keeps (v.raw.block ∷ stmts_blocks have.stmts old ns)
-        (have.held.place.readable, stmts_readable have.stmts old ns have.stand) have.apart
+    list_still : (IsVecIn node_item new v × (vec_list node_item new v ≡ ns)) × AreAllApart (v.raw.block ∷ []) (all_blocks new l)
+    list_still = still moves (λ m. IsVecIn node_item m v × (vec_list node_item m v ≡ ns)) (λ m. v.raw.block ∷ [])
+        (has.held.place.readable, tt) has.apart
+        (λ agree readable. ((list_held old new v has.held readable.0, list_same old new v agree.0), refl))
 
-    pub list_stands : StmtsAt have.stmts new (vec_list node_item new v)
-    list_stands = subst (StmtsAt have.stmts new) (sym (list_same old new v all_stay.agree.0))
-        (stmts_again have.stmts old new ns have.stand all_stay.agree.1 all_stay.readable.1)
+    stmts_still : StmtsAt has.have.stmts new ns × AreAllApart (stmts_blocks has.have.stmts new ns) (all_blocks new l)
+    stmts_still = let have = has.have in
+        still moves (λ m. StmtsAt have.stmts m ns) (λ m. stmts_blocks have.stmts m ns) (stmts_readable have.stmts old ns have.stand) have.apart
+        (λ agree readable. (stmts_again have.stmts old new ns have.stand agree readable, all_blocks_same have.stmts old new ns agree))
 
-    pub list_moved : HaveStmts new v room (known_blocks l)
-    list_moved =
-        let blocks : stmts_blocks have.stmts new (vec_list node_item new v) ≡ stmts_blocks have.stmts old ns
-        = ap (stmts_blocks have.stmts new) (list_same old new v all_stay.agree.0)
-        ∙ all_blocks_same have.stmts old new ns all_stay.agree.1 in
-        record {
-          held = list_held old new v have.held all_stay.readable.0;
-          stmts = have.stmts;
-          stand = list_stands;
-          good = have.good;
-          light = have.light;
-          few = have.few;
-          apart = (all_stay.apart.0, subst (λ (bs : List Block). AreAllApart bs (known_blocks l)) (sym blocks) all_stay.apart.1);
-        }
+    pub same_list : vec_list node_item new v ≡ vec_list node_item old v
+    same_list = list_still.0.1
+
+    pub list_moved : ListHasStmts new v room (all_blocks new l)
+    list_moved = let have = has.have in record {
+      held = list_still.0.0;
+      apart = list_still.1;
+      have = subst (λ (l' : List Node). HaveStmts new l' room (all_blocks new l)) (sym same_list) (record {
+        stmts = have.stmts;
+        stand = stmts_still.0;
+        good = have.good;
+        light = have.light;
+        few = have.few;
+        apart = stmts_still.1;
+      });
+    }
 
 -- ---- Blocks
 
 pub block_body : {m : Memory} {n : Node} {room : ℕ} {others : List Block} → HasStmt m n room others → n.kind ≡ kind.Block
-    → HaveStmts m (kids_of n) room others
+    → ListHasStmts m (kids_of n) room others
 block_body {m} {n} {room} {others} has is =
-    let v = line_seen kind.Block m n is has.stmt has.stands in record {
+    let v = line_seen kind.Block m n is has.stmt has.stands in
+    let apart = subst (λ (t : Stmt). AreAllApart (stmt_blocks t m n) others) v.2 has.apart in record {
       held = v.0;
-      stmts = v.1;
-      stand = v.3;
-      good = subst IsStmt v.2 has.good;
-      light = omega (arith, ap weight v.2, has.light);
-      few = omega (arith, ap below_stmt v.2, has.few);
-      apart = subst (λ (t : Stmt). AreAllApart (stmt_blocks t m n) others) v.2 has.apart;
+      apart = (apart.0, tt);
+      have = record {
+        stmts = v.1;
+        stand = v.3;
+        good = subst IsStmt v.2 has.good;
+        light = omega (arith, ap weight v.2, has.light);
+        few = omega (arith, ap below_stmt v.2, has.few);
+        apart = apart.1;
+      };
     }
+
+-- The statements of a block stand in a later arena.
+pub body_still : {old new : Memory} {k l : Known} {n : Node} {room : ℕ} → Moves old new k l → HasStmt old n room (all_blocks old k)
+    → n.kind ≡ kind.Block → (s : Stmt) → StmtAt s old n → (ss : Stmts) × (s ≡ tree.Block ss) × StmtsAt ss new (kids_in new n)
+body_still {new = new} {n = n} moves has is s at =
+    let v = line_seen kind.Block new n is s (stands_still moves has s at) in (v.1, v.2, v.3)

@@ -1,138 +1,124 @@
 -- What a definition takes, and what the beginning and the end of a block do.
-use Rattle.std.proofs.Common.{◌≡◌, ℕ, ◌+◌, ◌*◌, ◌≤◌, List, [], ◌∷◌, ◌++◌, length, length-append, refl, sym, ap, subst, ◌∙◌, arith, true, false, Bool, Ok, Err, Some, None}
-use Rattle.std.specs.Prelude.{Result, OnOk, map, is_some, if◌then◌else◌}
+use Rattle.std.proofs.Common.{◌≡◌, ℕ, ◌+◌, ◌*◌, ◌≤◌, List, [], ◌∷◌, ◌++◌, length, length-append, refl, ap, ◌∙◌, arith, true, false, Bool, Ok, Err, Some, None}
+use Rattle.std.specs.Prelude.{Result, IfOk, OnOk, map, is_some, if◌then◌else◌}
 use Rattle.std.proofs.lemmas.List.Sums.{sum_by-cons}
 use Rattle.arena_chunks.specs.Source.{View}
+use Rattle.arena_chunks.specs.Frame.{Frame}
+use Rattle.arena_items.specs.Costs.{Costs}
 use Rattle.arena_items.specs.declared.room.AllocError.{AllocError}
+use Rattle.arena_items.specs.declared.room.AllocError.TheVariants.{CapacityOverflow}
 use Rattle.arena_items.proofs.Layers.{costs_nothing}
-use Rattle.arena_symbols.specs.Interner.{number_of, with_text}
+use Rattle.arena_symbols.specs.Interner.{number_of, with_text, most_texts}
 use Rattle.arena_symbols.specs.Interning.{Interns}
+use Rattle.arena_symbols.specs.Named.{AreNames}
 use Rattle.arena_symbols.specs.Names.{names_in}
 use Rattle.arena_symbols.specs.Paying.{far_up}
-use Rattle.arena_symbols.specs.Scoping.{with_pair, outer_of, pair_count}
-use Rattle.arena_symbols.specs.TableCalls.{Defines as Puts, Enters, Leaves}
-use Rattle.arena_symbols.specs.Tables.{entry_item, scopes_in, table_credit}
+use Rattle.arena_symbols.specs.Scoping.{with_pair, outer_of, pair_count, most_scopes}
+use Rattle.arena_symbols.specs.TableCalls.{Defines, Enters, Leaves}
+use Rattle.arena_symbols.specs.Tables.{entry_item, IsTableIn, scopes_in, table_blocks, table_credit}
 use Rattle.arena_symbols.specs.declared.scopes.Scopes.{Scopes}
 use Rattle.arena_symbols.specs.declared.symbols.Symbols.{Symbols}
+use Rattle.arena_symbols.specs.declared.uses.Names.{Names as Known}
+use Rattle.arena_symbols.proofs.Layers.{texts_moved, scopes_moved}
 use Rattle.arena_tree.specs.Spending.{error_of}
-use Rattle.arena_lint.specs.Knowing.{IsKnownIn, credit}
-use Rattle.arena_lint.specs.Spending.{Spends, HasNumbers, Takes}
-use Rattle.arena_lint.specs.declared.names.Known.{Known}
-use Rattle.arena_lint.proofs.KnownLemmas.{interned, tabled}
+use Rattle.arena_lint.specs.Knowing.{credit}
+use Rattle.arena_lint.specs.Spending.{Spends, Takes, numbers_in, walk_bytes}
 use Rattle.arena_lint.proofs.SpendingLemmas.{frame_kind, spends_costs, spends_then, spends_nothing}
 
 -- ---- Numbers
 
 text_more : (texts : List (List ℕ)) (text : List ℕ) → length (with_text texts text) ≤ length texts + 1
-text_more texts text = by (is_some (number_of texts text))
-  where
-    by : (b : Bool) → length (if b then texts else texts ++ text ∷ []) ≤ length texts + 1
-    by true = omega arith
-    by false = omega (arith, length-append texts (text ∷ []))
+text_more texts text = grind (arith, length-append)
 
-count_cons : (scope : List (ℕ × ℕ)) (outer : List (List (ℕ × ℕ))) → pair_count (scope ∷ outer) ≡ length scope + pair_count outer
-count_cons scope outer = sum_by-cons (λ (n : ℕ). n) (length scope) (map (λ (s : List (ℕ × ℕ)). length s) outer)
+-- the pairs and the scopes
+abbrev size : List (List (ℕ × ℕ)) → ℕ
+size scopes = pair_count scopes + length scopes
 
--- at most so many pairs more, and no map more
-record IsMore (n : ℕ) (before after : List (List (ℕ × ℕ))) : Type 0 where
-  pub pairs : pair_count after ≤ pair_count before + n
-  pub maps : length after ≤ length before
+size_cons : (scope : List (ℕ × ℕ)) (outer : List (List (ℕ × ℕ))) → size (scope ∷ outer) ≡ 1 + length scope + size outer
+size_cons scope outer =
+    omega (arith, sum_by-cons (λ (n : ℕ). n) (length scope) (map (λ (s : List (ℕ × ℕ)). length s) outer))
 
-pair_more : (b : Bool) (scopes : List (List (ℕ × ℕ))) (id v : ℕ) → IsMore 1 scopes (if b then with_pair scopes id v else scopes)
-pair_more false scopes id v = record { pairs = omega arith; maps = omega arith }
-pair_more true [] id v = record { pairs = omega arith; maps = omega arith }
-pair_more true (scope ∷ outer) id v = record {
-  pairs = omega (arith, count_cons scope outer, count_cons (scope ++ (id, v) ∷ []) outer, length-append scope ((id, v) ∷ []));
-  maps = omega arith;
-}
+size_push : (b : Bool) (scopes : List (List (ℕ × ℕ))) (id v : ℕ) → size (if b then with_pair scopes id v else scopes) ≤ size scopes + 1
+size_push false scopes id v = omega arith
+size_push true [] id v = omega arith
+size_push true (scope ∷ outer) id v = let pair : List (ℕ × ℕ) = (id, v) ∷ [] in
+    omega (arith, size_cons scope outer, size_cons (scope ++ pair) outer, length-append scope pair)
 
-outer_fewer : (scopes : List (List (ℕ × ℕ))) → IsMore 0 scopes (outer_of scopes)
-outer_fewer [] = record { pairs = omega arith; maps = omega arith }
-outer_fewer (scope ∷ outer) = record { pairs = omega (arith, count_cons scope outer); maps = omega arith }
+size_outer : (scopes : List (List (ℕ × ℕ))) → size (outer_of scopes) ≤ size scopes
+size_outer [] = omega arith
+size_outer (scope ∷ outer) = omega (arith, size_cons scope outer)
 
 -- ---- A definition
 
-name_spends : {old mid : View} {k : Known} {t : Symbols} {name : List ℕ} {result : Result ℕ AllocError}
-    (more : ℕ) → HasNumbers old.memory k (1 + length name + more) → Interns old mid k.names t name result
-    → Spends (1024 + length name) (credit k) (credit (record k { names = t })) old mid (error_of result)
-name_spends more has interns = spends_costs interns.pays.costs (frame_kind interns.texts.1.frame)
-    (λ is. omega (arith, (interns.overflows.0 is).1, has.texts)) (omega arith) (omega arith)
+name_spends : {old mid : View} (k : Known) {t : Symbols} {name : List ℕ} {result : Result ℕ AllocError}
+    → numbers_in old.memory k + 2 * (1 + length name) ≤ most_texts → Interns old mid k.symbols t name result
+    → Spends (1024 + length name) (credit k) (credit (record k { symbols = t })) old mid (error_of result)
+name_spends k few interns = spends_costs interns.pays.costs (frame_kind interns.texts.1.frame)
+    (λ is. omega (arith, (interns.overflows.0 is).1, few)) (omega arith) (omega arith)
 
-put_spends : {old mid new : View} {k : Known} {t : Symbols} {d : Scopes} {name : List ℕ} {id : ℕ} {result : Result Bool AllocError}
-    (more : ℕ) → IsKnownIn old.memory k → HasNumbers old.memory k (1 + length name + more) → Interns old mid k.names t name (Ok id)
-    → Puts entry_item mid new k.scopes d id 0 result
-    → Spends (1536 * (1 + length name)) (credit k) (credit (record { names = t; scopes = d })) old new (error_of result)
-put_spends more held has interns puts =
-    let same = ap pair_count (interned held interns).scopes in
-    spends_then (name_spends more has interns) (spends_costs {many = 512} puts.pays.costs (frame_kind puts.frame)
-    (λ is. omega (arith, (puts.overflows.0 is).1, same, has.pairs)) (omega arith) (omega arith)) (omega arith)
-
-pub unnamed_takes : {old mid : View} {k : Known} {t : Symbols} {name : List ℕ} {e : AllocError} → Interns old mid k.names t name (Err e)
-    → Takes (1 + length name) old mid k (record k { names = t }) (Some e)
-unnamed_takes interns more has = record {
-  spends = spends_then (spends_nothing {bytes = 0} tt) (name_spends more has interns) (omega arith);
+pub unnamed_takes : {old mid : View} {k : Known} {t : Symbols} {name : List ℕ} {e : AllocError}
+    → Interns old mid k.symbols t name (Err e) → Takes (1 + length name) old mid k (record k { symbols = t }) (Some e)
+unnamed_takes {k = k} interns = record {
   numbers = λ never. absurd (cc);
+  spends = λ few. spends_then (spends_nothing {bytes = 0} tt) (name_spends k few interns) (omega arith);
 }
 
-pub unput_takes : {old mid new : View} {k : Known} {t : Symbols} {d : Scopes} {name : List ℕ} {id : ℕ} {e : AllocError}
-    → IsKnownIn old.memory k → Interns old mid k.names t name (Ok id) → Puts entry_item mid new k.scopes d id 0 (Err e)
-    → Takes (1 + length name) old new k (record { names = t; scopes = d }) (Some e)
-unput_takes held interns puts more has = record { spends = put_spends more held has interns puts; numbers = λ never. absurd (cc) }
-
-pub put_takes : {old mid new : View} {k : Known} {t : Symbols} {d : Scopes} {name : List ℕ} {id : ℕ} {is_new : Bool}
-    → IsKnownIn old.memory k → Interns old mid k.names t name (Ok id) → Puts entry_item mid new k.scopes d id 0 (Ok is_new)
-    → Takes (1 + length name) old new k (record { names = t; scopes = d }) None
-put_takes {old} {mid} {new} {k} {t} {d} {name} {id} {is_new} held interns puts more has =
-    let one = interned held interns in
-    let names : names_in new.memory t ≡ with_text (names_in old.memory k.names) name
-    = (tabled one.known puts.frame puts.held).names ∙ interns.names in
-    let scopes = scopes_in entry_item old.memory k.scopes in
-    let put : scopes_in entry_item new.memory d ≡ (if is_new then with_pair scopes id 0 else scopes)
-    = puts.scopes ∙ ap (λ (s : List (List (ℕ × ℕ))). if is_new then with_pair s id 0 else s) one.scopes in
-    let pairs = subst (IsMore 1 scopes) (sym put) (pair_more is_new scopes id 0) in
-    record {
-      spends = put_spends more held has interns puts;
-      numbers = λ is. record {
-        texts = omega (arith, ap (λ (l : List (List ℕ)). length l) names, text_more (names_in old.memory k.names) name, has.texts);
-        pairs = omega (arith, pairs.pairs, has.pairs);
-        maps = omega (arith, pairs.maps, has.maps);
-      };
+pub define_takes : {old mid new : View} {k : Known} {t : Symbols} {d : Scopes} {name : List ℕ} {id : ℕ} {result : Result Bool AllocError}
+    → AreNames old.memory k → Interns old mid k.symbols t name (Ok id) → Defines entry_item mid new k.scopes d id 0 result
+    → Takes (1 + length name) old new k (record { symbols = t; scopes = d }) (error_of result)
+define_takes {old} {mid} {new} {k} {t} {d} {name} {id} {result} held interns puts =
+    let one = texts_moved held interns in
+    let names = (scopes_moved one.0.held d puts.held puts.frame).1 ∙ interns.names in record {
+      numbers = λ is. omega (
+        arith,
+        ap (λ (l : List (List ℕ)). length l) names,
+        text_more (names_in old.memory k.symbols) name,
+        more result puts.scopes is,
+        ap size one.1,
+      );
+      spends = λ few. spends_then (name_spends k few interns) (spends_costs {many = 512} puts.pays.costs (frame_kind puts.frame)
+          (λ is. omega (arith, (puts.overflows.0 is).1, ap pair_count one.1, few)) (omega arith) (omega arith)) (omega arith);
     }
+  where
+    more : (r : Result Bool AllocError) → IfOk r (λ b. scopes_in entry_item new.memory d
+        ≡ (if b then with_pair (scopes_in entry_item mid.memory k.scopes) id 0 else scopes_in entry_item mid.memory k.scopes))
+        → error_of r ≡ None → size (scopes_in entry_item new.memory d) ≤ size (scopes_in entry_item mid.memory k.scopes) + 1
+    more (Ok b) is none = rw is (size_push b (scopes_in entry_item mid.memory k.scopes) id 0)
+    more (Err e) is none = absurd (cc)
 
 -- ---- Blocks
 
-pub begun_takes : {old new : View} {k : Known} {d : Scopes} {result : Result (Unit {0}) AllocError} → IsKnownIn old.memory k
+-- A call on the scopes leaves the texts.
+scopes_take : {X : Type 0} {weight few : ℕ} {old new : View} {k : Known} {d : Scopes} {result : Result X AllocError} → AreNames old.memory k
+    → IsTableIn entry_item new.memory d → Frame old.memory new.memory (table_blocks k.scopes) (table_blocks d)
+    → Costs far_up few (table_credit k.scopes) (table_credit d) old new result → few ≤ walk_bytes weight
+    → (result ≡ Err CapacityOverflow → most_scopes ≤ length (scopes_in entry_item old.memory k.scopes))
+    → (error_of result ≡ None → size (scopes_in entry_item new.memory d) ≤ size (scopes_in entry_item old.memory k.scopes) + 2 * weight)
+    → Takes weight old new k (record k { scopes = d }) (error_of result)
+scopes_take {d = d} held there frame costs less overflows more = record {
+  numbers = λ is. omega (arith, ap (λ (l : List (List ℕ)). length l) (scopes_moved held d there frame).1, more is);
+  spends = λ fit. spends_costs costs (frame_kind frame) (λ is. omega (arith, overflows is, fit)) (omega (arith, less)) (omega (arith, less));
+}
+
+pub begun_takes : {old new : View} {k : Known} {d : Scopes} {result : Result (Unit {0}) AllocError} → AreNames old.memory k
     → Enters entry_item old new k.scopes d result → Takes 1 old new k (record k { scopes = d }) (error_of result)
-begun_takes {old} {new} {k} {d} {result} held enters more has = record {
-  spends = spends_costs enters.pays.costs (frame_kind enters.frame) (λ is. omega (arith, enters.overflows.0 is, has.maps))
-      (omega arith) (omega arith);
-  numbers = by result enters.scopes;
-}
+begun_takes {old} {new} {k} {d} {result} held enters = scopes_take held enters.held enters.frame enters.pays.costs (omega arith)
+    enters.overflows.0 (λ is. omega (
+      arith,
+      ap size (begun result enters.scopes is),
+      size_cons [] (scopes_in entry_item old.memory k.scopes),
+    ))
   where
-    before : List (List (ℕ × ℕ))
-    before = scopes_in entry_item old.memory k.scopes
+    begun : (r : Result (Unit {0}) AllocError) {P : Type 0} → OnOk r P → error_of r ≡ None → P
+    begun (Ok x) is none = is
+    begun (Err e) is none = absurd (cc)
 
-    by : (r : Result (Unit {0}) AllocError) → OnOk r (scopes_in entry_item new.memory d ≡ [] ∷ before) → error_of r ≡ None
-        → HasNumbers new.memory (record k { scopes = d }) more
-    by (Err e) is never = absurd (cc)
-    by (Ok x) is none = record {
-      texts = omega (arith, ap (λ (l : List (List ℕ)). length l) (tabled held enters.frame enters.held).names, has.texts);
-      pairs = omega (arith, ap pair_count is, count_cons [] before, has.pairs);
-      maps = omega (arith, ap (λ (s : List (List (ℕ × ℕ))). length s) is, has.maps);
-    }
-
-pub ended_takes : {old new : View} {k : Known} {d : Scopes} {result : Bool} → IsKnownIn old.memory k
+pub ended_takes : {old new : View} {k : Known} {d : Scopes} {result : Bool} → AreNames old.memory k
     → Leaves entry_item old new k.scopes d result → Takes 0 old new k (record k { scopes = d }) None
-ended_takes {old} {new} {k} {d} {result} held leaves more has = record {
-  spends = spends_costs (costs_nothing {X = Unit {0}} far_up 0 (table_credit k.scopes) (table_credit d) old new tt leaves.places
-      (omega (arith, leaves.credit))) (frame_kind leaves.frame) (λ never. absurd (cc)) (omega arith) (omega arith);
-  numbers = λ is. record {
-    texts = omega (arith, ap (λ (l : List (List ℕ)). length l) (tabled held leaves.frame leaves.held).names, has.texts);
-    pairs = omega (arith, (fewer result refl).pairs, has.pairs);
-    maps = omega (arith, (fewer result refl).maps, has.maps);
-  };
-}
+ended_takes {old} {new} {k} {d} {result} held leaves = scopes_take {result = Ok tt} held leaves.held leaves.frame
+    (costs_nothing {X = Unit {0}} far_up 0 (table_credit k.scopes) (table_credit d) old new tt leaves.places (omega (arith, leaves.credit)))
+    (omega arith) (λ never. absurd (cc)) (λ is. omega (arith, fewer result refl))
   where
-    fewer : (b : Bool) → result ≡ b → IsMore 0 (scopes_in entry_item old.memory k.scopes) (scopes_in entry_item new.memory d)
-    fewer true is = rw (leaves.left is) (outer_fewer _)
-    fewer false is = rw (leaves.alone is).1 (rw (leaves.alone is).2 (record { pairs = omega arith; maps = omega arith }))
+    fewer : (b : Bool) → result ≡ b → size (scopes_in entry_item new.memory d) ≤ size (scopes_in entry_item old.memory k.scopes)
+    fewer true is = rw (leaves.left is) (size_outer (scopes_in entry_item old.memory k.scopes))
+    fewer false is = rw (leaves.alone is).1 (rw (leaves.alone is).2 (omega arith))

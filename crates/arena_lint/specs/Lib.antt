@@ -1,5 +1,4 @@
 pub mod Knowing
-pub mod Weights
 pub mod Rooms
 pub mod Spending
 pub mod Steps

@@ -1,5 +1,5 @@
 -- What the calls of a walk bring into use, and why one is refused.
-use Rattle.std.specs.Prelude.{◌≡◌, ℕ, ◌+◌, ◌*◌, ◌≤◌, ◌^◌, ◌<◌, ◌⊎◌, true, false, length, Option, Some, None}
+use Rattle.std.specs.Prelude.{◌≡◌, ◌≢◌, ℕ, ◌+◌, ◌*◌, ◌≤◌, ◌^◌, ◌<◌, ◌⊎◌, true, false, length, Option, Some, None, IfSome}
 use Rattle.placement.specs.State.{top_of, allocated_bytes}
 use Rattle.arena_chunks.specs.Memory.{Memory}
 use Rattle.arena_chunks.specs.Source.{View}
@@ -10,57 +10,45 @@ use Rattle.arena_items.specs.declared.room.AllocError.TheVariants.{AllocErr, Cap
 use Rattle.arena_symbols.specs.Interner.{most_texts}
 use Rattle.arena_symbols.specs.Names.{names_in}
 use Rattle.arena_symbols.specs.Paying.{far_up}
-use Rattle.arena_symbols.specs.Scoping.{pair_count, most_pairs, most_scopes}
+use Rattle.arena_symbols.specs.Scoping.{pair_count}
 use Rattle.arena_symbols.specs.Tables.{entry_item, scopes_in}
+use Rattle.arena_symbols.specs.declared.uses.Names.{Names as Known}
 use Rattle.arena_tree.specs.Spending.{KeepsKind}
 use Rattle.arena_lint.specs.Knowing.{credit}
-use Rattle.arena_lint.specs.Weights.{walk_bytes}
-use Rattle.arena_lint.specs.declared.names.Known.{Known}
 
--- An arena that grows had no place for a block: the source refused, or much is held, or the newest data end lay far up. Chunks that were
--- made since the start put it up by at most twice their bytes.
+-- the bytes of the arena that a walk over statements of this weight takes at most
+abbrev pub walk_bytes : ℕ → ℕ
+walk_bytes weight = 1536 * weight
+
+-- An arena that grows had no place for a block: the newest data end lay far up, or much is held, or the source refused. Chunks that were
+-- made since the start put the end up by at most twice their bytes.
 abbrev pub IsStarvedSince : View → View → Type 0
 IsStarvedSince old new =
-    IsRefusedBySource old new ⊎ (2 ^ 60 ≤ allocated_bytes new.memory.state)
-    ⊎ (far_up + 2 * allocated_bytes old.memory.state < top_of old.memory.state.chunks + 2 * allocated_bytes new.memory.state)
-
--- A block was refused in calls that may bring so many bytes into use.
-pub record IsRefused (bytes : ℕ) (old new : View) : Type 0 where
-  pub starved : old.memory.state.is_growing ≡ true → IsStarvedSince old new
-  pub full : old.memory.state.is_growing ≡ false → IsFull bytes old
-
--- why calls were stopped: never for want of numbers
-abbrev pub Stops : ℕ → View → View → Option AllocError → Type 0
-Stops bytes old new None = Unit {0}
-Stops bytes old new (Some (AllocErr refused)) = IsRefused bytes old new
-Stops bytes old new (Some OutOfMemory) = Unit {0}
-Stops bytes old new (Some CapacityOverflow) = ⊥
+    (far_up + 2 * allocated_bytes old.memory.state < top_of old.memory.state.chunks + 2 * allocated_bytes new.memory.state)
+    ⊎ (2 ^ 60 ≤ allocated_bytes new.memory.state) ⊎ IsRefusedBySource old new
 
 -- Calls that may bring so many bytes into use, less what is saved afterwards, and more by what was saved before. They ask for no more than
--- that takes.
+-- that takes. A block is refused over an arena that grows where it was starved, and over another where it has fewer bytes. They are never
+-- stopped for want of numbers.
 pub record Spends (bytes before after : ℕ) (old new : View) (error : Option AllocError) : Type 0 where
   pub takes : used new + after ≤ used old + (bytes + before)
   pub asks : AsksWithin (used old + (bytes + before)) old new
   pub kind : KeepsKind old.memory new.memory
-  pub stops : Stops (used old + (bytes + before)) old new error
+  pub fits : error ≢ Some CapacityOverflow
+  pub starved : old.memory.state.is_growing ≡ true → (k : ℕ) → error ≡ Some (AllocErr k) → IsStarvedSince old new
+  pub full : old.memory.state.is_growing ≡ false → (k : ℕ) → error ≡ Some (AllocErr k) → IsFull (used old + (bytes + before)) old
 
--- So many more names may have numbers, so many more be defined, and so many more blocks be open.
-pub record HasNumbers (m : Memory) (k : Known) (more : ℕ) : Type 0 where
-  pub texts : length (names_in m k.names) + more ≤ most_texts
-  pub pairs : pair_count (scopes_in entry_item m k.scopes) + more ≤ most_pairs
-  pub maps : length (scopes_in entry_item m k.scopes) + more ≤ most_scopes
+-- the texts that have numbers, the pairs of all scopes, and the scopes, in one count
+abbrev pub numbers_in : Memory → Known → ℕ
+numbers_in m k =
+    length (names_in m k.symbols) + (pair_count (scopes_in entry_item m k.scopes) + length (scopes_in entry_item m k.scopes))
 
--- A walk over statements of a weight spends what they take, and leaves the numbers that it didn't need.
-pub record Walked (weight more : ℕ) (old new : View) (k l : Known) (error : Option AllocError) : Type 0 where
-  pub spends : Spends (walk_bytes weight) (credit k) (credit l) old new error
-  pub numbers : error ≡ None → HasNumbers new.memory l more
-
-abbrev pub Takes : ℕ → View → View → Known → Known → Option AllocError → Type 0
-Takes weight old new k l error = (more : ℕ) → HasNumbers old.memory k (weight + more) → Walked weight more old new k l error
+-- A walk over statements of a weight adds at most two to the count for each. Where there may be so many it spends what they take.
+pub record Takes (weight : ℕ) (old new : View) (k l : Known) (error : Option AllocError) : Type 0 where
+  pub numbers : error ≡ None → numbers_in new.memory l ≤ numbers_in old.memory k + 2 * weight
+  pub spends : numbers_in old.memory k + 2 * weight ≤ most_texts
+      → Spends (walk_bytes weight) (credit k) (credit l) old new error
 
 -- an error, if there is one, is want of memory alone
 abbrev pub IsWanting : Option AllocError → Type 0
-IsWanting None = Unit {0}
-IsWanting (Some (AllocErr refused)) = ⊥
-IsWanting (Some OutOfMemory) = Unit {0}
-IsWanting (Some CapacityOverflow) = ⊥
+IsWanting error = IfSome error (λ e. e ≡ OutOfMemory)

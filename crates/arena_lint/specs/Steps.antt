@@ -1,27 +1,28 @@
 -- What the steps of a walk do.
-use Rattle.std.specs.Prelude.{◌≡◌, ℕ, ◌+◌, None, List, [], ◌∷◌, ◌++◌, OnOk, Result}
+use Rattle.std.specs.Prelude.{◌≡◌, ℕ, ◌+◌, None, List, [], ◌∷◌, ◌++◌, drop, OnOk, Result}
 use Rattle.arena_chunks.specs.Memory.{Memory}
 use Rattle.arena_chunks.specs.Source.{View}
 use Rattle.arena_vec.specs.Vecs.{vec_list}
 use Rattle.arena_vec.specs.declared.vec.Vec.{Vec}
 use Rattle.arena_items.specs.declared.room.AllocError.{AllocError}
-use Rattle.tree_rules.specs.Trees.{Stmt, Stmts}
+use Rattle.arena_symbols.specs.Named.{Moves}
+use Rattle.arena_symbols.specs.declared.uses.Names.{Names as Known}
+use Rattle.tree_rules.specs.Trees.{Exprs, Stmt, Stmts}
 use Rattle.tree_rules.specs.Trees as tree
-use Rattle.tree_rules.specs.Report.{Names, Walk, walk}
+use Rattle.tree_rules.specs.Weights.{weights}
+use Rattle.tree_rules.specs.Report.{Names, all_names, undefined, Walk, found_first, walk}
 use Rattle.tree_rules.specs.declared.finding.Finding.{Finding}
-use Rattle.arena_tree.specs.TreesAt.{node_item}
+use Rattle.arena_tree.specs.TreesAt.{node_item, ExprsAt}
 use Rattle.arena_tree.specs.StmtsAt.{StmtAt, StmtsAt}
 use Rattle.arena_tree.specs.declared.node.Node.{Node}
-use Rattle.arena_lint.specs.Knowing.{IsKnownIn, Knows, known_blocks, Keeps}
-use Rattle.arena_lint.specs.Rooms.{stmts_from}
+use Rattle.arena_lint.specs.Knowing.{Knows}
 use Rattle.arena_lint.specs.Spending.{Takes}
-use Rattle.arena_lint.specs.Weights.{weights}
-use Rattle.arena_lint.specs.declared.names.Known.{Known}
 
--- The handles stay good, and the rest of the arena stays.
-pub record Moves (old new : Memory) (k l : Known) : Type 0 where
-  pub known : IsKnownIn new l
-  pub keeps : Keeps old new (known_blocks k) (known_blocks l)
+-- Some expressions are behind: what these nodes stand for is left, and what is found with what is found of them is all.
+pub record Left (m : Memory) (ns : List Node) (sets : List Names) (found all : List Finding) : Type 0 where
+  pub exprs : Exprs
+  pub stand : ExprsAt exprs m ns
+  pub all_is : found ++ undefined sets (all_names exprs) ≡ all
 
 -- What is found is a walk's, and so is what is known behind it.
 abbrev pub Finds : Memory → Memory → Known → Known → List Finding → List Finding → Result (Unit {0}) AllocError → (List Names
@@ -29,24 +30,24 @@ abbrev pub Finds : Memory → Memory → Known → Known → List Finding → Li
 Finds old new k l first found result walked =
     (sets : List Names) → Knows old k sets → OnOk result (Knows new l (walked sets).known × (found ≡ first ++ (walked sets).findings))
 
--- Some statements are behind: what is known of them, and what is still to be found.
-pub record Halfway (new : Memory) (l : Known) (first found : List Finding) (ss : Stmts) (sets : List Names) (i : ℕ) : Type 0 where
+-- Some statements are behind: what is known there, from which a walk over those that are left ends as one over all.
+pub record Halfway (new : Memory) (l : Known) (first found : List Finding) (ss left : Stmts) (sets : List Names) : Type 0 where
   pub between : List Names
   pub knows : Knows new l between
-  pub known : (walk (stmts_from i ss) between).known ≡ (walk ss sets).known
-  pub findings : found ++ (walk (stmts_from i ss) between).findings ≡ first ++ (walk ss sets).findings
+  pub all : found_first found (walk left between) ≡ found_first first (walk ss sets)
 
--- what the statements behind have taken
-pub record Behind (old new : View) (k l : Known) (ss : Stmts) (i : ℕ) : Type 0 where
+-- What the statements behind have taken, and where a walk over all is halfway. These nodes stood for those that are left.
+pub record Behind (old new : View) (k l : Known) (first found : List Finding) (ns : List Node) (ss : Stmts) : Type 0 where
+  pub left : Stmts
+  pub stand : StmtsAt left old.memory ns
   pub spent : ℕ
-  pub all : spent + weights (stmts_from i ss) ≡ weights ss
+  pub all : spent + weights left ≡ weights ss
   pub takes : Takes spent old new k l None
+  pub halfway : (sets : List Names) → Knows old.memory k sets → Halfway new.memory l first found ss left sets
 
 pub record Walking (old new : View) (k l : Known) (first found : List Finding) (ns : List Node) (i : ℕ) : Type 0 where
   pub moves : Moves old.memory new.memory k l
-  pub halfway : (ss : Stmts) (sets : List Names) → StmtsAt ss old.memory ns → Knows old.memory k sets
-      → Halfway new.memory l first found ss sets i
-  pub behind : (ss : Stmts) → StmtsAt ss old.memory ns → Behind old new k l ss i
+  pub behind : (ss : Stmts) → StmtsAt ss old.memory ns → Behind old new k l first found (drop i ns) ss
 
 -- there is a set
 abbrev pub IsNotEmpty : List Names → Type 0

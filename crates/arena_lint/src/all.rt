@@ -1,59 +1,26 @@
 // Many sources over one pool.
 ghost use Rattle.std.specs.Prelude.{◌≡◌, ◌<◌, ◌≤◌, ◌^◌, All, length, IfOk};
 ghost use Rattle.std.specs.List.{AllZip};
-ghost use Rattle.arena_lint.specs.All.{IsLintedAlone, is_refused};
+ghost use Rattle.arena_lint.specs.All.{IsLintedAlone};
 
-use crate::lint::lint_one;
-use arena_chunks::{Allocator, ChunkSource};
-use arena_pool::{AllocatorPool, ChunkMaker, OutOfMemory, PoolName};
-use arena_workers::{Gate, Work, run_all};
-use lint_reports::FileReport;
+use crate::parts::{LintErr, Linted, lint_parts};
+use arena_pool::{AllocatorPool, ChunkMaker, PoolName};
+use arena_workers::Gate;
+use lint_reports::Source;
 use placement::Bytes;
-use std::alloc::Global;
+use std::alloc::{AllocError, Global};
 use std::sync::Wait;
 use std::thread::Threads;
 
-/// What came of a source: its report, and what shows that it was starved, exactly where the report is `Refused`.
-pub type Linted<C> = arena_workers::Served<FileReport, C>;
-
-/// Why no source has a report.
-#[derive(Clone, Copy, PartialEq, Eq, Debug, thiserror::Error)]
-pub enum LintErr {
-    /// Memory for the claims, the workers or the reports is wanting.
-    #[error("out of memory")]
-    OutOfMemory,
-}
-
-impl From<OutOfMemory> for LintErr {
-    fn from(_: OutOfMemory) -> LintErr {
-        LintErr::OutOfMemory
+// The sources as parts, of which no byte is copied.
+fn parts_of<'a>(alloc: Global, sources: &'a [Bytes]) -> Result<Vec<Source<'a>>, AllocError>
+    ensures { IfOk result (λ parts. parts.items ≡ sources.now) }
+{
+    let mut parts = Vec::with_capacity(alloc, sources.len())?;
+    for bytes in sources {
+        parts.push(Source::new(bytes.as_slice()))?;
     }
-}
-
-// Sources, each of which has its report.
-struct Linting;
-
-impl<C: ChunkSource> Work<C> for Linting {
-    type Piece = Bytes;
-
-    type Outcome = FileReport;
-
-    ghost use Rattle.arena_lint.specs.All.{lint_terms};
-
-    ghost terms = { lint_terms };
-
-    #[tactic(auto, using(crate::proofs::AllLemmas::kind_kept))]
-    fn run(&self, alloc: Global, a: &mut Allocator<C>, piece: &Bytes) -> FileReport {
-        lint_one(alloc, a, piece.as_slice())
-    }
-
-    fn unserved(&self, _alloc: Global) -> FileReport {
-        FileReport::OutOfMemory
-    }
-
-    fn is_refused(&self, outcome: &FileReport) -> bool {
-        matches!(outcome, FileReport::Refused)
-    }
+    Ok(parts)
 }
 
 /// The report of each source, in order, by so many workers at most, each a thread, and never more than there are sources. Each
@@ -71,7 +38,6 @@ impl<C: ChunkSource> Work<C> for Linting {
 /// # Errors
 ///
 /// Memory for the claims, the workers or their reports is wanting.
-#[tactic(auto, using(crate::proofs::AllLemmas::all_alone))]
 pub fn lint_all<
     R: Threads + Wait + Sync,
     K: ChunkMaker + Drop + Send,
@@ -90,5 +56,6 @@ pub fn lint_all<
     requires short { All (λ bytes. length bytes ≤ 2 ^ 24) sources.now }
     ensures { IfOk result (λ all. AllZip (IsLintedAlone K.Chunks.source L.kind) sources.now all.items) }
 {
-    Ok(run_all(rt, alloc, pool, workers, gate, &Linting, sources)?)
+    let parts = parts_of(alloc, sources).map_err(|_| LintErr::OutOfMemory)?;
+    lint_parts(rt, alloc, pool, workers, gate, parts.as_slice())
 }

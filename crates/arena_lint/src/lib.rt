@@ -8,9 +8,9 @@ mod parts;
 mod two;
 mod walk;
 
-pub use all::{LintErr, Linted, lint_all};
+pub use all::lint_all;
 pub use arena_workers::{Gate, NoGate, Starved};
 pub use lint::lint_one;
 pub use lint_reports::{FileReport, FindKind, Finding, Findings, Source};
-pub use parts::lint_parts;
+pub use parts::{LintErr, Linted, lint_parts};
 pub use two::lint_two;

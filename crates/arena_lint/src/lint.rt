@@ -5,20 +5,20 @@ ghost use Rattle.arena_tree.specs.Given.{Means};
 ghost use Rattle.arena_tree.specs.Spending.{error_of};
 ghost use Rattle.tree_rules.specs.Report.{findings_of};
 ghost use Rattle.tree_rules.specs.Trees.{Stmts};
+ghost use Rattle.tree_rules.specs.Weights.{weights};
 ghost use Rattle.arena_lint.specs.Knowing.{IsNothing};
 ghost use Rattle.arena_lint.specs.Linting.{Lints, no_place, stopped_by, unparsed_by};
 ghost use Rattle.arena_lint.specs.Rooms.{IsLight};
-ghost use Rattle.arena_lint.specs.Spending.{Spends};
-ghost use Rattle.arena_lint.specs.Weights.{weights, walk_bytes};
+ghost use Rattle.arena_lint.specs.Spending.{Spends, walk_bytes};
 
-use crate::names::Known;
 use crate::walk::walk;
 use arena_chunks::{Allocator, ChunkSource};
 use arena_items::{AllocError, Grown};
-use arena_symbols::{Scopes, Symbols};
+use arena_symbols::{Names, Scopes, Symbols};
 use arena_tree::{Tree, TreeErr};
 use lint_reports::{FileReport, Findings};
 use std::alloc::Global;
+use tree_rules::laws::tree_weight;
 
 // A block had no place.
 fn no_place<C: ChunkSource>(a: &Allocator<C>) -> FileReport
@@ -55,11 +55,11 @@ fn unparsed<C: ChunkSource>(a: &Allocator<C>, why: TreeErr) -> FileReport
 }
 
 // No names, in one scope.
-fn nothing() -> Known
+fn nothing() -> Names
     ensures { IsNothing result }
 {
-    Known {
-        names: Symbols::new_in(),
+    Names {
+        symbols: Symbols::new_in(),
         scopes: Scopes::new_in(),
     }
 }
@@ -91,6 +91,7 @@ pub fn lint_one<C: ChunkSource>(alloc: Global, a: &mut Allocator<C>, src: &[u8])
     requires small { length src.now ≤ 2 ^ 24 }
     ensures { Lints src.now a.old a.new result }
 {
+    tree_weight();
     match Tree::parse(a, src) {
         Ok(tree) => match findings(alloc, a, tree) {
             Ok(found) => FileReport::Checked(found),

@@ -3,14 +3,14 @@ ghost use Rattle.std.specs.Prelude.{◌≡◌, ◌≢◌, ◌-◌, ◌<◌, ◌�
 ghost use Rattle.std.specs.Str.{IsUtf8};
 ghost use Rattle.arena_items.specs.Values.{IsTextIn, text_bytes};
 ghost use Rattle.arena_vec.specs.Vecs.{IsVecIn, vec_list};
+ghost use Rattle.arena_symbols.specs.Named.{AreNames};
 ghost use Rattle.arena_tree.specs.TreesAt.{node_item, kids_of, ExprAt, ExprsAt};
 ghost use Rattle.tree_rules.specs.Report.{Names, have_name, names_of, all_names, undefined};
 ghost use Rattle.tree_rules.specs.Trees.{Expr, Exprs};
-ghost use Rattle.arena_lint.specs.Knowing.{IsKnownIn, Knows};
-ghost use Rattle.arena_lint.specs.Rooms.{HasExpr, HaveExprs, AreNamed};
+ghost use Rattle.arena_lint.specs.Knowing.{Knows};
+ghost use Rattle.arena_lint.specs.Rooms.{HasExpr, ListHasExprs, AreNamed};
 
 use arena_chunks::{Allocator, ChunkSource, Str};
-use arena_symbols::{Scopes, Symbols};
 use arena_tree::{Kind, Node};
 use arena_vec::Vec;
 use lint_reports::{FindKind, Findings};
@@ -18,46 +18,37 @@ use placement::{Bytes, OutOfMemory};
 use std::alloc::Global;
 use std::str;
 
-/// The names that a walk knows: each has a number, and the numbers of those that are defined stand in scopes.
-#[derive(Clone, Copy)]
-pub struct Known {
-    pub names: Symbols,
-    pub scopes: Scopes,
+// The names that a walk knows: each has a number, and the numbers of those that are defined stand in scopes.
+pub(crate) type Known = arena_symbols::Names;
+
+// Whether a name is defined.
+fn is_defined<C: ChunkSource>(a: &Allocator<C>, known: &Known, name: &str) -> bool
+    requires { AreNames a.now.memory known.now }
+    ensures { (sets : List Names) → Knows a.now.memory known.now sets → result ≡ have_name sets name.now }
+{
+    known.resolve(a, name).is_some()
 }
 
-impl Known {
-    // Whether a name is defined.
-    fn has<C: ChunkSource>(&self, a: &Allocator<C>, name: &str) -> bool
-        requires { IsKnownIn a.now.memory self.now }
-        ensures { (known : List Names) → Knows a.now.memory self.now known → result ≡ have_name known name.now }
-    {
-        match self.names.find(a, name) {
-            Some(id) => self.scopes.lookup(a, id).is_some(),
-            None => false,
-        }
+// A name is used.
+fn use_name<C: ChunkSource>(
+    alloc: Global,
+    a: &Allocator<C>,
+    known: &Known,
+    text: Str,
+    found: &mut Findings,
+) -> Result<(), OutOfMemory>
+    requires held { AreNames a.now.memory known.now }
+    requires text { IsTextIn a.now.memory text }
+    requires utf8 { IsUtf8 (text_bytes a.now.memory text) }
+    ensures { (sets : List Names) → Knows a.now.memory known.now sets
+        → OnOk result (found.new ≡ found.old ++ undefined sets (text_bytes a.now.memory text ∷ [])) }
+{
+    let name = unsafe { str::from_utf8_unchecked(a.read(text.block)) };
+    if is_defined(a, known, name) {
+        return Ok(());
     }
-
-    // A name is used.
-    fn uses<C: ChunkSource>(
-        &self,
-        alloc: Global,
-        a: &Allocator<C>,
-        text: Str,
-        found: &mut Findings,
-    ) -> Result<(), OutOfMemory>
-        requires held { IsKnownIn a.now.memory self.now }
-        requires text { IsTextIn a.now.memory text }
-        requires utf8 { IsUtf8 (text_bytes a.now.memory text) }
-        ensures { (known : List Names) → Knows a.now.memory self.now known
-            → OnOk result (found.new ≡ found.old ++ undefined known (text_bytes a.now.memory text ∷ [])) }
-    {
-        let name = unsafe { str::from_utf8_unchecked(a.read(text.block)) };
-        if self.has(a, name) {
-            return Ok(());
-        }
-        let copy = Bytes::of(alloc, name.as_bytes())?;
-        found.push(FindKind::Undefined, copy)
-    }
+    let copy = Bytes::of(alloc, name.as_bytes())?;
+    found.push(FindKind::Undefined, copy)
 }
 
 // The list of a node's kids. The allocator is there for what is known of it.
@@ -73,8 +64,7 @@ fn kids_within<C: ChunkSource>(a: &Allocator<C>, node: Node, _room: u64) -> Vec<
     requires tree { HasExpr a.now.memory node _room }
     requires num { node.kind ≢ Kind.Num }
     requires name { node.kind ≢ Kind.Name }
-    ensures held { IsVecIn node_item a.now.memory result }
-    ensures trees { HaveExprs a.now.memory (vec_list node_item a.now.memory result) _room }
+    ensures trees { ListHasExprs a.now.memory result _room }
     ensures names { (e : Expr) → ExprAt e a.now.memory node
         → AreNamed a.now.memory (vec_list node_item a.now.memory result) (names_of e) }
 {
@@ -83,8 +73,7 @@ fn kids_within<C: ChunkSource>(a: &Allocator<C>, node: Node, _room: u64) -> Vec<
 
 // A node of a list.
 fn kid<C: ChunkSource>(a: &Allocator<C>, list: Vec<Node>, i: u32, _room: u64) -> Node
-    requires held { IsVecIn node_item a.now.memory list }
-    requires trees { HaveExprs a.now.memory (vec_list node_item a.now.memory list) _room }
+    requires trees { ListHasExprs a.now.memory list _room }
     requires index { i < list.raw.len }
     ensures tree { HasExpr a.now.memory result (_room - 1) }
     ensures room { 1 ≤ _room }
@@ -102,14 +91,14 @@ fn names_in<C: ChunkSource>(
     room: u64,
     found: &mut Findings,
 ) -> Result<(), OutOfMemory>
-    requires held { IsKnownIn a.now.memory known.now }
+    requires held { AreNames a.now.memory known.now }
     requires tree { HasExpr a.now.memory node room }
     ensures { (e : Expr) (sets : List Names) → ExprAt e a.now.memory node → Knows a.now.memory known.now sets
         → OnOk result (found.new ≡ found.old ++ undefined sets (names_of e)) }
 {
     match node.kind {
         Kind::Num => Ok(()),
-        Kind::Name => known.uses(alloc, a, node.text, found),
+        Kind::Name => use_name(alloc, a, known, node.text, found),
         _ => {
             let list = kids_within(a, node, room);
             all_names(alloc, a, known, list, room, found)
@@ -126,9 +115,8 @@ pub(crate) fn all_names<C: ChunkSource>(
     room: u64,
     found: &mut Findings,
 ) -> Result<(), OutOfMemory>
-    requires held { IsKnownIn a.now.memory known.now }
-    requires list { IsVecIn node_item a.now.memory list }
-    requires trees { HaveExprs a.now.memory (vec_list node_item a.now.memory list) room }
+    requires held { AreNames a.now.memory known.now }
+    requires trees { ListHasExprs a.now.memory list room }
     ensures { (es : Exprs) (sets : List Names) → ExprsAt es a.now.memory (vec_list node_item a.now.memory list)
         → Knows a.now.memory known.now sets → OnOk result (found.new ≡ found.old ++ undefined sets (all_names es)) }
 {

@@ -3,23 +3,39 @@ ghost use Rattle.std.specs.Prelude.{◌≡◌, ◌<◌, ◌≤◌, ◌^◌, All,
 ghost use Rattle.std.specs.List.{AllZip};
 ghost use Rattle.arena_lint.specs.All.{IsLintedAlone, is_refused};
 
-use crate::all::{LintErr, Linted};
 use crate::lint::lint_one;
 use arena_chunks::{Allocator, ChunkSource};
-use arena_pool::{AllocatorPool, ChunkMaker, PoolName};
+use arena_pool::{AllocatorPool, ChunkMaker, OutOfMemory, PoolName};
 use arena_workers::{Gate, Work, run_all};
 use lint_reports::{FileReport, Source};
 use std::alloc::Global;
 use std::sync::Wait;
 use std::thread::Threads;
 
-// Parts of an input, each of which has its report. The slice has no bytes, and is there for their lifetime alone.
+/// What came of a source: its report, and what shows that it was starved, exactly where the report is `Refused`.
+pub type Linted<C> = arena_workers::Served<FileReport, C>;
+
+/// Why no source has a report.
+#[derive(Clone, Copy, PartialEq, Eq, Debug, thiserror::Error)]
+pub enum LintErr {
+    /// Memory for the claims, the workers or the reports is wanting.
+    #[error("out of memory")]
+    OutOfMemory,
+}
+
+impl From<OutOfMemory> for LintErr {
+    fn from(_: OutOfMemory) -> LintErr {
+        LintErr::OutOfMemory
+    }
+}
+
+// Sources, each of which has its report. The slice has no bytes, and is there for their lifetime alone.
 #[derive(Drop)]
-struct Parts<'a> {
+struct Linting<'a> {
     of: &'a [u8],
 }
 
-impl<'a, C: ChunkSource> Work<C> for Parts<'a> {
+impl<'a, C: ChunkSource> Work<C> for Linting<'a> {
     type Piece = Source<'a>;
 
     type Outcome = FileReport;
@@ -66,6 +82,6 @@ pub fn lint_parts<
     requires short { All (λ bytes. length bytes ≤ 2 ^ 24) sources.now }
     ensures { IfOk result (λ all. AllZip (IsLintedAlone K.Chunks.source L.kind) sources.now all.items) }
 {
-    let work = Parts { of: &[] };
+    let work = Linting { of: &[] };
     Ok(run_all(rt, alloc, pool, workers, gate, &work, sources)?)
 }

@@ -2,17 +2,18 @@
 ghost use Rattle.std.specs.Prelude.{◌≡◌, ◌≢◌, ◌+◌, ◌-◌, ◌^◌, ◌<◌, ◌≤◌, ◌∷◌, ◌++◌, length, List, Some, None, Ok, IfOk, OnOk, slice_get, if◌then◌else◌};
 ghost use Rattle.std.specs.Str.{IsUtf8};
 ghost use Rattle.arena_items.specs.Values.{IsTextIn, text_bytes};
-ghost use Rattle.arena_vec.specs.Vecs.{IsVecIn, vec_list};
+ghost use Rattle.arena_vec.specs.Vecs.{vec_list};
+ghost use Rattle.arena_symbols.specs.Named.{AreNames, Moves, all_blocks};
 ghost use Rattle.arena_tree.specs.TreesAt.{node_item};
 ghost use Rattle.arena_tree.specs.Spending.{error_of};
 ghost use Rattle.arena_tree.specs.StmtsAt.{StmtAt, StmtsAt};
 ghost use Rattle.tree_rules.specs.Report.{Names, undefined, defined, walk_stmt, walk};
 ghost use Rattle.tree_rules.specs.Trees.{Stmt, Stmts};
-ghost use Rattle.arena_lint.specs.Knowing.{IsKnownIn, Knows, Defines, known_blocks, found_of};
-ghost use Rattle.arena_lint.specs.Rooms.{HaveExprs, AreNamed, HasStmt, HaveStmts, stmt_names};
+ghost use Rattle.tree_rules.specs.Weights.{weight, weights};
+ghost use Rattle.arena_lint.specs.Knowing.{Knows, found_of};
+ghost use Rattle.arena_lint.specs.Rooms.{ListHasExprs, AreNamed, HasStmt, ListHasStmts, stmt_names};
 ghost use Rattle.arena_lint.specs.Spending.{Takes, IsWanting};
-ghost use Rattle.arena_lint.specs.Weights.{weight, weights};
-ghost use Rattle.arena_lint.specs.Steps.{Moves, Finds, Enters, IsNotEmpty};
+ghost use Rattle.arena_lint.specs.Steps.{Finds, Enters, IsNotEmpty};
 
 use crate::names::{Known, all_names, kids};
 use arena_chunks::{Allocator, ChunkSource, Str};
@@ -41,12 +42,15 @@ fn define_name<C: ChunkSource>(
     known: &mut Known,
     name: &str,
 ) -> Grown<Option<FindKind>>
-    requires known { IsKnownIn a.old.memory known.old }
+    requires known { AreNames a.old.memory known.old }
     requires length { length name.now < 2 ^ 32 }
-    ensures means { Defines a.old.memory a.new.memory known.old known.new name.now result }
+    ensures moves { Moves a.old.memory a.new.memory known.old known.new }
+    ensures means { (sets : List Names) → Knows a.old.memory known.old sets
+        → IfOk result (λ found. Knows a.new.memory known.new (defined name.now sets).known
+        × ((defined name.now sets).findings ≡ found_of found name.now)) }
     ensures takes { Takes (1 + length name.now) a.old a.new known.old known.new (error_of result) }
 {
-    let id = known.names.intern(a, name)?;
+    let id = known.symbols.intern(a, name)?;
     let is_seen = known.scopes.lookup(a, id).is_some();
     let is_new = known.scopes.define(a, id, 0)?;
     Ok(finding(is_new, is_seen))
@@ -85,7 +89,7 @@ fn define<C: ChunkSource>(
     text: Str,
     found: &mut Findings,
 ) -> Grown<()>
-    requires known { IsKnownIn a.old.memory known.old }
+    requires known { AreNames a.old.memory known.old }
     requires held { IsTextIn a.old.memory text }
     requires utf8 { IsUtf8 (text_bytes a.old.memory text) }
     requires short { length (text_bytes a.old.memory text) < 2 ^ 32 }
@@ -112,8 +116,8 @@ fn use_names<C: ChunkSource>(
     room: u64,
     found: &mut Findings,
 ) -> Grown<()>
-    requires known { IsKnownIn a.now.memory known.now }
-    requires tree { HasStmt a.now.memory node room (known_blocks known.now) }
+    requires known { AreNames a.now.memory known.now }
+    requires tree { HasStmt a.now.memory node room (all_blocks a.now.memory known.now) }
     requires kind { node.kind ≢ Kind.Block }
     ensures finds { (s : Stmt) (sets : List Names) → StmtAt s a.now.memory node → Knows a.now.memory known.now sets
         → OnOk result (found.new ≡ found.old ++ undefined sets (stmt_names s)) }
@@ -125,10 +129,9 @@ fn use_names<C: ChunkSource>(
 
 // The list of the expression of a statement that is no block.
 fn stmt_kids<C: ChunkSource>(a: &Allocator<C>, _known: &Known, node: Node, _room: u64) -> Vec<Node>
-    requires tree { HasStmt a.now.memory node _room (known_blocks _known.now) }
+    requires tree { HasStmt a.now.memory node _room (all_blocks a.now.memory _known.now) }
     requires kind { node.kind ≢ Kind.Block }
-    ensures held { IsVecIn node_item a.now.memory result }
-    ensures trees { HaveExprs a.now.memory (vec_list node_item a.now.memory result) _room }
+    ensures trees { ListHasExprs a.now.memory result _room }
     ensures names { (s : Stmt) → StmtAt s a.now.memory node
         → AreNamed a.now.memory (vec_list node_item a.now.memory result) (stmt_names s) }
 {
@@ -143,8 +146,8 @@ fn let_line<C: ChunkSource>(
     room: u64,
     found: &mut Findings,
 ) -> Grown<()>
-    requires known { IsKnownIn a.old.memory known.old }
-    requires tree { HasStmt a.old.memory node room (known_blocks known.old) }
+    requires known { AreNames a.old.memory known.old }
+    requires tree { HasStmt a.old.memory node room (all_blocks a.old.memory known.old) }
     requires kind { node.kind ≡ Kind.Let }
     ensures moves { Moves a.old.memory a.new.memory known.old known.new }
     ensures finds { (s : Stmt) → StmtAt s a.old.memory node
@@ -163,11 +166,11 @@ fn enter_block<C: ChunkSource>(
     node: Node,
     _room: u64,
 ) -> Grown<Vec<Node>>
-    requires known { IsKnownIn a.old.memory known.old }
-    requires tree { HasStmt a.old.memory node _room (known_blocks known.old) }
+    requires known { AreNames a.old.memory known.old }
+    requires tree { HasStmt a.old.memory node _room (all_blocks a.old.memory known.old) }
     requires kind { node.kind ≡ Kind.Block }
     ensures moves { Moves a.old.memory a.new.memory known.old known.new }
-    ensures tree { IfOk result (λ list. HaveStmts a.new.memory list _room (known_blocks known.new)) }
+    ensures tree { IfOk result (λ list. ListHasStmts a.new.memory list _room (all_blocks a.new.memory known.new)) }
     ensures enters { IfOk result (Enters a.old.memory a.new.memory known.old known.new node) }
     ensures takes { Takes 1 a.old a.new known.old known.new (error_of result) }
 {
@@ -177,7 +180,7 @@ fn enter_block<C: ChunkSource>(
 
 // A block ends.
 fn leave_block<C: ChunkSource>(a: &mut Allocator<C>, known: &mut Known)
-    requires { IsKnownIn a.old.memory known.old }
+    requires { AreNames a.old.memory known.old }
     ensures moves { Moves a.old.memory a.new.memory known.old known.new }
     ensures leaves { (names : Names) (sets : List Names) → Knows a.old.memory known.old (names ∷ sets)
         → IsNotEmpty sets → Knows a.new.memory known.new sets }
@@ -194,9 +197,9 @@ fn stmt<C: ChunkSource>(
     i: u32,
     _room: u64,
 ) -> Node
-    requires trees { HaveStmts a.now.memory list _room (known_blocks _known.now) }
+    requires trees { ListHasStmts a.now.memory list _room (all_blocks a.now.memory _known.now) }
     requires index { i < list.raw.len }
-    ensures tree { HasStmt a.now.memory result (_room - 1) (known_blocks _known.now) }
+    ensures tree { HasStmt a.now.memory result (_room - 1) (all_blocks a.now.memory _known.now) }
     ensures room { 1 ≤ _room }
     ensures stmt { slice_get (vec_list node_item a.now.memory list) i ≡ Some result }
 {
@@ -212,8 +215,8 @@ fn walk_stmt<C: ChunkSource>(
     room: u64,
     found: &mut Findings,
 ) -> Grown<()>
-    requires known { IsKnownIn a.old.memory known.old }
-    requires tree { HasStmt a.old.memory node room (known_blocks known.old) }
+    requires known { AreNames a.old.memory known.old }
+    requires tree { HasStmt a.old.memory node room (all_blocks a.old.memory known.old) }
     ensures moves { Moves a.old.memory a.new.memory known.old known.new }
     ensures finds { (s : Stmt) → StmtAt s a.old.memory node
         → Finds a.old.memory a.new.memory known.old known.new found.old found.new result (walk_stmt s) }
@@ -241,8 +244,8 @@ pub(crate) fn walk<C: ChunkSource>(
     room: u64,
     found: &mut Findings,
 ) -> Grown<()>
-    requires known { IsKnownIn a.old.memory known.old }
-    requires trees { HaveStmts a.old.memory list room (known_blocks known.old) }
+    requires known { AreNames a.old.memory known.old }
+    requires trees { ListHasStmts a.old.memory list room (all_blocks a.old.memory known.old) }
     ensures moves { Moves a.old.memory a.new.memory known.old known.new }
     ensures finds { (ss : Stmts) → StmtsAt ss a.old.memory (vec_list node_item a.old.memory list)
         → Finds a.old.memory a.new.memory known.old known.new found.old found.new result (walk ss) }

@@ -1,8 +1,7 @@
--- What the program says by its picture, its status and its message.
-use Rattle.std.specs.Prelude.{◌≡◌, ℕ, ◌+◌, ◌<◌, ◌≤◌, List, map, Option, Some, ◌⊎◌, Err}
+-- What each status says of the picture.
+use Rattle.std.specs.Prelude.{◌≡◌, ℕ, ◌<◌, List, map, Option, Some}
 use Rattle.std.specs.FinMap as finite
 use Rattle.placement.specs.State.{State}
-use Rattle.placement.specs.Grammar.{CallsOf}
 use Rattle.placement.specs.declared.place.Place.{Place}
 use Rattle.placement.specs.declared.calls.Call.{Call}
 use Rattle.placement.specs.declared.calls.Reply.{Reply}
@@ -10,11 +9,9 @@ use Rattle.arena_chunks.specs.Runs.{Runs, block_at}
 use Rattle.arena_chunks.specs.Walks.{told_chunk}
 use Rattle.arena_chunks.specs.declared.block.Block.{Block}
 use Rattle.arena_calls.specs.Streams.{Writes, WritesPart}
-use Rattle.arena_calls.specs.Ends.{Outside, HasNoFault, HasReadFault, HasWriteFault, IsUntouched}
-use Rattle.arena_calls.specs.Ends.{ReadsWhole, ReadsCalls, StopsBefore, StopsIn}
-use Rattle.arena_calls.specs.ReadAll.{limit, TakesFront}
+use Rattle.arena_calls.specs.Ends.{Outside, HasNoFault, HasWriteFault, ReadsCalls, Ends}
 use Rattle.arena_calls.specs.declared.status.Status.{Status}
-use Rattle.arena_calls.specs.declared.status.Status.TheVariants.{Done, Usage, BadLine, OutOfMemory, ReadFault, WriteFault, InputTooLong}
+use Rattle.arena_calls.specs.declared.status.Status.TheVariants.{Done, WriteFault}
 use Rattle.arena_picture.specs.Shapes.{shapes_of, place_from, StandsIn}
 use Rattle.arena_picture.specs.Text.{svg_text}
 
@@ -39,15 +36,9 @@ pub record RunsToPicture (old new : Outside) (calls : List Call)
   pub placed : (name : ℕ) (p : Place) → finite.get runs.last.held name ≡ Some p → 0 < p.size
       → HasPlace new.arena.memory.state (block_at runs.last.state.generation p)
 
--- what each status says of the input, the output and the arena
+-- A run ends as one of `arena_calls` does, but that what was written of it is the picture.
 abbrev pub Draws : Status → Outside → Outside → Type 0
 Draws Done old new = HasNoFault old new × ((calls : List Call) × ReadsCalls old new calls × RunsToPicture old new calls Writes)
-Draws Usage old new = ⊥
-Draws (BadLine n) old new =
-    HasNoFault old new × IsUntouched old new × ((bytes : List ℕ) × ReadsWhole old new bytes × CallsOf bytes (Err n))
-Draws OutOfMemory old new =
-    HasNoFault old new × (StopsBefore old new ⊎ ((calls : List Call) × ReadsCalls old new calls × StopsIn old new calls))
-Draws ReadFault old new = HasReadFault old new × IsUntouched old new × TakesFront old.left new.left (λ n. n ≤ limit)
 Draws WriteFault old new =
     HasWriteFault old new × ((calls : List Call) × ReadsCalls old new calls × RunsToPicture old new calls WritesPart)
-Draws InputTooLong old new = HasNoFault old new × IsUntouched old new × TakesFront old.left new.left (λ n. n ≡ limit + 1)
+Draws status old new = Ends status old new

@@ -2,22 +2,28 @@
 #![tactic(auto)]
 
 mod picture;
+mod program;
 mod shapes;
 mod text;
 
-use arena_calls::{StdInput, StdOutput, explain};
-use arena_chunks::{Arena, MemoryChunks};
+use crate::program::run_picture;
+use arena_calls::{StdInput, StdOutput, program_chunks};
+use arena_chunks::Arena;
 use std::io::{self, Lock};
 use std::process::ExitCode;
 
 fn main(rt: HostRuntime) -> ExitCode {
     let mut arena = Arena::<1>::new(rt.alloc());
-    // The chunks may have as many bytes together as those of `arena_run calls`.
-    let mut chunks = MemoryChunks::new(rt.alloc(), 1_073_741_824);
+    let mut chunks = program_chunks(rt.alloc());
     let mut input = StdInput::new(rt.reader());
     let mut output = StdOutput::new(io::writer(&rt));
     let mut messages = StdOutput::new(rt.stderr().lock());
-    let status = picture::draw_lines(rt.alloc(), &mut arena, &mut chunks, &mut input, &mut output);
-    let _ = explain(&mut messages, &status, b"");
-    ExitCode::from(status.code())
+    run_picture(
+        rt.alloc(),
+        &mut arena,
+        &mut chunks,
+        &mut input,
+        &mut output,
+        &mut messages,
+    )
 }

@@ -1,5 +1,4 @@
 pub mod TaskLemmas
-pub mod ProgramLemmas
 pub mod MainLemmas
 pub mod ToldLemmas
 pub mod StatusLemmas

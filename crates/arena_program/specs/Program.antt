@@ -10,7 +10,6 @@ use Rattle.std.specs.declared.vec.IntoIter.{IntoIter}
 use Rattle.placement.specs.Causes.{counted}
 use Rattle.arena_calls.specs.Streams.{Writes, WritesPart}
 use Rattle.arena_calls.specs.Ends.{Outside}
-use Rattle.arena_calls.specs.Messages as messages
 use Rattle.arena_chunks.specs.Source.{Source}
 use Rattle.script_rules.specs.declared.commands.Command.{Command}
 use Rattle.script_rules.specs.declared.outcome.Outcome.{Outcome}
@@ -18,10 +17,6 @@ use Rattle.arena_workers.specs.declared.served.Starved.{Starved}
 use Rattle.arena_program.specs.MainEnds.{MainEnds}
 use Rattle.arena_calls.specs.declared.status.Status.{Status}
 use Rattle.arena_calls.specs.declared.status.Status.TheVariants.{Done, Usage, OutOfMemory, WriteFault}
-
--- how many bytes the arena's chunks may have together: 1 GiB
-abbrev pub budget : ℕ
-budget = 1073741824
 
 -- how many those of each arena that scripts run on may have: 64 MiB
 abbrev pub maker_budget : ℕ
@@ -69,14 +64,6 @@ Answers help version source worked (Ok args) status old new before after =
 Answers help version source worked (Err error) status old new before after =
     (status ≡ status_without (error_kind error)) × (new ≡ old) × (after ≡ before)
 
--- the line on standard error
+-- the line on standard error where the words ask for nothing that there is
 abbrev pub usage : List ℕ
 usage = codes "usage: arena_run calls | gen START COUNT | scripts WORKERS [fixed BYTES ARENAS | keep BYTES] | lint WORKERS" ++ 10 ∷ []
-
-abbrev pub message_of : Status → List ℕ
-message_of = messages.message_of usage
-
--- The status's line was written, or a first part of it and then writing failed once.
-abbrev pub Explains : Status → Option (List ℕ) → ℕ → Option (List ℕ) → ℕ → Type 0
-Explains status old before new after =
-    (Writes old new (message_of status) × (after ≡ before)) ⊎ (WritesPart old new (message_of status) × (after ≡ counted before 1))

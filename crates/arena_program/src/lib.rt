@@ -14,7 +14,7 @@ mod tests;
 mod told;
 mod whole;
 
-pub use budget::{Budgeted, BudgetedMaker, program_chunks, program_maker};
+pub use budget::{BudgetedMaker, program_maker};
 pub use program::run_program;
 pub use tasks::{Lender, Task};
 pub use whole::arena_main;

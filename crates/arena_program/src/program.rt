@@ -4,14 +4,16 @@ ghost use Rattle.std.specs.Process.{exit_status};
 ghost use Rattle.placement.specs.Creation.{empty_state};
 ghost use Rattle.arena_chunks.specs.Source.{view};
 ghost use Rattle.arena_chunks.specs.Creating.{uncounted_memory};
+ghost use Rattle.arena_calls.specs.Budget.{budget};
 ghost use Rattle.arena_calls.specs.Ends.{outside, code_of};
-ghost use Rattle.arena_program.specs.Program.{budget, maker_budget, Prints, Serves, Answers, Explains};
+ghost use Rattle.arena_calls.specs.Messages.{Explains};
+ghost use Rattle.arena_program.specs.Program.{maker_budget, usage, Prints, Serves, Answers};
 ghost use Rattle.arena_calls.specs.declared.status.Status.{Status};
 
 use crate::arguments::{without_words, words};
-use crate::budget::{Budgeted, BudgetedMaker};
+use crate::budget::BudgetedMaker;
 use crate::whole::arena_main;
-use arena_calls::{Input, Output, Status, explain, is_one_word, write_all};
+use arena_calls::{Budgeted, Input, Output, Status, exit_with, is_one_word, write_all};
 use arena_chunks::{Arena, Bytes};
 use arena_script::Job;
 use script_workers::Starved;
@@ -149,7 +151,7 @@ pub fn run_program<
         (outside (I.left input.new) (I.faults input.new) (O.written output.new) (O.faults output.new)
         (view arena.new (C.source chunks.new)))
         starved.old.items starved.new.items
-        × Explains status (E.written messages.old) (E.faults messages.old) (E.written messages.new) (E.faults messages.new) }
+        × Explains usage status (E.written messages.old) (E.faults messages.old) (E.written messages.new) (E.faults messages.new) }
 {
     let status = match args {
         Ok(args) => match words(alloc, args) {
@@ -163,6 +165,5 @@ pub fn run_program<
         },
         Err(error) => without_words(&error),
     };
-    let _ = explain(messages, &status, USAGE);
-    ExitCode::from(status.code())
+    exit_with(messages, &status, USAGE)
 }

@@ -1,9 +1,9 @@
 //! Reads calls on a bump arena, or scripts, from standard input, and prints a line for each reply.
 #![tactic(auto)]
 
-use arena_calls::{StdInput, StdOutput};
+use arena_calls::{StdInput, StdOutput, program_chunks};
 use arena_chunks::Arena;
-use arena_program::{program_chunks, program_maker, run_program};
+use arena_program::{program_maker, run_program};
 use arena_script::Engine;
 use std::io::Lock;
 use std::process::ExitCode;

@@ -12,11 +12,11 @@ use Rattle.arena_items.specs.declared.item.Item.{Ghosts}
 use Rattle.arena_items.proofs.Layers.{stays_readable, stays_agree, stays_apart}
 use Rattle.arena_vec.specs.Vecs.{IsVecIn, vec_list}
 use Rattle.arena_vec.specs.declared.vec.Vec.{Vec}
-use Rattle.arena_hash.specs.AgreeLaws.{footprint-agree, meaning-agree, held-agree}
 use Rattle.arena_hash.specs.Contents.{Kind}
 use Rattle.arena_hash.specs.Maps.{IsMapIn, StaysMap, pairs_in, footprint}
 use Rattle.arena_hash.specs.declared.hasher.FxHasher.{FxHasher}
 use Rattle.arena_hash.specs.declared.map.HashMap.{HashMap}
+use Rattle.arena_hash.proofs.Layers.{map_stays}
 use Rattle.arena_symbols.specs.NameLaws.{contents_agree}
 use Rattle.arena_symbols.specs.Names.{blocks_of, contents_of}
 use Rattle.arena_symbols.specs.Tables.{id_kind}
@@ -45,16 +45,7 @@ plain_apart memory m others apart = (apart, go (pairs_in id_kind memory m))
 module _ {old new : Memory} {before after : List Block} (frame : Frame old new before after) where
   pub map_beside : {K V S : Type 0} (k : Kind K V S) (m : HashMap K V S) → IsMapIn k old m → AreAllApart (footprint k old m) before
       → StaysMap k old new after m
-  map_beside k m held apart =
-      let stays = frame_keeps_all old new before after (footprint k old m) frame (held.handle.place.readable, held.texts) apart in
-      let agree = stays_agree old new after (footprint k old m) stays in
-      let same = footprint-agree k old new m agree in
-      record {
-        held = held-agree k old new m agree held (stays_readable old new after (footprint k old m) stays);
-        blocks = sym same;
-        means = sym (meaning-agree k old new m agree);
-        apart = subst (λ (bs : List Block). AreAllApart bs after) same (stays_apart old new after (footprint k old m) stays);
-      }
+  map_beside k m held apart = map_stays k m frame held apart
 
   pub plain_beside : (m : HashMap ℕ ℕ FxHasher) → IsMapIn id_kind old m → IsApart m.table.block.addr m.table.block.size before
       → StaysMap id_kind old new after m
@@ -65,11 +56,7 @@ module _ {old new : Memory} {before after : List Block} (frame : Frame old new b
   vec_beside item v held apart =
       let stays = frame_keeps old new before after v.raw.block frame held.place.readable apart in
       record {
-        held = record {
-          place = held_again _ item.ALIGN old.state new.state v.raw.block held.place stays.readable;
-          within = held.within;
-          no_bytes = held.no_bytes;
-        };
+        held = record { place = held_again _ _ _ _ v.raw.block held.place stays.readable; within = held.within; no_bytes = held.no_bytes };
         list_is = ap (elements item.SIZE item.decoded v.raw.len) stays.bytes;
         apart = stays.apart;
       }
@@ -78,8 +65,5 @@ module _ {old new : Memory} {before after : List Block} (frame : Frame old new b
       → TextsStay old new after list
   texts_beside list readable apart =
       let stays = frame_keeps_all old new before after (blocks_of list) frame readable apart in
-      record {
-        readable = stays_readable old new after (blocks_of list) stays;
-        contents = sym (contents_agree old new list (stays_agree old new after (blocks_of list) stays));
-        apart = stays_apart old new after (blocks_of list) stays;
-      }
+      let same = contents_agree old new list (stays_agree old new after (blocks_of list) stays) in
+      record { readable = stays_readable _ _ _ _ stays; contents = sym same; apart = stays_apart _ _ _ _ stays }

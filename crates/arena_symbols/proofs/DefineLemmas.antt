@@ -46,6 +46,7 @@ module _ {item : Ghosts Entry} (old : View) (s : Scopes) (id value : ℕ) (held 
     same = λ same. (refl, refl);
     kept = tt;
     overflows = (λ no. absurd (cc), λ full. absurd (both_ways _ full.0 is));
+    fresh = tt;
     pays = pays_nothing far_up 512 (table_credit s) old (Ok false) (λ k no. cc);
     frame = frame_reflexive old.memory (table_blocks s);
   }
@@ -59,6 +60,7 @@ module _ {item : Ghosts Entry} (old : View) (s : Scopes) (id value : ℕ) (held 
     same = λ no. absurd (cc);
     kept = refl;
     overflows = (λ same. (is, omega (arith, full, counted_pairs item old.memory s)), λ both. refl);
+    fresh = is;
     pays = pays_nothing far_up 512 (table_credit s) old (Err CapacityOverflow) (λ k no. cc);
     frame = frame_reflexive old.memory (table_blocks s);
   }
@@ -148,6 +150,7 @@ module _ {item : Ghosts Entry} (old : View) (s : Scopes) (id value : ℕ) (held 
             same = λ no. absurd (cc);
             kept = tt;
             overflows = not_full (Ok true) (λ no. cc);
+            fresh = tt;
             pays = pays (Ok at) lists;
             frame = frame_beside old.memory new.memory _ _ (s.starts.raw.block ∷ []) lists.frame;
           }
@@ -172,6 +175,7 @@ module _ {item : Ghosts Entry} (old : View) (s : Scopes) (id value : ℕ) (held 
             same = λ no. absurd (cc);
             kept = (λ i. scopes_of (pairs_of (lists.kept.1 i)) (starts_are i));
             overflows = not_full (Err e) (λ same. lists.fits (other_error e CapacityOverflow same));
+            fresh = is;
             pays = pays (Err e) lists;
             frame = frame_beside old.memory new.memory _ _ (s.starts.raw.block ∷ []) lists.frame;
           }

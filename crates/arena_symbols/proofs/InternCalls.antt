@@ -19,19 +19,14 @@ use Rattle.arena_hash.specs.declared.hasher.FxHasher.{FxHasher}
 use Rattle.arena_hash.specs.declared.map.HashMap.{HashMap}
 use Rattle.arena_vec.specs.declared.vec.Vec.{Vec}
 use Rattle.arena_symbols.specs.Interner.{number_of, most_texts}
-use Rattle.arena_symbols.specs.Interning.{Interns, KeepsTexts}
+use Rattle.arena_symbols.specs.Interning.{Interns}
 use Rattle.arena_symbols.specs.Listing.{CanList, Lists}
 use Rattle.arena_symbols.specs.Names.{name_kind, blocks_of, contents_of, texts_in, names_in, own_blocks, names_footprint, names_credit, IsInternerIn}
 use Rattle.arena_symbols.specs.Paying.{Pays, far_up}
 use Rattle.arena_symbols.specs.declared.symbols.Symbols.{Symbols}
 use Rattle.arena_symbols.proofs.InternLemmas.{AreTexts, IsNewText, InternerStays, interner_beside, length_names, blocks_push, can_append, appended, not_appended}
 use Rattle.arena_symbols.proofs.NumberLemmas.{number_push}
-use Rattle.arena_symbols.proofs.PayLemmas.{pays_nothing, pays_more, pays_told, pays_then, pays_text}
-
--- A block that isn't placed leaves the memory as it was.
-unplaced_same : (e : AllocError) (size align : ℕ) (old new : View)
-    → RoomAnswer {X = Str} (λ t. t.block) (Err e) (PlacesBlock old new size align) → new.memory ≡ old.memory
-unplaced_same e size align old new placed = grind (arith, placed)
+use Rattle.arena_symbols.proofs.PayLemmas.{pays_nothing, pays_as, pays_more, pays_then, pays_text}
 
 module _ (old : View) (s : Symbols) (text : List ℕ) (held : IsInternerIn old.memory s) where
   abbrev list : List Str
@@ -39,13 +34,6 @@ module _ (old : View) (s : Symbols) (text : List ℕ) (held : IsInternerIn old.m
 
   abbrev names : List (List ℕ)
   names = names_in old.memory s
-
-  -- no text more is named
-  same_texts : (new : Memory) (u : Symbols) → texts_in new u ≡ list → blocks_of (texts_in new u) ≡ blocks_of list ++ []
-  same_texts new u same = ap blocks_of same ∙ sym (append-nil (blocks_of list))
-
-  as_before : KeepsTexts old old s s []
-  as_before = record { blocks = same_texts old.memory s refl; frame = frame_reflexive old.memory (own_blocks s) }
 
   -- The text is there.
   pub interns_known : (n : ℕ) → number_of names text ≡ Some n → Interns old old s s text (Ok n)
@@ -56,29 +44,40 @@ module _ (old : View) (s : Symbols) (text : List ℕ) (held : IsInternerIn old.m
     number = is;
     overflows = (λ no. absurd (cc), λ both. absurd (none-some n (sym both.0 ∙ is)));
     known = λ some. (refl, refl);
+    fresh = tt;
     pays = pays_nothing far_up (1024 + length text) (names_credit s) old (Ok n) (λ k no. cc);
-    texts = ([], as_before);
+    texts = ([], record { blocks = sym (append-nil (blocks_of list)); frame = frame_reflexive old.memory (own_blocks s) });
+  }
+
+  -- Refused, it names the texts that it named.
+  interns_not : (new : View) (u : Symbols) (e : AllocError) → number_of names text ≡ None → IsInternerIn new.memory u
+      → texts_in new.memory u ≡ list → names_in new.memory u ≡ names
+      → ◌≡◌ {A = Result ℕ AllocError} (Err e) (Err CapacityOverflow) ↔ (most_texts ≤ length names)
+      → Pays {X = ℕ} far_up (1024 + length text) (names_credit s) (names_credit u) old new (Err e)
+      → Frame old.memory new.memory (own_blocks s) (own_blocks u) → Interns old new s u text (Err e)
+  interns_not new u e none still same kept full pays frame = record {
+    held = still;
+    names = tt;
+    kept = kept;
+    number = tt;
+    overflows = (λ is. (none, full.0 is), λ both. full.1 both.1);
+    known = λ some. absurd (some none);
+    fresh = none;
+    pays = pays;
+    texts = ([], record { blocks = ap blocks_of same ∙ sym (append-nil (blocks_of list)); frame = frame });
   }
 
   -- There are as many as there may be.
   pub interns_full : number_of names text ≡ None → most_texts ≤ s.texts.raw.len → Interns old old s s text (Err CapacityOverflow)
-  interns_full none full = record {
-    held = held;
-    names = tt;
-    kept = refl;
-    number = tt;
-    overflows = (λ is. (none, omega (arith, full, length_names old.memory s)), λ both. refl);
-    known = λ some. absurd (some none);
-    pays = pays_nothing far_up (1024 + length text) (names_credit s) old (Err CapacityOverflow) (λ k no. cc);
-    texts = ([], as_before);
-  }
+  interns_full none full = interns_not old s CapacityOverflow none held refl refl
+      (λ is. omega (arith, full, length_names old.memory s), λ many. refl)
+      (pays_nothing far_up (1024 + length text) (names_credit s) old (Err CapacityOverflow) (λ k no. cc))
+      (frame_reflexive old.memory (own_blocks s))
 
   module _ (none : number_of names text ≡ None) (few : s.texts.raw.len < most_texts) (one : old.memory.state.min_align ≡ 1)
       (short : length text < 2 ^ 32) where
-    fits_more : (result : Result ℕ AllocError) → (result ≡ Err CapacityOverflow → ⊥)
-        → (result ≡ Err CapacityOverflow) ↔ ((number_of names text ≡ None) × (most_texts ≤ length names))
-    fits_more result fits =
-        (λ is. absurd (fits is), λ both. absurd (omega (arith, both.1, few, length_names old.memory s)))
+    fits_more : {P : Type 0} → (P → ⊥) → P ↔ (most_texts ≤ length names)
+    fits_more never = (λ is. absurd (never is), λ many. absurd (omega (arith, many, few, length_names old.memory s)))
 
     pays_place : (mid : View) (result : Result Str AllocError)
         → RoomAnswer (λ t. t.block) result (PlacesBlock old mid (length text) 1)
@@ -91,26 +90,11 @@ module _ (old : View) (s : Symbols) (text : List ℕ) (held : IsInternerIn old.m
     pub interns_unplaced : (new : View) (e : AllocError) → RoomAnswer {X = Str} (λ t. t.block) (Err e) (PlacesBlock old new (length text) 1)
         → Interns old new s s text (Err e)
     interns_unplaced new e places =
-        let same = unplaced_same e (length text) 1 old new places in
-        record {
-          held = rw same held;
-          names = tt;
-          kept = ap (λ (m : Memory). names_in m s) same;
-          number = tt;
-          overflows = fits_more (Err e) (λ is. (let error : e ≡ CapacityOverflow = cc in
-              subst (λ (e : AllocError). RoomAnswer {X = Str} (λ t. t.block) (Err e) (PlacesBlock old new (length text) 1)) error places));
-          known = λ some. absurd (some none);
-          pays = pays_more 0 (omega arith) (omega arith) (omega arith) (omega arith) (pays_told (λ _. 0) (Err e) (pays_place new (Err e)
-              places));
-          texts = (
-            [],
-            record {
-              blocks = same_texts new.memory s (ap (λ (m : Memory). texts_in m s) same);
-              frame = subst (λ (m : Memory). Frame old.memory m (own_blocks s) (own_blocks s)) (sym same)
-                  (frame_reflexive old.memory (own_blocks s));
-            },
-          );
-        }
+        let same : new.memory ≡ old.memory = grind (arith, places) in
+        interns_not new s e none (rw same held) (ap (λ (m : Memory). texts_in m s) same) (ap (λ (m : Memory). names_in m s) same)
+        (fits_more (λ is. grind (arith, is, places)))
+        (pays_as 0 (λ d is. cc) (omega arith) (omega arith) (omega arith) (omega arith) (pays_place new (Err e) places))
+        (subst (λ (m : Memory). Frame old.memory m (own_blocks s) (own_blocks s)) (sym same) (frame_reflexive old.memory (own_blocks s)))
 
     module _ (mid : View) (t : Str) (places : PlacesBlock old mid (length text) 1 (Placed t.block))
         (bytes : bytes_of mid.memory t.block ≡ text) where
@@ -135,12 +119,11 @@ module _ (old : View) (s : Symbols) (text : List ℕ) (held : IsInternerIn old.m
         abbrev now : Symbols
         now = record { numbers = n; texts = v }
 
-        framed : Frame mid.memory new.memory (own_blocks s) (n.table.block ∷ v.raw.block ∷ [])
-            → Frame old.memory new.memory (own_blocks s) (n.table.block ∷ v.raw.block ∷ t.block ∷ [])
-        framed frame = frame_then old.memory mid.memory new.memory (own_blocks s) (own_blocks s ++ t.block ∷ [])
-            (n.table.block ∷ v.raw.block ∷ t.block ∷ [])
-            (frame_behind old.memory mid.memory [] (t.block ∷ []) (own_blocks s) places.1.outcome.frame)
-            (frame_beside mid.memory new.memory (own_blocks s) (n.table.block ∷ v.raw.block ∷ []) (t.block ∷ []) frame)
+        framed : Frame mid.memory new.memory (own_blocks s) (own_blocks now)
+            → Frame old.memory new.memory (own_blocks s) (own_blocks now ++ t.block ∷ [])
+        framed frame = frame_then _ _ _ (own_blocks s) (own_blocks s ++ t.block ∷ []) (own_blocks now ++ t.block ∷ [])
+            (frame_behind _ _ [] (t.block ∷ []) (own_blocks s) places.1.outcome.frame)
+            (frame_beside _ _ (own_blocks s) (own_blocks now) (t.block ∷ []) frame)
 
         pays_all : (result : Result ℕ AllocError) → Lists name_kind.keys name_kind mid new s.numbers s.texts t t n v result
             → Pays far_up (1024 + length text) (names_credit s) (names_credit now) old new result
@@ -165,8 +148,9 @@ module _ (old : View) (s : Symbols) (text : List ℕ) (held : IsInternerIn old.m
               kept = tt;
               number = ap (λ (l : List (List ℕ)). number_of l text) named ∙ number_push names text text none
                   ∙ rw ((bytes_eq-Decides text text).1 refl) (ap Some (length_names old.memory s ∙ sym lists.place));
-              overflows = fits_more (Ok at) lists.fits;
+              overflows = (λ no. absurd (cc), λ both. absurd (omega (arith, both.1, few, length_names old.memory s)));
               known = λ some. absurd (some none);
+              fresh = tt;
               pays = pays_all (Ok at) lists;
               texts = (
                 t.block ∷ [],
@@ -178,21 +162,7 @@ module _ (old : View) (s : Symbols) (text : List ℕ) (held : IsInternerIn old.m
             }
         interns_placed (Err e) texts lists =
             let are = not_appended mid new n v stays.held fresh lists in
-            let named : texts_in new.memory now ≡ list = lists.kept.1 ∙ stays.texts in
-            record {
-              held = are.0;
-              names = tt;
-              kept = ap (contents_of new.memory) lists.kept.1 ∙ are.1 ∙ stays.names;
-              number = tt;
-              overflows = fits_more (Err e) lists.fits;
-              known = λ some. absurd (some none);
-              pays = pays_all (Err e) lists;
-              texts = (
-                [],
-                record {
-                  blocks = same_texts new.memory now named;
-                  frame = frame_weaken old.memory new.memory (own_blocks s) (own_blocks s) (own_blocks now ++ t.block ∷ []) (own_blocks now)
-                      (λ addr n some apart. apart) (λ addr n some apart after. (after.0, (after.1.0, tt))) (framed lists.frame);
-                },
-              );
-            }
+            interns_not new now e none are.0 (lists.kept.1 ∙ stays.texts)
+            (ap (contents_of new.memory) lists.kept.1 ∙ are.1 ∙ stays.names) (fits_more lists.fits) (pays_all (Err e) lists)
+            (frame_weaken _ _ (own_blocks s) (own_blocks s) (own_blocks now ++ t.block ∷ []) (own_blocks now)
+            (λ addr n some apart. apart) (λ addr n some apart after. (after.0, (after.1.0, tt))) (framed lists.frame))

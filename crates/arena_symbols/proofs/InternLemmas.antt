@@ -11,23 +11,24 @@ use Rattle.arena_chunks.specs.Source.{View}
 use Rattle.arena_chunks.specs.Frame.{Frame, IsApart, AreAllApart}
 use Rattle.arena_chunks.specs.declared.block.Block.{Block}
 use Rattle.arena_chunks.specs.declared.allocator.text.Str.{Str}
-use Rattle.arena_chunks.proofs.Layers.{all_from_both, all_of_both, all_among, all_each, frame_keeps_all}
+use Rattle.arena_chunks.proofs.Layers.{all_from_both, all_from_none, all_of_both, all_among, all_each, frame_keeps_all}
 use Rattle.arena_items.specs.Footprint.{AreReadable}
 use Rattle.arena_items.specs.FootprintLaws.{readable_both}
 use Rattle.arena_items.specs.Values.{bytes_of}
 use Rattle.arena_items.proofs.Layers.{length-elements, stays_readable, stays_agree, stays_apart}
 use Rattle.arena_items.specs.declared.room.AllocError.{AllocError}
 use Rattle.arena_hash.specs.Finite.{Finite, key_or, value_of, with_pair}
-use Rattle.arena_hash.specs.Maps.{map_in, texts_in as map_texts}
+use Rattle.arena_hash.specs.Maps.{IsLookIn, map_in, texts_in as map_texts, footprint as map_footprint}
 use Rattle.arena_hash.specs.declared.hasher.FxHasher.{FxHasher}
 use Rattle.arena_hash.specs.declared.map.HashMap.{HashMap}
+use Rattle.arena_hash.specs.declared.map.Look.{Look}
 use Rattle.arena_vec.specs.declared.vec.Vec.{Vec}
 use Rattle.arena_symbols.specs.Interner.{number_of, most_texts}
 use Rattle.arena_symbols.specs.Listing.{CanList, Lists}
 use Rattle.arena_symbols.specs.NameLaws.{all_at, behind_same, interner_of, names_readable, names_same, texts_same, names_held_again}
 use Rattle.arena_symbols.specs.Names.{name_kind, blocks_of, contents_of, texts_in, names_in, own_blocks, names_footprint, IsInternerIn}
 use Rattle.arena_symbols.specs.declared.symbols.Symbols.{Symbols}
-use Rattle.arena_symbols.proofs.BesideLemmas.{TextsStay, texts_beside}
+use Rattle.arena_symbols.proofs.BesideLemmas.{TextsStay, map_beside, texts_beside}
 use Rattle.arena_symbols.proofs.NumberLemmas.{number_push, distinct_push}
 
 -- ---- Lists
@@ -50,6 +51,11 @@ text_readable m list n t readable there = all_at (λ (b : Block). IsTrue (is_rea
 
 pub length_names : (memory : Memory) (s : Symbols) → length (names_in memory s) ≡ s.texts.raw.len
 length_names memory s = simp length-map (length-elements _ _ _ _)
+
+-- what its map tells of a text is its number
+pub number_is : {memory : Memory} {s : Symbols} {o : Option ℕ} (text : List ℕ) → IsInternerIn memory s
+    → o ≡ value_of (map_in name_kind memory s.numbers text) → number_of (names_in memory s) text ≡ o
+number_is text held told = sym (told ∙ held.places text)
 
 pub value_put : {K V : Type 0} (here : Bool) (p : K × V) (found : Option (K × V))
     → value_of (if here then Some p else found) ≡ (if here then Some p.1 else value_of found)
@@ -76,6 +82,14 @@ interner_beside {old = old} {new = new} {before = before} {after = after} s fram
       names = sym (names_same old new s agree);
       apart = stays_apart old new after blocks stays;
     }
+
+-- A search for a text ends where it did, once that is placed.
+pub look_placed : {old mid : Memory} {s : Symbols} {text : List ℕ} {t : Str} (look : Look) → IsInternerIn old s
+    → Frame old mid [] (t.block ∷ []) → bytes_of mid t.block ≡ text → IsLookIn name_kind old s.numbers text look
+    → IsLookIn name_kind mid s.numbers (bytes_of mid t.block) look
+look_placed {old = old} {mid = mid} {s = s} {text = text} look held frame bytes is =
+    subst (λ (q : List ℕ). IsLookIn name_kind mid s.numbers q look) (sym bytes)
+    ((map_beside frame name_kind s.numbers held.numbers (all_from_none (map_footprint name_kind old s.numbers))).looks text look is)
 
 -- ---- A text at the end
 

@@ -1,6 +1,7 @@
 -- The innermost map is ended.
-use Rattle.std.proofs.Common.{◌≡◌, ℕ, zero, suc, ◌-◌, ◌<◌, ◌≤◌, List, ◌∷◌, length, take, reverse, refl, sym, ap, subst, ◌∙◌, arith, true, false}
+use Rattle.std.proofs.Common.{◌≡◌, ℕ, ◌-◌, ◌<◌, ◌≤◌, List, ◌∷◌, length, take, reverse, refl, sym, ap, subst, ◌∙◌, arith, true, false}
 use Rattle.std.specs.Prelude.{◌==◌}
+use Rattle.std.proofs.lemmas.Bool.{eqb-false}
 use Rattle.std.proofs.lemmas.List.{length-take, take-map}
 use Rattle.arena_chunks.specs.Source.{View}
 use Rattle.arena_chunks.proofs.Layers.{frame_reflexive}
@@ -37,22 +38,15 @@ module _ {item : Ghosts Entry} (old : View) (s : Scopes) (v : Vec ℕ) (start : 
   abbrev outer : Scopes
   outer = record s { starts = v }
 
-  positive : (n : ℕ) → (n == 0) ≡ false → 0 < n
-  positive zero is = absurd (cc)
-  positive (suc n) is = omega arith
+  positive : 0 < s.starts.raw.len
+  positive = omega (arith, eqb-false s.starts.raw.len 0 some)
 
   fewer : v.raw.len ≤ s.starts.raw.len
-  fewer = omega (
-    arith,
-    cut.len,
-    length-take (s.starts.raw.len - 1) (vec_list place_item old.memory s.starts),
-    length-elements 4 place_item.decoded s.starts.raw.len,
-  )
+  fewer = rw cut.len (simp (length-take, length-elements) (omega arith))
 
   starts_are : starts_in old.memory s ≡ start ∷ starts_in old.memory outer
   starts_are =
-      let list : List ℕ = vec_list place_item old.memory s.starts in
-      reverse_front list (s.starts.raw.len - 1) (length-elements _ _ _ _ ∙ omega (arith, positive s.starts.raw.len some))
+      reverse_front (vec_list place_item old.memory s.starts) (s.starts.raw.len - 1) (length-elements _ _ _ _ ∙ omega (arith, positive))
       ∙ (λ i. sym is i ∷ reverse (sym cut.list_is i))
 
   begin : AreStarts (length (recent_in item old.memory s)) (start ∷ starts_in old.memory outer)
@@ -88,7 +82,7 @@ module _ {item : Ghosts Entry} (old : View) (s : Scopes) (v : Vec ℕ) (start : 
         (entries_in item old.memory s)))
         ∙ ap (λ (l : List ℕ). outer_of (scopes_of (pairs_of (entries_in item old.memory s)) l)) (sym starts_are);
     alone = λ no. absurd (cc);
-    more = λ yes. omega (arith, depth_is item old.memory s, positive s.starts.raw.len some);
+    more = λ yes. omega (arith, depth_is item old.memory s, positive);
     places = cuts.places;
     credit = omega (arith, cuts.credit, credit_less 4 v.raw.len s.starts.raw.len s.starts.raw.cap v.raw.cap fewer (omega (arith, cut.cap)));
     frame = rw cut.block at cuts.frame;

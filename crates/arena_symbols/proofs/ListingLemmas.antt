@@ -23,9 +23,10 @@ use Rattle.arena_hash.specs.Accounts.{unit_of, credit_of}
 use Rattle.arena_hash.specs.Changes.{Puts, is_value}
 use Rattle.arena_hash.specs.Contents.{Kind, content_in}
 use Rattle.arena_hash.specs.Finite.{has, with_pair}
-use Rattle.arena_hash.specs.Maps.{StaysMap, map_in, footprint}
+use Rattle.arena_hash.specs.Maps.{IsLookIn, StaysMap, map_in, footprint}
 use Rattle.arena_hash.specs.declared.hasher.FxHasher.{FxHasher}
 use Rattle.arena_hash.specs.declared.map.HashMap.{HashMap}
+use Rattle.arena_hash.specs.declared.map.Look.{Look}
 use Rattle.arena_symbols.specs.Listing.{CanList, Lists}
 use Rattle.arena_symbols.specs.Paying.{Pays, far_up}
 use Rattle.arena_symbols.proofs.BesideLemmas.{map_beside, vec_beside}
@@ -49,6 +50,10 @@ module _ {K T : Type 0} {item : Ghosts T} {k : Kind K ℕ FxHasher} {old mid : M
 
   pub text : Stays old mid after (k.key.text key)
   text = frame_keeps old mid (v.raw.block ∷ []) after (k.key.text key) frame can.readable can.apart.1
+
+  -- A search for it ends where it did.
+  pub look_stays : (look : Look) → IsLookIn k old m (content_in k.key old key) look → IsLookIn k mid m (content_in k.key mid key) look
+  look_stays look is = subst (λ (q : List ℕ). IsLookIn k mid m q look) (ap (k.key.content key) (sym text.bytes)) (stays.looks _ look is)
 
 module _ {K T : Type 0} (paid : Paid) {item : Ghosts T} (plain : IsItemLayout item.SIZE item.ALIGN) {k : Kind K ℕ FxHasher}
     (old mid : View) {m : HashMap K ℕ FxHasher} {v : Vec T} (w : Vec T) {key : K} (value : T) (can : CanList item k old.memory m v key)

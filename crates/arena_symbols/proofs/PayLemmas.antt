@@ -1,20 +1,22 @@
 -- What calls pay, by what they are made of: nothing, a text that is placed, a value at a vector's end, a pair in a map; and one after
 -- another.
-use Rattle.std.proofs.Common.{◌≡◌, ℕ, ◌+◌, ◌-◌, ◌*◌, ◌^◌, ◌<◌, ◌≤◌, ◌==◌, ◌||◌, refl, subst, arith, inl, inr, true, false, Bool, Ok, Err, Option, List, length, eqb-true}
-use Rattle.std.specs.Prelude.{Result, OnOk, OnErr, nat_lt, if◌then◌else◌}
-use Rattle.std.proofs.lemmas.Bool.{cases_lt}
+use Rattle.std.proofs.Common.{◌≡◌, ℕ, ◌+◌, ◌-◌, ◌*◌, ◌^◌, ◌<◌, ◌≤◌, refl, subst, arith, inl, inr, false, Ok, Err, Option, List, length}
+use Rattle.std.specs.Prelude.{Result, OnErr, ◌↔◌}
+use Rattle.std.proofs.lemmas.Bool.{cases_Bool}
 use Rattle.std.proofs.lemmas.Result.{on_err_weaker}
 use Rattle.std.proofs.Math.Nat.{mul-le-mul_left}
+use Rattle.placement.specs.Moves.{Outcome}
 use Rattle.placement.specs.State.{allocated_bytes}
 use Rattle.placement.proofs.AskingLemmas.{asks_more, starved_nearer}
-use Rattle.arena_chunks.specs.Source.{View, IsAsked}
-use Rattle.arena_chunks.specs.BlockCalls.{PlacesBlock}
+use Rattle.arena_chunks.specs.Answers.{Answer}
+use Rattle.arena_chunks.specs.Source.{View}
+use Rattle.arena_chunks.specs.BlockCalls.{PlacesBlock, IsRefused}
 use Rattle.arena_chunks.specs.declared.block.Block.{Block}
 use Rattle.arena_chunks.proofs.Layers.{asks_same}
 use Rattle.arena_items.specs.Costs.{Costs, Covers, farthest}
 use Rattle.arena_items.specs.Layout.{IsItemLayout}
 use Rattle.arena_items.specs.LayoutLaws.{plain_1}
-use Rattle.arena_items.specs.Room.{capacity_after, MakesRoom, TakesRoom, RoomAnswer, SamePlaces}
+use Rattle.arena_items.specs.Room.{capacity_after, MakesRoom, TakesRoom, RoomAnswer}
 use Rattle.arena_items.specs.Values.{IsHeld}
 use Rattle.arena_items.specs.declared.item.Item.{Ghosts}
 use Rattle.arena_items.specs.declared.room.AllocError.{AllocError}
@@ -27,12 +29,11 @@ use Rattle.arena_vec.specs.Credit.{asked_by, credit_of as list_credit}
 use Rattle.arena_vec.specs.Growth.{amortised_growth}
 use Rattle.arena_vec.specs.Vecs.{IsVecIn}
 use Rattle.arena_vec.specs.declared.vec.Vec.{Vec}
-use Rattle.arena_hash.specs.Accounts.{credit_of}
+use Rattle.arena_hash.specs.Accounts.{spare_of, credit_of}
 use Rattle.arena_hash.specs.Changes.{Puts}
 use Rattle.arena_hash.specs.Contents.{Kind, content_in}
 use Rattle.arena_hash.specs.Finite.{has}
 use Rattle.arena_hash.specs.Maps.{map_in}
-use Rattle.arena_hash.specs.Policy.{limit, most_pairs, next_slots, slot_size, table_align}
 use Rattle.arena_hash.specs.declared.map.HashMap.{HashMap}
 use Rattle.arena_symbols.specs.Paying.{HasRefused, Pays}
 
@@ -41,11 +42,9 @@ abbrev pub told : {X Y : Type 0} → (X → Y) → Result X AllocError → Resul
 told f (Ok x) = Ok (f x)
 told f (Err e) = Err e
 
-pub on_ok : {X P : Type 0} (result : Result X AllocError) → P → OnOk result P
-on_ok result p = grind (arith, p)
-
-pub on_err : {X P : Type 0} (result : Result X AllocError) → P → OnErr result P
-on_err result p = grind (arith, p)
+pub overflows_told : {X Y Full : Type 0} (f : X → Y) (result : Result X AllocError) → ((result ≡ Err CapacityOverflow) ↔ Full)
+    → (told f result ≡ Err CapacityOverflow) ↔ Full
+overflows_told f result is = grind (arith, is)
 
 -- ---- No memory
 
@@ -59,86 +58,72 @@ pays_nothing far bytes credit old result none = record {
     starved = λ growing k is. absurd (none k is);
     full = λ still k is. absurd (none k is);
   };
-  refused = on_err result (omega arith);
+  refused = grind arith;
   told = λ k is. absurd (none k is);
 }
 
 -- ---- More, and together
 
--- A credit beside stays, and of the credit afterwards some may be forgotten.
+-- A call that is refused only as another is pays as that one. A credit beside stays, and of the credit afterwards some may be forgotten.
+pub pays_as : {X Y : Type 0} {far near few many before after more later : ℕ} {old new : View} {first : Result X AllocError}
+    {result : Result Y AllocError} (rest : ℕ) → ((e : AllocError) → result ≡ Err e → first ≡ Err e) → far ≤ near → few ≤ many
+    → before + rest ≡ more → later ≤ after + rest → Pays near few before after old new first → Pays far many more later old new result
+pays_as {Y = Y} {far = far} {near = near} {more = more} {later = later} {old = old} {new = new} {first = first} {result = result} rest same
+    close le sum less pays = record {
+      costs = record {
+        takes = omega (arith, pays.costs.takes, sum, less);
+        asks = asks_more _ _ old.memory.state new.memory.state old.source new.source (omega (arith, sum)) pays.costs.asks;
+        starved = λ growing k is. starved_nearer near far old.memory.state new.memory.state old.source new.source close
+            (pays.costs.starved growing k (same (AllocErr k) is));
+        full = λ still k is.
+            let short = pays.costs.full still k (same (AllocErr k) is) in
+            record { still = still; short = omega (arith, short.short, sum) };
+      };
+      refused = grind (arith, pays.refused, same, sum, less);
+      told = λ k is. pays.told k (same (AllocErr k) is);
+    }
+
 pub pays_more : {X : Type 0} {far near few many before after more later : ℕ} {old new : View} {result : Result X AllocError} (rest : ℕ)
     → far ≤ near → few ≤ many → before + rest ≡ more → later ≤ after + rest → Pays near few before after old new result
     → Pays far many more later old new result
-pays_more {far = far} {near = near} {old = old} {new = new} {result = result} rest close le sum less pays = record {
-  costs = record {
-    takes = omega (arith, pays.costs.takes, sum, less);
-    asks = asks_more _ _ old.memory.state new.memory.state old.source new.source (omega (arith, sum)) pays.costs.asks;
-    starved = λ growing k is.
-        starved_nearer near far old.memory.state new.memory.state old.source new.source close (pays.costs.starved growing k is);
-    full = λ still k is.
-        let short = pays.costs.full still k is in record { still = still; short = omega (arith, short.short, sum) };
-  };
-  refused = on_err_weaker result (λ fall. omega (arith, fall, sum, less)) pays.refused;
-  told = pays.told;
-}
+pays_more rest close le sum less pays = pays_as rest (λ e is. is) close le sum less pays
 
 -- It doesn't matter what is answered beside a refusal.
 pub pays_told : {X Y : Type 0} {far bytes before after : ℕ} {old new : View} (f : X → Y) (result : Result X AllocError)
     → Pays far bytes before after old new result → Pays far bytes before after old new (told f result)
-pays_told {X} {Y} f result pays = record {
-  costs = record {
-    takes = pays.costs.takes;
-    asks = pays.costs.asks;
-    starved = λ growing k is. pays.costs.starved growing k (same result k is);
-    full = λ still k is. pays.costs.full still k (same result k is);
-  };
-  refused = refused _ result pays.refused;
-  told = λ k is. pays.told k (same result k is);
-}
-  where
-    same : (result : Result X AllocError) (k : ℕ) → told f result ≡ Err (AllocErr k) → result ≡ Err (AllocErr k)
-    same result k is = grind (arith, is)
+pays_told f result pays = pays_as 0 (λ e is. grind (arith, is)) (omega arith) (omega arith) (omega arith) (omega arith) pays
 
-    refused : (P : Type 0) (result : Result X AllocError) → OnErr result P → OnErr (told f result) P
-    refused P result p = grind (arith, p)
+-- What is told of the second call is told of both.
+pub told_then : {X : Type 0} {far bytes before after : ℕ} {old mid : View} {first : Result X AllocError} (new : View) (k : ℕ)
+    → Costs far bytes before after old mid first → HasRefused mid new k → HasRefused old new k
+told_then new k costs more = grind (arith, more, costs.asks.refusals)
 
 pub pays_then : {X Y : Type 0} {far one two before between after : ℕ} {old mid new : View} (x : X) {second : Result Y AllocError}
     → mid.memory.state.is_growing ≡ old.memory.state.is_growing
     → (old.memory.state.is_growing ≡ false → allocated_bytes mid.memory.state ≡ allocated_bytes old.memory.state)
     → OnErr second (after ≤ before) → Pays far one before between old mid (Ok x)
     → Pays (far + 2 ^ 61) two between after mid new second → Pays far (one + two) before after old new second
-pays_then {far = far} {one = one} {two = two} {before = before} {between = between} {after = after} {old = old} {mid = mid} {new = new} x
-    {second = second} growing still err first more = record {
-      costs = costs_then far one two before between after old mid new (Ok x) second growing still refl first.costs more.costs;
-      refused = err;
-      told = λ k is. elim (more.told k is) [
-        | inl rose ↦ inl (omega (arith, rose, first.costs.asks.refusals))
-        | inr last ↦ inr last
-      ];
-    }
+pays_then {new = new} x growing still err first more = record {
+  costs = costs_then _ _ _ _ _ _ _ _ _ (Ok x) _ growing still refl first.costs more.costs;
+  refused = err;
+  told = λ k is. told_then new k first.costs (more.told k is);
+}
 
 -- ---- What the arena refuses
 
 -- The count of a source that refused k requests rose by k, as far as it can.
-has_refused : (old new : View) (k j : ℕ) (made : List (ℕ × ℕ)) → IsAsked old.source new.source k made → k ≡ j → HasRefused old new j
-has_refused old new k j made asked same = elim (cases_lt (2 ^ 64 - 1 - old.source.refusals) k) [
-  | inl past ↦ inr (omega (arith, past, asked.refusals, asked.bounded (omega (arith, past))))
-  | inr near ↦ inl (omega (arith, near, asked.refusals, same))
-]
+has_refused : {move : ℕ → Option Outcome} {asks : ℕ → List (ℕ × ℕ)} {k : ℕ} (old new : View) (j : ℕ)
+    → (j ≡ k) × IsRefused move asks old new k → HasRefused old new j
+has_refused {k = k} old new j refuses = grind (arith, refuses.0, refuses.1.asked.refusals, refuses.1.asked.bounded)
 
 -- A refusal of room is the arena's, and tells how many requests were refused.
 room_told : {X : Type 0} (size align : ℕ) (old new : View) (block : Block) (cap : ℕ) (f : X → Block) (k : ℕ) (growth : Growth)
     → MakesRoom size align old new block cap growth f (Err (AllocErr k)) → HasRefused old new k
 room_told size align old new block cap f k Stays made = absurd made.0
-room_told {X} size align old new block cap f k Overflows made =
-    absurd (let no : ◌≡◌ {A = Result X AllocError} (Err (AllocErr k)) (Err CapacityOverflow) = made.0 in cc)
+room_told size align old new block cap f k Overflows made = absurd (let no = made.0 in cc)
 room_told size align old new block cap f k (GrowsTo more) made = rw made.places.source (elim (zero_or_more cap) [
-  | inl none ↦
-      let places = made.took.placed none in
-      has_refused old made.between places.0 k _ places.1.outcome.1.asked (omega (arith, places.1.outcome.0))
-  | inr some ↦
-      let grows = made.took.grown some in
-      has_refused old made.between grows.0 k _ grows.1.outcome.1.asked (omega (arith, grows.1.outcome.0))
+  | inl none ↦ has_refused old made.between k (made.took.placed none).1.outcome
+  | inr some ↦ has_refused old made.between k (made.took.grown some).1.outcome
 ])
 
 -- What takes the room of a block that grows pays for that block.
@@ -161,33 +146,23 @@ nowhere = record { generation = 0; addr = 1; size = 0; align = 1 }
 -- what is placed anew is room that is taken where there was none
 pub pays_text : {X : Type 0} (f : X → Block) (old new : View) (n : ℕ) (result : Result X AllocError) → old.memory.state.min_align ≡ 1
     → n < 2 ^ 32 → RoomAnswer f result (PlacesBlock old new n 1) → Pays farthest n 0 0 old new result
-pays_text {X} f old new n result one short places =
+pays_text f old new n result one short places =
     pays_room 1 1 old new nowhere 0 n f n 0 0 result one (record { readable = refl; of_size = omega arith; of_align = refl }) (omega arith)
     (record {
       layout = row_is_layout n 1 1 plain_1 short (omega arith);
       small = omega arith;
       bounded = omega (arith, short);
       within = omega arith;
-      ok = ok result;
-      err = on_err result (omega arith);
-    }) (on_err result (omega arith)) (record { between = new; took = took result places; places = same_places new })
+      ok = grind arith;
+      err = grind arith;
+    }) (grind arith)
+    (record { between = new; took = grind (arith, taken, places); places = record { state = refl; statistics = refl; source = refl } })
   where
-    same_places : (v : View) → SamePlaces v v
-    same_places v = record { state = refl; statistics = refl; source = refl }
-
-    ok : (result : Result X AllocError) → OnOk result (n * 1 + (1 - 1) + 0 ≤ n + 0)
-    ok result = grind arith
-
-    taken : (answer : _) → PlacesBlock old new n 1 answer → TakesRoom old new nowhere 0
-        (n * 1) 1 answer
+    taken : (answer : Answer) → PlacesBlock old new n 1 answer → TakesRoom old new nowhere 0 (n * 1) 1 answer
     taken answer places = record {
-      placed = λ none. subst (λ (m : ℕ). PlacesBlock old new m 1 answer) (let whole : n ≡ n * 1 = omega arith in whole) places;
+      placed = λ none. subst (λ (m : ℕ). PlacesBlock old new m 1 answer) (omega arith) places;
       grown = λ some. absurd (omega (arith, some));
     }
-
-    took : (result : Result X AllocError) → RoomAnswer f result (PlacesBlock old new n 1)
-        → RoomAnswer f result (TakesRoom old new nowhere 0 (n * 1) 1)
-    took result places = grind (arith, taken, places)
 
 -- ---- A value at a vector's end
 
@@ -208,68 +183,49 @@ module _ {T : Type 0} (paid : Paid) (item : Ghosts T) (plain : IsItemLayout item
     (small : item.SIZE ≤ 2 ^ 24) (low : item.ALIGN ≤ 8) (old new : View) (v w : Vec T) (list : List T)
     (one : old.memory.state.min_align ≡ 1) (held : IsVecIn item old.memory v) (few : (v.raw.len + 1) * (2 * item.SIZE) ≤ 2 ^ 32)
     (longer : length list ≡ v.raw.len + 1) where
-  abbrev size : ℕ
-  size = item.SIZE
-
-  abbrev growth : Growth
-  growth = amortised_growth item.SIZE v.raw.cap (v.raw.len + 1)
-
   abbrev before : ℕ
   before = list_credit item.SIZE v.raw.len v.raw.cap
 
   abbrev after : ℕ
   after = list_credit item.SIZE w.raw.len w.raw.cap
 
-  asked : asked_by size growth + list_credit size (v.raw.len + 1) (capacity_after growth v.raw.cap) ≤ before + 4 * size
-  asked = omega (arith, paid.asks size v.raw.cap v.raw.len 1 held.within (omega (arith, some)) few)
+  -- what a growth asks for, and what is saved up then
+  abbrev spent : Growth → ℕ
+  spent growth = asked_by item.SIZE growth + list_credit item.SIZE (v.raw.len + 1) (capacity_after growth v.raw.cap)
 
-  -- a room that is paid is small
-  bounded : (more : ℕ) → growth ≡ GrowsTo more → (more < 2 ^ 31) × (more * size ≤ 2 ^ 40)
-  bounded more is =
-      let all = rw is at asked in
-      let saved : 2 * size * (2 * v.raw.len - v.raw.cap) ≤ 2 * size * v.raw.len =
-      mul-le-mul_left (2 * size) (let h : 2 * v.raw.len - v.raw.cap ≤ v.raw.len = omega (arith, held.within) in h) in
-      let four : more * 4 ≤ more * size = mul-le-mul_left more some in
-      let most : more * size ≤ 2 ^ 32 + 2 * size = omega (arith, all, saved, few) in
-      (omega (arith, four, most, small), omega (arith, most, small))
-
-  err : {X : Type 0} (result : Result X AllocError) → Grows item old new v growth list w result → OnErr result (after ≤ before)
-  err result grows = grind (arith, grows.err)
-
-  ok : {X : Type 0} (more : ℕ) → growth ≡ GrowsTo more → (result : Result X AllocError) → Grows item old new v growth list w result
-      → OnOk result (more * size + (item.ALIGN - 1) + after ≤ 4 * size + 7 + before)
-  ok more is (Ok x) grows =
-      let cap : w.raw.cap ≡ more = rw is at grows.cap in rw (grows.len, longer, cap) (omega (arith, rw is at asked, low))
-  ok more is (Err e) grows = tt
+  pays_growth : {X : Type 0} (growth : Growth) (result : Result X AllocError) → v.raw.cap ≤ capacity_after growth v.raw.cap
+      → spent growth ≤ before + 4 * item.SIZE → (result ≡ Err CapacityOverflow → ⊥) → Grows item old new v growth list w result
+      → Pays farthest (4 * item.SIZE + 7) before after old new result
+  pays_growth Stays (Ok x) keeps asked fits grows = record {
+    costs = costs_nothing farthest (4 * item.SIZE + 7) before after old new x grows.made.1
+        (rw (grows.len, longer, grows.cap) (omega (arith, asked)));
+    refused = tt;
+    told = λ k no. absurd (cc);
+  }
+  pays_growth Stays (Err e) keeps asked fits grows = absurd grows.made.0
+  pays_growth Overflows result keeps asked fits grows = absurd (fits grows.made.0)
+  pays_growth {X} (GrowsTo more) result keeps asked fits grows =
+      let saved : 2 * item.SIZE * (2 * v.raw.len - v.raw.cap) ≤ 2 * item.SIZE * v.raw.len = mul-le-mul_left (2 * item.SIZE)
+      (let h : 2 * v.raw.len - v.raw.cap ≤ v.raw.len = omega (arith, held.within) in h) in
+      let four : more * 4 ≤ more * item.SIZE = mul-le-mul_left more some in
+      let most : more * item.SIZE ≤ 2 ^ 32 + 2 * item.SIZE = omega (arith, asked, saved, few) in
+      let err : OnErr result (after ≤ before) = grind (arith, grows.err) in
+      pays_room item.SIZE item.ALIGN old new v.raw.block v.raw.cap more (λ _. w.raw.block) (4 * item.SIZE + 7) before after result one
+      held.place keeps (record {
+        layout = row_is_layout more item.SIZE item.ALIGN plain (omega (arith, four, most, small)) small;
+        small = omega (arith, low);
+        bounded = omega (arith, most, small);
+        within = omega (arith, asked, low);
+        ok = grind (arith, grows.len, grows.cap, longer, asked, low);
+        err = on_err_weaker result (λ le. omega (arith, le)) err;
+      }) err grows.made
 
   pub pays_push : {X : Type 0} (result : Result X AllocError) → (result ≡ Err CapacityOverflow → ⊥)
-      → Grows item old new v growth list w result → Pays farthest (4 * item.SIZE + 7) before after old new result
-  pays_push {X} result fits grows = by growth refl result fits grows
-    where
-      by : (g : Growth) → growth ≡ g → (result : Result X AllocError) → (result ≡ Err CapacityOverflow → ⊥)
-          → Grows item old new v growth list w result → Pays farthest (4 * size + 7) before after old new result
-      by Stays is (Ok x) fits grows =
-          let made = rw is at grows.made in
-          let cap : w.raw.cap ≡ v.raw.cap = rw is at grows.cap in
-          record {
-            costs = costs_nothing farthest (4 * size + 7) before after old new x made.1
-                (rw (grows.len, longer, cap) (omega (arith, rw is at asked)));
-            refused = tt;
-            told = λ k no. absurd (cc);
-          }
-      by Stays is (Err e) fits grows = absurd (rw is at grows.made).0
-      by Overflows is result fits grows = absurd (fits (rw is at grows.made).0)
-      by (GrowsTo more) is result fits grows =
-          let number = bounded more is in
-          pays_room size item.ALIGN old new v.raw.block v.raw.cap more (λ _. w.raw.block) (4 * size + 7) before after result one held.place
-          (rw is at (paid.keeps size v.raw.cap (v.raw.len + 1))) (record {
-            layout = row_is_layout more size item.ALIGN plain (omega (arith, number.0)) small;
-            small = omega (arith, low);
-            bounded = omega (arith, number.1);
-            within = omega (arith, rw is at asked, low);
-            ok = ok more is result grows;
-            err = on_err_weaker result (λ le. omega (arith, le)) (err result grows);
-          }) (err result grows) (rw is at grows.made)
+      → Grows item old new v (amortised_growth item.SIZE v.raw.cap (v.raw.len + 1)) list w result
+      → Pays farthest (4 * item.SIZE + 7) before after old new result
+  pays_push result fits grows = pays_growth (amortised_growth item.SIZE v.raw.cap (v.raw.len + 1)) result
+      (paid.keeps item.SIZE v.raw.cap (v.raw.len + 1))
+      (omega (arith, paid.asks item.SIZE v.raw.cap v.raw.len 1 held.within (omega (arith, some)) few)) fits grows
 
 -- ---- A pair in a map
 
@@ -289,11 +245,11 @@ module _ {X K V S : Type 0} (k : Kind K V S) (tells : Option V → X → Type 0)
     pub insert_fits : (result : Result X AllocError) → m.len < 2 ^ 32 - 1 → Puts k old new m key value tells w result
         → result ≡ Err CapacityOverflow → ⊥
     insert_fits result few puts is =
-        by (has (map_in k old.memory m) (content_in k.key old.memory key) || nat_lt m.len (limit m.table.slots)) (m.len == most_pairs)
-        (λ same. omega (arith, eqb-true m.len most_pairs same, few)) (rw is at puts.made)
-      where
-        by : (room full : Bool) → (full ≡ true → ⊥)
-            → MakesRoom (slot_size k.keys.SIZE k.values.SIZE) (table_align k.keys.ALIGN k.values.ALIGN) old new m.table.block 0
-            (if room then Stays else (if full then Overflows else GrowsTo (next_slots m.table.slots))) (λ (x : X). w.table.block)
-            (Err CapacityOverflow) → ⊥
-        by room full few made = grind (arith, few, made)
+        let costs = rw is at puts.costs in
+        elim (cases_Bool (has (map_in k old.memory m) (content_in k.key old.memory key))) [
+          | inl there ↦ (let no = (costs.there there).0 in cc)
+          | inr new ↦ elim (zero_or_more (spare_of m)) [
+            | inl none ↦ (costs.asks new none few).took.took
+            | inr some ↦ (let no = (costs.room new some).0 in cc)
+          ]
+        ]

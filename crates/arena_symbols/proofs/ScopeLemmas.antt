@@ -1,5 +1,5 @@
 -- Scopes as one list of pairs.
-use Rattle.std.proofs.Common.{◌≡◌, ℕ, zero, suc, ◌+◌, ◌^◌, ◌<◌, ◌≤◌, List, [], ◌∷◌, ◌++◌, length, get_or, map, take, drop, reverse, refl, sym, ap, ◌∙◌, arith, inl, inr, Some, None, Option, true, false, Bool, eqb-true, eq-eqb}
+use Rattle.std.proofs.Common.{◌≡◌, ℕ, zero, suc, ◌+◌, ◌^◌, ◌<◌, ◌≤◌, List, [], ◌∷◌, ◌++◌, length, get_or, take, drop, reverse, refl, sym, ap, ◌∙◌, arith, inl, inr, Some, None, Option, eqb-true, eq-eqb}
 use Rattle.std.specs.Prelude.{bytes_eq, ◌==◌, if◌then◌else◌, is_some, slice_get, option_map}
 use Rattle.std.proofs.lemmas.Bool.Decides.{nat_tests, same_from_decides}
 use Rattle.std.proofs.lemmas.Slice.Eq.{bytes_eq-Decides}
@@ -15,36 +15,24 @@ use Rattle.arena_symbols.specs.Tables.{Entry, pairs_of, newest, first_count}
 
 -- ---- What is seen
 
-seen_seen : {X : Type 0} (a b c : Option X) → seen (seen a b) c ≡ seen a (seen b c)
-seen_seen a b c = grind arith
-
-seen_none : {X : Type 0} (a : Option X) → seen a None ≡ a
-seen_none a = grind arith
-
 -- pairs behind others are seen first
 value_append : (older newer : List (ℕ × ℕ)) (id : ℕ) → value_in (older ++ newer) id ≡ seen (value_in newer id) (value_in older id)
-value_append [] newer id = sym (seen_none (value_in newer id))
-value_append (p ∷ ps) newer id =
-    ap (λ (o : Option ℕ). seen o (if p.0 == id then Some p.1 else None)) (value_append ps newer id)
-    ∙ seen_seen (value_in newer id) (value_in ps id) (if p.0 == id then Some p.1 else None)
+value_append [] newer id = grind arith
+value_append (p ∷ ps) newer id = rw (value_append ps newer id) (grind arith)
 
 pub value_push : (pairs : List (ℕ × ℕ)) (id value q : ℕ)
     → value_in (pairs ++ (id, value) ∷ []) q ≡ (if id == q then Some value else value_in pairs q)
 value_push pairs id value q = rw (value_append pairs ((id, value) ∷ []) q) (grind arith)
 
-seen_if : (here : Bool) (value : ℕ) (o outer : Option ℕ)
-    → seen (if here then Some value else o) outer ≡ (if here then Some value else seen o outer)
-seen_if here value o outer = grind arith
-
 -- A pair at the end of the innermost map is seen first.
 pub lookup_put : (scopes : List (List (ℕ × ℕ))) (id value q : ℕ) → 0 < length scopes
     → lookup (with_pair scopes id value) q ≡ (if id == q then Some value else lookup scopes q)
 lookup_put [] id value q some = absurd (omega (arith, some))
-lookup_put (scope ∷ outer) id value q some = rw (value_push scope id value q) (seen_if (id == q) value (value_in scope q) (lookup outer q))
+lookup_put (scope ∷ outer) id value q some = rw (value_push scope id value q) (grind arith)
 
 -- The maps together have the values of the whole list.
 pub lookup_whole : (pairs : List (ℕ × ℕ)) (starts : List ℕ) (id : ℕ) → lookup (scopes_of pairs starts) id ≡ value_in pairs id
-lookup_whole pairs [] id = seen_none (value_in pairs id)
+lookup_whole pairs [] id = grind arith
 lookup_whole pairs (k ∷ ks) id =
     ap (seen (value_in (drop k pairs) id)) (lookup_whole (take k pairs) ks id)
     ∙ sym (value_append (take k pairs) (drop k pairs) id) ∙ ap (λ (ps : List (ℕ × ℕ)). value_in ps id) (take-append-drop k pairs)
@@ -72,11 +60,7 @@ length_arrived es = length-map (reverse es) (λ (e : Entry). (e.0, e.1.0)) ∙ l
 
 pub newest_within : (es : List Entry) (id at : ℕ) → newest es id ≡ Some at → at < length es
 newest_within [] id at is = absurd (cc)
-newest_within (e ∷ older) id at is = by (e.0 == id) is (newest_within older id at)
-  where
-    by : (here : Bool) → (if here then Some (length older) else newest older id) ≡ Some at → (newest older id ≡ Some at → at < length older)
-        → at < length (e ∷ older)
-    by here is rest = grind (arith, is, rest)
+newest_within (e ∷ older) id at is = grind (arith, is, newest_within older id at)
 
 -- what the entry says that stands at a place
 abbrev pub told : List Entry → Option ℕ → Option ℕ
@@ -96,17 +80,15 @@ get_last (y ∷ ys) x = get_last ys x
 pub value_told : (es : List Entry) (id : ℕ) → value_in (arrived es) id ≡ told (reverse es) (newest es id)
 value_told [] id = refl
 value_told (e ∷ older) id =
-    ap (λ (ps : List (ℕ × ℕ)). value_in ps id) (arrived_cons older e) ∙ value_push (arrived older) e.0 e.1.0 id
-    ∙ by (e.0 == id) (newest older id) refl (value_told older id)
-    ∙ ap (λ (l : List Entry). told l (newest (e ∷ older) id)) (sym (reverse_cons older e))
-  where
-    by : (here : Bool) (o : Option ℕ) → newest older id ≡ o → value_in (arrived older) id ≡ told (reverse older) o
-        → (if here then Some e.1.0 else value_in (arrived older) id)
-        ≡ told (reverse older ++ e ∷ []) (if here then Some (length older) else newest older id)
-    by true o is value = rw (sym (length-reverse older), get_last (reverse older) e) refl
-    by false None is value = rw is value
-    by false (Some at) is value =
-        rw (is, get_behind (reverse older) (e ∷ []) at (omega (arith, newest_within older id at is, length-reverse older))) value
+    rw (arrived_cons older e, value_push (arrived older) e.0 e.1.0 id, reverse_cons older e)
+    (grind (
+      arith,
+      value_told older id,
+      get_last (reverse older) e,
+      get_behind (reverse older) (e ∷ []),
+      newest_within older id,
+      length-reverse older,
+    ))
 
 -- The pairs from a place on have an id where its newest entry stands there.
 pub stands_there : (es : List Entry) (k id : ℕ) → k ≤ length es
@@ -115,22 +97,12 @@ stands_there [] zero id within = refl
 stands_there [] (suc k) id within = absurd (omega (arith, within))
 stands_there (e ∷ older) k id within = elim (cases_lt k (length (e ∷ older))) [
   | inl less ↦
-      let cut : drop k (arrived (e ∷ older)) ≡ drop k (arrived older) ++ (e.0, e.1.0) ∷ [] = ap (drop k) (arrived_cons older e)
-      ∙ drop-append-le k (arrived older) ((e.0, e.1.0) ∷ []) (omega (arith, less, length_arrived older)) in
-      ap (λ (ps : List (ℕ × ℕ)). is_some (value_in ps id)) cut ∙ ap is_some (value_push (drop k (arrived older)) e.0 e.1.0 id)
-      ∙ by (e.0 == id) (omega (arith, less)) (stands_there older k id (omega (arith, less)))
-  | inr past ↦ ap (λ (ps : List (ℕ × ℕ)). is_some (value_in ps id)) (drop_all k (arrived (e ∷ older))
-      (omega (arith, past, length_arrived (e ∷ older))))
-      ∙ sym (none_from (newest (e ∷ older) id) (λ at is. omega (arith, past, newest_within (e ∷ older) id at is)))
+      let low : k ≤ length (arrived older) = omega (arith, less, length_arrived older) in
+      rw (arrived_cons older e, drop-append-le k (arrived older) ((e.0, e.1.0) ∷ []) low, value_push (drop k (arrived older)) e.0 e.1.0 id)
+      (grind (arith, nat_tests, less, stands_there older k id (omega (arith, less))))
+  | inr past ↦ rw (drop_all k (arrived (e ∷ older)) (omega (arith, past, length_arrived (e ∷ older))))
+      (grind (arith, nat_tests, past, newest_within (e ∷ older) id))
 ]
-  where
-    by : (here : Bool) → k ≤ length older → is_some (value_in (drop k (arrived older)) id) ≡ stands_from (newest older id) k
-        → is_some (if here then Some e.1.0 else value_in (drop k (arrived older)) id)
-        ≡ stands_from (if here then Some (length older) else newest older id) k
-    by here less rest = grind (arith, nat_tests, less, rest)
-
-    none_from : (o : Option ℕ) → ((at : ℕ) → o ≡ Some at → at < k) → stands_from o k ≡ false
-    none_from o low = grind (arith, nat_tests, low)
 
 pub split_last : {X : Type 0} (xs : List X) (n : ℕ) (x : X) → length xs ≡ n + 1 → slice_get xs n ≡ Some x → xs ≡ take n xs ++ x ∷ []
 split_last {X} xs n x long there =
@@ -184,13 +156,7 @@ scopes_push pairs (k ∷ ks) id value begins =
 
 pub count_pairs : (pairs : List (ℕ × ℕ)) (starts : List ℕ) → pair_count (scopes_of pairs starts) ≡ length pairs
 count_pairs pairs [] = omega arith
-count_pairs pairs (k ∷ ks) = omega (
-  arith,
-  sum_by-cons (λ (n : ℕ). n) (length (drop k pairs)) (map (λ (s : List (ℕ × ℕ)). length s) (scopes_of (take k pairs) ks)),
-  count_pairs (take k pairs) ks,
-  length-take k pairs,
-  length-drop k pairs,
-)
+count_pairs pairs (k ∷ ks) = simp (sum_by-cons, count_pairs (take k pairs) ks, length-take, length-drop) (omega arith)
 
 pub less_starts : (n m : ℕ) (starts : List ℕ) → start_in starts ≤ m → AreStarts n starts → AreStarts m starts
 less_starts n m [] le begins = tt

@@ -5,7 +5,6 @@ use Rattle.std.specs.Int.{w32, to_le_bytes}
 use Rattle.std.proofs.lemmas.List.{length-map}
 use Rattle.arena_chunks.specs.Memory.{Memory}
 use Rattle.arena_chunks.specs.Source.{View}
-use Rattle.arena_chunks.specs.Frame.{Frame}
 use Rattle.arena_chunks.proofs.Layers.{frame_reflexive, frame_behind}
 use Rattle.arena_items.specs.LayoutLaws.{plain_4}
 use Rattle.arena_items.specs.declared.item.Item.{Ghosts}
@@ -21,7 +20,7 @@ use Rattle.arena_hash.specs.Accounts.{credit_of}
 use Rattle.arena_hash.specs.Finite.{Finite, value_of}
 use Rattle.arena_symbols.specs.Listing.{place_item}
 use Rattle.arena_symbols.specs.Paying.{Pays, far_up}
-use Rattle.arena_symbols.specs.Scoping.{scopes_of, AreStarts, most_scopes}
+use Rattle.arena_symbols.specs.Scoping.{scopes_of, most_scopes}
 use Rattle.arena_symbols.specs.Tables.{Entry, id_kind, pairs_of, entries_in, starts_in, scopes_in, table_blocks, IsTableIn, table_credit}
 use Rattle.arena_symbols.specs.TableCalls.{Enters}
 use Rattle.arena_symbols.specs.TableLaws.{table_of}
@@ -59,13 +58,8 @@ module _ (paid : Paid) {item : Ghosts Entry} (old new : View) {s : Scopes} (v : 
       (pays_push paid place_item plain_4 (omega arith) (omega arith) (omega arith) old new s.starts v
       (vec_list place_item old.memory s.starts ++ s.pairs.raw.len ∷ []) one held.starts (omega (arith, few)) longer result fits grows)
 
-  fits_more : (result : Result (Unit {0}) AllocError) → (result ≡ Err CapacityOverflow → ⊥)
-      → (result ≡ Err CapacityOverflow) ↔ (most_scopes ≤ length (scopes_in item old.memory s))
-  fits_more result fits = (λ is. absurd (fits is), λ full. absurd (omega (arith, full, few, depth_is item old.memory s)))
-
-  framed : Frame old.memory new.memory (s.starts.raw.block ∷ []) (v.raw.block ∷ [])
-      → Frame old.memory new.memory (table_blocks s) (table_blocks (record s { starts = v }))
-  framed frame = frame_behind old.memory new.memory _ _ (s.newest.table.block ∷ s.pairs.raw.block ∷ []) frame
+  fits_more : {P : Type 0} → (P → ⊥) → P ↔ (most_scopes ≤ length (scopes_in item old.memory s))
+  fits_more never = (λ is. absurd (never is), λ full. absurd (omega (arith, full, few, depth_is item old.memory s)))
 
   pub enters : (result : Result (Unit {0}) AllocError) → (result ≡ Err CapacityOverflow → ⊥) → Pushes result
       → Enters item old new s (record s { starts = v }) result
@@ -83,11 +77,7 @@ module _ (paid : Paid) {item : Ghosts Entry} (old new : View) {s : Scopes} (v : 
           apart = ((held.apart.0.0, (map.apart.0.0, tt)), ((vec.apart.0, tt), (tt, tt)));
           places = λ id fits. ap (λ (f : Finite ℕ ℕ). value_of (f (to_le_bytes w32 id))) map.means ∙ held.places id fits;
           hidden = held.hidden;
-          begins = (
-            omega (arith, length_recent item old.memory s),
-            subst (λ (n : ℕ). AreStarts n (starts_in old.memory s))
-                (length_recent item old.memory s) held.begins,
-          );
+          begins = (omega (arith, length_recent item old.memory s), rw (length_recent item old.memory s) at held.begins);
           depth = omega (arith, grows.len, few, longer);
           count = held.count;
         });
@@ -95,9 +85,9 @@ module _ (paid : Paid) {item : Ghosts Entry} (old new : View) {s : Scopes} (v : 
             ∙ scopes_enter (pairs_of entries) (starts_in old.memory s) s.pairs.raw.len
             (sym (length-map entries (λ (e : Entry). (e.0, e.1.0)) ∙ length-elements _ _ _ _));
         kept = tt;
-        overflows = fits_more (Ok x) fits;
+        overflows = fits_more fits;
         pays = pays_start (Ok x) fits grows;
-        frame = framed grows.frame;
+        frame = frame_behind _ _ _ _ (s.newest.table.block ∷ s.pairs.raw.block ∷ []) grows.frame;
       }
   enters (Err e) fits grows =
       let same = grows.err.1 in
@@ -105,7 +95,7 @@ module _ (paid : Paid) {item : Ghosts Entry} (old new : View) {s : Scopes} (v : 
         held = rw grows.err.0 (subst (λ (m : Memory). IsTableIn item m s) (sym same) held);
         scopes = tt;
         kept = (λ i. scopes_in item (same i) (record s { starts = grows.err.0 i }));
-        overflows = fits_more (Err e) fits;
+        overflows = fits_more fits;
         pays = pays_start (Err e) fits grows;
-        frame = framed grows.frame;
+        frame = frame_behind _ _ _ _ (s.newest.table.block ∷ s.pairs.raw.block ∷ []) grows.frame;
       }

@@ -1,5 +1,5 @@
 -- Scoped tables in an arena.
-use Rattle.std.proofs.Common.{◌≡◌, ℕ, ◌+◌, ◌^◌, ◌<◌, List, length, reverse, sym, ap, ◌∙◌, arith, refl, Some, Option}
+use Rattle.std.proofs.Common.{◌≡◌, ℕ, ◌+◌, ◌^◌, ◌<◌, List, length, sym, ap, ◌∙◌, arith, refl, Some, Option}
 use Rattle.std.specs.Prelude.{is_some}
 use Rattle.std.specs.Int.{w32, to_le_bytes}
 use Rattle.std.proofs.lemmas.List.{length-map, length-reverse, reverse-reverse}
@@ -12,7 +12,7 @@ use Rattle.arena_hash.specs.Finite.{value_of}
 use Rattle.arena_hash.specs.Maps.{map_in}
 use Rattle.arena_vec.specs.Vecs.{vec_list}
 use Rattle.arena_symbols.specs.Listing.{place_item}
-use Rattle.arena_symbols.specs.Scoping.{lookup, value_in, scopes_of, pair_count, start_in, is_in_last, stands_from}
+use Rattle.arena_symbols.specs.Scoping.{lookup, pair_count, start_in, is_in_last, stands_from}
 use Rattle.arena_symbols.specs.Tables.{Entry, entry_item, id_kind, pairs_of, newest, entries_in, recent_in, starts_in, scopes_in, IsTableIn}
 use Rattle.arena_symbols.specs.declared.scopes.Scopes.{Scopes}
 use Rattle.arena_symbols.proofs.ScopeLemmas.{told, lookup_whole, value_told, newest_within, is_in_last_is, length_scopes, count_pairs}
@@ -55,16 +55,11 @@ module _ {item : Ghosts Entry} {memory : Memory} {s : Scopes} (held : IsTableIn 
 
   -- which has its value,
   pub looked_up : lookup (scopes_in item memory s) id ≡ told (entries_in item memory s) o
-  looked_up =
-      let entries = entries_in item memory s in
-      lookup_whole (pairs_of entries) (starts_in memory s) id
-      ∙ ap (λ (l : List Entry). value_in (pairs_of l) id) (sym (reverse-reverse entries)) ∙ value_told (reverse entries) id
-      ∙ (λ i. told (reverse-reverse entries i) (sym newest_is i))
+  looked_up = lookup_whole (pairs_of (entries_in item memory s)) (starts_in memory s) id
+      ∙ (rw (reverse-reverse (entries_in item memory s), ← newest_is) at (value_told (recent_in item memory s) id))
 
   -- and is of the innermost map where it stands from that one's start on.
   pub in_last_is : is_in_last (scopes_in item memory s) id ≡ stands_from o (start_in (starts_in memory s))
   in_last_is =
-      let entries = entries_in item memory s in
-      ap (λ (l : List Entry). is_in_last (scopes_of (pairs_of l) (starts_in memory s)) id) (sym (reverse-reverse entries))
-      ∙ is_in_last_is (reverse entries) (starts_in memory s) id held.begins
-      ∙ ap (λ (o : Option ℕ). stands_from o (start_in (starts_in memory s))) (sym newest_is)
+      rw (reverse-reverse (entries_in item memory s), ← newest_is)
+      at (is_in_last_is (recent_in item memory s) (starts_in memory s) id held.begins)

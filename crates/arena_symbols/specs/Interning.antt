@@ -25,6 +25,7 @@ pub record Interns (old new : View) (s t : Symbols) (text : List ℕ) (result : 
   pub overflows : (result ≡ Err CapacityOverflow)
       ↔ ((number_of (names_in old.memory s) text ≡ None) × (most_texts ≤ length (names_in old.memory s)))
   pub known : number_of (names_in old.memory s) text ≢ None → (new ≡ old) × (t ≡ s)
+  pub fresh : OnErr result (number_of (names_in old.memory s) text ≡ None)
   pub pays : Pays far_up (1024 + length text) (names_credit s) (names_credit t) old new result
   pub texts : (more : List Block) × KeepsTexts old new s t more
 

@@ -1,13 +1,17 @@
 -- The names of a program: an interner and a scoped table side by side in an arena.
-use Rattle.std.specs.Prelude.{◌≡◌, ℕ, ◌⊎◌, List, ◌++◌, Bool, not, Option, Some, None, Result, IfOk, OnOk, OnErr, if◌then◌else◌}
+use Rattle.std.specs.Prelude.{◌≡◌, ℕ, ◌+◌, ◌-◌, ◌^◌, ◌≤◌, ◌⊎◌, ◌↔◌, List, ◌++◌, length, Bool, false, not, Option, Some, None, Result, Err, IfOk, OnOk, OnErr, if◌then◌else◌}
 use Rattle.arena_chunks.specs.Memory.{Memory}
+use Rattle.arena_chunks.specs.Source.{View}
 use Rattle.arena_chunks.specs.Frame.{AreAllApart, Frame}
 use Rattle.arena_chunks.specs.declared.block.Block.{Block}
+use Rattle.arena_items.specs.Costs.{Costs}
 use Rattle.arena_items.specs.declared.room.AllocError.{AllocError}
-use Rattle.arena_symbols.specs.Interner.{number_of, with_text}
-use Rattle.arena_symbols.specs.Names.{IsInternerIn, names_in, names_footprint}
-use Rattle.arena_symbols.specs.Scoping.{lookup, is_in_last, with_pair}
-use Rattle.arena_symbols.specs.Tables.{entry_item, IsTableIn, scopes_in, table_blocks}
+use Rattle.arena_items.specs.declared.room.AllocError.TheVariants.{AllocErr, CapacityOverflow}
+use Rattle.arena_symbols.specs.Interner.{number_of, with_text, most_texts}
+use Rattle.arena_symbols.specs.Names.{IsInternerIn, names_in, names_footprint, names_credit}
+use Rattle.arena_symbols.specs.Paying.{HasRefused, far_up}
+use Rattle.arena_symbols.specs.Scoping.{lookup, is_in_last, with_pair, pair_count, most_pairs}
+use Rattle.arena_symbols.specs.Tables.{entry_item, IsTableIn, scopes_in, table_blocks, table_credit}
 use Rattle.arena_symbols.specs.declared.uses.Names.{Names}
 
 -- Both stand there, and their blocks lie apart.
@@ -19,6 +23,10 @@ pub record AreNames (memory : Memory) (n : Names) : Type 0 where
 -- the blocks of both
 abbrev pub all_blocks : Memory → Names → List Block
 all_blocks memory n = table_blocks n.scopes ++ names_footprint memory n.symbols
+
+-- the bytes that both saved up for their next blocks
+abbrev pub all_credit : Names → ℕ
+all_credit n = names_credit n.symbols + table_credit n.scopes
 
 -- Both stand there after a call, and nothing else in the arena was written.
 pub record Moves (old new : Memory) (n m : Names) : Type 0 where
@@ -49,3 +57,16 @@ pub record Declares (old new : Memory) (n m : Names) (name : List ℕ) (value : 
       ≡ (if is_new then with_pair (scopes_in entry_item old n.scopes) id value else scopes_in entry_item old n.scopes)))
   pub refused : OnErr result (MayHave (names_in old n.symbols) name (names_in new m.symbols))
   pub kept : OnErr result (scopes_in entry_item new m.scopes ≡ scopes_in entry_item old n.scopes)
+
+-- There is no room for a name: there are as many texts as there may be, and it was none of them; or as many pairs, and it has a number by
+-- now that the innermost scope doesn't have.
+abbrev pub IsFullFor : List (List ℕ) → List (List ℕ) → List (List (ℕ × ℕ)) → List ℕ → Type 0
+IsFullFor texts texts_now scopes name = ((number_of texts name ≡ None) × (most_texts ≤ length texts))
+    ⊎ (((id : ℕ) × (number_of texts_now name ≡ Some id) × (is_in_last scopes id ≡ false)) × (most_pairs ≤ pair_count scopes))
+
+-- When a declaration overflows, what it costs, and what it tells where the arena refuses.
+pub record DeclaresWithin (old new : View) (n m : Names) (name : List ℕ) (result : Result Bool AllocError) : Type 0 where
+  pub overflows : (result ≡ Err CapacityOverflow) ↔ IsFullFor (names_in old.memory n.symbols) (names_in new.memory m.symbols)
+      (scopes_in entry_item old.memory n.scopes) name
+  pub costs : Costs (far_up - 2 ^ 61) (1536 + length name) (all_credit n) (all_credit m) old new result
+  pub told : (k : ℕ) → result ≡ Err (AllocErr k) → HasRefused old new k

@@ -75,5 +75,6 @@ pub record Defines (item : Ghosts Entry) (old new : View) (s t : Scopes) (id val
   pub kept : OnErr result (scopes_in item new.memory t ≡ scopes_in item old.memory s)
   pub overflows : (result ≡ Err CapacityOverflow)
       ↔ ((is_in_last (scopes_in item old.memory s) id ≡ false) × (most_pairs ≤ pair_count (scopes_in item old.memory s)))
+  pub fresh : OnErr result (is_in_last (scopes_in item old.memory s) id ≡ false)
   pub pays : Pays far_up 512 (table_credit s) (table_credit t) old new result
   pub frame : Frame old.memory new.memory (table_blocks s) (table_blocks t)

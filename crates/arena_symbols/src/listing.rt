@@ -1,22 +1,27 @@
 // A list of values, and a map that tells under each key where one of them stands.
+ghost use Rattle.arena_hash.specs.Contents.{content_in};
+ghost use Rattle.arena_hash.specs.Maps.{IsLookIn};
 ghost use Rattle.arena_symbols.specs.Listing.{CanList, Lists, place_kind};
 
 use arena_chunks::{Allocator, ChunkSource};
-use arena_hash::{ArenaKey, FxHasher, HashMap, insert_law};
+use arena_hash::{ArenaKey, FxHasher, HashMap, Look, insert_law};
 use arena_items::{Grown, Item};
 use arena_vec::Vec;
 use arena_vec::laws::{growth_costs, vector_costs};
 
-// Puts a value at the list's end, and its place under a key into the map. Refused, both are as they were.
-#[inline]
+// Puts a value at the list's end, and its place under a key into the map, where the search for that ended. Refused, both are as
+// they were.
+#[inline(always)]
 pub(crate) fn put_listed<K: ArenaKey, T: Item, C: ChunkSource>(
     map: &mut HashMap<K, u32>,
     list: &mut Vec<T>,
     a: &mut Allocator<C>,
+    look: Look,
     key: K,
     value: T,
 ) -> Grown<u32>
-    requires { CanList T.Item (place_kind K.Item K.key) a.old.memory map.old list.old key }
+    requires can { CanList T.Item (place_kind K.Item K.key) a.old.memory map.old list.old key }
+    requires look { IsLookIn (place_kind K.Item K.key) a.old.memory map.old (content_in K.key a.old.memory key) look }
     ensures { Lists T.Item (place_kind K.Item K.key) a.old a.new map.old list.old key value map.new list.new result }
 {
     insert_law::<K, u32, FxHasher>();
@@ -26,7 +31,7 @@ pub(crate) fn put_listed<K: ArenaKey, T: Item, C: ChunkSource>(
     let _ = a.min_align();
     let at = list.len();
     list.push(a, value)?;
-    match map.insert(a, key, at) {
+    match map.insert_at(a, look, key, at) {
         Ok(_) => Ok(at),
         Err(e) => {
             list.truncate(at);

@@ -56,6 +56,7 @@ impl Scopes {
     }
 
     // Where the innermost map begins.
+    #[inline(always)]
     fn start<C: ChunkSource>(&self, a: &Allocator<C>) -> u32
         requires { IsTableIn entry_item a.now.memory self.now }
         ensures { result ≡ start_in (starts_in a.now.memory self.now) }
@@ -88,6 +89,7 @@ impl Scopes {
     }
 
     // Whether a pair that was found is one of the innermost map's.
+    #[inline(always)]
     fn is_inner<C: ChunkSource>(&self, a: &Allocator<C>, found: Option<u32>) -> bool
         requires { IsTableIn entry_item a.now.memory self.now }
         ensures { result ≡ stands_from found (start_in (starts_in a.now.memory self.now)) }
@@ -103,6 +105,7 @@ impl Scopes {
     /// # Errors
     ///
     /// `CapacityOverflow` at 536,870,912 maps; else as of the arena's `alloc_layout` and `grow`. Nothing changes.
+    #[inline]
     pub fn enter<C: ChunkSource>(&mut self, a: &mut Allocator<C>) -> Grown<()>
         requires { IsTableIn entry_item a.old.memory self.old }
         ensures { Enters entry_item a.old a.new self.old self.new result }
@@ -124,6 +127,7 @@ impl Scopes {
     ///
     /// `CapacityOverflow` where a new pair comes at 134,217,728 pairs; else as of the arena's `alloc_layout` and `grow`. The
     /// maps are as they were.
+    #[inline(always)]
     pub fn define<C: ChunkSource>(
         &mut self,
         a: &mut Allocator<C>,
@@ -135,7 +139,8 @@ impl Scopes {
     {
         // So the least alignment is known to be 1.
         let _ = a.min_align();
-        let hidden = self.newest.get(a, id);
+        let content = id.to_le_bytes();
+        let (hidden, look) = self.newest.search(a, &content);
         if self.is_inner(a, hidden) {
             return Ok(false);
         }
@@ -146,6 +151,7 @@ impl Scopes {
             &mut self.newest,
             &mut self.pairs,
             a,
+            look,
             id,
             (id, (value, hidden)),
         )?;
@@ -154,6 +160,7 @@ impl Scopes {
 
     // Takes the newest pair away, so that the one that it hid is the newest of its id. It takes no memory: a key that is
     // there is put again, or removed.
+    #[inline(always)]
     fn undo<C: ChunkSource>(&mut self, a: &mut Allocator<C>)
         requires held { IsTableIn entry_item a.old.memory self.old }
         requires inner { start_in (starts_in a.old.memory self.old) < self.old.pairs.raw.len }
@@ -167,6 +174,7 @@ impl Scopes {
     }
 
     // Takes the pairs away from a place on, the newest first.
+    #[inline(always)]
     fn cut<C: ChunkSource>(&mut self, a: &mut Allocator<C>, start: u32)
         requires held { IsTableIn entry_item a.old.memory self.old }
         requires inner { start_in (starts_in a.old.memory self.old) ≤ start }
@@ -179,6 +187,7 @@ impl Scopes {
     }
 
     // Makes an id that is there tell what was hidden, or nothing.
+    #[inline(always)]
     fn unhide<C: ChunkSource>(&mut self, a: &mut Allocator<C>, id: u32, hidden: Option<u32>)
         requires held { IsMapIn id_kind a.old.memory self.old.newest }
         requires there { has (map_in id_kind a.old.memory self.old.newest) (to_le_bytes w32 id) ≡ true }

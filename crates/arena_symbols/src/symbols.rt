@@ -2,15 +2,16 @@
 ghost use Rattle.std.specs.Prelude.{◌≡◌, ◌^◌, ◌<◌, Some, IfOk, slice_get, length, IsTrue};
 ghost use Rattle.arena_chunks.specs.BlockCalls.{PlacesBlock};
 ghost use Rattle.arena_chunks.specs.Memory.{Memory, is_readable};
+ghost use Rattle.arena_hash.specs.Maps.{IsLookIn};
 ghost use Rattle.arena_items.specs.Room.{RoomAnswer};
 ghost use Rattle.arena_items.specs.Values.{bytes_of};
 ghost use Rattle.arena_symbols.specs.Interner.{number_of};
 ghost use Rattle.arena_symbols.specs.Interning.{IsNewInterner, Interns};
-ghost use Rattle.arena_symbols.specs.Names.{IsInternerIn, names_in, texts_in};
+ghost use Rattle.arena_symbols.specs.Names.{IsInternerIn, name_kind, names_in, texts_in};
 
 use crate::listing::put_listed;
 use arena_chunks::{Allocator, ChunkSource, Str};
-use arena_hash::{FxHasher, HashMap, texts_law};
+use arena_hash::{FxHasher, HashMap, Look, texts_law};
 use arena_items::{AllocError, Grown, grown};
 use arena_vec::Vec;
 
@@ -50,7 +51,17 @@ impl Symbols {
         requires { IsInternerIn a.now.memory self.now }
         ensures { result ≡ number_of (names_in a.now.memory self.now) text.now }
     {
-        self.numbers.get_by(a, text.as_bytes())
+        self.search(a, text).0
+    }
+
+    // The same, and where the search for the text ended.
+    #[inline(always)]
+    fn search<C: ChunkSource>(&self, a: &Allocator<C>, text: &str) -> (Option<u32>, Look)
+        requires { IsInternerIn a.now.memory self.now }
+        ensures number { result.0 ≡ number_of (names_in a.now.memory self.now) text.now }
+        ensures look { IsLookIn name_kind a.now.memory self.now.numbers text.now result.1 }
+    {
+        self.numbers.search(a, text.as_bytes())
     }
 
     /// The text with a number.
@@ -79,14 +90,15 @@ impl Symbols {
         texts_law::<Str, u32, FxHasher>();
         // So the least alignment is known to be 1.
         let _ = a.min_align();
-        if let Some(id) = self.find(a, text) {
+        let (known, look) = self.search(a, text);
+        if let Some(id) = known {
             return Ok(id);
         }
         if self.texts.len() >= MOST_TEXTS {
             return Err(AllocError::CapacityOverflow);
         }
         let placed = place_text(a, text)?;
-        put_listed(&mut self.numbers, &mut self.texts, a, placed, placed)
+        put_listed(&mut self.numbers, &mut self.texts, a, look, placed, placed)
     }
 }
 

@@ -1,17 +1,17 @@
 // A caller: the names of a program are declared in scopes, and resolved.
-ghost use Rattle.std.specs.Prelude.{◌≡◌, ◌≢◌, ◌^◌, ◌<◌, ◌≤◌, [], ◌∷◌, Some, Ok, length, true, false, IfOk, OnOk, OnErr};
+ghost use Rattle.std.specs.Prelude.{◌≡◌, ◌≢◌, ◌^◌, ◌<◌, ◌≤◌, ◌⊎◌, ◌↔◌, [], ◌∷◌, Some, Ok, Err, length, true, false, IfOk, OnOk, OnErr};
 ghost use Rattle.arena_chunks.specs.Memory.{Memory};
 ghost use Rattle.arena_chunks.specs.Frame.{Frame};
 ghost use Rattle.arena_symbols.specs.Interner.{with_text};
-ghost use Rattle.arena_symbols.specs.Named.{AreNames, Moves, Declares, MayHave, all_blocks, meaning};
+ghost use Rattle.arena_symbols.specs.Named.{AreNames, Moves, Declares, DeclaresWithin, IsFullFor, MayHave, all_blocks, meaning};
 ghost use Rattle.arena_symbols.specs.Names.{names_in};
-ghost use Rattle.arena_symbols.specs.Scoping.{innermost, outer_of};
+ghost use Rattle.arena_symbols.specs.Scoping.{innermost, outer_of, most_scopes};
 ghost use Rattle.arena_symbols.specs.Tables.{entry_item, scopes_in};
 
 use crate::scopes::Scopes;
 use crate::symbols::Symbols;
 use arena_chunks::{Allocator, ChunkSource};
-use arena_items::Grown;
+use arena_items::{AllocError, Grown};
 
 /// The names of a program: what number each has, and what the numbers stand for in scopes.
 #[derive(Clone, Copy)]
@@ -49,7 +49,8 @@ impl Names {
     ///
     /// # Errors
     ///
-    /// As of `intern` and of `define`. The scopes are as they were; the name may have its number.
+    /// `CapacityOverflow` where a new name comes at 67,108,864 names, or a new pair at 134,217,728 pairs; else as of the arena's
+    /// `alloc_layout` and `grow`. The scopes are as they were; the name may have its number.
     pub fn declare<C: ChunkSource>(
         &mut self,
         a: &mut Allocator<C>,
@@ -66,6 +67,7 @@ impl Names {
         ensures kept { OnErr result (scopes_in entry_item a.new.memory self.new.scopes
             ≡ scopes_in entry_item a.old.memory self.old.scopes) }
         ensures declares { Declares a.old.memory a.new.memory self.old self.new name.now value result }
+        ensures within { DeclaresWithin a.old a.new self.old self.new name.now result }
     {
         self.bind(a, name, value)
     }
@@ -74,7 +76,8 @@ impl Names {
     fn bind<C: ChunkSource>(&mut self, a: &mut Allocator<C>, name: &str, value: u32) -> Grown<bool>
         requires held { AreNames a.old.memory self.old }
         requires short { length name.now < 2 ^ 32 }
-        ensures { Declares a.old.memory a.new.memory self.old self.new name.now value result }
+        ensures declares { Declares a.old.memory a.new.memory self.old self.new name.now value result }
+        ensures within { DeclaresWithin a.old a.new self.old self.new name.now result }
     {
         let id = self.symbols.intern(a, name)?;
         self.scopes.define(a, id, value)
@@ -89,6 +92,8 @@ impl Names {
             ≡ [] ∷ scopes_in entry_item a.old.memory self.old.scopes) }
         ensures kept { OnErr result (scopes_in entry_item a.new.memory self.new.scopes
             ≡ scopes_in entry_item a.old.memory self.old.scopes) }
+        ensures overflows { (result ≡ Err AllocError.CapacityOverflow)
+            ↔ (most_scopes ≤ length (scopes_in entry_item a.old.memory self.old.scopes)) }
     {
         self.scopes.enter(a)
     }
@@ -123,6 +128,9 @@ impl Names {
         ensures found { IfOk result (λ found. found ≡ Some value) }
         ensures outer { outer_of (scopes_in entry_item a.new.memory self.new.scopes)
             ≡ outer_of (scopes_in entry_item a.old.memory self.old.scopes) }
+        ensures overflows { (result ≡ Err AllocError.CapacityOverflow)
+            ↔ IsFullFor (names_in a.old.memory self.old.symbols) (names_in a.new.memory self.new.symbols)
+            (scopes_in entry_item a.old.memory self.old.scopes) name.now }
     {
         self.declare(a, name, value)?;
         Ok(self.resolve(a, name))
@@ -133,7 +141,8 @@ impl Names {
     ///
     /// # Errors
     ///
-    /// As of `enter`, `intern` and `define`. The scopes are as they were; the name may have its number.
+    /// `CapacityOverflow` at 536,870,912 scopes, and else as of `declare`. The scopes are as they were; the name may have its
+    /// number.
     pub fn in_own_scope<C: ChunkSource>(
         &mut self,
         a: &mut Allocator<C>,
@@ -152,6 +161,12 @@ impl Names {
             (names_in a.new.memory self.new.symbols)) }
         ensures frame { Frame a.old.memory a.new.memory (all_blocks a.old.memory self.old)
             (all_blocks a.new.memory self.new) }
+        ensures deepest { most_scopes ≤ length (scopes_in entry_item a.old.memory self.old.scopes)
+            → result ≡ Err AllocError.CapacityOverflow }
+        ensures overflows { result ≡ Err AllocError.CapacityOverflow
+            → (most_scopes ≤ length (scopes_in entry_item a.old.memory self.old.scopes))
+            ⊎ IsFullFor (names_in a.old.memory self.old.symbols) (names_in a.new.memory self.new.symbols)
+            ([] ∷ scopes_in entry_item a.old.memory self.old.scopes) name.now }
     {
         self.enter(a)?;
         let found = self.declared(a, name, value);

@@ -1,5 +1,5 @@
 -- What copies of trees cost, node by node.
-use Rattle.std.proofs.Common.{◌≡◌, ℕ, suc, ◌+◌, ◌*◌, ap, sym, refl, subst, Result, Ok, Err, Option, Some, None, List, [], ◌∷◌, drop, length, arith}
+use Rattle.std.proofs.Common.{◌≡◌, ℕ, suc, ◌+◌, ◌*◌, ◌≤◌, ap, refl, subst, Option, None, List, [], ◌∷◌, drop, length, arith}
 use Rattle.arena_chunks.specs.Memory.{Memory}
 use Rattle.arena_chunks.specs.Source.{View}
 use Rattle.arena_chunks.specs.Frame.{Frame}
@@ -8,21 +8,16 @@ use Rattle.tree_rules.specs.Trees.{Exprs, NoExprs, And, Sum, Prod, Stmts, NoStmt
 use Rattle.tree_rules.specs.Trees as tree
 use Rattle.arena_tree.specs.declared.node.Node.{Node}
 use Rattle.arena_tree.specs.Counts.{nodes}
-use Rattle.arena_tree.specs.Spending.{Spends, error_of}
+use Rattle.arena_tree.specs.Spending.{Spends}
 use Rattle.arena_tree.specs.Cloning.{names_bytes, clone_bytes, below_bytes, row_bytes}
 use Rattle.arena_tree.specs.Subtrees.{Subtree, OfExpr, OfStmt, expr_row, stmt_row, RowAt}
-use Rattle.arena_tree.proofs.SpendingLemmas.{IsHandedOn, spends_then, spends_more, spends_less}
+use Rattle.arena_tree.proofs.SpendingLemmas.{spends_then, spends_more}
 use Rattle.arena_tree.proofs.RowLemmas.{Kid}
 use Rattle.arena_tree.proofs.SubtreeLemmas.{kids_it, own_bytes}
-
--- what `?` hands on
-pub err_spends : {X : Type 0} {bytes : ℕ} {old new : View} (result : Result X AllocError) (e : AllocError) → IsHandedOn result e
-    → Spends bytes 0 0 old new (Some e) → Spends bytes 0 0 old new (error_of result)
-err_spends (Ok x) e is spends = absurd is.1
-err_spends {X} {bytes} {old} {new} (Err f) e is spends = subst (λ d. Spends bytes 0 0 old new (Some d)) (sym is.1) spends
+pub use Rattle.arena_tree.proofs.SpendingLemmas.{err_spends}
 
 pub forget : {bytes after : ℕ} {old new : View} {e : Option AllocError} → Spends bytes 0 after old new e → Spends bytes 0 0 old new e
-forget spends = spends_less _ 0 _ 0 _ _ _ (omega arith) spends
+forget spends = spends_more spends (omega arith) (omega arith)
 
 -- ---- A list of nodes
 
@@ -67,13 +62,10 @@ below_is (OfExpr (Prod kids)) = omega (arith, expr_row_bytes kids)
 below_is (OfStmt (tree.Block body)) = omega (arith, stmt_row_bytes body)
 below_is t = omega arith
 
-pub text_spends : {old new : View} {e : Option AllocError} {len : ℕ} (t : Subtree) → len ≡ own_bytes t → Spends len 0 0 old new e
-    → Spends (below_bytes t) 0 0 old new e
-text_spends t is spends = spends_more spends (omega (arith, is, below_is t)) (omega (arith, is, below_is t))
-
-pub kids_spend : {old new : View} {e : Option AllocError} (t : Subtree) → Spends (row_bytes (kids_it t)) 0 0 old new e
-    → Spends (below_bytes t) 0 0 old new e
-kids_spend t spends = spends_more spends (omega (arith, below_is t)) (omega (arith, below_is t))
+-- a text, or kids
+pub part_spends : {old new : View} {e : Option AllocError} {part : ℕ} (t : Subtree) → part ≤ own_bytes t + row_bytes (kids_it t)
+    → Spends part 0 0 old new e → Spends (below_bytes t) 0 0 old new e
+part_spends t within spends = spends_more spends (omega (arith, within, below_is t)) (omega (arith, within, below_is t))
 
 -- a text, and then kids
 pub both_spend : {old one new : View} {e : Option AllocError} {len : ℕ} (t : Subtree) → len ≡ own_bytes t → Spends len 0 0 old one None

@@ -17,51 +17,51 @@ use Rattle.arena_tree.proofs.BuildLemmas.{neg_placed, sum_placed, prod_placed, n
 use Rattle.arena_tree.proofs.LinesLemmas.{show_placed, block_placed, let_node_placed}
 use Rattle.arena_tree.proofs.RowLemmas.{exprs_built, stmts_built}
 use Rattle.arena_tree.proofs.SubtreeLemmas.{kids_it, own_bytes, kids_at}
-use Rattle.arena_tree.proofs.FoldNodeLemmas.{branch}
+use Rattle.arena_tree.proofs.KidsLemmas.{branch}
 
 pub more_kinds : (k : Kind) → (k ≡ kind.Num → ⊥) → (k ≡ kind.Name → ⊥) → has_kids k ≡ true
 more_kinds kind.Num num name = absurd (num refl)
 more_kinds kind.Name num name = absurd (name refl)
 more_kinds k num name = refl
 
-module _ (m : Memory) (source n : Node) (old one new : Memory) where
-  pub number_copied : (t : Subtree) → SubtreeAt t m source → source.kind ≡ kind.Num → n.kind ≡ kind.Num → n.number ≡ source.number
-      → IsTreePlaced t old old n
-  number_copied (OfExpr (Num k)) at is named number = number_placed old k n named (number ∙ at.1)
-  number_copied (OfStmt (Let name e)) at is named number = cc
-  number_copied t at is named number = cc
+pub number_copied : (m : Memory) (source n : Node) (old : Memory) (t : Subtree) → SubtreeAt t m source → source.kind ≡ kind.Num
+    → n.kind ≡ kind.Num → n.number ≡ source.number → IsTreePlaced t old old n
+number_copied m source n old (OfExpr (Num k)) at is named number = number_placed old k n named (number ∙ at.1)
+number_copied m source n old (OfStmt (Let name e)) at is named number = cc
+number_copied m source n old t at is named number = cc
 
-  pub name_copied : (t : Subtree) (text : Str) → SubtreeAt t m source → source.kind ≡ kind.Name → IsTextIn new text
-      → text_bytes new text ≡ text_bytes m source.text → Frame old new [] (text.block ∷ []) → n.kind ≡ kind.Name → n.text ≡ text
-      → IsTreePlaced t old new n
-  name_copied (OfExpr (Name bytes)) text at is held same frame named txt =
-      name_placed old new bytes text n held (same ∙ at.2) frame named txt
-  name_copied (OfStmt (Let name e)) text at is held same frame named txt = cc
-  name_copied t text at is held same frame named txt = cc
+pub name_copied : (m : Memory) (source n : Node) (old new : Memory) (t : Subtree) (text : Str) → SubtreeAt t m source
+    → source.kind ≡ kind.Name → IsTextIn new text → text_bytes new text ≡ text_bytes m source.text → Frame old new [] (text.block ∷ [])
+    → n.kind ≡ kind.Name → n.text ≡ text → IsTreePlaced t old new n
+name_copied m source n old new (OfExpr (Name bytes)) text at is held same frame named txt =
+    name_placed old new bytes text n held (same ∙ at.2) frame named txt
+name_copied m source n old new (OfStmt (Let name e)) text at is held same frame named txt = cc
+name_copied m source n old new t text at is held same frame named txt = cc
 
-  pub let_copied : (t : Subtree) (text : Str) (v : Vec Node) → SubtreeAt t m source → source.kind ≡ kind.Let → IsTextIn one text
-      → text_bytes one text ≡ text_bytes m source.text → Frame old one [] (text.block ∷ []) → IsRowBuilt (kids_it t) one new v
-      → n.kind ≡ kind.Let → n.text ≡ text → kids_of n ≡ v → IsTreePlaced t old new n
-  let_copied (OfStmt (Let name e)) text v at is held same frame built named txt kids =
-      let_node_placed name e old one new text v n held (same ∙ at.2) frame (exprs_built (And e NoExprs) one new v built) named txt kids
-  let_copied (OfExpr (Num k)) text v at is held same frame built named txt kids = cc
-  let_copied t text v at is held same frame built named txt kids = cc
+pub let_copied : (m : Memory) (source n : Node) (old one new : Memory) (t : Subtree) (text : Str) (v : Vec Node) → SubtreeAt t m source
+    → source.kind ≡ kind.Let → IsTextIn one text → text_bytes one text ≡ text_bytes m source.text → Frame old one [] (text.block ∷ [])
+    → IsRowBuilt (kids_it t) one new v → n.kind ≡ kind.Let → n.text ≡ text → kids_of n ≡ v → IsTreePlaced t old new n
+let_copied m source n old one new (OfStmt (Let name e)) text v at is held same frame built named txt kids =
+    let_node_placed name e old one new text v n held (same ∙ at.2) frame (exprs_built (And e NoExprs) one new v built) named txt kids
+let_copied m source n old one new (OfExpr (Num k)) text v at is held same frame built named txt kids = cc
+let_copied m source n old one new t text v at is held same frame built named txt kids = cc
 
-  pub kids_copied : (t : Subtree) (v : Vec Node) → SubtreeAt t m source → (source.kind ≡ kind.Num → ⊥) → (source.kind ≡ kind.Name → ⊥)
-      → (source.kind ≡ kind.Let → ⊥) → IsRowBuilt (kids_it t) old new v → n.kind ≡ source.kind → kids_of n ≡ v → IsTreePlaced t old new n
-  kids_copied (OfExpr (Num k)) v at num name lets built named kids = absurd (num at.0)
-  kids_copied (OfExpr (Name bytes)) v at num name lets built named kids = absurd (name at.0)
-  kids_copied (OfExpr (Neg e)) v at num name lets built named kids =
-      neg_placed e old new v n (exprs_built (And e NoExprs) old new v built) (named ∙ at.0) kids
-  kids_copied (OfExpr (Sum es)) v at num name lets built named kids =
-      sum_placed es old new v n (exprs_built es old new v built) (named ∙ at.0) kids
-  kids_copied (OfExpr (Prod es)) v at num name lets built named kids =
-      prod_placed es old new v n (exprs_built es old new v built) (named ∙ at.0) kids
-  kids_copied (OfStmt (Let name' e)) v at num name lets built named kids = absurd (lets at.0)
-  kids_copied (OfStmt (Show e)) v at num name lets built named kids =
-      show_placed e old new v n (exprs_built (And e NoExprs) old new v built) (named ∙ at.0) kids
-  kids_copied (OfStmt (tree.Block body)) v at num name lets built named kids =
-      block_placed body old new v n (stmts_built body old new v built) (named ∙ at.0) kids
+pub kids_copied : (m : Memory) (source n : Node) (old new : Memory) (t : Subtree) (v : Vec Node) → SubtreeAt t m source
+    → (source.kind ≡ kind.Num → ⊥) → (source.kind ≡ kind.Name → ⊥) → (source.kind ≡ kind.Let → ⊥) → IsRowBuilt (kids_it t) old new v
+    → n.kind ≡ source.kind → kids_of n ≡ v → IsTreePlaced t old new n
+kids_copied m source n old new (OfExpr (Num k)) v at num name lets built named kids = absurd (num at.0)
+kids_copied m source n old new (OfExpr (Name bytes)) v at num name lets built named kids = absurd (name at.0)
+kids_copied m source n old new (OfExpr (Neg e)) v at num name lets built named kids =
+    neg_placed e old new v n (exprs_built (And e NoExprs) old new v built) (named ∙ at.0) kids
+kids_copied m source n old new (OfExpr (Sum es)) v at num name lets built named kids =
+    sum_placed es old new v n (exprs_built es old new v built) (named ∙ at.0) kids
+kids_copied m source n old new (OfExpr (Prod es)) v at num name lets built named kids =
+    prod_placed es old new v n (exprs_built es old new v built) (named ∙ at.0) kids
+kids_copied m source n old new (OfStmt (Let name' e)) v at num name lets built named kids = absurd (lets at.0)
+kids_copied m source n old new (OfStmt (Show e)) v at num name lets built named kids =
+    show_placed e old new v n (exprs_built (And e NoExprs) old new v built) (named ∙ at.0) kids
+kids_copied m source n old new (OfStmt (tree.Block body)) v at num name lets built named kids =
+    block_placed body old new v n (stmts_built body old new v built) (named ∙ at.0) kids
 
 -- a node's own text
 pub text_of : (m : Memory) (n : Node) (t : Subtree) → SubtreeAt t m n → (n.kind ≡ kind.Name) ⊎ (n.kind ≡ kind.Let)

@@ -1,13 +1,11 @@
 -- Lists with room for all nodes that are to come.
-use Rattle.std.proofs.Common.{◌≡◌, ◌+◌, sym, subst, ◌∙◌, Result, Ok, Err, [], ◌∷◌, ◌++◌, length, length-append, arith}
+use Rattle.std.proofs.Common.{◌≡◌, ◌+◌, sym, subst, Result, Ok, Err, [], ◌∷◌, ◌++◌}
 use Rattle.arena_chunks.specs.Memory.{Memory}
 use Rattle.arena_chunks.specs.Source.{View}
 use Rattle.arena_chunks.specs.Frame.{Frame}
 use Rattle.arena_items.specs.Room.{SamePlaces}
-use Rattle.arena_items.specs.Values.{bytes_of}
 use Rattle.arena_items.specs.declared.room.AllocError.{AllocError}
 use Rattle.arena_items.specs.declared.room.Growth.TheVariants.{Stays}
-use Rattle.arena_items.proofs.Layers.{length-elements}
 use Rattle.arena_vec.specs.Changes.{Grows}
 use Rattle.arena_vec.specs.Growth.{amortised_growth}
 use Rattle.arena_vec.specs.Vecs.{IsVecIn, vec_list}
@@ -22,11 +20,6 @@ pub room_built : (old new : Memory) (v : Vec Node) → IsVecIn node_item new v �
 room_built old new v held none frame = record { held = held; stand = subst (RowAt [] new) (sym none) tt; apart = (tt, tt); frame = frame }
 
 -- Where there is room, a node is never refused, and no cursor moves.
-pub record Fills (old new : View) (v w : Vec Node) : Type 0 where
-  pub places : SamePlaces old new
-  pub len : w.raw.len ≡ v.raw.len + 1
-  pub cap : w.raw.cap ≡ v.raw.cap
-
 module _ (old new : View) (v w : Vec Node) (n : Node)
     (stays : amortised_growth 88 v.raw.cap (v.raw.len + 1) ≡ Stays) where
   abbrev pub growth : Result (Unit {0}) AllocError → Type 0
@@ -36,12 +29,5 @@ module _ (old new : View) (v w : Vec Node) (n : Node)
   pub never_refused : (e : AllocError) → growth (Err e) → ⊥
   never_refused e grows = absurd (rw stays at grows.made).0
 
-  longer : length (vec_list node_item old.memory v ++ n ∷ []) ≡ v.raw.len + 1
-  longer = omega (
-    arith,
-    length-append (vec_list node_item old.memory v) (n ∷ []),
-    length-elements 88 node_item.decoded v.raw.len (bytes_of old.memory v.raw.block),
-  )
-
-  pub fills : growth (Ok tt) → Fills old new v w
-  fills grows = record { places = (rw stays at grows.made).1; len = grows.len ∙ longer; cap = rw stays at grows.cap }
+  pub fills : growth (Ok tt) → SamePlaces old new
+  fills grows = (rw stays at grows.made).1

@@ -1,10 +1,9 @@
 -- A whole tree is folded.
-use Rattle.std.proofs.Common.{ℕ, ◌+◌, ◌/◌, ◌≡◌, List, ◌∷◌, ap, subst, sym, refl, ◌∙◌, arith}
+use Rattle.std.proofs.Common.{ℕ, ◌+◌, ◌/◌, ◌≡◌, [], subst, sym, refl, ◌∙◌, arith}
 use Rattle.arena_chunks.specs.Memory.{Memory}
 use Rattle.arena_chunks.specs.Source.{View}
-use Rattle.arena_chunks.specs.Frame.{IsApart}
-use Rattle.arena_chunks.specs.declared.block.Block.{Block}
 use Rattle.arena_chunks.proofs.Layers.{frame_weaken}
+use Rattle.arena_clone.proofs.Layers.{all_turned}
 use Rattle.placement.specs.State.{used_bytes}
 use Rattle.arena_items.specs.Room.{SamePlaces}
 use Rattle.arena_vec.specs.Vecs.{vec_list}
@@ -13,97 +12,98 @@ use Rattle.arena_tree.specs.TreesAt.{node_item}
 use Rattle.arena_tree.specs.Lists.{stmts_texts}
 use Rattle.arena_tree.specs.Given.{IsTreeIn, Means}
 use Rattle.arena_tree.specs.Folding.{lists_of, footprint, Folds}
-use Rattle.arena_tree.specs.Subtrees.{stmt_row, HasRow, row_lists, row_texts}
-use Rattle.arena_tree.specs.FoldingParts.{IsRowClear, CanFoldRow, Shrinks}
+use Rattle.arena_tree.specs.Subtrees.{stmt_row, HasRow}
+use Rattle.arena_tree.specs.FoldingParts.{IsRowWhole, CanFoldRow, StandOn, Shrinks, WritesIn, FoldsRow}
 use Rattle.arena_tree.specs.declared.tree.Tree.{Tree}
 use Rattle.arena_tree.proofs.GivenLemmas.{given_low}
-use Rattle.arena_tree.proofs.PartsLemmas.{Parts, None, First, Second, parts_apart, stmts_parts}
-use Rattle.arena_tree.proofs.FoldBlockLemmas.{shrunk_clear, shrinks_as}
+use Rattle.arena_tree.proofs.PartsLemmas.{Parts, First, parts_apart, stmts_parts}
+use Rattle.arena_tree.proofs.FoldBlockLemmas.{shrinks_own, texts_within}
 use Rattle.arena_tree.proofs.FoldRowLemmas.{held_still}
 use Rattle.arena_tree.proofs.OneTreeLemmas.{one_stmts}
 use Rattle.arena_tree.proofs.SubtreeLemmas.{stmt_row_at, row_stmts_at, stmt_row_blocks}
-use Rattle.arena_tree.proofs.FoldNodeLemmas.{FoldsRow, stmt_row_is}
+use Rattle.arena_tree.proofs.KeptLemmas.{apart_from_both}
+use Rattle.arena_tree.proofs.KidsLemmas.{stmt_row_is}
 
-given_clear : (m : Memory) (t : Tree) (h : IsTreeIn m t) → IsRowClear (stmt_row h.trees) m t.stmts
-given_clear m t h =
-    let r = stmt_row_blocks h.trees m (vec_list node_item m t.stmts) in
-    record { lists = rw r.0 at h.lists; texts = rw (r.0, r.1) at h.texts }
+given_whole : (m : Memory) (t : Tree) (h : IsTreeIn m t) → IsRowWhole (stmt_row h.trees) m t.stmts
+given_whole m t h =
+    let ns = vec_list node_item m t.stmts in
+    let r = stmt_row_blocks h.trees m ns in
+    record {
+      stand = stmt_row_at h.trees m ns h.means;
+      clear = record {
+        lists = rw r.0 at h.lists;
+        texts = rw (r.0, r.1) at (all_turned (stmts_texts h.trees m ns) (lists_of h.trees m t) h.texts);
+      };
+    }
 
 pub can_fold : (m : Memory) (t : Tree) → IsTreeIn m t → CanFoldRow m t.stmts (used_bytes m.state / 88 + 1)
 can_fold m t h = record {
   trees = stmt_row h.trees;
   held = h.held;
-  stand = stmt_row_at h.trees m (vec_list node_item m t.stmts) h.means;
-  clear = given_clear m t h;
+  whole = given_whole m t h;
   low = omega (arith, given_low m t h, (stmt_row_is h.trees).0);
 }
 
 pub given_row : (m : Memory) (t : Tree) → IsTreeIn m t → HasRow m t.stmts (used_bytes m.state / 88 + 1)
 given_row m t h =
     let r = can_fold m t h in
-    record { trees = r.trees; held = r.held; stand = r.stand; low = r.low }
+    record { trees = r.trees; held = r.held; stand = r.whole.stand; low = r.low }
 
 -- What a fold of the list of statements says of the tree.
 record Done (ss : Stmts) (old new : Memory) (t : Tree) (count : ℕ) : Type 0 where
   pub means : Means new t (folded_stmts ss)
   pub count_is : count ≡ folds_of_stmts ss
-  pub blocks : Shrinks old new (lists_of ss old t) (stmts_texts ss old (vec_list node_item old t.stmts)) (lists_of (folded_stmts ss) new t)
+  pub shrinks : Shrinks (lists_of ss old t) (stmts_texts ss old (vec_list node_item old t.stmts)) (lists_of (folded_stmts ss) new t)
       (stmts_texts (folded_stmts ss) new (vec_list node_item new t.stmts))
+  pub writes : WritesIn old new (lists_of ss old t)
 
-done : (old new : Memory) (t : Tree) (count : ℕ) (h : IsTreeIn old t) → FoldsRow old new t.stmts count → Done h.trees old new t count
-done old new t count h fold =
+done : {old new : Memory} {t : Tree} {count : ℕ} (h : IsTreeIn old t) → FoldsRow old new t.stmts count → Done h.trees old new t count
+done {old} {new} {t} h fold =
     let ss = h.trees in
     let ns = vec_list node_item new t.stmts in
-    let f = fold (stmt_row ss) (stmt_row_at ss old (vec_list node_item old t.stmts) h.means) (given_clear old t h) in
+    let f = fold.each (stmt_row ss) (given_whole old t h) in
+    let is = stmt_row_is ss in
     let before = stmt_row_blocks ss old (vec_list node_item old t.stmts) in
     let after = stmt_row_blocks (folded_stmts ss) new ns in
-    let is = stmt_row_is ss in
+    let on : StandOn (stmt_row (folded_stmts ss)) new ns f.lists f.texts = rw is.2 f.on in
     record {
-      means = row_stmts_at (folded_stmts ss) new ns (rw is.2 f.row.stand);
+      means = row_stmts_at (folded_stmts ss) new ns on.stand;
       count_is = f.count_is ∙ sym is.1;
-      blocks = shrinks_as (ap (λ bs. t.stmts.raw.block ∷ bs) before.0) before.1
-          (ap (λ bs. t.stmts.raw.block ∷ bs) (after.0 ∙ ap (λ ts. row_lists ts new ns) is.2))
-          (after.1 ∙ ap (λ ts. row_texts ts new ns) is.2)
-          f.row.blocks;
+      shrinks = rw (before.0, before.1, after.0, after.1, on.lists, on.texts) (shrinks_own t.stmts.raw.block [] f.shrinks);
+      writes = rw before.0 f.writes;
     }
 
 tree_parts : (ss : Stmts) (m : Memory) (t : Tree)
     → Parts (footprint ss m t) (lists_of ss m t) (stmts_texts ss m (vec_list node_item m t.stmts))
 tree_parts ss m t = First t.stmts.raw.block _ _ _ (stmts_parts ss m (vec_list node_item m t.stmts))
 
-apart_from_both : (addr n : ℕ) (bs ls ts : List Block) → Parts bs ls ts → IsApart addr n ls → IsApart addr n ts → IsApart addr n bs
-apart_from_both addr n bs ls ts None l t = tt
-apart_from_both addr n bs ls ts (First b bs' ls' ts' parts) l t = (l.0, apart_from_both addr n bs' ls' ts' parts l.1 t)
-apart_from_both addr n bs ls ts (Second b bs' ls' ts' parts) l t = (t.0, apart_from_both addr n bs' ls' ts' parts l t.1)
-
-pub tree_folds : (ss : Stmts) (old new : View) (t : Tree) (count : ℕ) → IsTreeIn old.memory t → Means old.memory t ss
+pub tree_folds : {old new : View} {t : Tree} {count : ℕ} (ss : Stmts) → IsTreeIn old.memory t → Means old.memory t ss
     → FoldsRow old.memory new.memory t.stmts count → SamePlaces old new → Folds ss old new t t count
-tree_folds ss old new t count h means fold places =
+tree_folds {old} {new} {t} {count} ss h means fold places =
     let one = one_stmts h.trees ss old.memory (vec_list node_item old.memory t.stmts) h.means means in
-    let f = subst (λ ts. Done ts old.memory new.memory t count) one (done old.memory new.memory t count h fold) in
-    let b = f.blocks in
+    let f = subst (λ ts. Done ts old.memory new.memory t count) one (done h fold) in
     record {
       handle = refl;
       means = f.means;
       count_is = f.count_is;
       places = places;
       frame = frame_weaken old.memory new.memory _ _ (lists_of ss old.memory t) (lists_of (folded_stmts ss) new.memory t)
-          (λ addr n some apart. apart) (λ addr n some apart rest. b.lists_in addr n apart) b.writes.frame;
+          (λ addr n some apart. apart) (λ addr n some apart rest. f.shrinks.lists_in addr n apart) f.writes.frame;
       within = λ addr n apart.
           let each = parts_apart addr n _ _ _ (tree_parts ss old.memory t) apart in
-          apart_from_both addr n _ _ _ (tree_parts (folded_stmts ss) new.memory t) (b.lists_in addr n each.0) (b.texts_in addr n each.1);
+          apart_from_both addr n _ _ _ (tree_parts (folded_stmts ss) new.memory t) (f.shrinks.lists_in addr n each.0)
+          (f.shrinks.texts_in addr n each.1);
     }
 
-pub tree_stands : (old new : Memory) (t : Tree) (count : ℕ) → ((ss : Stmts) → AreStmts ss → AreStmts (folded_stmts ss)) → IsTreeIn old t
+pub tree_stands : {old new : Memory} {t : Tree} {count : ℕ} → ((ss : Stmts) → AreStmts ss → AreStmts (folded_stmts ss)) → IsTreeIn old t
     → FoldsRow old new t.stmts count → IsTreeIn new t
-tree_stands old new t count keeps h fold =
-    let f = done old new t count h fold in
-    let clear = shrunk_clear (record { lists = h.lists; texts = h.texts }) f.blocks in
+tree_stands {old} {new} {t} keeps h fold =
+    let f = done h fold in
     record {
       trees = folded_stmts h.trees;
       plain = keeps h.trees h.plain;
-      held = held_still old new t.stmts f.blocks.writes.state h.held;
+      held = held_still old new t.stmts f.writes.state h.held;
       means = f.means;
-      lists = clear.lists;
-      texts = clear.texts;
+      lists = f.shrinks.pairs h.lists;
+      texts = texts_within f.shrinks h.texts;
     }

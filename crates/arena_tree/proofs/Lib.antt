@@ -1,12 +1,11 @@
 pub mod StayLemmas
 pub mod BuildLemmas
-pub mod ExpressionLemmas
+pub mod TokenLemmas
 pub mod PartLemmas
 pub mod PartsLemmas
 pub mod NodesLemmas
 pub mod GivenLemmas
 pub mod LinesLemmas
-pub mod StatementLemmas
 pub mod LineLemmas
 pub mod WalkLemmas
 pub mod SubtreeLemmas
@@ -21,8 +20,8 @@ pub mod CloneListLemmas
 pub mod CloneLemmas
 pub mod OneTreeLemmas
 pub mod FoldBlockLemmas
+pub mod KidsLemmas
 pub mod KeptLemmas
-pub mod FoldLowLemmas
 pub mod FoldNodeLemmas
 pub mod FoldRowLemmas
 pub mod FoldRuleLemmas

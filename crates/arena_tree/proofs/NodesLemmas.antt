@@ -3,27 +3,23 @@ use Rattle.std.proofs.Common.{◌≡◌, ◌+◌, ◌*◌, ◌≤◌, List, [], 
 use Rattle.std.proofs.lemmas.List.Sums.{sum_by-cons}
 use Rattle.std.specs.Prelude.{map}
 use Rattle.std.specs.List.{AllByRecursion, sum}
-use Rattle.arena_chunks.specs.Memory.{is_readable}
-use Rattle.arena_chunks.proofs.Layers.{readable_together}
-use Rattle.arena_chunks.specs.Memory.{Memory}
+use Rattle.arena_chunks.specs.Memory.{Memory, is_readable}
 use Rattle.arena_chunks.specs.Frame.{ArePairwiseApart}
 use Rattle.arena_chunks.specs.declared.block.Block.{Block}
+use Rattle.arena_chunks.proofs.Layers.{readable_together}
 use Rattle.placement.specs.State.{State, used_bytes}
-use Rattle.arena_items.specs.Values.{bytes_of}
-use Rattle.arena_items.proofs.Layers.{length-elements}
 use Rattle.arena_vec.specs.Vecs.{IsVecIn, vec_list}
 use Rattle.arena_vec.specs.declared.vec.Vec.{Vec}
-use Rattle.tree_rules.specs.Trees.{Expr, Num, Name, Neg, Sum, Prod, Exprs, NoExprs, And}
-use Rattle.arena_tree.specs.declared.node.Node.{Node}
-use Rattle.arena_tree.specs.TreesAt.{node_item, kids_of, kids_in, IsOnly, of_first, ExprAt, ExprsAt, expr_blocks}
-use Rattle.arena_tree.specs.Lists.{expr_lists, exprs_lists, stmt_lists, stmts_lists, expr_texts, stmts_texts}
-use Rattle.arena_tree.proofs.PartsLemmas.{parts_readable, expr_parts, stmts_parts}
-use Rattle.arena_tree.specs.TreeLaws.{expr_readable}
-use Rattle.tree_rules.specs.Trees.{Stmt, Let, Show, Stmts, NoStmts, Then}
+use Rattle.tree_rules.specs.Trees.{Expr, Num, Name, Neg, Sum, Prod, Exprs, NoExprs, And, Stmt, Let, Show, Stmts, NoStmts, Then}
 use Rattle.tree_rules.specs.Trees as tree
-use Rattle.arena_tree.specs.StmtsAt.{StmtAt, StmtsAt, stmts_blocks}
+use Rattle.arena_tree.specs.declared.node.Node.{Node}
+use Rattle.arena_tree.specs.TreesAt.{node_item, kids_of, kids_in, IsOnly, of_first, ExprAt, ExprsAt}
+use Rattle.arena_tree.specs.StmtsAt.{StmtAt, StmtsAt}
 use Rattle.arena_tree.specs.StmtLaws.{stmts_readable}
+use Rattle.arena_tree.specs.Lists.{expr_lists, exprs_lists, stmt_lists, stmts_lists}
 use Rattle.arena_tree.specs.Counts.{below, nodes, below_stmt, stmt_nodes}
+use Rattle.arena_tree.proofs.PartsLemmas.{parts_readable, stmts_parts}
+use Rattle.arena_tree.proofs.WalkLemmas.{list_len}
 
 abbrev sizes : List Block → ℕ
 sizes [] = 0
@@ -44,70 +40,51 @@ sizes_both (b ∷ bs) cs = omega (arith, sizes_both bs cs)
 -- a list's block has 88 bytes at least for each of its nodes
 list_size : (m : Memory) (v : Vec Node) → IsVecIn node_item m v → 88 * length (vec_list node_item m v) ≤ v.raw.block.size
 list_size m v held =
-    let len : length (vec_list node_item m v) ≡ v.raw.len = length-elements 88 node_item.decoded v.raw.len (bytes_of m v.raw.block) in
-    omega (arith, len, held.within, held.place.of_size)
+    omega (arith, list_len m v, held.within, held.place.of_size)
 
-only_size : (e : Expr) (m : Memory) (ns : List Node) → ((k : Node) → ExprAt e m k → 88 * below e ≤ sizes (expr_lists e m k))
-    → IsOnly ns (λ k. ExprAt e m k)
-    → 88 * (1 + below e) ≤ 88 * length ns + sizes (of_first ns (λ k. expr_lists e m k))
-only_size e m [] each at = absurd at
-only_size e m (k ∷ []) each at = omega (arith, each k at)
-only_size e m (k ∷ l ∷ ks) each at = absurd at
+-- the one kid of a node
+kid_size : (e : Expr) (m : Memory) (n : Node) → ((k : Node) → ExprAt e m k → 88 * below e ≤ sizes (expr_lists e m k))
+    → IsVecIn node_item m (kids_of n) → IsOnly (kids_in m n) (λ k. ExprAt e m k)
+    → 88 * (1 + below e) ≤ n.kids.size + sizes (of_first (kids_in m n) (λ k. expr_lists e m k))
+kid_size e m n each held at = omega (arith, only (kids_in m n) at, list_size m (kids_of n) held)
+  where
+    only : (ns : List Node) → IsOnly ns (λ k. ExprAt e m k)
+        → 88 * (1 + below e) ≤ 88 * length ns + sizes (of_first ns (λ k. expr_lists e m k))
+    only (k ∷ []) at = omega (arith, each k at)
+    only ns at = absurd at
 
 mutual
   expr_size : (e : Expr) (m : Memory) (n : Node) → ExprAt e m n → 88 * below e ≤ sizes (expr_lists e m n)
   expr_size (Num k) m n at = omega arith
   expr_size (Name bytes) m n at = omega arith
-  expr_size (Neg e) m n at =
-      let one = only_size e m (kids_in m n) (λ k is. expr_size e m k is) at.2 in
-      omega (arith, one, list_size m (kids_of n) at.1)
+  expr_size (Neg e) m n at = omega (arith, kid_size e m n (λ k is. expr_size e m k is) at.1 at.2)
   expr_size (Sum kids) m n at = omega (arith, exprs_size kids m (kids_in m n) at.2, list_size m (kids_of n) at.1)
   expr_size (Prod kids) m n at = omega (arith, exprs_size kids m (kids_in m n) at.2, list_size m (kids_of n) at.1)
 
   exprs_size : (es : Exprs) (m : Memory) (ns : List Node) → ExprsAt es m ns → 88 * nodes es ≤ 88 * length ns + sizes (exprs_lists es m ns)
   exprs_size NoExprs m [] at = omega arith
-  exprs_size NoExprs m (n ∷ ns) at = absurd at
-  exprs_size (And e rest) m [] at = absurd at
   exprs_size (And e rest) m (n ∷ ns) at =
       omega (arith, expr_size e m n at.0, exprs_size rest m ns at.1, sizes_both (expr_lists e m n) (exprs_lists rest m ns))
-
--- Where a tree's blocks lie apart from each other, the nodes below its first one have room in the bytes in use.
-pub below_used : (e : Expr) (m : Memory) (n : Node) → ExprAt e m n → ArePairwiseApart (expr_lists e m n) → 88 * below e ≤ used_bytes m.state
-below_used e m n at apart = omega (
-  arith,
-  expr_size e m n at,
-  sizes_used m.state (expr_lists e m n) (parts_readable m (expr_blocks e m n)
-      (expr_lists e m n) (expr_texts e m n) (expr_parts e m n) (expr_readable e m n at)).0 apart,
-)
-
--- ---- Statements
-
-kids_size : (e : Expr) (m : Memory) (n : Node) → IsVecIn node_item m (kids_of n) → IsOnly (kids_in m n) (λ k. ExprAt e m k)
-    → 88 * (1 + below e) ≤ n.kids.size + sizes (of_first (kids_in m n) (λ k. expr_lists e m k))
-kids_size e m n held at = omega (arith, only_size e m (kids_in m n) (λ k is. expr_size e m k is) at, list_size m (kids_of n) held)
+  exprs_size es m ns at = absurd at
 
 mutual
   stmt_size : (s : Stmt) (m : Memory) (n : Node) → StmtAt s m n → 88 * below_stmt s ≤ sizes (stmt_lists s m n)
-  stmt_size (Let name e) m n at = omega (arith, kids_size e m n at.3 at.4)
-  stmt_size (Show e) m n at = omega (arith, kids_size e m n at.1 at.2)
+  stmt_size (Let name e) m n at = omega (arith, kid_size e m n (λ k is. expr_size e m k is) at.3 at.4)
+  stmt_size (Show e) m n at = omega (arith, kid_size e m n (λ k is. expr_size e m k is) at.1 at.2)
   stmt_size (tree.Block body) m n at = omega (arith, stmts_size body m (kids_in m n) at.2, list_size m (kids_of n) at.1)
 
-  stmts_size : (ss : Stmts) (m : Memory) (ns : List Node) → StmtsAt ss m ns → 88 * stmt_nodes ss ≤ 88 * length ns + sizes (stmts_lists ss
-      m ns)
+  stmts_size : (ss : Stmts) (m : Memory) (ns : List Node) → StmtsAt ss m ns
+      → 88 * stmt_nodes ss ≤ 88 * length ns + sizes (stmts_lists ss m ns)
   stmts_size NoStmts m [] at = omega arith
-  stmts_size NoStmts m (n ∷ ns) at = absurd at
-  stmts_size (Then s rest) m [] at = absurd at
   stmts_size (Then s rest) m (n ∷ ns) at =
       omega (arith, stmt_size s m n at.0, stmts_size rest m ns at.1, sizes_both (stmt_lists s m n) (stmts_lists rest m ns))
+  stmts_size ss m ns at = absurd at
 
 -- All nodes of a list of statements have room in the bytes in use.
 pub nodes_used : (ss : Stmts) (m : Memory) (v : Vec Node) → IsVecIn node_item m v → StmtsAt ss m (vec_list node_item m v)
     → ArePairwiseApart (v.raw.block ∷ stmts_lists ss m (vec_list node_item m v)) → 88 * stmt_nodes ss ≤ used_bytes m.state
 nodes_used ss m v held at apart =
     let ns = vec_list node_item m v in
-    let all = sizes_used m.state (v.raw.block ∷ stmts_lists ss m ns) (
-      held.place.readable,
-      (parts_readable m (stmts_blocks ss m ns)
-          (stmts_lists ss m ns) (stmts_texts ss m ns) (stmts_parts ss m ns) (stmts_readable ss m ns at)).0,
-    ) apart in
+    let lists = (parts_readable m _ _ _ (stmts_parts ss m ns) (stmts_readable ss m ns at)).0 in
+    let all = sizes_used m.state (v.raw.block ∷ stmts_lists ss m ns) (held.place.readable, lists) apart in
     omega (arith, all, stmts_size ss m ns at, list_size m v held)

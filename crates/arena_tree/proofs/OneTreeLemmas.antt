@@ -31,11 +31,10 @@ mutual
 
   one_exprs : (es fs : Exprs) (m : Memory) (ns : List Node) → ExprsAt es m ns → ExprsAt fs m ns → es ≡ fs
   one_exprs NoExprs NoExprs m [] one two = refl
-  one_exprs NoExprs (And f fs) m [] one two = absurd two
-  one_exprs NoExprs fs m (n ∷ ns) one two = absurd one
-  one_exprs (And e es) fs m [] one two = absurd one
-  one_exprs (And e es) NoExprs m (n ∷ ns) one two = absurd two
   one_exprs (And e es) (And f fs) m (n ∷ ns) one two = λ i. And (one_expr e f m n one.0 two.0 i) (one_exprs es fs m ns one.1 two.1 i)
+  one_exprs NoExprs (And f fs) m [] one two = absurd two
+  one_exprs (And e es) NoExprs m (n ∷ ns) one two = absurd two
+  one_exprs es fs m ns one two = absurd one
 
 mutual
   one_stmt : (s t : Stmt) (m : Memory) (n : Node) → StmtAt s m n → StmtAt t m n → s ≡ t
@@ -51,8 +50,7 @@ mutual
 
   pub one_stmts : (ss ts : Stmts) (m : Memory) (ns : List Node) → StmtsAt ss m ns → StmtsAt ts m ns → ss ≡ ts
   one_stmts NoStmts NoStmts m [] one two = refl
-  one_stmts NoStmts (Then t ts) m [] one two = absurd two
-  one_stmts NoStmts ts m (n ∷ ns) one two = absurd one
-  one_stmts (Then s ss) ts m [] one two = absurd one
-  one_stmts (Then s ss) NoStmts m (n ∷ ns) one two = absurd two
   one_stmts (Then s ss) (Then t ts) m (n ∷ ns) one two = λ i. Then (one_stmt s t m n one.0 two.0 i) (one_stmts ss ts m ns one.1 two.1 i)
+  one_stmts NoStmts (Then t ts) m [] one two = absurd two
+  one_stmts (Then s ss) NoStmts m (n ∷ ns) one two = absurd two
+  one_stmts ss ts m ns one two = absurd one

@@ -20,10 +20,8 @@ pub data Parts : List Block → List Block → List Block → Type 0 where
 
 pub parts_both : (bs ls ts cs ks us : List Block) → Parts bs ls ts → Parts cs ks us → Parts (bs ++ cs) (ls ++ ks) (ts ++ us)
 parts_both bs ls ts cs ks us None more = more
-parts_both bs ls ts cs ks us (First b bs' ls' ts' p) more = First b (bs' ++ cs) (ls' ++ ks) (ts' ++ us) (parts_both bs' ls' ts' cs ks us
-    p more)
-parts_both bs ls ts cs ks us (Second b bs' ls' ts' p) more = Second b (bs' ++ cs) (ls' ++ ks) (ts' ++ us) (parts_both bs' ls' ts' cs ks
-    us p more)
+parts_both bs ls ts cs ks us (First b bs' ls' ts' p) more = First b _ _ _ (parts_both bs' ls' ts' cs ks us p more)
+parts_both bs ls ts cs ks us (Second b bs' ls' ts' p) more = Second b _ _ _ (parts_both bs' ls' ts' cs ks us p more)
 
 pub parts_readable : (m : Memory) (bs ls ts : List Block) → Parts bs ls ts → AreReadable m.state bs → AreReadable m.state ls
     × AreReadable m.state ts
@@ -52,45 +50,37 @@ parts_pairwise bs ls ts (Second b bs' ls' ts' p) h =
     let one = parts_apart b.addr b.size bs' ls' ts' p h.0 in
     (rest.0, (one.0, rest.1))
 
-first_parts : (ns : List Node) (f g h : Node → List Block) → ((k : Node) → Parts (f k) (g k) (h k))
-    → Parts (of_first ns f) (of_first ns g) (of_first ns h)
-first_parts [] f g h each = None
-first_parts (k ∷ ks) f g h each = each k
+-- of a node with one kid
+one_parts : (e : Expr) (m : Memory) (n : Node) → ((k : Node) → Parts (expr_blocks e m k) (expr_lists e m k) (expr_texts e m k))
+    → Parts (n.kids ∷ of_first (kids_in m n) (λ k. expr_blocks e m k)) (n.kids ∷ of_first (kids_in m n) (λ k. expr_lists e m k))
+    (of_first (kids_in m n) (λ k. expr_texts e m k))
+one_parts e m n each = First n.kids _ _ _ (first (kids_in m n))
+  where
+    first : (ns : List Node)
+        → Parts (of_first ns (λ k. expr_blocks e m k)) (of_first ns (λ k. expr_lists e m k)) (of_first ns (λ k. expr_texts e m k))
+    first [] = None
+    first (k ∷ ks) = each k
 
 mutual
   pub expr_parts : (e : Expr) (m : Memory) (n : Node) → Parts (expr_blocks e m n) (expr_lists e m n) (expr_texts e m n)
   expr_parts (Num k) m n = None
   expr_parts (Name bytes) m n = Second n.text.block [] [] [] None
-  expr_parts (Neg e) m n =
-      First n.kids _ _ _ (first_parts (kids_in m n) (λ k. expr_blocks e m k) (λ k. expr_lists e m k) (λ k. expr_texts e m k) (λ k.
-      expr_parts e m k))
+  expr_parts (Neg e) m n = one_parts e m n (λ k. expr_parts e m k)
   expr_parts (Sum kids) m n = First n.kids _ _ _ (exprs_parts kids m (kids_in m n))
   expr_parts (Prod kids) m n = First n.kids _ _ _ (exprs_parts kids m (kids_in m n))
 
   pub exprs_parts : (es : Exprs) (m : Memory) (ns : List Node) → Parts (exprs_blocks es m ns) (exprs_lists es m ns) (exprs_texts es m ns)
   exprs_parts NoExprs m ns = None
   exprs_parts (And e rest) m [] = None
-  exprs_parts (And e rest) m (n ∷ ns) =
-      parts_both (expr_blocks e m n) (expr_lists e m n) (expr_texts e m n) (exprs_blocks rest m ns) (exprs_lists rest m ns) (exprs_texts
-      rest m ns)
-      (expr_parts e m n) (exprs_parts rest m ns)
-
-value_parts : (e : Expr) (m : Memory) (n : Node)
-    → Parts (n.kids ∷ of_first (kids_in m n) (λ k. expr_blocks e m k)) (n.kids ∷ of_first (kids_in m n) (λ k. expr_lists e m k))
-    (of_first (kids_in m n) (λ k. expr_texts e m k))
-value_parts e m n = First n.kids _ _ _
-    (first_parts (kids_in m n) (λ k. expr_blocks e m k) (λ k. expr_lists e m k) (λ k. expr_texts e m k) (λ k. expr_parts e m k))
+  exprs_parts (And e rest) m (n ∷ ns) = parts_both _ _ _ _ _ _ (expr_parts e m n) (exprs_parts rest m ns)
 
 mutual
   pub stmt_parts : (s : Stmt) (m : Memory) (n : Node) → Parts (stmt_blocks s m n) (stmt_lists s m n) (stmt_texts s m n)
-  stmt_parts (Let name e) m n = Second n.text.block _ _ _ (value_parts e m n)
-  stmt_parts (Show e) m n = value_parts e m n
+  stmt_parts (Let name e) m n = Second n.text.block _ _ _ (one_parts e m n (λ k. expr_parts e m k))
+  stmt_parts (Show e) m n = one_parts e m n (λ k. expr_parts e m k)
   stmt_parts (tree.Block body) m n = First n.kids _ _ _ (stmts_parts body m (kids_in m n))
 
   pub stmts_parts : (ss : Stmts) (m : Memory) (ns : List Node) → Parts (stmts_blocks ss m ns) (stmts_lists ss m ns) (stmts_texts ss m ns)
   stmts_parts NoStmts m ns = None
   stmts_parts (Then s rest) m [] = None
-  stmts_parts (Then s rest) m (n ∷ ns) =
-      parts_both (stmt_blocks s m n) (stmt_lists s m n) (stmt_texts s m n) (stmts_blocks rest m ns) (stmts_lists rest m ns) (stmts_texts
-      rest m ns)
-      (stmt_parts s m n) (stmts_parts rest m ns)
+  stmts_parts (Then s rest) m (n ∷ ns) = parts_both _ _ _ _ _ _ (stmt_parts s m n) (stmts_parts rest m ns)

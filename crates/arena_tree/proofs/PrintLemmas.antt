@@ -1,235 +1,109 @@
--- Texts of trees, piece by piece.
-use Rattle.std.proofs.Common.{◌≡◌, ℕ, suc, zero, ◌+◌, ◌≤◌, ap, sym, refl, subst, ◌∙◌, Bool, true, false, Option, Some, None, List, [], ◌∷◌, ◌++◌, length, append_assoc, arith}
-use Rattle.std.specs.Prelude.{slice_get, codes, ◌==◌}
+-- Texts of trees: a node's by its kind, and a list's node by node.
+use Rattle.std.proofs.Common.{◌≡◌, ℕ, suc, ◌+◌, ap, sym, refl, ◌∙◌, Bool, true, false, List, [], ◌∷◌, ◌++◌, drop, append_assoc, append-nil, add-one, arith}
+use Rattle.std.specs.Prelude.{codes, ◌==◌}
+use Rattle.placement.specs.Grammar.{number}
 use Rattle.arena_chunks.specs.Memory.{Memory}
-use Rattle.tree_rules.specs.Trees.{Expr, Num, Name, Neg, Sum, Prod, Exprs, NoExprs, And, AsExpr, AsTerm, AsFactor, expr_text, terms_text, more_terms_text, factors_text, more_factors_text, sum_text, product_text, Stmt, Let, Show, Stmts, NoStmts, Then, stmt_text, text}
+use Rattle.arena_items.specs.Values.{text_bytes}
+use Rattle.tree_rules.specs.Trees.{Expr, Num, Name, Neg, Sum, Prod, Exprs, NoExprs, And, AsExpr, AsTerm, AsFactor, expr_text, terms_text, more_terms_text, factors_text, more_factors_text, sum_text, product_text, Let, Show, Stmts, NoStmts, Then, stmt_text, text}
 use Rattle.tree_rules.specs.Trees as tree
-use Rattle.arena_tree.specs.declared.print.Stand.{Stand}
+use Rattle.arena_tree.specs.declared.node.Kind.{Kind}
+use Rattle.arena_tree.specs.declared.node.Kind.TheVariants as kind
 use Rattle.arena_tree.specs.declared.node.Node.{Node}
-use Rattle.arena_tree.specs.TreesAt.{ExprAt, ExprsAt}
-use Rattle.arena_tree.specs.StmtsAt.{StmtAt, StmtsAt}
-use Rattle.arena_tree.specs.Walks.{IsOther}
-use Rattle.arena_tree.specs.Printing.{stand_of, bytes_if, piece, joined, parens_if}
-use Rattle.arena_tree.proofs.WalkLemmas.{some_node}
+use Rattle.arena_tree.specs.Subtrees.{Subtree, OfExpr, OfStmt, SubtreeAt, expr_row, stmt_row, has_kids}
+use Rattle.arena_tree.specs.Printing.{tree_text, before_kids, behind_kids, kids_stand, joint, is_taken, piece, row_text}
+use Rattle.arena_tree.proofs.SubtreeLemmas.{kids_it, true_false}
 
--- the expressions from an index on
-abbrev pub exprs_from : ℕ → Exprs → Exprs
-exprs_from zero es = es
-exprs_from (suc i) NoExprs = NoExprs
-exprs_from (suc i) (And e rest) = exprs_from i rest
+-- ---- Rows
 
-pub none_is : (k : Node) → ◌≡◌ {A = Option Node} None (Some k) → ⊥
-none_is k e = cc
-
--- the one at an index is the first of those from there on
-pub record IsKid (es : Exprs) (m : Memory) (i : ℕ) (k : Node) : Type 0 where
-  pub kid : Expr
-  pub stands : ExprAt kid m k
-  pub from : exprs_from i es ≡ And kid (exprs_from (suc i) es)
-
-pub kid_is : (es : Exprs) (m : Memory) (ns : List Node) (i : ℕ) (k : Node) → ExprsAt es m ns → slice_get ns i ≡ Some k → IsKid es m i k
-kid_is NoExprs m [] i k at is = absurd (none_is k is)
-kid_is NoExprs m (n ∷ ns) i k at is = absurd at
-kid_is (And e rest) m [] i k at is = absurd at
-kid_is (And e rest) m (n ∷ ns) zero k at is = record { kid = e; stands = subst (ExprAt e m) (some_node n k is) at.0; from = refl }
-kid_is (And e rest) m (n ∷ ns) (suc i) k at is =
-    let r = kid_is rest m ns i k at.1 is in
-    record { kid = r.kid; stands = r.stands; from = r.from }
-
--- behind the last one there is none
-pub exprs_end : (es : Exprs) (m : Memory) (ns : List Node) (i : ℕ) → ExprsAt es m ns → length ns ≤ i → exprs_from i es ≡ NoExprs
-exprs_end NoExprs m [] zero at h = refl
-exprs_end NoExprs m [] (suc i) at h = refl
-exprs_end NoExprs m (n ∷ ns) i at h = absurd at
-exprs_end (And e rest) m [] i at h = absurd at
-exprs_end (And e rest) m (n ∷ ns) zero at h = absurd (omega (arith, h))
-exprs_end (And e rest) m (n ∷ ns) (suc i) at h = exprs_end rest m ns i at.1 (omega (arith, h))
-
--- ---- Rows of kids
-
-pub more_factors : (es : Exprs) → joined true false es ≡ more_factors_text es
+more_factors : (es : Exprs) → row_text AsFactor false (expr_row es) ≡ more_factors_text es
 more_factors NoExprs = refl
-more_factors (And e rest) =
-    append_assoc (codes " * ") (expr_text e AsFactor) (joined true false rest)
-    ∙ ap (λ more. codes " * " ++ (expr_text e AsFactor ++ more)) (more_factors rest)
+more_factors (And e rest) = ap (λ more. codes " * " ++ expr_text e AsFactor ++ more) (more_factors rest)
 
-pub all_factors : (es : Exprs) → joined true true es ≡ factors_text es
-all_factors NoExprs = refl
-all_factors (And e rest) = ap (λ more. expr_text e AsFactor ++ more) (more_factors rest)
+factors : (es : Exprs) → row_text AsFactor true (expr_row es) ≡ factors_text es
+factors NoExprs = refl
+factors (And e rest) = ap (λ more. expr_text e AsFactor ++ more) (more_factors rest)
 
-pub more_terms : (es : Exprs) → joined false false es ≡ more_terms_text es
+more_terms : (es : Exprs) → row_text AsTerm false (expr_row es) ≡ more_terms_text es
 more_terms NoExprs = refl
-more_terms (And (Num k) rest) =
-    append_assoc (codes " + ") (expr_text (Num k) AsTerm) (joined false false rest)
-    ∙ ap (λ more. codes " + " ++ (expr_text (Num k) AsTerm ++ more)) (more_terms rest)
-more_terms (And (Name bytes) rest) =
-    append_assoc (codes " + ") (expr_text (Name bytes) AsTerm) (joined false false rest)
-    ∙ ap (λ more. codes " + " ++ (expr_text (Name bytes) AsTerm ++ more)) (more_terms rest)
-more_terms (And (Neg e) rest) =
-    append_assoc (codes " - ") (expr_text e AsTerm) (joined false false rest)
-    ∙ ap (λ more. codes " - " ++ (expr_text e AsTerm ++ more)) (more_terms rest)
-more_terms (And (Sum kids) rest) =
-    append_assoc (codes " + ") (expr_text (Sum kids) AsTerm) (joined false false rest)
-    ∙ ap (λ more. codes " + " ++ (expr_text (Sum kids) AsTerm ++ more)) (more_terms rest)
-more_terms (And (Prod kids) rest) =
-    append_assoc (codes " + ") (expr_text (Prod kids) AsTerm) (joined false false rest)
-    ∙ ap (λ more. codes " + " ++ (expr_text (Prod kids) AsTerm ++ more)) (more_terms rest)
+more_terms (And (Neg e) rest) = ap (λ more. codes " - " ++ expr_text e AsTerm ++ more) (more_terms rest)
+more_terms (And e rest) = ap (λ more. codes " + " ++ expr_text e AsTerm ++ more) (more_terms rest)
 
-pub all_terms : (es : Exprs) → joined false true es ≡ terms_text es
-all_terms NoExprs = refl
-all_terms (And e rest) = ap (λ more. expr_text e AsTerm ++ more) (more_terms rest)
+terms : (es : Exprs) → row_text AsTerm true (expr_row es) ≡ terms_text es
+terms NoExprs = refl
+terms (And e rest) = ap (λ more. expr_text e AsTerm ++ more) (more_terms rest)
 
--- a kid that is no negation is added
-pub added : (e : Expr) → IsOther e → piece false false e ≡ codes " + " ++ expr_text e AsTerm
-added (Num k) other = refl
-added (Name bytes) other = refl
-added (Neg e) other = absurd other
-added (Sum kids) other = refl
-added (Prod kids) other = refl
+pub lines : (first : Bool) (ss : Stmts) → row_text AsExpr first (stmt_row ss) ≡ text ss
+lines first NoStmts = refl
+lines first (Then s rest) = ap (λ more. stmt_text s ++ more) (lines false rest)
 
--- ---- Steps
+-- ---- A node
 
-pub put_two : (one two three first second : List ℕ) → two ≡ one ++ first → three ≡ two ++ second → three ≡ one ++ (first ++ second)
-put_two one two three first second a b = b ∙ ap (λ x. x ++ second) a ∙ append_assoc one first second
+sum_in : (s : tree.Stand) (xs : List ℕ) → sum_text s xs ≡ before_kids kind.Sum [] s ++ (xs ++ behind_kids kind.Sum s)
+sum_in AsExpr xs = sym (append-nil xs)
+sum_in AsTerm xs = refl
+sum_in AsFactor xs = refl
 
-append_nothing : (xs : List ℕ) → xs ++ [] ≡ xs
-append_nothing [] = refl
-append_nothing (x ∷ xs) = ap (λ more. x ∷ more) (append_nothing xs)
+product_in : (s : tree.Stand) (xs : List ℕ) → product_text s xs ≡ before_kids kind.Prod [] s ++ (xs ++ behind_kids kind.Prod s)
+product_in AsExpr xs = sym (append-nil xs)
+product_in AsTerm xs = sym (append-nil xs)
+product_in AsFactor xs = refl
 
-pub kids_begin : (es : Exprs) (out one : List ℕ) (product parens : Bool) → one ≡ out ++ bytes_if parens (codes "(")
-    → one ++ joined product true es ≡ (out ++ bytes_if parens (codes "(")) ++ joined product true es
-kids_begin es out one product parens is = ap (λ x. x ++ joined product true es) is
+module _ (m : Memory) (n : Node) (s : tree.Stand) where
+  -- a node of this kind, where its kids have this text
+  abbrev pub of_kind : Kind → List ℕ → List ℕ
+  of_kind kind.Num inner = number n.number
+  of_kind kind.Name inner = text_bytes m n.text
+  of_kind k inner = before_kids k (text_bytes m n.text) s ++ (inner ++ behind_kids k s)
 
--- one kid more
-pub kids_more : (es : Exprs) (m : Memory) (ns : List Node) (i : ℕ) (k : Node) (product : Bool) (one two all : List ℕ) → ExprsAt es m ns
-    → slice_get ns i ≡ Some k
-    → ((e : Expr) → ExprAt e m k → two ≡ one ++ piece product (i == 0) e) → one ++ joined product (i == 0) (exprs_from i es) ≡ all
-    → two ++ joined product (i + 1 == 0) (exprs_from (i + 1) es) ≡ all
-kids_more es m ns i k product one two all at get put is =
-    let r = kid_is es m ns i k at get in
-    let next : suc i ≡ i + 1 = omega arith in
-    let later : (i + 1 == 0) ≡ false = later_not i in
-    let rest = exprs_from (suc i) es in
-    ap (λ b. two ++ joined product b (exprs_from (i + 1) es)) later
-    ∙ ap (λ j. two ++ joined product false (exprs_from j es)) (sym next)
-    ∙ ap (λ x. x ++ joined product false rest) (put r.kid r.stands)
-    ∙ append_assoc one (piece product (i == 0) r.kid) (joined product false rest)
-    ∙ ap (λ fs. one ++ joined product (i == 0) fs) (sym r.from)
-    ∙ is
+  abbrev node_text : Subtree → Kind → List ℕ
+  node_text t k = of_kind k (row_text (kids_stand k) true (kids_it t))
+
+  pub text_is : (t : Subtree) → SubtreeAt t m n → (k : Kind) → n.kind ≡ k → tree_text t s ≡ node_text t k
+  text_is t at k is = plain t at ∙ ap (node_text t) is
+    where
+      plain : (t : Subtree) → SubtreeAt t m n → tree_text t s ≡ node_text t n.kind
+      plain (OfExpr (Num k)) at = sym (ap (node_text (OfExpr (Num k))) at.0 ∙ ap number at.1)
+      plain (OfExpr (Name bytes)) at = sym (ap (node_text (OfExpr (Name bytes))) at.0 ∙ at.2)
+      plain (OfExpr (Neg e)) at = sym (ap (node_text (OfExpr (Neg e))) at.0 ∙ simp append-nil)
+      plain (OfExpr (Sum kids)) at =
+          sum_in s (terms_text kids) ∙ sym (ap (node_text (OfExpr (Sum kids))) at.0 ∙ ap (of_kind kind.Sum) (terms kids))
+      plain (OfExpr (Prod kids)) at =
+          product_in s (factors_text kids) ∙ sym (ap (node_text (OfExpr (Prod kids))) at.0 ∙ ap (of_kind kind.Prod) (factors kids))
+      plain (OfStmt (Let name e)) at = sym (ap (node_text (OfStmt (Let name e))) at.0 ∙
+          rw (at.2, append-nil (expr_text e AsExpr)) (ap (λ x. codes "let " ++ x) (sym (append_assoc (name ++ codes " = ")
+          (expr_text e AsExpr) (codes ";\n")))))
+      plain (OfStmt (Show e)) at = sym (ap (node_text (OfStmt (Show e))) at.0 ∙ simp append-nil)
+      plain (OfStmt (tree.Block body)) at = sym (ap (node_text (OfStmt (tree.Block body))) at.0 ∙ ap (of_kind kind.Block) (lines true body))
+
+  pub inner_kind : (k : Kind) (inner : List ℕ) → (k ≡ kind.Num → ⊥) → (k ≡ kind.Name → ⊥)
+      → of_kind k inner ≡ before_kids k (text_bytes m n.text) s ++ (inner ++ behind_kids k s)
+  inner_kind kind.Num inner num name = absurd (num refl)
+  inner_kind kind.Name inner num name = absurd (name refl)
+  inner_kind k inner num name = refl
+
+-- ---- A node of a list
+
+pub taken_kids : (k : Kind) (s : tree.Stand) (first : Bool) → is_taken k s first ≡ true → has_kids k ≡ true
+taken_kids kind.Neg s first is = refl
+taken_kids k s first is = cc
+
+pub taken_piece : (s : tree.Stand) (first : Bool) (t : Subtree) (m : Memory) (n : Node) → SubtreeAt t m n → is_taken n.kind s first ≡ true
+    → piece s first t ≡ codes " - " ++ row_text s true (kids_it t)
+taken_piece AsTerm false (OfExpr (Neg e)) m n at is = simp append-nil
+taken_piece s first (OfExpr (Num k)) m n at is = absurd (true_false (sym is ∙ ap (λ k. is_taken k s first) at.0))
+taken_piece s first (OfStmt (Let name e)) m n at is = absurd (true_false (sym is ∙ ap (λ k. is_taken k s first) at.0))
+taken_piece s first t m n at is = absurd (true_false (sym is ∙ ap (λ k. is_taken k s first) at.0))
+
+pub plain_piece : (s : tree.Stand) (first : Bool) (t : Subtree) (m : Memory) (n : Node) → SubtreeAt t m n → is_taken n.kind s first ≡ false
+    → piece s first t ≡ joint s first ++ tree_text t s
+plain_piece AsTerm false (OfExpr (Neg e)) m n at is = absurd (true_false (sym (ap (λ k. is_taken k AsTerm false) at.0) ∙ is))
+plain_piece s first t m n at is = refl
+
+-- the row goes on
+pub row_more : (s : tree.Stand) (i : ℕ) (t : Subtree) (ts : List Subtree) (one two all : List ℕ) → drop i ts ≡ t ∷ drop (suc i) ts
+    → two ≡ one ++ piece s (i == 0) t → one ++ row_text s (i == 0) (drop i ts) ≡ all
+    → two ++ row_text s (i + 1 == 0) (drop (i + 1) ts) ≡ all
+row_more s i t ts one two all next put is = rw (later i, add-one, put, append_assoc) (rw next at is)
   where
-    later_not : (i : ℕ) → (i + 1 == 0) ≡ false
-    later_not i = grind arith
-
--- the end of a row
-pub kids_end : (es : Exprs) (m : Memory) (ns : List Node) (i : ℕ) (product parens first : Bool) (out one two : List ℕ) → ExprsAt es m ns
-    → length ns ≤ i
-    → one ++ joined product first (exprs_from i es) ≡ (out ++ bytes_if parens (codes "(")) ++ joined product true es
-    → two ≡ one ++ bytes_if parens (codes ")")
-    → two ≡ out ++ parens_if parens (joined product true es)
-kids_end es m ns i product parens first out one two at h is put =
-    let none = exprs_end es m ns i at h in
-    let row : one ≡ (out ++ bytes_if parens (codes "(")) ++ joined product true es
-    = sym (append_nothing one) ∙ ap (λ fs. one ++ joined product first fs) (sym none) ∙ is in
-    put ∙ ap (λ x. x ++ bytes_if parens (codes ")")) row
-    ∙ append_assoc (out ++ bytes_if parens (codes "(")) (joined product true es) (bytes_if parens (codes ")"))
-    ∙ append_assoc out (bytes_if parens (codes "(")) (joined product true es ++ bytes_if parens (codes ")"))
-
--- ---- Sums and products
-
-pub sum_put : (e : Expr) (es : Exprs) (out new : List ℕ) (stand : Stand) (parens : Bool) → e ≡ Sum es
-    → new ≡ out ++ parens_if parens (joined false true es)
-    → ((bytes : List ℕ) → sum_text (stand_of stand) bytes ≡ parens_if parens bytes) → new ≡ out ++ expr_text e (stand_of stand)
-sum_put e es out new stand parens is put in_parens =
-    put
-    ∙ ap (λ x. out ++ parens_if parens x) (all_terms es)
-    ∙ ap (λ x. out ++ x) (sym (in_parens (terms_text es)))
-    ∙ ap (λ f. out ++ expr_text f (stand_of stand)) (sym is)
-
-pub product_put : (e : Expr) (es : Exprs) (out new : List ℕ) (stand : Stand) (parens : Bool) → e ≡ Prod es
-    → new ≡ out ++ parens_if parens (joined true true es)
-    → ((bytes : List ℕ) → product_text (stand_of stand) bytes ≡ parens_if parens bytes) → new ≡ out ++ expr_text e (stand_of stand)
-product_put e es out new stand parens is put in_parens =
-    put
-    ∙ ap (λ x. out ++ parens_if parens x) (all_factors es)
-    ∙ ap (λ x. out ++ x) (sym (in_parens (factors_text es)))
-    ∙ ap (λ f. out ++ expr_text f (stand_of stand)) (sym is)
-
--- ---- Statements
-
-abbrev pub stmts_from : ℕ → Stmts → Stmts
-stmts_from zero ss = ss
-stmts_from (suc i) NoStmts = NoStmts
-stmts_from (suc i) (Then s rest) = stmts_from i rest
-
-pub record IsLineOf (ss : Stmts) (m : Memory) (i : ℕ) (k : Node) : Type 0 where
-  pub line : Stmt
-  pub stands : StmtAt line m k
-  pub from : stmts_from i ss ≡ Then line (stmts_from (suc i) ss)
-
-pub line_is : (ss : Stmts) (m : Memory) (ns : List Node) (i : ℕ) (k : Node) → StmtsAt ss m ns → slice_get ns i ≡ Some k → IsLineOf ss m i k
-line_is NoStmts m [] i k at is = absurd (none_is k is)
-line_is NoStmts m (n ∷ ns) i k at is = absurd at
-line_is (Then s rest) m [] i k at is = absurd at
-line_is (Then s rest) m (n ∷ ns) zero k at is = record { line = s; stands = subst (StmtAt s m) (some_node n k is) at.0; from = refl }
-line_is (Then s rest) m (n ∷ ns) (suc i) k at is =
-    let r = line_is rest m ns i k at.1 is in
-    record { line = r.line; stands = r.stands; from = r.from }
-
-pub stmts_end : (ss : Stmts) (m : Memory) (ns : List Node) (i : ℕ) → StmtsAt ss m ns → length ns ≤ i → stmts_from i ss ≡ NoStmts
-stmts_end NoStmts m [] zero at h = refl
-stmts_end NoStmts m [] (suc i) at h = refl
-stmts_end NoStmts m (n ∷ ns) i at h = absurd at
-stmts_end (Then s rest) m [] i at h = absurd at
-stmts_end (Then s rest) m (n ∷ ns) zero at h = absurd (omega (arith, h))
-stmts_end (Then s rest) m (n ∷ ns) (suc i) at h = stmts_end rest m ns i at.1 (omega (arith, h))
-
-pub lines_begin : (ss : Stmts) (out : List ℕ) → out ++ text (stmts_from 0 ss) ≡ out ++ text ss
-lines_begin ss out = refl
-
-pub lines_more : (ss : Stmts) (m : Memory) (ns : List Node) (i : ℕ) (k : Node) (one two all : List ℕ) → StmtsAt ss m ns
-    → slice_get ns i ≡ Some k
-    → ((s : Stmt) → StmtAt s m k → two ≡ one ++ stmt_text s) → one ++ text (stmts_from i ss) ≡ all
-    → two ++ text (stmts_from (i + 1) ss) ≡ all
-lines_more ss m ns i k one two all at get put is =
-    let r = line_is ss m ns i k at get in
-    let next : suc i ≡ i + 1 = omega arith in
-    let rest = stmts_from (suc i) ss in
-    ap (λ j. two ++ text (stmts_from j ss)) (sym next)
-    ∙ ap (λ x. x ++ text rest) (put r.line r.stands)
-    ∙ append_assoc one (stmt_text r.line) (text rest)
-    ∙ ap (λ ts. one ++ text ts) (sym r.from)
-    ∙ is
-
-pub lines_end : (ss : Stmts) (m : Memory) (ns : List Node) (i : ℕ) (one all : List ℕ) → StmtsAt ss m ns → length ns ≤ i
-    → one ++ text (stmts_from i ss) ≡ all → one ≡ all
-lines_end ss m ns i one all at h is =
-    sym (append_nothing one) ∙ ap (λ ts. one ++ text ts) (sym (stmts_end ss m ns i at h)) ∙ is
-
-put_three : (o a b c : List ℕ) → ((o ++ a) ++ b) ++ c ≡ o ++ ((a ++ b) ++ c)
-put_three o a b c = ap (λ x. x ++ c) (append_assoc o a b) ∙ append_assoc o (a ++ b) c
-
-put_five : (o a b c d e : List ℕ) → ((((o ++ a) ++ b) ++ c) ++ d) ++ e ≡ o ++ ((((a ++ b) ++ c) ++ d) ++ e)
-put_five o a b c d e =
-    ap (λ x. x ++ e) (ap (λ x. x ++ d) (put_three o a b c) ∙ append_assoc o ((a ++ b) ++ c) d) ∙ append_assoc o (((a ++ b) ++ c) ++ d) e
-
-pub let_put : (s : Stmt) (name : List ℕ) (e : Expr) (out one two three four five : List ℕ) → s ≡ Let name e → one ≡ out ++ codes "let "
-    → two ≡ one ++ name
-    → three ≡ two ++ codes " = " → four ≡ three ++ expr_text e AsExpr → five ≡ four ++ codes ";\n" → five ≡ out ++ stmt_text s
-let_put s name e out one two three four five is a b c d f =
-    let whole : ((((out ++ codes "let ") ++ name) ++ codes " = ") ++ expr_text e AsExpr) ++ codes ";\n" ≡ out ++ stmt_text (Let name e)
-    = put_five out (codes "let ") name (codes " = ") (expr_text e AsExpr) (codes ";\n") in
-    f
-    ∙ ap (λ x. x ++ codes ";\n") (d ∙ ap (λ x. x ++ expr_text e AsExpr) (c ∙ ap (λ x. x ++ codes " = ") (b ∙ ap (λ x. x ++ name) a)))
-    ∙ whole
-    ∙ ap (λ t. out ++ stmt_text t) (sym is)
-
-pub show_put : (s : Stmt) (e : Expr) (out one two : List ℕ) → s ≡ Show e → one ≡ out ++ expr_text e AsExpr → two ≡ one ++ codes ";\n"
-    → two ≡ out ++ stmt_text s
-show_put s e out one two is a b =
-    b ∙ ap (λ x. x ++ codes ";\n") a ∙ append_assoc out (expr_text e AsExpr) (codes ";\n") ∙ ap (λ t. out ++ stmt_text t) (sym is)
-
-pub block_put : (s : Stmt) (ss : Stmts) (out one two three : List ℕ) → s ≡ tree.Block ss → one ≡ out ++ codes "{\n" → two ≡ one ++ text ss
-    → three ≡ two ++ codes "}\n" → three ≡ out ++ stmt_text s
-block_put s ss out one two three is a b c =
-    c ∙ ap (λ x. x ++ codes "}\n") (b ∙ ap (λ x. x ++ text ss) a) ∙ put_three out (codes "{\n") (text ss) (codes "}\n")
-    ∙ ap (λ t. out ++ stmt_text t) (sym is)
+    later : (i : ℕ) → (i + 1 == 0) ≡ false
+    later i = grind arith

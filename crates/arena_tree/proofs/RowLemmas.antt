@@ -1,22 +1,23 @@
 -- Lists of nodes that are built, one tree after another.
-use Rattle.std.proofs.Common.{◌≡◌, ℕ, suc, zero, ◌+◌, ◌-◌, ◌<◌, ◌≤◌, ap, sym, refl, subst, ◌∙◌, Some, List, [], ◌∷◌, ◌++◌, append_assoc, take, drop, length, arith}
+use Rattle.std.proofs.Common.{◌≡◌, ℕ, suc, zero, ◌+◌, ◌-◌, ◌<◌, ◌≤◌, ap, sym, refl, subst, ◌∙◌, Some, List, [], ◌∷◌, ◌++◌, append_assoc, take, drop, length, arith, append-nil}
 use Rattle.std.specs.Prelude.{slice_get}
 use Rattle.arena_chunks.specs.Memory.{Memory}
 use Rattle.arena_chunks.specs.Frame.{Frame, ArePairwiseApart}
-use Rattle.arena_chunks.proofs.Layers.{all_apart, apart_both, pairwise_both, all_from_both, frame_then, frame_beside}
+use Rattle.arena_chunks.proofs.Layers.{all_apart, apart_both, pairwise_both, all_from_both, frame_then, frame_beside, frame_reflexive, empty_after}
 use Rattle.arena_items.specs.Footprint.{AreReadable, Agree}
 use Rattle.arena_vec.specs.Vecs.{IsVecIn, vec_list}
 use Rattle.arena_vec.specs.declared.vec.Vec.{Vec}
-use Rattle.tree_rules.specs.Trees.{Exprs, And, Stmt, Stmts, NoStmts, Then, with_stmt}
+use Rattle.tree_rules.specs.Trees.{Expr, Exprs, NoExprs, And, with_expr, Stmt, Stmts, NoStmts, Then, with_stmt}
 use Rattle.arena_tree.specs.declared.node.Node.{Node}
 use Rattle.arena_tree.specs.TreesAt.{node_item, exprs_blocks, expr_blocks, IsBuilt}
 use Rattle.arena_tree.specs.StmtsAt.{stmts_blocks, stmt_blocks, AreBuilt}
 use Rattle.arena_tree.specs.TreeLaws.{list_same, list_held, expr_readable, expr_names, expr_again, readable_both, readable_each, agree_each}
 use Rattle.arena_tree.specs.StmtLaws.{stmt_readable, stmt_names, stmt_again}
 use Rattle.arena_tree.specs.Subtrees.{Subtree, OfExpr, OfStmt, SubtreeAt, blocks_at, below_it, row_nodes, HasTree, expr_row, stmt_row, RowAt, row_blocks, IsTreePlaced, IsRowBuilt}
-use Rattle.arena_tree.proofs.StayLemmas.{stay_all, turned_one, frame_behind}
+use Rattle.arena_tree.proofs.StayLemmas.{stay_all, all_none, turned_one, frame_behind}
 use Rattle.arena_tree.proofs.WalkLemmas.{some_node, none_node}
-use Rattle.arena_tree.proofs.SubtreeLemmas.{row_exprs_at, stmt_row_at, row_stmts_at, append_none}
+use Rattle.arena_tree.proofs.SubtreeLemmas.{row_exprs_at, row_stmts_at, row_length}
+use Rattle.std.proofs.lemmas.List.{take_all}
 
 -- ---- The same bytes in all blocks: the same trees on the same blocks
 
@@ -50,7 +51,7 @@ row_stays ts a c ns at same reads = absurd at
 
 one_more : (ts : List Subtree) (t : Subtree) (m : Memory) (ns : List Node) (n : Node) → RowAt ts m ns → SubtreeAt t m n
     → RowAt (ts ++ t ∷ []) m (ns ++ n ∷ []) × (row_blocks (ts ++ t ∷ []) m (ns ++ n ∷ []) ≡ row_blocks ts m ns ++ blocks_at t m n)
-one_more [] t m [] n at one = ((one, tt), append_none (blocks_at t m n))
+one_more [] t m [] n at one = ((one, tt), append-nil (blocks_at t m n))
 one_more (r ∷ ts) t m (k ∷ ns) n at one =
     let more = one_more ts t m ns n at.1 one in (
       (at.0, more.0),
@@ -58,16 +59,52 @@ one_more (r ∷ ts) t m (k ∷ ns) n at one =
     )
 one_more ts t m ns n at one = absurd at
 
+tree_placed : (t : Subtree) (old new : Memory) (n : Node) → IsTreePlaced t old new n
+    → SubtreeAt t new n × ArePairwiseApart (blocks_at t new n) × Frame old new [] (blocks_at t new n)
+tree_placed (OfExpr e) old new n p = (p.stands, p.apart, p.frame)
+tree_placed (OfStmt s) old new n p = (p.stands, p.apart, p.frame)
+
+-- no trees, in a list with no storage
+pub row_none : (m : Memory) (v : Vec Node) → IsVecIn node_item m v → vec_list node_item m v ≡ [] → v.raw.block.size ≡ 0
+    → IsRowBuilt [] m m v
+row_none m v held none size = record {
+  held = held;
+  stand = subst (RowAt [] m) (sym none) tt;
+  apart = (tt, tt);
+  frame = (empty_after m m [] [] [] v.raw.block size).1 (frame_reflexive m []);
+}
+
+-- A tree that was placed before is put in a list with room, in a block that was free.
+pub row_first : (t : Subtree) (old one mid new : Memory) (v w : Vec Node) (n : Node) → IsTreePlaced t old one n → IsRowBuilt [] one mid v
+    → IsVecIn node_item new w → vec_list node_item new w ≡ vec_list node_item mid v ++ n ∷ []
+    → Frame mid new (v.raw.block ∷ []) (w.raw.block ∷ []) → IsRowBuilt (t ∷ []) old new w
+row_first t old one mid new v w n placed room held list_is filled =
+    let wb = w.raw.block in
+    let nb = blocks_at t one n in
+    let p = tree_placed t old one n placed in
+    let frame : Frame one new [] (wb ∷ []) = frame_then one mid new [] (v.raw.block ∷ []) (wb ∷ []) room.frame filled in
+    let stay = stay_all one new [] (wb ∷ []) nb frame (it_readable t one n p.0) (all_none nb) in
+    let tree = it_stays t one new n p.0 stay.agree stay.readable in
+    let list : vec_list node_item new w ≡ n ∷ [] = list_is ∙ ap (λ ks. ks ++ n ∷ []) (no_trees (vec_list node_item mid v) room.stand) in
+    let blocks : row_blocks (t ∷ []) new (vec_list node_item new w) ≡ nb
+    = ap (row_blocks (t ∷ []) new) list ∙ append-nil (blocks_at t new n) ∙ tree.1 in
+    record {
+      held = held;
+      stand = subst (RowAt (t ∷ []) new) (sym list) (tree.0, tt);
+      apart = subst (λ bs. ArePairwiseApart (wb ∷ bs)) (sym blocks) (turned_one wb nb stay.apart, p.1);
+      frame = subst (λ bs. Frame old new [] (wb ∷ bs)) (sym blocks)
+          (frame_then old one new [] nb (wb ∷ nb) p.2 (frame_beside one new [] (wb ∷ []) nb frame));
+    }
+  where
+    no_trees : (ns : List Node) → RowAt [] mid ns → ns ≡ []
+    no_trees [] at = refl
+    no_trees (k ∷ ns) at = absurd at
+
 -- A tree is placed, and put at the end of a list that is built.
 module _ (ts : List Subtree) (t : Subtree) (old one two : Memory) (v : Vec Node) (n : Node) (built : IsRowBuilt ts old one v)
     (placed : IsTreePlaced t one two n) where
   stands : SubtreeAt t two n × ArePairwiseApart (blocks_at t two n) × Frame one two [] (blocks_at t two n)
-  stands = by t placed
-    where
-      by : (t : Subtree) → IsTreePlaced t one two n
-          → SubtreeAt t two n × ArePairwiseApart (blocks_at t two n) × Frame one two [] (blocks_at t two n)
-      by (OfExpr e) p = (p.stands, p.apart, p.frame)
-      by (OfStmt s) p = (p.stands, p.apart, p.frame)
+  stands = tree_placed t one two n placed
 
   pub row_held : IsVecIn node_item two v
   row_held = list_held one two v built.held
@@ -115,11 +152,10 @@ expr_blocks_are es m ns = refl
 
 pub exprs_built : (es : Exprs) (old new : Memory) (v : Vec Node) → IsRowBuilt (expr_row es) old new v → IsBuilt es old new v
 exprs_built es old new v b =
-    let ns = vec_list node_item new v in
-    let is = expr_blocks_are es new ns in
+    let is = expr_blocks_are es new (vec_list node_item new v) in
     record {
       held = b.held;
-      stand = row_exprs_at es new ns b.stand;
+      stand = row_exprs_at es new _ b.stand;
       apart = subst (λ bs. ArePairwiseApart (v.raw.block ∷ bs)) is b.apart;
       frame = subst (λ bs. Frame old new [] (v.raw.block ∷ bs)) is b.frame;
     }
@@ -130,29 +166,30 @@ stmt_blocks_are ss m ns = refl
 
 pub stmts_built : (ss : Stmts) (old new : Memory) (v : Vec Node) → IsRowBuilt (stmt_row ss) old new v → AreBuilt ss old new v
 stmts_built ss old new v b =
-    let ns = vec_list node_item new v in
-    let is = stmt_blocks_are ss new ns in
+    let is = stmt_blocks_are ss new (vec_list node_item new v) in
     record {
       held = b.held;
-      stand = row_stmts_at ss new ns b.stand;
+      stand = row_stmts_at ss new _ b.stand;
       apart = subst (λ bs. ArePairwiseApart (v.raw.block ∷ bs)) is b.apart;
       frame = subst (λ bs. Frame old new [] (v.raw.block ∷ bs)) is b.frame;
     }
 
-pub stmts_row : (ss : Stmts) (old new : Memory) (v : Vec Node) → AreBuilt ss old new v → IsRowBuilt (stmt_row ss) old new v
-stmts_row ss old new v b =
-    let ns = vec_list node_item new v in
-    let is = sym (stmt_blocks_are ss new ns) in
-    record {
-      held = b.held;
-      stand = stmt_row_at ss new ns b.stand;
-      apart = subst (λ bs. ArePairwiseApart (v.raw.block ∷ bs)) is b.apart;
-      frame = subst (λ bs. Frame old new [] (v.raw.block ∷ bs)) is b.frame;
-    }
+-- one more, in the lists of the grammar
+pub exprs_more : (es : Exprs) (e : Expr) {old new : Memory} {v : Vec Node} → IsRowBuilt (expr_row es ++ OfExpr e ∷ []) old new v
+    → IsRowBuilt (expr_row (with_expr es e)) old new v
+exprs_more es e {old} {new} {v} = subst (λ ts. IsRowBuilt ts old new v) (sym (is es))
+  where
+    is : (es : Exprs) → expr_row (with_expr es e) ≡ expr_row es ++ OfExpr e ∷ []
+    is NoExprs = refl
+    is (And f es) = ap (λ ts. OfExpr f ∷ ts) (is es)
 
-pub row_with : (ss : Stmts) (s : Stmt) → stmt_row (with_stmt ss s) ≡ stmt_row ss ++ OfStmt s ∷ []
-row_with NoStmts s = refl
-row_with (Then r ss) s = ap (λ ts. OfStmt r ∷ ts) (row_with ss s)
+pub stmts_more : (ss : Stmts) (s : Stmt) {old new : Memory} {v : Vec Node} → IsRowBuilt (stmt_row ss ++ OfStmt s ∷ []) old new v
+    → IsRowBuilt (stmt_row (with_stmt ss s)) old new v
+stmts_more ss s {old} {new} {v} = subst (λ ts. IsRowBuilt ts old new v) (sym (is ss))
+  where
+    is : (ss : Stmts) → stmt_row (with_stmt ss s) ≡ stmt_row ss ++ OfStmt s ∷ []
+    is NoStmts = refl
+    is (Then r ss) = ap (λ ts. OfStmt r ∷ ts) (is ss)
 
 -- ---- The tree whose turn it is
 
@@ -179,8 +216,4 @@ kid_can ts m ns i room k at is low =
     record { tree = r.tree; stands = r.stands; low = omega (arith, r.low, low) }
 
 pub row_whole : (ts : List Subtree) (m : Memory) (ns : List Node) (i : ℕ) → RowAt ts m ns → length ns ≤ i → take i ts ≡ ts
-row_whole [] m ns zero at h = refl
-row_whole [] m ns (suc i) at h = refl
-row_whole (t ∷ ts) m (n ∷ ns) zero at h = absurd (omega (arith, h))
-row_whole (t ∷ ts) m (n ∷ ns) (suc i) at h = ap (λ rs. t ∷ rs) (row_whole ts m ns i at.1 (omega (arith, h)))
-row_whole (t ∷ ts) m [] i at h = absurd at
+row_whole ts m ns i at h = take_all i ts (omega (arith, h, row_length ts m ns at))

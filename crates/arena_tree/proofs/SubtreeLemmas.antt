@@ -1,12 +1,11 @@
 -- Expressions and statements as subtrees: their kids, what the rule for one node leaves to those, and how many there are.
-use Rattle.std.proofs.Common.{◌≡◌, ℕ, ap, sym, refl, ◌∙◌, true, false, List, [], ◌∷◌, ◌++◌, length}
+use Rattle.std.proofs.Common.{◌≡◌, ℕ, suc, ap, sym, refl, ◌∙◌, true, false, List, [], ◌∷◌, ◌++◌, length, append-nil}
 use Rattle.arena_chunks.specs.Memory.{Memory}
 use Rattle.arena_chunks.specs.declared.block.Block.{Block}
 use Rattle.arena_vec.specs.Vecs.{IsVecIn}
 use Rattle.tree_rules.specs.Trees.{Expr, Num, Name, Neg, Sum, Prod, Exprs, NoExprs, And, Stmt, Let, Show, Stmts, NoStmts, Then}
-use Rattle.tree_rules.specs.Trees.{sum, product, folded, all_folded, folds_of, all_folds, folded_stmt, folded_stmts, folds_of_stmt, folds_of_stmts}
-use Rattle.tree_rules.specs.Trees.{fold_neg, numbers_of, reckoned, one_if_neg, one_if_reckoned}
 use Rattle.tree_rules.specs.Trees as tree
+pub use Rattle.arena_tree.specs.Subtrees.{kids_it}
 use Rattle.arena_tree.specs.declared.node.Node.{Node}
 use Rattle.arena_tree.specs.TreesAt.{node_item, kids_of, kids_in, IsOnly, of_first, ExprAt, ExprsAt}
 use Rattle.arena_tree.specs.StmtsAt.{StmtsAt}
@@ -45,17 +44,12 @@ stmt_row_blocks (Then s rest) m (n ∷ ns) =
     (ap (λ bs. stmt_lists s m n ++ bs) r.0, ap (λ bs. stmt_texts s m n ++ bs) r.1)
 stmt_row_blocks ss m ns = (refl, refl)
 
--- ---- Kids
+pub row_length : (ts : List Subtree) (m : Memory) (ns : List Node) → RowAt ts m ns → length ts ≡ length ns
+row_length [] m [] at = refl
+row_length (t ∷ ts) m (n ∷ ns) at = ap suc (row_length ts m ns at.1)
+row_length ts m ns at = absurd at
 
-abbrev pub kids_it : Subtree → List Subtree
-kids_it (OfExpr (Num k)) = []
-kids_it (OfExpr (Name bytes)) = []
-kids_it (OfExpr (Neg e)) = OfExpr e ∷ []
-kids_it (OfExpr (Sum kids)) = expr_row kids
-kids_it (OfExpr (Prod kids)) = expr_row kids
-kids_it (OfStmt (Let name e)) = OfExpr e ∷ []
-kids_it (OfStmt (Show e)) = OfExpr e ∷ []
-kids_it (OfStmt (tree.Block body)) = stmt_row body
+-- ---- Kids
 
 abbrev pub own_texts : Subtree → Node → List Block
 own_texts (OfStmt (Let name e)) n = n.text.block ∷ []
@@ -74,49 +68,34 @@ pub record KidsAt (ks : List Subtree) (own : List Block) (m : Memory) (n : Node)
   pub lists_are : ls ≡ n.kids ∷ row_lists ks m (kids_in m n)
   pub texts_are : ts ≡ own ++ row_texts ks m (kids_in m n)
 
-pub append_none : (bs : List Block) → bs ++ [] ≡ bs
-append_none [] = refl
-append_none (b ∷ bs) = ap (λ more. b ∷ more) (append_none bs)
+one_at : (e : Expr) (m : Memory) (ns : List Node) → IsOnly ns (λ k. ExprAt e m k) → RowAt (OfExpr e ∷ []) m ns
+one_at e m (k ∷ []) at = (at, tt)
+one_at e m ns at = absurd at
 
-one_kid : (own : List Block) (e : Expr) (m : Memory) (n : Node) → IsVecIn node_item m (kids_of n)
-    → IsOnly (kids_in m n) (λ k. ExprAt e m k)
-    → KidsAt (OfExpr e ∷ []) own m n (n.kids ∷ of_first (kids_in m n) (λ k. expr_lists e m k))
-    (own ++ of_first (kids_in m n) (λ k. expr_texts e m k))
-one_kid own e m n held only = record {
-  held = held;
-  stand = at (kids_in m n) only;
-  lists_are = ap (λ bs. n.kids ∷ bs) (blocks (kids_in m n) (λ k. expr_lists e m k) (λ ns. row_lists (OfExpr e ∷ []) m ns) refl
-      (λ k ks. refl));
-  texts_are = ap (λ bs. own ++ bs) (blocks (kids_in m n) (λ k. expr_texts e m k) (λ ns. row_texts (OfExpr e ∷ []) m ns) refl
-      (λ k ks. refl));
-}
-  where
-    at : (ns : List Node) → IsOnly ns (λ k. ExprAt e m k) → RowAt (OfExpr e ∷ []) m ns
-    at (k ∷ []) h = (h, tt)
-    at ns h = absurd h
+one_blocks : (e : Expr) (m : Memory) (ns : List Node) → (of_first ns (λ k. expr_lists e m k) ≡ row_lists (OfExpr e ∷ []) m ns)
+    × (of_first ns (λ k. expr_texts e m k) ≡ row_texts (OfExpr e ∷ []) m ns)
+one_blocks e m [] = (refl, refl)
+one_blocks e m (k ∷ ks) = (sym (append-nil (expr_lists e m k)), sym (append-nil (expr_texts e m k)))
 
-    blocks : (ns : List Node) (f : Node → List Block) (g : List Node → List Block) → g [] ≡ []
-        → ((k : Node) (ks : List Node) → g (k ∷ ks) ≡ f k ++ []) → of_first ns f ≡ g ns
-    blocks [] f g none some = sym none
-    blocks (k ∷ ks) f g none some = sym (some k ks ∙ append_none (f k))
-
-expr_kids : (es : Exprs) (m : Memory) (n : Node) → IsVecIn node_item m (kids_of n) → ExprsAt es m (kids_in m n)
-    → KidsAt (expr_row es) [] m n (n.kids ∷ exprs_lists es m (kids_in m n)) (exprs_texts es m (kids_in m n))
-expr_kids es m n held at =
-    let r = expr_row_blocks es m (kids_in m n) in
-    record { held = held; stand = expr_row_at es m (kids_in m n) at; lists_are = ap (λ bs. n.kids ∷ bs) r.0; texts_are = r.1 }
+kids_as : (own : List Block) (ks : List Subtree) (m : Memory) (n : Node) {ls ts : List Block} → IsVecIn node_item m (kids_of n)
+    → RowAt ks m (kids_in m n) → (ls ≡ row_lists ks m (kids_in m n)) × (ts ≡ row_texts ks m (kids_in m n))
+    → KidsAt ks own m n (n.kids ∷ ls) (own ++ ts)
+kids_as own ks m n held row are =
+    record { held = held; stand = row; lists_are = ap (λ bs. n.kids ∷ bs) are.0; texts_are = ap (λ bs. own ++ bs) are.1 }
 
 pub true_false : true ≡ false → ⊥
 true_false is = cc
 
 pub kids_at : (t : Subtree) (m : Memory) (n : Node) → SubtreeAt t m n → has_kids n.kind ≡ true
     → KidsAt (kids_it t) (own_texts t n) m n (lists_at t m n) (texts_at t m n)
-kids_at (OfExpr (Neg e)) m n at is = one_kid [] e m n at.1 at.2
-kids_at (OfExpr (Sum kids)) m n at is = expr_kids kids m n at.1 at.2
-kids_at (OfExpr (Prod kids)) m n at is = expr_kids kids m n at.1 at.2
-kids_at (OfStmt (Let name e)) m n at is = one_kid (n.text.block ∷ []) e m n at.3 at.4
-kids_at (OfStmt (Show e)) m n at is = one_kid [] e m n at.1 at.2
+kids_at (OfExpr (Neg e)) m n at is = kids_as [] (OfExpr e ∷ []) m n at.1 (one_at e m _ at.2) (one_blocks e m (kids_in m n))
+kids_at (OfExpr (Sum kids)) m n at is =
+    kids_as [] (expr_row kids) m n at.1 (expr_row_at kids m _ at.2) (expr_row_blocks kids m (kids_in m n))
+kids_at (OfExpr (Prod kids)) m n at is =
+    kids_as [] (expr_row kids) m n at.1 (expr_row_at kids m _ at.2) (expr_row_blocks kids m (kids_in m n))
+kids_at (OfStmt (Let name e)) m n at is =
+    kids_as (n.text.block ∷ []) (OfExpr e ∷ []) m n at.3 (one_at e m _ at.4) (one_blocks e m (kids_in m n))
+kids_at (OfStmt (Show e)) m n at is = kids_as [] (OfExpr e ∷ []) m n at.1 (one_at e m _ at.2) (one_blocks e m (kids_in m n))
 kids_at (OfStmt (tree.Block body)) m n at is =
-    let r = stmt_row_blocks body m (kids_in m n) in
-    record { held = at.1; stand = stmt_row_at body m (kids_in m n) at.2; lists_are = ap (λ bs. n.kids ∷ bs) r.0; texts_are = r.1 }
+    kids_as [] (stmt_row body) m n at.1 (stmt_row_at body m _ at.2) (stmt_row_blocks body m (kids_in m n))
 kids_at t m n at is = absurd (true_false (sym is ∙ ap has_kids at.0))

@@ -6,7 +6,6 @@ pub mod StmtsAt
 pub mod StmtLaws
 pub mod LineParts
 pub mod Counts
-pub mod Walks
 pub mod Printing
 pub mod Lists
 pub mod Given

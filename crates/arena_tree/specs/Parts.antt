@@ -2,7 +2,7 @@
 use Rattle.std.specs.Prelude.{◌≡◌, ℕ, ◌<◌, ◌≤◌, Bool, true, false, None, List, [], ◌∷◌, length, slice_range}
 use Rattle.arena_chunks.specs.Memory.{Memory}
 use Rattle.arena_vec.specs.declared.vec.Vec.{Vec}
-use Rattle.tree_rules.specs.Tokens.{Token, Word, Number, Plus, Minus, Star, LeftParen, RightParen, Placed, without_places}
+use Rattle.tree_rules.specs.Tokens.{Token, Word, Number, Plus, Minus, Star, LeftParen, Placed, without_places}
 use Rattle.tree_rules.specs.Trees.{Expr, Neg}
 use Rattle.tree_rules.specs.Grammar.{Factors, Terms, spell_factor, spell_factors, spell_terms, factor_tree, factors_tree, factor_trees, terms_tree, term_trees}
 use Rattle.tree_rules.specs.Reading.{State, state, signs_ended, refusal_from}
@@ -10,7 +10,8 @@ use Rattle.tree_rules.specs.declared.machine.Open.{Open}
 use Rattle.tree_rules.specs.declared.machine.Open.TheVariants.{Paren}
 use Rattle.tree_rules.specs.declared.machine.Mode.TheVariants.{AtFactor, BehindFactor}
 use Rattle.tree_reader.specs.Seen.{tokens_at}
-use Rattle.arena_tree.specs.TreesAt.{IsPlaced, IsBuilt}
+use Rattle.arena_tree.specs.TreesAt.{IsPlaced}
+use Rattle.arena_tree.specs.Subtrees.{expr_row, IsRowBuilt}
 use Rattle.arena_tree.specs.declared.node.Node.{Node}
 use Rattle.arena_tree.specs.declared.look.Start.{Start}
 use Rattle.arena_tree.specs.declared.look.Start.TheVariants as start
@@ -43,10 +44,6 @@ abbrev pub NoSign : List Placed → Type 0
 NoSign [] = Unit {0}
 NoSign (t ∷ ts) = (t.token ≡ Plus → ⊥) × (t.token ≡ Minus → ⊥)
 
-abbrev pub NoClose : List Placed → Type 0
-NoClose [] = Unit {0}
-NoClose (t ∷ ts) = t.token ≡ RightParen → ⊥
-
 -- a term that is taken away is negated
 abbrev pub signed_tree : Bool → Expr → Expr
 signed_tree true e = Neg e
@@ -56,17 +53,28 @@ abbrev pub sign_of : Bool → Token
 sign_of true = Minus
 sign_of false = Plus
 
+-- From one byte to another these tokens stand, and over them the machine goes from one state to the other, whatever is open.
+pub record Reads {X : Type 0} (bytes : List ℕ) (from end : ℕ) (spelled : List Token → List Token) (before behind : X → State) : Type 0 where
+  pub tokens_are : spelled_at bytes from ≡ spelled (spelled_at bytes end)
+  pub passes : (opens : X) → IsPassed bytes (before opens) from → IsPassed bytes (behind opens) end
+  pub later : from < end
+  pub within : end ≤ length bytes
+
+-- the states behind a factor, and behind an operator after it
+abbrev pub behind_factor : List Open → State
+behind_factor opens = state BehindFactor (signs_ended opens)
+
+abbrev pub at_next : List Open → State
+at_next opens = state AtFactor (signs_ended opens)
+
 -- A part was read, and a tree placed for it.
 pub record IsPart {P : Type 0} (tree : P → Expr) (spelled : P → List Token → List Token) (stops : List Placed → Type 0)
     (bytes : List ℕ) (from end : ℕ) (old new : Memory) (n : Node) : Type 0 where
   pub part : P
-  pub tokens_are : spelled_at bytes from ≡ spelled part (spelled_at bytes end)
-  pub passes : (opens : List Open) → IsPassed bytes (state AtFactor opens) from → IsPassed bytes (state BehindFactor (signs_ended opens))
-      end
+  pub read : Reads bytes from end (spelled part) (state AtFactor) behind_factor
+  pub open read use *
   pub stopped : stops (tokens_at bytes end)
   pub placed : IsPlaced (tree part) old new n
-  pub later : from < end
-  pub within : end ≤ length bytes
 
 abbrev pub AnyStop : List Placed → Type 0
 AnyStop ts = Unit {0}
@@ -86,20 +94,16 @@ IsTerms = IsPart terms_tree spell_terms TermsStop
 -- Factors were read up to a star, and their trees are in a list; a factor is to come.
 pub record AreFactors (bytes : List ℕ) (from next : ℕ) (old new : Memory) (list : Vec Node) : Type 0 where
   pub part : Factors
-  pub tokens_are : spelled_at bytes from ≡ spell_factors part (Star ∷ spelled_at bytes next)
-  pub passes : (opens : List Open) → IsPassed bytes (state AtFactor opens) from → IsPassed bytes (state AtFactor (signs_ended opens)) next
-  pub built : IsBuilt (factor_trees part) old new list
-  pub later : from < next
-  pub within : next ≤ length bytes
+  pub read : Reads bytes from next (λ more. spell_factors part (Star ∷ more)) (state AtFactor) at_next
+  pub open read use *
+  pub built : IsRowBuilt (expr_row (factor_trees part)) old new list
 
 -- Terms were read up to a sign, and their trees are in a list; a term is to come.
 pub record AreTerms (bytes : List ℕ) (from next : ℕ) (minus : Bool) (old new : Memory) (list : Vec Node) : Type 0 where
   pub part : Terms
-  pub tokens_are : spelled_at bytes from ≡ spell_terms part (sign_of minus ∷ spelled_at bytes next)
-  pub passes : (opens : List Open) → IsPassed bytes (state AtFactor opens) from → IsPassed bytes (state AtFactor (signs_ended opens)) next
-  pub built : IsBuilt (term_trees part) old new list
-  pub later : from < next
-  pub within : next ≤ length bytes
+  pub read : Reads bytes from next (λ more. spell_terms part (sign_of minus ∷ more)) (state AtFactor) at_next
+  pub open read use *
+  pub built : IsRowBuilt (expr_row (term_trees part)) old new list
 
 -- What a factor begins with: a number, a name, a sign or a parenthesis. Behind the last two a factor is to come.
 abbrev pub IsStart : List ℕ → ℕ → Start → Type 0

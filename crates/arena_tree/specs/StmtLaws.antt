@@ -1,14 +1,13 @@
 -- The blocks of statements determine them.
 use Rattle.std.proofs.Common.{◌≡◌, ap, sym, refl, subst, ◌∙◌, List, [], ◌∷◌, ◌++◌}
 use Rattle.arena_chunks.specs.Memory.{Memory}
-use Rattle.arena_chunks.specs.declared.block.Block.{Block}
 use Rattle.arena_items.specs.Footprint.{AreReadable, Agree}
 use Rattle.tree_rules.specs.Trees.{Expr, Stmt, Let, Show, Stmts, NoStmts, Then}
 use Rattle.tree_rules.specs.Trees as tree
 use Rattle.arena_tree.specs.declared.node.Node.{Node}
-use Rattle.arena_tree.specs.TreesAt.{kids_of, kids_in, IsOnly, of_first, ExprAt, expr_blocks}
-use Rattle.arena_tree.specs.StmtsAt.{StmtAt, StmtsAt, stmt_blocks, stmts_blocks}
-use Rattle.arena_tree.specs.TreeLaws.{list_same, list_held, readable_both, readable_each, agree_each, expr_readable, expr_names, expr_again, first_agree, only_again}
+use Rattle.arena_tree.specs.TreesAt.{kids_of, kids_in, IsOnly, of_first, ExprAt, Which, OfBoth, with_list, with_text, expr_named, expr_blocks}
+use Rattle.arena_tree.specs.StmtsAt.{StmtAt, StmtsAt, stmt_named, stmts_named, stmt_blocks, stmts_blocks}
+use Rattle.arena_tree.specs.TreeLaws.{list_same, list_held, readable_both, readable_each, agree_each, expr_readable, expr_same, expr_again, first_agree, only_again}
 
 only_readable : (e : Expr) (m : Memory) (ns : List Node) → IsOnly ns (λ k. ExprAt e m k) → AreReadable m.state (of_first ns (λ k.
     expr_blocks e m k))
@@ -29,30 +28,36 @@ mutual
   stmts_readable (Then s rest) m (n ∷ ns) at =
       readable_both m (stmt_blocks s m n) (stmts_blocks rest m ns) (stmt_readable s m n at.0) (stmts_readable rest m ns at.1)
 
-only_names : (e : Expr) (a c : Memory) (n : Node) → Agree a c (n.kids ∷ of_first (kids_in a n) (λ k. expr_blocks e a k))
-    → ◌≡◌ {A = List Block} (n.kids ∷ of_first (kids_in c n) (λ k. expr_blocks e c k)) (n.kids ∷ of_first (kids_in a n) (λ k. expr_blocks
-    e a k))
-only_names e a c n agree =
-    ap (λ ns. n.kids ∷ of_first ns (λ k. expr_blocks e c k)) (list_same a c (kids_of n) agree.0)
-    ∙ ap (λ bs. n.kids ∷ bs) (first_agree a c (kids_in a n) (λ k. expr_blocks e a k) (λ k. expr_blocks e c k) (λ k same. expr_names e a c
-    k same) agree.1)
+only_same : (w : Which) (e : Expr) (a c : Memory) (n : Node) → Agree a c (n.kids ∷ of_first (kids_in a n) (λ k. expr_blocks e a k))
+    → with_list w n.kids (of_first (kids_in c n) (λ k. expr_named w e c k))
+    ≡ with_list w n.kids (of_first (kids_in a n) (λ k. expr_named w e a k))
+only_same w e a c n agree =
+    ap (λ ns. with_list w n.kids (of_first ns (λ k. expr_named w e c k))) (list_same a c (kids_of n) agree.0)
+    ∙ ap (with_list w n.kids) (first_agree a c (kids_in a n) (λ k. expr_blocks e a k) (λ k. expr_named w e a k)
+    (λ k. expr_named w e c k) (λ k same. expr_same w e a c k same) agree.1)
 
 mutual
-  pub stmt_names : (s : Stmt) (a c : Memory) (n : Node) → Agree a c (stmt_blocks s a n) → stmt_blocks s c n ≡ stmt_blocks s a n
-  stmt_names (Let name e) a c n agree = ap (λ bs. n.text.block ∷ bs) (only_names e a c n agree.1)
-  stmt_names (Show e) a c n agree = only_names e a c n agree
-  stmt_names (tree.Block body) a c n agree =
-      ap (λ ns. n.kids ∷ stmts_blocks body c ns) (list_same a c (kids_of n) agree.0)
-      ∙ ap (λ bs. n.kids ∷ bs) (stmts_names body a c (kids_in a n) agree.1)
+  pub stmt_same : (w : Which) (s : Stmt) (a c : Memory) (n : Node) → Agree a c (stmt_blocks s a n) → stmt_named w s c n ≡ stmt_named w s a n
+  stmt_same w (Let name e) a c n agree = ap (with_text w n.text.block) (only_same w e a c n agree.1)
+  stmt_same w (Show e) a c n agree = only_same w e a c n agree
+  stmt_same w (tree.Block body) a c n agree =
+      ap (λ ns. with_list w n.kids (stmts_named w body c ns)) (list_same a c (kids_of n) agree.0)
+      ∙ ap (with_list w n.kids) (stmts_same w body a c (kids_in a n) agree.1)
 
-  pub stmts_names : (ss : Stmts) (a c : Memory) (ns : List Node) → Agree a c (stmts_blocks ss a ns)
-      → stmts_blocks ss c ns ≡ stmts_blocks ss a ns
-  stmts_names NoStmts a c ns agree = refl
-  stmts_names (Then s rest) a c [] agree = refl
-  stmts_names (Then s rest) a c (n ∷ ns) agree =
+  pub stmts_same : (w : Which) (ss : Stmts) (a c : Memory) (ns : List Node) → Agree a c (stmts_blocks ss a ns)
+      → stmts_named w ss c ns ≡ stmts_named w ss a ns
+  stmts_same w NoStmts a c ns agree = refl
+  stmts_same w (Then s rest) a c [] agree = refl
+  stmts_same w (Then s rest) a c (n ∷ ns) agree =
       let each = agree_each a c (stmt_blocks s a n) (stmts_blocks rest a ns) agree in
-      ap (λ bs. bs ++ stmts_blocks rest c ns) (stmt_names s a c n each.0)
-      ∙ ap (λ bs. stmt_blocks s a n ++ bs) (stmts_names rest a c ns each.1)
+      λ i. stmt_same w s a c n each.0 i ++ stmts_same w rest a c ns each.1 i
+
+pub stmt_names : (s : Stmt) (a c : Memory) (n : Node) → Agree a c (stmt_blocks s a n) → stmt_blocks s c n ≡ stmt_blocks s a n
+stmt_names = stmt_same OfBoth
+
+pub stmts_names : (ss : Stmts) (a c : Memory) (ns : List Node) → Agree a c (stmts_blocks ss a ns)
+    → stmts_blocks ss c ns ≡ stmts_blocks ss a ns
+stmts_names = stmts_same OfBoth
 
 kids_again : (e : Expr) (a c : Memory) (n : Node) → IsOnly (kids_in a n) (λ k. ExprAt e a k)
     → Agree a c (n.kids ∷ of_first (kids_in a n) (λ k. expr_blocks e a k))

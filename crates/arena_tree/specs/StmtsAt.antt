@@ -10,7 +10,7 @@ use Rattle.tree_rules.specs.Trees.{Stmt, Let, Show, Stmts, NoStmts, Then}
 use Rattle.tree_rules.specs.Trees as tree
 use Rattle.arena_tree.specs.declared.node.Kind.TheVariants as kind
 use Rattle.arena_tree.specs.declared.node.Node.{Node}
-use Rattle.arena_tree.specs.TreesAt.{node_item, kids_of, kids_in, IsOnly, of_first, ExprAt, expr_blocks}
+use Rattle.arena_tree.specs.TreesAt.{node_item, kids_of, kids_in, IsOnly, of_first, ExprAt, Which, OfBoth, with_list, with_text, expr_named}
 
 abbrev mutual
   pub StmtAt : Stmt → Memory → Node → Type 0
@@ -27,15 +27,22 @@ abbrev mutual
   StmtsAt (Then s rest) m (n ∷ ns) = StmtAt s m n × StmtsAt rest m ns
 
 abbrev mutual
-  pub stmt_blocks : Stmt → Memory → Node → List Block
-  stmt_blocks (Let name e) m n = n.text.block ∷ n.kids ∷ of_first (kids_in m n) (λ k. expr_blocks e m k)
-  stmt_blocks (Show e) m n = n.kids ∷ of_first (kids_in m n) (λ k. expr_blocks e m k)
-  stmt_blocks (tree.Block body) m n = n.kids ∷ stmts_blocks body m (kids_in m n)
+  pub stmt_named : Which → Stmt → Memory → Node → List Block
+  stmt_named w (Let name e) m n =
+      with_text w n.text.block (with_list w n.kids (of_first (kids_in m n) (λ k. expr_named w e m k)))
+  stmt_named w (Show e) m n = with_list w n.kids (of_first (kids_in m n) (λ k. expr_named w e m k))
+  stmt_named w (tree.Block body) m n = with_list w n.kids (stmts_named w body m (kids_in m n))
 
-  pub stmts_blocks : Stmts → Memory → List Node → List Block
-  stmts_blocks NoStmts m ns = []
-  stmts_blocks (Then s rest) m [] = []
-  stmts_blocks (Then s rest) m (n ∷ ns) = stmt_blocks s m n ++ stmts_blocks rest m ns
+  pub stmts_named : Which → Stmts → Memory → List Node → List Block
+  stmts_named w NoStmts m ns = []
+  stmts_named w (Then s rest) m [] = []
+  stmts_named w (Then s rest) m (n ∷ ns) = stmt_named w s m n ++ stmts_named w rest m ns
+
+abbrev pub stmt_blocks : Stmt → Memory → Node → List Block
+stmt_blocks s m n = stmt_named OfBoth s m n
+
+abbrev pub stmts_blocks : Stmts → Memory → List Node → List Block
+stmts_blocks ss m ns = stmts_named OfBoth ss m ns
 
 pub record IsStmtPlaced (s : Stmt) (old new : Memory) (n : Node) : Type 0 where
   pub stands : StmtAt s new n

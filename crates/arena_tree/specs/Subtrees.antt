@@ -5,7 +5,8 @@ use Rattle.arena_chunks.specs.Frame.{Frame, ArePairwiseApart}
 use Rattle.arena_chunks.specs.declared.block.Block.{Block}
 use Rattle.arena_vec.specs.Vecs.{IsVecIn, vec_list}
 use Rattle.arena_vec.specs.declared.vec.Vec.{Vec}
-use Rattle.tree_rules.specs.Trees.{Expr, Exprs, NoExprs, And, Stmt, Stmts, NoStmts, Then}
+use Rattle.tree_rules.specs.Trees.{Expr, Num, Name, Neg, Sum, Prod, Exprs, NoExprs, And, Stmt, Let, Show, Stmts, NoStmts, Then}
+use Rattle.tree_rules.specs.Trees as tree
 use Rattle.arena_tree.specs.declared.node.Kind.{Kind}
 use Rattle.arena_tree.specs.declared.node.Kind.TheVariants as kind
 use Rattle.arena_tree.specs.declared.node.Node.{Node}
@@ -49,6 +50,17 @@ expr_row (And e rest) = OfExpr e ∷ expr_row rest
 abbrev pub stmt_row : Stmts → List Subtree
 stmt_row NoStmts = []
 stmt_row (Then s rest) = OfStmt s ∷ stmt_row rest
+
+-- what stands under a node
+abbrev pub kids_it : Subtree → List Subtree
+kids_it (OfExpr (Num k)) = []
+kids_it (OfExpr (Name bytes)) = []
+kids_it (OfExpr (Neg e)) = OfExpr e ∷ []
+kids_it (OfExpr (Sum kids)) = expr_row kids
+kids_it (OfExpr (Prod kids)) = expr_row kids
+kids_it (OfStmt (Let name e)) = OfExpr e ∷ []
+kids_it (OfStmt (Show e)) = OfExpr e ∷ []
+kids_it (OfStmt (tree.Block body)) = stmt_row body
 
 abbrev pub RowAt : List Subtree → Memory → List Node → Type 0
 RowAt [] m [] = Unit {0}

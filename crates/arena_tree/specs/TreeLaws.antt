@@ -10,7 +10,7 @@ use Rattle.arena_vec.specs.Vecs.{IsVecIn, vec_list}
 use Rattle.arena_vec.specs.declared.vec.Vec.{Vec}
 use Rattle.tree_rules.specs.Trees.{Expr, Num, Name, Neg, Sum, Prod, Exprs, NoExprs, And}
 use Rattle.arena_tree.specs.declared.node.Node.{Node}
-use Rattle.arena_tree.specs.TreesAt.{node_item, kids_of, kids_in, IsOnly, of_first, ExprAt, ExprsAt, expr_blocks, exprs_blocks}
+use Rattle.arena_tree.specs.TreesAt.{node_item, kids_of, kids_in, IsOnly, of_first, ExprAt, ExprsAt, Which, OfBoth, with_list, expr_named, exprs_named, expr_blocks, exprs_blocks}
 
 -- ---- One list of nodes
 
@@ -69,39 +69,36 @@ mutual
 
 -- ---- The same bytes in its blocks: the same blocks
 
-only_same : (ns : List Node) (f g : Node → List Block) → ((k : Node) → f k ≡ g k) → of_first ns f ≡ of_first ns g
-only_same [] f g same = refl
-only_same (k ∷ ks) f g same = same k
-
-pub first_agree : (a c : Memory) (ns : List Node) (f g : Node → List Block) → ((k : Node) → Agree a c (f k) → g k ≡ f k)
-    → Agree a c (of_first ns f)
-    → of_first ns g ≡ of_first ns f
-first_agree a c [] f g same agree = refl
-first_agree a c (k ∷ ks) f g same agree = same k agree
+pub first_agree : (a c : Memory) (ns : List Node) (f g h : Node → List Block) → ((k : Node) → Agree a c (f k) → h k ≡ g k)
+    → Agree a c (of_first ns f) → of_first ns h ≡ of_first ns g
+first_agree a c [] f g h same agree = refl
+first_agree a c (k ∷ ks) f g h same agree = same k agree
 
 mutual
-  pub expr_names : (e : Expr) (a c : Memory) (n : Node) → Agree a c (expr_blocks e a n) → expr_blocks e c n ≡ expr_blocks e a n
-  expr_names (Num k) a c n agree = refl
-  expr_names (Name bytes) a c n agree = refl
-  expr_names (Neg e) a c n agree =
-      ap (λ ns. n.kids ∷ of_first ns (λ k. expr_blocks e c k)) (list_same a c (kids_of n) agree.0)
-      ∙ ap (λ bs. n.kids ∷ bs) (first_agree a c (kids_in a n) (λ k. expr_blocks e a k) (λ k. expr_blocks e c k) (λ k same. expr_names e a
-      c k same) agree.1)
-  expr_names (Sum kids) a c n agree =
-      ap (λ ns. n.kids ∷ exprs_blocks kids c ns) (list_same a c (kids_of n) agree.0)
-      ∙ ap (λ bs. n.kids ∷ bs) (exprs_names kids a c (kids_in a n) agree.1)
-  expr_names (Prod kids) a c n agree =
-      ap (λ ns. n.kids ∷ exprs_blocks kids c ns) (list_same a c (kids_of n) agree.0)
-      ∙ ap (λ bs. n.kids ∷ bs) (exprs_names kids a c (kids_in a n) agree.1)
+  pub expr_same : (w : Which) (e : Expr) (a c : Memory) (n : Node) → Agree a c (expr_blocks e a n) → expr_named w e c n ≡ expr_named w e a n
+  expr_same w (Num k) a c n agree = refl
+  expr_same w (Name bytes) a c n agree = refl
+  expr_same w (Neg e) a c n agree =
+      ap (λ ns. with_list w n.kids (of_first ns (λ k. expr_named w e c k))) (list_same a c (kids_of n) agree.0)
+      ∙ ap (with_list w n.kids) (first_agree a c (kids_in a n) (λ k. expr_blocks e a k) (λ k. expr_named w e a k)
+      (λ k. expr_named w e c k) (λ k same. expr_same w e a c k same) agree.1)
+  expr_same w (Sum kids) a c n agree =
+      ap (λ ns. with_list w n.kids (exprs_named w kids c ns)) (list_same a c (kids_of n) agree.0)
+      ∙ ap (with_list w n.kids) (exprs_same w kids a c (kids_in a n) agree.1)
+  expr_same w (Prod kids) a c n agree =
+      ap (λ ns. with_list w n.kids (exprs_named w kids c ns)) (list_same a c (kids_of n) agree.0)
+      ∙ ap (with_list w n.kids) (exprs_same w kids a c (kids_in a n) agree.1)
 
-  pub exprs_names : (es : Exprs) (a c : Memory) (ns : List Node) → Agree a c (exprs_blocks es a ns)
-      → exprs_blocks es c ns ≡ exprs_blocks es a ns
-  exprs_names NoExprs a c ns agree = refl
-  exprs_names (And e rest) a c [] agree = refl
-  exprs_names (And e rest) a c (n ∷ ns) agree =
+  pub exprs_same : (w : Which) (es : Exprs) (a c : Memory) (ns : List Node) → Agree a c (exprs_blocks es a ns)
+      → exprs_named w es c ns ≡ exprs_named w es a ns
+  exprs_same w NoExprs a c ns agree = refl
+  exprs_same w (And e rest) a c [] agree = refl
+  exprs_same w (And e rest) a c (n ∷ ns) agree =
       let each = agree_each a c (expr_blocks e a n) (exprs_blocks rest a ns) agree in
-      ap (λ bs. bs ++ exprs_blocks rest c ns) (expr_names e a c n each.0)
-      ∙ ap (λ bs. expr_blocks e a n ++ bs) (exprs_names rest a c ns each.1)
+      λ i. expr_same w e a c n each.0 i ++ exprs_same w rest a c ns each.1 i
+
+pub expr_names : (e : Expr) (a c : Memory) (n : Node) → Agree a c (expr_blocks e a n) → expr_blocks e c n ≡ expr_blocks e a n
+expr_names = expr_same OfBoth
 
 -- ---- And it stands for the same tree
 

@@ -1,10 +1,10 @@
 // Nodes with kids.
-ghost use Rattle.std.specs.Prelude.{◌≡◌, ◌+◌, ◌^◌, ◌≤◌, IfOk, OnOk};
+ghost use Rattle.std.specs.Prelude.{◌≡◌, ◌+◌, ◌^◌, ◌≤◌, List, [], ◌∷◌, ◌++◌, IfOk, OnOk};
 ghost use Rattle.arena_chunks.specs.Memory.{Memory};
 ghost use Rattle.arena_vec.specs.Vecs.{IsVecIn};
-ghost use Rattle.tree_rules.specs.Trees.{Expr, Exprs, NoExprs, And, Neg, with_expr, Stmt, Stmts, with_stmt};
-ghost use Rattle.arena_tree.specs.StmtsAt.{IsStmtPlaced, AreBuilt};
-ghost use Rattle.arena_tree.specs.TreesAt.{node_item, kids_of, IsPlaced, IsBuilt};
+ghost use Rattle.tree_rules.specs.Trees.{Expr, Neg};
+ghost use Rattle.arena_tree.specs.TreesAt.{node_item, kids_of, IsPlaced};
+ghost use Rattle.arena_tree.specs.Subtrees.{Subtree, OfExpr, IsTreePlaced, IsRowBuilt};
 ghost use Rattle.arena_tree.specs.NodeForms.{number_node};
 ghost use Rattle.arena_tree.specs.Parts.{signed_tree};
 ghost use Rattle.arena_tree.specs.Spending.{Spends, error_of, node_cost, credit};
@@ -67,7 +67,7 @@ pub(crate) fn with_kids(kind: Kind, list: Vec<Node>) -> Node
     }
 }
 
-// Puts a node at the end of a list that is built, of expressions or of statements.
+// Puts a node at the end of a list that is built.
 #[inline(always)]
 pub(crate) fn push_node<C: ChunkSource>(
     a: &mut Allocator<C>,
@@ -76,12 +76,9 @@ pub(crate) fn push_node<C: ChunkSource>(
 ) -> Grown<()>
     requires held { IsVecIn node_item a.old.memory list.old }
     requires few { list.old.raw.len ≤ 2 ^ 24 }
-    ensures kids { (es : Exprs) (e : Expr) (old one : Memory) → IsBuilt es old one list.old
-        → IsPlaced e one a.old.memory node
-        → OnOk result (IsBuilt (with_expr es e) old a.new.memory list.new) }
-    ensures lines { (ss : Stmts) (s : Stmt) (old one : Memory) → AreBuilt ss old one list.old
-        → IsStmtPlaced s one a.old.memory node
-        → OnOk result (AreBuilt (with_stmt ss s) old a.new.memory list.new) }
+    ensures row { (ts : List Subtree) (t : Subtree) (old one : Memory) → IsRowBuilt ts old one list.old
+        → IsTreePlaced t one a.old.memory node
+        → OnOk result (IsRowBuilt (ts ++ t ∷ []) old a.new.memory list.new) }
     ensures spends { Spends node_cost (credit list.old) (credit list.new) a.old a.new (error_of result) }
     ensures len { OnOk result (list.new.raw.len ≡ list.old.raw.len + 1) }
 {
@@ -119,7 +116,7 @@ pub(crate) fn signed<C: ChunkSource>(a: &mut Allocator<C>, minus: bool, node: No
 // A list of this node alone.
 pub(crate) fn only<C: ChunkSource>(a: &mut Allocator<C>, node: Node) -> Grown<Vec<Node>>
     ensures tree { (e : Expr) (old : Memory) → IsPlaced e old a.old.memory node
-        → IfOk result (IsBuilt (And e NoExprs) old a.new.memory) }
+        → IfOk result (IsRowBuilt (OfExpr e ∷ []) old a.new.memory) }
     ensures spends { Spends node_cost 0 0 a.old a.new (error_of result) }
 {
     let mut list = Vec::new_in();
@@ -131,7 +128,7 @@ pub(crate) fn only<C: ChunkSource>(a: &mut Allocator<C>, node: Node) -> Grown<Ve
 #[inline(always)]
 pub(crate) fn first_of<C: ChunkSource>(a: &mut Allocator<C>, node: Node) -> Grown<Vec<Node>>
     ensures tree { (e : Expr) (old : Memory) → IsPlaced e old a.old.memory node
-        → IfOk result (IsBuilt (And e NoExprs) old a.new.memory) }
+        → IfOk result (IsRowBuilt (OfExpr e ∷ []) old a.new.memory) }
     ensures spends { Spends node_cost 0 0 a.old a.new (error_of result) }
     ensures len { IfOk result (λ v. v.raw.len ≡ 1) }
     ensures cap { IfOk result (λ v. v.raw.cap ≡ 2) }

@@ -3,8 +3,7 @@ ghost use Rattle.std.specs.Prelude.{◌≡◌, ◌+◌, ◌*◌, ◌<◌, List, 
 ghost use Rattle.arena_chunks.specs.Memory.{Memory};
 ghost use Rattle.arena_items.specs.Room.{SamePlaces};
 ghost use Rattle.arena_vec.specs.Vecs.{IsVecIn};
-ghost use Rattle.arena_tree.specs.TreesAt.{node_item, IsBuilt};
-ghost use Rattle.tree_rules.specs.Trees.{NoExprs};
+ghost use Rattle.arena_tree.specs.TreesAt.{node_item};
 ghost use Rattle.arena_tree.specs.Subtrees.{Subtree, IsTreePlaced, IsRowBuilt};
 ghost use Rattle.arena_tree.specs.Spending.{Spends, error_of};
 
@@ -18,7 +17,6 @@ use arena_vec::laws::growth_rule;
 
 // A list of no nodes, with room for exactly so many.
 pub(crate) fn roomy<C: ChunkSource>(a: &mut Allocator<C>, len: u32) -> Grown<Vec<Node>>
-    ensures kids { IfOk result (IsBuilt NoExprs a.old.memory a.new.memory) }
     ensures row { IfOk result (IsRowBuilt [] a.old.memory a.new.memory) }
     ensures len { IfOk result (λ v. v.raw.len ≡ 0) }
     ensures cap { IfOk result (λ v. v.raw.cap ≡ len) }

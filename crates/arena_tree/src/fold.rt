@@ -1,16 +1,14 @@
 // Folding of trees, where they stand.
-ghost use Rattle.std.specs.Prelude.{◌≡◌, ℕ, List};
+ghost use Rattle.std.specs.Prelude.{◌≡◌, ℕ, [], ◌∷◌};
 ghost use Rattle.arena_items.specs.Room.{SamePlaces};
-ghost use Rattle.arena_vec.specs.Vecs.{vec_list};
-ghost use Rattle.tree_rules.specs.Trees.{Exprs, numbers_of};
-ghost use Rattle.arena_tree.specs.TreesAt.{node_item, ExprsAt};
-ghost use Rattle.arena_tree.specs.Walks.{ListHasRoom};
-ghost use Rattle.arena_tree.specs.Subtrees.{Subtree, SubtreeAt, HasTree, RowAt, has_kids, lists_at, texts_at};
-ghost use Rattle.arena_tree.specs.FoldingParts.{CanFold, CanFoldRow, IsClear, IsRowClear, IsFolded, AreFolded, IsRule, IsTotal, IsTotalNode, capped, added};
+ghost use Rattle.arena_vec.specs.Vecs.{IsVecIn, vec_list};
+ghost use Rattle.arena_tree.specs.TreesAt.{node_item, kids_of, kids_in};
+ghost use Rattle.arena_tree.specs.Subtrees.{Subtree, lists_at, texts_at, has_kids};
+ghost use Rattle.arena_tree.specs.FoldingParts.{CanFold, CanFoldRow, IsWhole, IsFolded, FoldsRow, IsRule, IsSubtree, IsNegation, IsTotalNode, capped, added, total_of, total_in, numbers_in};
 
 use crate::build::number;
 use crate::node::{Kind, Node};
-use crate::walk::{kid_at, kids, taken};
+use crate::walk::kids;
 use arena_chunks::{Allocator, ChunkSource};
 use arena_clone::ReplaceWith;
 use arena_vec::Vec;
@@ -37,17 +35,23 @@ fn one_more(product: bool, total: Option<u64>, n: u64) -> Option<u64>
     }
 }
 
-// The sum or the product of kids that are all numbers, where it fits 64 bits.
-fn total<C: ChunkSource>(a: &Allocator<C>, list: Vec<Node>, product: bool, room: u64) -> Option<u64>
-    requires { ListHasRoom a.now.memory list room }
-    ensures { (es : Exprs) → ExprsAt es a.now.memory (vec_list node_item a.now.memory list)
-        → IsTotal product (numbers_of es) result }
+// The sum or the product of no numbers.
+fn empty_total(product: bool) -> u64
+    ensures { result ≡ total_of product [] }
 {
-    let mut total = Some(if product { 1 } else { 0 });
+    if product { 1 } else { 0 }
+}
+
+// The sum or the product of nodes that are all numbers, where it fits 64 bits.
+fn total<C: ChunkSource>(a: &Allocator<C>, list: Vec<Node>, product: bool) -> Option<u64>
+    requires { IsVecIn node_item a.now.memory list }
+    ensures { result ≡ total_in (total_of product) (numbers_in (vec_list node_item a.now.memory list)) }
+{
+    let mut total = Some(empty_total(product));
     let mut i = list.len();
     while 0 < i {
         i -= 1;
-        let kid = kid_at(a, list, i, room);
+        let kid = list.get(a, i);
         match kid.kind {
             Kind::Num => total = one_more(product, total, kid.number),
             _ => return None,
@@ -56,36 +60,41 @@ fn total<C: ChunkSource>(a: &Allocator<C>, list: Vec<Node>, product: bool, room:
     total
 }
 
-// The node of the total, or none where there is no total.
-fn total_node<C: ChunkSource>(
-    a: &Allocator<C>,
-    list: Vec<Node>,
-    product: bool,
-    room: u64,
-) -> Option<Node>
-    requires { ListHasRoom a.now.memory list room }
-    ensures { (es : Exprs) → ExprsAt es a.now.memory (vec_list node_item a.now.memory list)
-        → IsTotalNode product (numbers_of es) result }
+// The node of the total of a node's kids, or none where there is no total.
+fn total_node<C: ChunkSource>(a: &Allocator<C>, node: Node, product: bool) -> Option<Node>
+    requires { IsVecIn node_item a.now.memory (kids_of node) }
+    ensures { IsTotalNode (total_in (total_of product) (numbers_in (kids_in a.now.memory node))) result }
 {
-    match total(a, list, product, room) {
+    match total(a, kids(a, node), product) {
         Some(n) => Some(number(n)),
         None => None,
     }
 }
 
+// What a node negates.
+fn only_kid<C: ChunkSource>(a: &Allocator<C>, node: Node) -> Node
+    requires { IsNegation a.now.memory node }
+    ensures { kids_in a.now.memory node ≡ result ∷ [] }
+{
+    let list = kids(a, node);
+    list.get(a, 0)
+}
+
 // The node that comes in the place of one whose kids are folded, by the rule for its kind; none where it stays.
-fn rule<C: ChunkSource>(a: &Allocator<C>, node: Node, room: u64) -> Option<Node>
-    requires { HasTree a.now.memory node room }
+fn rule<C: ChunkSource>(a: &Allocator<C>, node: Node) -> Option<Node>
+    requires { IsSubtree a.now.memory node }
     ensures { IsRule a.now.memory node result }
 {
     match node.kind {
         Kind::Neg => {
-            let list = kids(a, node);
-            let kid = list.get(a, 0);
-            taken(a, kid, room)
+            let kid = only_kid(a, node);
+            match kid.kind {
+                Kind::Neg => Some(only_kid(a, kid)),
+                _ => None,
+            }
         }
-        Kind::Sum => total_node(a, kids(a, node), false, room),
-        Kind::Prod => total_node(a, kids(a, node), true, room),
+        Kind::Sum => total_node(a, node, false),
+        Kind::Prod => total_node(a, node, true),
         _ => None,
     }
 }
@@ -111,9 +120,8 @@ fn replace(node: &mut Node, by: Node)
 #[cycle(fold)]
 fn fold_node<C: ChunkSource>(a: &mut Allocator<C>, node: &mut Node, room: u64) -> u64
     requires { CanFold a.old.memory node.old room }
-    ensures folded { (t : Subtree) → SubtreeAt t a.old.memory node.old
-        → IsClear (lists_at t a.old.memory node.old) (texts_at t a.old.memory node.old)
-        → IsFolded t a.old.memory a.new.memory node.old node.new result }
+    ensures folded { (t : Subtree) → IsWhole t a.old.memory node.old
+        → IsFolded t (lists_at t a.old.memory node.old) (texts_at t a.old.memory node.old) a.old.memory a.new.memory node.new result }
     ensures places { SamePlaces a.old a.new }
 {
     if !has_kids(node.kind) {
@@ -121,7 +129,7 @@ fn fold_node<C: ChunkSource>(a: &mut Allocator<C>, node: &mut Node, room: u64) -
     }
     let list = kids(a, *node);
     let count = fold_row(a, list, room);
-    match rule(a, *node, room) {
+    match rule(a, *node) {
         Some(by) => {
             replace(node, by);
             count + 1
@@ -130,22 +138,21 @@ fn fold_node<C: ChunkSource>(a: &mut Allocator<C>, node: &mut Node, room: u64) -
     }
 }
 
-// Folds the nodes of a list, one after another.
+// Folds the nodes of a list, from the last one on.
 #[cycle(fold)]
 pub(crate) fn fold_row<C: ChunkSource>(a: &mut Allocator<C>, list: Vec<Node>, room: u64) -> u64
     requires { CanFoldRow a.old.memory list room }
-    ensures folded { (ts : List Subtree) → RowAt ts a.old.memory (vec_list node_item a.old.memory list)
-        → IsRowClear ts a.old.memory list → AreFolded ts a.old.memory a.new.memory list result }
+    ensures folded { FoldsRow a.old.memory a.new.memory list result }
     ensures places { SamePlaces a.old a.new }
 {
     let mut count = 0;
-    let mut i = 0;
-    while i < list.len() {
+    let mut i = list.len();
+    while 0 < i {
+        i -= 1;
         let mut kid = list.get(a, i);
         count += fold_node(a, &mut kid, room - 1);
         let mut slot = list;
         slot.set(a, i, kid);
-        i += 1;
     }
     count
 }

@@ -1,6 +1,5 @@
 // Names in an arena.
-ghost use Rattle.std.specs.Prelude.{◌≡◌, ◌+◌, ◌^◌, ◌≤◌, [], ◌∷◌, length, IfOk, IsTrue};
-ghost use Rattle.placement.specs.Rounding.{is_layout};
+ghost use Rattle.std.specs.Prelude.{◌≡◌, ◌+◌, ◌^◌, ◌≤◌, [], ◌∷◌, length, IfOk};
 ghost use Rattle.arena_chunks.specs.Frame.{Frame};
 ghost use Rattle.arena_items.specs.Values.{IsTextIn, text_bytes};
 ghost use Rattle.arena_tree.specs.Spending.{Spends, error_of};
@@ -13,8 +12,7 @@ use arena_place::Layout;
 // Places bytes.
 #[inline(always)]
 fn place_text<C: ChunkSource>(a: &mut Allocator<C>, bytes: &[u8]) -> Grown<Str>
-    requires layout { IsTrue (is_layout (length bytes.now) 1) }
-    requires small { length bytes.now + 64 ≤ 2 ^ 63 }
+    requires { length bytes.now + 64 ≤ 2 ^ 63 }
     ensures held { IfOk result (IsTextIn a.new.memory) }
     ensures text { IfOk result (λ s. text_bytes a.new.memory s ≡ bytes.now) }
     ensures frame { IfOk result (λ s. Frame a.old.memory a.new.memory [] (s.block ∷ [])) }

@@ -54,7 +54,7 @@ fn show_line<C: ChunkSource>(
     requires within { at ≤ length src.now }
     requires place { IsLinesPlace src.now at }
     requires factor { IsFactorPlace src.now at }
-    requires starts { ExprStarts src.now at at }
+    requires starts { ExprStarts src.now at }
     ensures tree { IfOk result (λ end. IsLine src.now at end a.old.memory a.new.memory node.new) }
     ensures spends { SpendsUpTo at (length src.now) a.old a.new result }
 {

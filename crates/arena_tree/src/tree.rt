@@ -9,7 +9,7 @@ ghost use Rattle.arena_tree.specs.Parsing.{Parses, TakesAtMost, parse_bytes, ref
 use crate::clone::clone_row;
 use crate::fold::fold_row;
 use crate::node::Node;
-use crate::print::put_lines;
+use crate::print::{Stand, put_row};
 use crate::program::lines;
 use arena_chunks::{Allocator, ChunkSource};
 use arena_items::AllocError;
@@ -97,7 +97,7 @@ impl Tree {
     {
         let mut out = Bytes::new(alloc);
         let room = a.used_bytes() / 88 + 1;
-        put_lines(&mut out, a, self.stmts, room)?;
+        put_row(&mut out, a, self.stmts, Stand::Expr, room)?;
         Ok(out)
     }
 

@@ -5,8 +5,8 @@ use Rattle.std.specs.List.{AllByRecursion, slice_split, onto_first}
 use Rattle.std.proofs.lemmas.List.{length-append, length-map}
 use Rattle.std.proofs.lemmas.List.Sums.{count_by-le-length}
 use Rattle.std.proofs.lemmas.List.Splits.{length-slice_split}
-use Rattle.lint_reports.specs.Sources.{fed_lines, is_mark, joined, sources}
-use Rattle.lint_reports.proofs.SourceLemmas.{onto, marked, unmarked}
+use Rattle.lint_reports.specs.Sources.{fed_lines, is_mark, joined, sources, onto}
+use Rattle.lint_reports.proofs.SourceLemmas.{marked, unmarked}
 
 -- ---- Lines
 

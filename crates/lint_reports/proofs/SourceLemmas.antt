@@ -1,14 +1,15 @@
 -- An input that is cut line by line.
-use Rattle.std.proofs.Common.{◌≡◌, ◌≢◌, ℕ, zero, suc, ◌+◌, ◌<◌, ◌≤◌, Bool, true, false, List, [], ◌∷◌, ◌++◌, length, map, take, drop, refl, sym, ap, ◌∙◌, arith, append_assoc, add-one}
-use Rattle.std.specs.Prelude.{◌==◌, if◌then◌else◌, All}
+use Rattle.std.proofs.Common.{◌≡◌, ◌≢◌, ℕ, zero, suc, ◌+◌, ◌<◌, ◌≤◌, Bool, true, false, List, [], ◌∷◌, ◌++◌, length, map, take, drop, refl, sym, ap, ◌∙◌, arith, append_assoc, add-one, take-add, drop-drop}
+use Rattle.std.specs.Prelude.{◌==◌, ◌&&◌, ◌||◌, nat_eq, if◌then◌else◌, All}
 use Rattle.std.specs.List.{slice_split, onto_first, slice_index}
+use Rattle.std.specs.Cmp.Lexicographic.{pointwise}
 use Rattle.std.proofs.Math.Seq.{take-append-add, drop-append-add, drop-length, take-append_seam, drop-append_seam}
 use Rattle.std.proofs.lemmas.Bool.{eq-eqb}
 use Rattle.std.proofs.lemmas.Bool.Decides.{nat_tests}
 use Rattle.std.proofs.lemmas.List.{append-nil, length-append, length-drop, length-take-le, take-append-drop}
 use Rattle.std.proofs.lemmas.List.Elements.{All-head, All-tail}
 use Rattle.std.proofs.lemmas.List.Splits.{slice_split-cons_yes, slice_split-cons_no, length-slice_split}
-use Rattle.lint_reports.specs.Sources.{fed_lines, is_mark, joined, sources, IsFirstLine}
+use Rattle.lint_reports.specs.Sources.{fed_lines, is_mark, joined, sources, onto, IsFirstLine, IsPassed}
 
 -- ---- The first line
 
@@ -64,11 +65,6 @@ first_unfed bytes before = record {
 abbrev parts : List (List ℕ) → List (List ℕ)
 parts lines = map joined (slice_split is_mark lines)
 
--- bytes before the first
-abbrev pub onto : List ℕ → List (List ℕ) → List (List ℕ)
-onto bytes [] = []
-onto bytes (source ∷ rest) = (bytes ++ source) ∷ rest
-
 onto_joined : (line : List ℕ) (groups : List (List (List ℕ))) → 0 < length groups
     → map joined (onto_first line groups) ≡ onto line (map joined groups)
 onto_joined line [] some = absurd (omega arith)
@@ -89,6 +85,61 @@ pub unmarked : (line : List ℕ) (lines : List (List ℕ)) → is_mark line ≡ 
 unmarked line lines is = ap (map joined) (slice_split-cons_no is_mark line lines is)
     ∙ onto_joined line (slice_split is_mark lines) (omega (arith, length-slice_split is_mark lines))
 
+-- ---- Lines that have no percent sign
+
+abbrev BeginUnmarked : List (List ℕ) → Type 0
+BeginUnmarked [] = Unit {0}
+BeginUnmarked (line ∷ lines) = is_mark line ≡ false
+
+no_mark : (b : ℕ) (line : List ℕ) → b ≢ 37 → is_mark (b ∷ line) ≡ false
+no_mark b line other =
+    let test : nat_eq b 37 ≡ false = grind (arith, nat_tests) in
+    ap (λ t. (t && pointwise nat_eq line (37 ∷ [])) || (t && pointwise nat_eq line (37 ∷ 10 ∷ []))) test
+
+begin_unmarked : (b : ℕ) (bytes : List ℕ) → b ≢ 37 → BeginUnmarked (fed_lines (b ∷ bytes))
+begin_unmarked b bytes other = by (b == 10) (fed_lines bytes)
+  where
+    by : (t : Bool) (lines : List (List ℕ)) → BeginUnmarked (if t then (b ∷ []) ∷ lines else onto_first b lines)
+    by true lines = no_mark b [] other
+    by false [] = no_mark b [] other
+    by false (line ∷ lines) = no_mark b line other
+
+-- a byte before lines that don't begin with a mark
+onto_unmarked : (b : ℕ) (lines : List (List ℕ)) → b ≢ 37 → BeginUnmarked lines
+    → parts (onto_first b lines) ≡ onto (b ∷ []) (parts lines)
+onto_unmarked b [] other is = unmarked (b ∷ []) [] (no_mark b [] other)
+onto_unmarked b (line ∷ lines) other is = unmarked (b ∷ line) lines (no_mark b line other)
+    ∙ sym (onto_both (b ∷ []) line (parts lines)) ∙ ap (onto (b ∷ [])) (sym (unmarked line lines is))
+
+one_on : (b : ℕ) (bytes : List ℕ) → b ≢ 37 → (b ≢ 10 → BeginUnmarked (fed_lines bytes))
+    → sources (b ∷ bytes) ≡ onto (b ∷ []) (sources bytes)
+one_on b bytes other is = by (b == 10) refl
+  where
+    by : (t : Bool) → (b == 10) ≡ t → parts (if t then (b ∷ []) ∷ fed_lines bytes else onto_first b (fed_lines bytes))
+        ≡ onto (b ∷ []) (sources bytes)
+    by true e = unmarked (b ∷ []) (fed_lines bytes) (no_mark b [] other)
+    by false e = onto_unmarked b (fed_lines bytes) other (is (grind (arith, nat_tests)))
+
+passed_on : (bytes : List ℕ) (n : ℕ) → n ≤ length bytes → All (λ b. b ≢ 37) (take n bytes)
+    → ((k : ℕ) → suc k ≡ n → n < length bytes → slice_index bytes k ≡ 10) → sources bytes ≡ onto (take n bytes) (sources (drop n bytes))
+passed_on bytes zero within unsigned ends = sym (onto_none (sources bytes))
+passed_on [] (suc n) within unsigned ends = absurd (omega (arith, within))
+passed_on (b ∷ []) (suc zero) within unsigned ends = one_on b [] (All-head (λ x. x ≢ 37) b [] unsigned) (λ e. tt)
+passed_on (b ∷ []) (suc (suc n)) within unsigned ends = absurd (omega (arith, within))
+passed_on (b ∷ (c ∷ bytes)) (suc zero) within unsigned ends =
+    one_on b (c ∷ bytes) (All-head (λ x. x ≢ 37) b [] unsigned) (λ e. absurd (e (ends zero refl (omega arith))))
+passed_on (b ∷ (c ∷ bytes)) (suc (suc n)) within unsigned ends =
+    let more = All-tail (λ x. x ≢ 37) b (take (suc n) (c ∷ bytes)) unsigned in
+    one_on b (c ∷ bytes) (All-head (λ x. x ≢ 37) b (take (suc n) (c ∷ bytes)) unsigned)
+    (λ e. begin_unmarked c bytes (All-head (λ x. x ≢ 37) c (take n bytes) more))
+    ∙ ap (onto (b ∷ [])) (passed_on (c ∷ bytes) (suc n) (omega (arith, within)) more
+    (λ k is less. ends (suc k) (ap suc is) (omega (arith, less))))
+    ∙ onto_both (b ∷ []) (take (suc n) (c ∷ bytes)) (sources (drop (suc n) (c ∷ bytes)))
+
+pub passed : (bytes : List ℕ) (n : ℕ) → n ≤ length bytes → All (λ b. b ≢ 37) (take n bytes)
+    → ((k : ℕ) → suc k ≡ n → n < length bytes → slice_index bytes k ≡ 10) → IsPassed bytes n
+passed bytes n within unsigned ends = record { within = within; are = passed_on bytes n within unsigned ends }
+
 -- ---- Lines one after another
 
 -- Some sources were cut off, and so many bytes of the next one's lines were seen.
@@ -99,6 +150,17 @@ pub record Cut (bytes : List ℕ) (all : List (List ℕ)) (rest : List ℕ) (see
 
 pub cut_none : (bytes : List ℕ) → Cut bytes [] bytes 0
 cut_none bytes = record { inside = omega arith; within = omega arith; are = sym (onto_none (sources bytes)) }
+
+pub cut_on : (bytes : List ℕ) (all : List (List ℕ)) (rest : List ℕ) (seen n : ℕ) → Cut bytes all rest seen → IsPassed (drop seen rest) n
+    → Cut bytes all rest (seen + n)
+cut_on bytes all rest seen n cut passed = record {
+  inside = cut.inside;
+  within = omega (arith, cut.within, length-drop seen rest, passed.within);
+  are = cut.are ∙ ap (λ xs. all ++ onto (take seen rest) xs) passed.are
+      ∙ ap (λ xs. all ++ xs) (onto_both (take seen rest) (take n (drop seen rest)) (sources (drop n (drop seen rest))))
+      ∙ ap (λ xs. all ++ onto xs (sources (drop n (drop seen rest)))) (sym (take-add seen n rest))
+      ∙ ap (λ xs. all ++ onto (take (seen + n) rest) (sources xs)) (drop-drop n seen rest);
+}
 
 pub cut_last : (bytes : List ℕ) (all : List (List ℕ)) (rest : List ℕ) (seen : ℕ) → Cut bytes all rest seen → seen ≡ length rest
     → all ++ rest ∷ [] ≡ sources bytes

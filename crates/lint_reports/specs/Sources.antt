@@ -1,5 +1,5 @@
 -- Where an input is cut into sources.
-use Rattle.std.specs.Prelude.{◌≡◌, ◌≢◌, ℕ, ◌==◌, ◌||◌, Bool, nat_eq, if◌then◌else◌, List, [], ◌∷◌, ◌++◌, map, codes}
+use Rattle.std.specs.Prelude.{◌≡◌, ◌≢◌, ℕ, ◌==◌, ◌||◌, Bool, nat_eq, if◌then◌else◌, List, [], ◌∷◌, ◌++◌, ◌≤◌, length, take, drop, map, codes}
 use Rattle.std.specs.List.{slice_split, onto_first, flat_map}
 use Rattle.std.specs.Cmp.Lexicographic.{pointwise}
 
@@ -26,3 +26,13 @@ pub record IsFirstLine (bytes line : List ℕ) : Type 0 where
   pub all : bytes ≡ line ++ behind
   pub none : line ≡ [] → bytes ≡ []
   pub first : line ≢ [] → fed_lines bytes ≡ line ∷ fed_lines behind
+
+-- bytes at the front of the first source
+abbrev pub onto : List ℕ → List (List ℕ) → List (List ℕ)
+onto bytes [] = []
+onto bytes (source ∷ rest) = (bytes ++ source) ∷ rest
+
+-- no mark is among the first n bytes, which end with a line or are all
+pub record IsPassed (bytes : List ℕ) (n : ℕ) : Type 0 where
+  pub within : n ≤ length bytes
+  pub are : sources bytes ≡ onto (take n bytes) (sources (drop n bytes))

@@ -1,27 +1,50 @@
 // Cuts an input into sources.
-ghost use Rattle.std.specs.Prelude.{◌≡◌, ◌≢◌, ◌<◌, ◌≤◌, ◌++◌, ◌∷◌, [], All, take, drop, length, IfOk, OnOk};
+ghost use Rattle.std.specs.Prelude.{◌≡◌, ◌≢◌, ℕ, suc, ◌<◌, ◌≤◌, ◌++◌, ◌∷◌, [], All, take, drop, length, IfOk, OnOk};
 ghost use Rattle.std.specs.List.{slice_index};
-ghost use Rattle.lint_reports.specs.Sources.{is_mark, sources, IsFirstLine};
+ghost use Rattle.lint_reports.specs.Sources.{is_mark, sources, IsFirstLine, IsPassed};
 
 use crate::source::Source;
-use memchr::memchr;
+use memchr::{memchr, memrchr};
 use placement::OutOfMemory;
 use std::alloc::Global;
 
-// How many bytes come before the first line feed, or all of them.
-fn len_before_feed(bytes: &[u8]) -> usize
+// How many bytes come before the first that is `b`, or all of them.
+fn len_before(b: u8, bytes: &[u8]) -> usize
     ensures within { result ≤ length bytes.now }
-    ensures before { All (λ b. b ≢ 10) (take result bytes.now) }
-    ensures found { result < length bytes.now → slice_index bytes.now result ≡ 10 }
+    ensures before { All (λ x. x ≢ b) (take result bytes.now) }
+    ensures found { result < length bytes.now → slice_index bytes.now result ≡ b }
 {
-    memchr(b'\n', bytes).unwrap_or(bytes.len())
+    memchr(b, bytes).unwrap_or(bytes.len())
+}
+
+// How many bytes the lines have, from the first on, before one with a percent sign; or all of them.
+fn unsigned_len(bytes: &[u8]) -> usize
+    ensures within { result ≤ length bytes.now }
+    ensures unsigned { All (λ b. b ≢ 37) (take result bytes.now) }
+    ensures lines { (k : ℕ) → suc k ≡ result → result < length bytes.now → slice_index bytes.now k ≡ 10 }
+{
+    let n = len_before(b'%', bytes);
+    if n == bytes.len() {
+        return n;
+    }
+    match memrchr(b'\n', &bytes[..n]) {
+        Some(feed) => feed + 1,
+        None => 0,
+    }
+}
+
+// How many bytes can be passed at once, since no mark is among their lines.
+fn passed_len(bytes: &[u8]) -> usize
+    ensures { IsPassed bytes.now result }
+{
+    unsigned_len(bytes)
 }
 
 // The first line with its line feed, if it has one.
 fn first_line(bytes: &[u8]) -> &[u8]
     ensures { IsFirstLine bytes.now result.now }
 {
-    let n = len_before_feed(bytes);
+    let n = len_before(b'\n', bytes);
     if n < bytes.len() {
         &bytes[..n + 1]
     } else {
@@ -67,14 +90,15 @@ pub fn sources_of<'a>(alloc: Global, bytes: &'a [u8]) -> Result<Vec<Source<'a>>,
     let mut rest = bytes;
     let mut seen: usize = 0;
     'lines: loop {
-        if seen == rest.len() {
+        let start = seen + passed_len(after(rest, seen));
+        if start == rest.len() {
             add(&mut all, rest)?;
             return Ok(all);
         }
-        let line = first_line(after(rest, seen));
-        let end = seen + line.len();
+        let line = first_line(after(rest, start));
+        let end = start + line.len();
         if is_mark(line) {
-            add(&mut all, &rest[..seen])?;
+            add(&mut all, &rest[..start])?;
             rest = after(rest, end);
             seen = 0;
         } else {

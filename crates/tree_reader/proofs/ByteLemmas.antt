@@ -1,11 +1,11 @@
 -- Runs of bytes, and the numbers that digits spell.
-use Rattle.std.proofs.Common.{◌≡◌, ◌≢◌, ℕ, zero, suc, ◌+◌, ◌-◌, ◌*◌, ◌^◌, ◌<◌, ◌≤◌, Bool, true, false, ◌&&◌, ◌==◌, List, [], ◌∷◌, length, take, drop, get_or, cond, refl, sym, ap, ◌∙◌, subst, arith, codes, add-one}
+use Rattle.std.proofs.Common.{◌≡◌, ◌≢◌, ℕ, zero, suc, ◌+◌, ◌-◌, ◌*◌, ◌^◌, ◌<◌, ◌≤◌, Bool, true, false, ◌&&◌, ◌==◌, List, [], ◌∷◌, length, take, drop, get_or, cond, refl, sym, ap, ◌∙◌, subst, arith, codes, add-one, drop-drop, inl, inr}
 use Rattle.std.proofs.Math.Seq.{drop-cons}
 use Rattle.std.proofs.Math.ListN.{drop_of_length-le}
 use Rattle.std.specs.Prelude.{slice_range}
-use Rattle.tree_rules.specs.Tokens.{Token, is_space, is_digit, is_name_start, is_name_byte, run, are_same, value, has_needless_zero, number_token, sign, Number, Front, word_front, number_front, sign_front, front, Placed, placed, tokens_from}
+use Rattle.tree_rules.specs.Tokens.{Token, is_space, is_digit, is_name_start, is_name_byte, run, are_same, value, has_needless_zero, number_token, sign, Number, Word, LetKey, Other, Front, word_front, number_front, sign_front, front, Placed, placed, tokens_from}
 use Rattle.tree_reader.specs.declared.token.Seen.{Seen}
-use Rattle.tree_reader.specs.Seen.{IsSeen, IsNext, IsFront, tokens_at}
+use Rattle.tree_reader.specs.Seen.{IsSeen, IsBegin, IsNext, IsFront, IsUnsigned, BeginsUnsigned, tokens_at}
 use Rattle.tree_reader.specs.declared.token.Lexeme.{Lexeme}
 
 pub three : (xs : List ℕ) → length xs ≡ 3 → xs ≡ get_or xs 0 0 ∷ get_or xs 1 0 ∷ get_or xs 2 0 ∷ []
@@ -40,14 +40,6 @@ value_over n i v ds h is over =
 
 -- ---- Tokens from a byte on
 
-run_within : (passes : ℕ → Bool) (xs : List ℕ) → length (run passes xs) ≤ length xs
-run_within passes [] = omega arith
-run_within passes (x ∷ xs) = by (passes x) (run_within passes xs)
-  where
-    by : (b : Bool) → length (run passes xs) ≤ length xs → length (cond b (x ∷ run passes xs) []) ≤ suc (length xs)
-    by true h = omega (arith, h)
-    by false h = omega arith
-
 run_take : (passes : ℕ → Bool) (xs : List ℕ) → take (length (run passes xs)) xs ≡ run passes xs
 run_take passes [] = refl
 run_take passes (x ∷ xs) = by (passes x) (run_take passes xs)
@@ -78,41 +70,12 @@ tokens_skip at (suc skip) (b ∷ bytes) =
 
 tokens_space : (at b : ℕ) (bytes : List ℕ) → is_space b ≡ true → tokens_from at 0 (b ∷ bytes) ≡ tokens_from (suc at) 0 bytes
 unfolding tokens_from
-tokens_space at b bytes h = by (is_space b) h
-  where
-    by : (s : Bool) → s ≡ true
-        → elim s [
-          | true ↦ tokens_from (suc at) zero bytes
-          | false ↦ placed at (front b bytes) ∷ tokens_from (suc at) ((front b
-              bytes).length - 1) bytes
-        ]
-        ≡ tokens_from (suc at) zero bytes
-    by true h = refl
-    by false h = cc
+tokens_space at b bytes h = rw (h, tokens_from) refl
 
 tokens_front : (at b : ℕ) (bytes : List ℕ) → is_space b ≡ false
     → tokens_from at 0 (b ∷ bytes) ≡ placed at (front b bytes) ∷ tokens_from (suc at) ((front b bytes).length - 1) bytes
 unfolding tokens_from
-tokens_front at b bytes h = by (is_space b) h
-  where
-    by : (s : Bool) → s ≡ false
-        → elim s [
-          | true ↦ tokens_from (suc at) zero bytes
-          | false ↦ placed at (front b bytes) ∷ tokens_from (suc at) ((front b
-              bytes).length - 1) bytes
-        ]
-        ≡ placed at (front b bytes) ∷ tokens_from (suc at) ((front b bytes).length - 1) bytes
-    by true h = cc
-    by false h = refl
-
-drop_suc : (n k : ℕ) (xs : List ℕ) → drop k (drop n xs) ≡ drop (n + k) xs
-drop_suc zero k xs = let e : 0 + k ≡ k = omega arith in ap (λ m. drop m xs) (sym e)
-drop_suc (suc n) k [] = ends k ∙ sym (ends (suc n + k))
-  where
-    ends : (m : ℕ) → ◌≡◌ {A = List ℕ} (drop m []) []
-    ends zero = refl
-    ends (suc m) = refl
-drop_suc (suc n) k (x ∷ xs) = let e : suc (n + k) ≡ suc n + k = omega arith in drop_suc n k xs ∙ ap (λ m. drop m (x ∷ xs)) e
+tokens_front at b bytes h = rw (h, tokens_from) refl
 
 -- one space further
 pub space_further : (bytes : List ℕ) (at : ℕ) → at < length bytes → is_space (get_or bytes at 0) ≡ true
@@ -128,11 +91,10 @@ unfolding tokens_from
 none_behind bytes at h = ap (tokens_from at 0) (drop_of_length-le bytes h)
 
 -- a token, and those behind its end
-pub front_next : (bytes : List ℕ) (from at : ℕ) (l : Lexeme) → from ≤ at → at < length bytes → is_space (get_or bytes at 0) ≡ false
-    → tokens_at bytes from ≡ tokens_at bytes at
+pub front_next : (bytes : List ℕ) (from at : ℕ) (l : Lexeme) → IsBegin bytes from at
     → IsFront bytes at (front (get_or bytes at 0) (drop (suc at) bytes)) l → 0 < (front (get_or bytes at 0) (drop (suc at) bytes)).length
     → l.end ≤ length bytes → IsNext bytes from l
-front_next bytes from at l le h space same f some within =
+front_next bytes from at l begin f some within =
     let b = get_or bytes at 0 in
     let rest = drop (suc at) bytes in
     let n = (front b rest).length in
@@ -140,18 +102,18 @@ front_next bytes from at l le h space same f some within =
     let at_is : placed at (front b rest) ≡ record { at = l.at; token = (front b rest).token } = ap (λ k. placed k (front b rest)) (sym
     f.at_is) in
     record {
-      behind = omega (arith, f.at_is);
+      behind = omega (arith, f.at_is, begin.behind);
       some = omega (arith, f.at_is, f.end_is, some);
       within = within;
       token = (front b rest).token;
       seen = subst (λ k. IsSeen l.seen (slice_range bytes k l.end) (front b rest).token) (sym f.at_is) f.seen;
       tokens_are =
-          same
-          ∙ ap (tokens_from at 0) (drop-cons bytes at 0 h)
-          ∙ tokens_front at b rest space
+          begin.same
+          ∙ ap (tokens_from at 0) (drop-cons bytes at 0 begin.within)
+          ∙ tokens_front at b rest begin.unspaced
           ∙ ap (λ ts. placed at (front b rest) ∷ ts)
           (tokens_skip (suc at) (n - 1) rest
-          ∙ ap (λ xs. tokens_from (suc at + (n - 1)) 0 xs) (drop_suc (suc at) (n - 1) bytes)
+          ∙ ap (λ xs. tokens_from (suc at + (n - 1)) 0 xs) (drop-drop (n - 1) (suc at) bytes)
           ∙ ap (λ k. tokens_from k 0 (drop k bytes)) one)
           ∙ ap (λ (t : Placed). t ∷ tokens_at bytes l.end) at_is;
     }
@@ -162,23 +124,14 @@ front_digits : (b : ℕ) (bytes : List ℕ) → is_digit b ≡ true → front b 
 unfolding front
 front_digits b bytes h = rw h refl
 
-front_word : (b : ℕ) (bytes : List ℕ) → is_digit b ≡ false → is_name_start b ≡ true → front b bytes ≡ word_front (run is_name_byte (b ∷
-    bytes))
+front_word : (b : ℕ) (bytes : List ℕ) → is_digit b ≡ false → is_name_start b ≡ true
+    → front b bytes ≡ word_front (run is_name_byte (b ∷ bytes))
 unfolding front
-front_word b bytes h g = chosen_false (is_digit b) _ _ h ∙ chosen_true (is_name_start b) _ _ g
-  where
-    chosen_true : {X : Type 0} (b : Bool) (x y : X) → b ≡ true → cond b x y ≡ x
-    chosen_true b x y h = rw h refl
-
-    chosen_false : {X : Type 0} (b : Bool) (x y : X) → b ≡ false → cond b x y ≡ y
-    chosen_false b x y h = rw h refl
+front_word b bytes h g = rw (h, g) refl
 
 front_sign : (b : ℕ) (bytes : List ℕ) → is_digit b ≡ false → is_name_start b ≡ false → front b bytes ≡ sign_front b
 unfolding front
-front_sign b bytes h g = chosen_false (is_digit b) _ _ h ∙ chosen_false (is_name_start b) _ _ g
-  where
-    chosen_false : {X : Type 0} (b : Bool) (x y : X) → b ≡ false → cond b x y ≡ y
-    chosen_false b x y h = rw h refl
+front_sign b bytes h g = rw (h, g) refl
 
 abbrev pub front_of : List ℕ → ℕ → Front
 front_of src at = front (get_or src at 0) (drop (suc at) src)
@@ -248,3 +201,31 @@ sign_seen src at seen h d s is = subst (λ (f : Front). IsFront src at f (record
 
 pub number_read : (digits : List ℕ) → has_needless_zero digits ≡ false → number_token digits ≡ Number (value 0 digits)
 number_read digits h = rw h refl
+
+-- a byte that is no sign begins no sign
+unsigned_front : (b : ℕ) (bytes : List ℕ) → sign b ≡ Other → IsUnsigned (front b bytes).token
+unfolding front
+unsigned_front b bytes other = by (is_digit b) (is_name_start b)
+  where
+    number : (zero : Bool) (n : ℕ) → IsUnsigned (cond zero Other (Number n))
+    number true n = inr (inr (inr refl))
+    number false n = inl (n, refl)
+
+    name : (is : Bool) (bytes : List ℕ) → IsUnsigned (cond is LetKey (Word bytes))
+    name true bytes = inr (inr (inl refl))
+    name false bytes = inr (inl (bytes, refl))
+
+    by : (d s : Bool) → IsUnsigned (cond d (number_front (run is_digit (b ∷ bytes))) (cond s (word_front (run is_name_byte (b ∷ bytes)))
+        (sign_front b))).token
+    by true s = number (has_needless_zero (run is_digit (b ∷ bytes))) (value 0 (run is_digit (b ∷ bytes)))
+    by false true = name (are_same (run is_name_byte (b ∷ bytes)) (codes "let")) (run is_name_byte (b ∷ bytes))
+    by false false = inr (inr (inr other))
+
+pub begins_unsigned : (bytes : List ℕ) (at here : ℕ) → IsBegin bytes at here → sign (get_or bytes here 0) ≡ Other
+    → BeginsUnsigned (tokens_at bytes at)
+begins_unsigned bytes at here begin other =
+    let b = get_or bytes here 0 in
+    let rest = drop (suc here) bytes in
+    subst BeginsUnsigned
+    (sym (begin.same ∙ ap (tokens_from here 0) (drop-cons bytes here 0 begin.within) ∙ tokens_front here b rest begin.unspaced))
+    (unsigned_front b rest other)

@@ -1,8 +1,10 @@
 // Whether a text is refused, judged token by token.
-ghost use Rattle.std.specs.Prelude.{◌≡◌, ◌≤◌, ◌∷◌, List, length};
+ghost use Rattle.std.specs.Prelude.{◌≡◌, ◌≤◌, [], ◌∷◌, List, false, length, slice_index};
 ghost use Rattle.tree_rules.specs.declared.machine.Open.{Open};
 ghost use Rattle.tree_rules.specs.Reading.{state, signs_ended, factor_step, line_step, name_step, equals_step, behind_step, close_paren, close_brace, end_line, step_in, within_limits, ended_in, judged, refusal_of};
 ghost use Rattle.tree_rules.specs.Refusals.{IsReading};
+ghost use Rattle.tree_rules.specs.Tokens.{is_digit, is_name_start, sign};
+ghost use Rattle.tree_reader.specs.Seen.{IsSeen, IsBegin, IsNext};
 ghost use Rattle.tree_reader.specs.Steps.{like, Stepped, answer, GoesOn};
 
 use crate::stack::Stack;
@@ -218,21 +220,53 @@ fn ended(end: u64, mode: Mode, opens: &Stack) -> Option<Refused>
     }
 }
 
-// What the next token comes to, in a mode that the caller knows: so each mode has a lexer of its own.
+// What comes next where this is the next token.
 #[inline(always)]
-fn next_in(mode: Mode, src: &[u8], at: usize, opens: &mut Stack) -> Next
-    requires { at ≤ length src.now }
+fn goes_on(mode: Mode, src: &[u8], at: usize, l: Lexeme, opens: &mut Stack) -> Next
+    requires { IsNext src.now at l }
     ensures { GoesOn src.now at (state mode opens.old) result opens.new }
 {
-    let Some(l) = token::next(src, at) else {
-        return Next::Ended;
-    };
     match judge(mode, l, opens) {
         Judged::To(to) => Next::To {
             mode: to,
             end: l.end,
         },
         Judged::Refused(refused) => Next::Refused(refused),
+    }
+}
+
+#[inline(always)]
+fn sign_on(mode: Mode, src: &[u8], at: usize, here: usize, seen: Seen, opens: &mut Stack) -> Next
+    requires begin { IsBegin src.now at here }
+    requires seen { IsSeen seen (slice_index src.now here ∷ []) (sign (slice_index src.now here)) }
+    requires digit { is_digit (slice_index src.now here) ≡ false }
+    requires name { is_name_start (slice_index src.now here) ≡ false }
+    ensures { GoesOn src.now at (state mode opens.old) result opens.new }
+{
+    goes_on(mode, src, at, token::sign_next(src, at, here, seen), opens)
+}
+
+// What the next token comes to, in a mode that the caller knows. So each mode has a lexer of its own, in which a sign is told apart
+// and judged by one jump.
+#[inline(always)]
+fn next_in(mode: Mode, src: &[u8], at: usize, opens: &mut Stack) -> Next
+    requires { at ≤ length src.now }
+    ensures { GoesOn src.now at (state mode opens.old) result opens.new }
+{
+    let Some(here) = token::begin_at(src, at) else {
+        return Next::Ended;
+    };
+    match src[here] {
+        b'+' => sign_on(mode, src, at, here, Seen::Plus, opens),
+        b'-' => sign_on(mode, src, at, here, Seen::Minus, opens),
+        b'*' => sign_on(mode, src, at, here, Seen::Star, opens),
+        b'(' => sign_on(mode, src, at, here, Seen::LeftParen, opens),
+        b')' => sign_on(mode, src, at, here, Seen::RightParen, opens),
+        b'{' => sign_on(mode, src, at, here, Seen::LeftBrace, opens),
+        b'}' => sign_on(mode, src, at, here, Seen::RightBrace, opens),
+        b'=' => sign_on(mode, src, at, here, Seen::Equals, opens),
+        b';' => sign_on(mode, src, at, here, Seen::Semicolon, opens),
+        _ => goes_on(mode, src, at, token::any_next(src, at, here), opens),
     }
 }
 

@@ -12,3 +12,6 @@ mod RoundTrip
 mod WellFormedLemmas
 mod FoldLemmas
 mod ReportLemmas
+mod WeightLemmas
+pub mod NameLemmas
+pub mod FindingLemmas

@@ -4,4 +4,4 @@ mod readings;
 mod trees;
 
 pub use readings::{machine, one_program, one_reading, one_report, some_reading};
-pub use trees::{folding, texts, well_formed};
+pub use trees::{folding, texts, tree_weight, well_formed};

@@ -1,8 +1,8 @@
 // The program whole, by its words.
 use super::{FIRST, FIRST_REPLIES, same};
-use crate::budget::{program_chunks, program_maker};
+use crate::budget::program_maker;
 use crate::program::run_program;
-use arena_calls::{MemoryInput, MemoryOutput};
+use arena_calls::{MemoryInput, MemoryOutput, program_chunks};
 use arena_chunks::Arena;
 use arena_script::Engine;
 use std::alloc::Global;

@@ -1,5 +1,5 @@
 // Gates: two workers lint at once, since the first waits at its source's begin until the second has finished its own.
-use super::over::{Over, lint_over};
+use super::over::{LINTERS, Over, lint_over};
 use super::pools::{PAIR, PAIR_LINES};
 use arena_lint::Gate;
 use arena_pool::{MemoryMaker, PoolKind};
@@ -41,18 +41,21 @@ impl Gate for FirstAfterSecond {
 #[test]
 fn two_workers_lint_at_once(rt: HostRuntime) -> Result<(), Fail> {
     let alloc = rt.alloc();
-    let over = Over {
-        kind: PoolKind::Standard,
-        arenas: 2,
-        workers: 2,
-    };
-    let gate = FirstAfterSecond {
-        finished: AtomicU64::new(0),
-        seen: AtomicU64::new(0),
-    };
-    let maker = MemoryMaker::new(alloc, 1 << 20);
-    let told = lint_over(&rt, alloc, over, maker, &gate, PAIR.as_bytes())?;
-    assert!(rt; told.is(PAIR_LINES.as_bytes(), 0));
-    assert_eq!(rt; gate.seen.load(Ordering::SeqCst), 1);
+    for linter in LINTERS {
+        let over = Over {
+            linter,
+            kind: PoolKind::Standard,
+            arenas: 2,
+            workers: 2,
+        };
+        let gate = FirstAfterSecond {
+            finished: AtomicU64::new(0),
+            seen: AtomicU64::new(0),
+        };
+        let maker = MemoryMaker::new(alloc, 1 << 20);
+        let told = lint_over(&rt, alloc, over, maker, &gate, PAIR.as_bytes())?;
+        assert!(rt; told.is(PAIR_LINES.as_bytes(), 0));
+        assert_eq!(rt; gate.seen.load(Ordering::SeqCst), 1);
+    }
     Ok(())
 }

@@ -1,5 +1,5 @@
 // Many sources by many workers, and a source of a megabyte.
-use super::over::{Over, lint_over};
+use super::over::{LINTERS, Over, lint_over};
 use arena_lint::NoGate;
 use arena_pool::{MemoryMaker, PoolKind};
 use std::alloc::Global;
@@ -29,20 +29,23 @@ fn thousand(alloc: Global) -> Result<(Vec<u8>, Vec<u8>), Fail> {
 fn a_thousand_sources_by_64_workers(rt: HostRuntime) -> Result<(), Fail> {
     let alloc = rt.alloc();
     let (input, lines) = thousand(alloc)?;
-    for (kind, arenas) in [
-        (PoolKind::Standard, 64),
-        (PoolKind::Standard, 0),
-        (PoolKind::FixedSize { bytes: 126_976 }, 1),
-        (PoolKind::FixedSize { bytes: 126_976 }, 64),
-    ] {
-        let over = Over {
-            kind,
-            arenas,
-            workers: 64,
-        };
-        let maker = MemoryMaker::new(alloc, 1 << 20);
-        let told = lint_over(&rt, alloc, over, maker, &NoGate, &input)?;
-        assert!(rt; told.is(&lines, 0), "{arenas} arenas");
+    for linter in LINTERS {
+        for (kind, arenas) in [
+            (PoolKind::Standard, 64),
+            (PoolKind::Standard, 0),
+            (PoolKind::FixedSize { bytes: 126_976 }, 1),
+            (PoolKind::FixedSize { bytes: 126_976 }, 64),
+        ] {
+            let over = Over {
+                linter,
+                kind,
+                arenas,
+                workers: 64,
+            };
+            let maker = MemoryMaker::new(alloc, 1 << 20);
+            let told = lint_over(&rt, alloc, over, maker, &NoGate, &input)?;
+            assert!(rt; told.is(&lines, 0), "{linter:?}, {arenas} arenas");
+        }
     }
     Ok(())
 }
@@ -59,13 +62,16 @@ fn a_source_of_a_megabyte(rt: HostRuntime) -> Result<(), Fail> {
         input.extend_from_slice(LINE.as_bytes())?;
         lines.extend_from_slice(b"undefined b\n")?;
     }
-    let over = Over {
-        kind: PoolKind::Standard,
-        arenas: 1,
-        workers: 1,
-    };
-    let maker = MemoryMaker::new(alloc, 1 << 30);
-    let told = lint_over(&rt, alloc, over, maker, &NoGate, &input)?;
-    assert!(rt; input.len() == 1 << 20 && told.is(&lines, 0));
+    for linter in LINTERS {
+        let over = Over {
+            linter,
+            kind: PoolKind::Standard,
+            arenas: 1,
+            workers: 1,
+        };
+        let maker = MemoryMaker::new(alloc, 1 << 30);
+        let told = lint_over(&rt, alloc, over, maker, &NoGate, &input)?;
+        assert!(rt; input.len() == 1 << 20 && told.is(&lines, 0), "{linter:?}");
+    }
     Ok(())
 }

@@ -1,15 +1,15 @@
 // The sources of an input, linted over a pool that is made for them.
-ghost use Rattle.std.specs.Prelude.{◌≡◌, ◌≤◌, ◌^◌, All, IsTrue, None, length};
+ghost use Rattle.std.specs.Prelude.{◌≡◌, ◌≤◌, ◌^◌, All, IsTrue, None, IfOk, length};
 ghost use Rattle.arena_pool.specs.Names.{IsBlankOf};
 ghost use Rattle.arena_pool.specs.declared.kind.PoolKind.{PoolKind};
 
 use super::ok;
 use arena_chunks::ChunkSource;
-use arena_lint::{Gate, Linted, lint_all};
+use arena_lint::{Gate, Linted, lint_all, lint_parts};
 use arena_pool::{AllocatorPool, ChunkMaker, MOST_LENT, PoolKind, PoolName};
-use lint_reports::{FileReport, put_report, sources_of};
+use lint_reports::{FileReport, Source, put_report, sources_of};
 use placement::Bytes;
-use std::alloc::Global;
+use std::alloc::{AllocError, Global};
 use std::marker::Brand;
 use std::process::Abort;
 use std::sync::Wait;
@@ -17,9 +17,19 @@ use std::sync::ledger::Blank;
 use std::test::*;
 use std::thread::Threads;
 
-/// A pool of so many arenas, and how many workers lint over it.
+/// Which call lints: the one of sources that own their bytes, or that of parts of the input.
+#[derive(Clone, Copy, Debug)]
+pub enum Linter {
+    All,
+    Parts,
+}
+
+pub const LINTERS: [Linter; 2] = [Linter::All, Linter::Parts];
+
+/// A pool of so many arenas, how many workers lint over it, and by which call.
 #[derive(Clone, Copy)]
 pub struct Over {
+    pub linter: Linter,
     pub kind: PoolKind,
     pub arenas: u32,
     pub workers: u32,
@@ -40,12 +50,24 @@ impl Told {
 }
 
 // Whether a linter takes each of the sources.
-fn are_short(sources: &[Bytes]) -> bool
+fn are_short(sources: &[Source<'_>]) -> bool
     ensures { IsTrue result → All (λ bytes. length bytes ≤ 2 ^ 24) sources.now }
 {
     sources
         .iter()
         .all(|source| source.as_slice().len() <= 16_777_216)
+}
+
+// The sources with bytes of their own.
+fn owned(alloc: Global, sources: &[Source<'_>]) -> Result<Vec<Bytes>, Fail>
+    ensures { IfOk result (λ all. all.items ≡ sources.now) }
+{
+    let mut all = Vec::new(alloc);
+    for source in sources {
+        let bytes = Bytes::of(alloc, source.as_slice()).map_err(|_| AllocError)?;
+        all.push(bytes)?;
+    }
+    Ok(all)
 }
 
 // A source was starved exactly where its report is that its arena refused.
@@ -77,17 +99,18 @@ fn lint_with<
     rt: &R,
     alloc: Global,
     pool: &AllocatorPool<K, L>,
-    workers: u32,
+    over: Over,
     gate: &G,
     input: &[u8],
 ) -> Result<Vec<Linted<K::Chunks>>, Fail> {
-    let mut sources = Vec::new(alloc);
-    for source in &ok(sources_of(alloc, input))? {
-        sources.push(ok(Bytes::of(alloc, source.as_slice()))?)?;
-    }
+    let workers = over.workers;
+    let sources = ok(sources_of(alloc, input))?;
     assert!(rt; workers > 0 && workers <= 64);
     assert!(rt; sources.len() < 1 << 20 && are_short(&sources));
-    let linted = lint_all(rt, alloc, pool, workers, gate, &sources);
+    let linted = match over.linter {
+        Linter::All => lint_all(rt, alloc, pool, workers, gate, &owned(alloc, &sources)?),
+        Linter::Parts => lint_parts(rt, alloc, pool, workers, gate, &sources),
+    };
     let all = linted.ok().expect(rt, "reports");
     let starved = all.iter().filter(|linted| linted.starved.is_some()).count();
     let counts = pool.counts(rt);
@@ -122,7 +145,7 @@ fn lint_named<
         }
     };
     let pool = made.ok().expect(rt, "a pool");
-    lint_with(rt, alloc, &pool, over.workers, gate, input)
+    lint_with(rt, alloc, &pool, over, gate, input)
 }
 
 /// What came of each source of an input, over a new pool.

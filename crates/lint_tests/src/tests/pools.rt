@@ -1,5 +1,5 @@
 // Inputs, and the lines of their reports over pools of both kinds, by few workers and many.
-use super::over::{Over, lint_over};
+use super::over::{LINTERS, Over, lint_over};
 use arena_lint::{LintErr, NoGate};
 use arena_pool::{MemoryMaker, PoolKind};
 use std::test::*;
@@ -49,18 +49,21 @@ const ROWS: [(PoolKind, u32, u32, &str, &str); 10] = [
 #[test]
 fn reports_by_few_workers_and_many(rt: HostRuntime) -> Result<(), Fail> {
     let alloc = rt.alloc();
-    for (kind, arenas, workers, input, lines) in ROWS {
-        let over = Over {
-            kind,
-            arenas,
-            workers,
-        };
-        let maker = MemoryMaker::new(alloc, 1 << 20);
-        let told = lint_over(&rt, alloc, over, maker, &NoGate, input.as_bytes())?;
-        assert!(rt;
-            told.is(lines.as_bytes(), 0),
-            "{input:?}, {workers} workers"
-        );
+    for linter in LINTERS {
+        for (kind, arenas, workers, input, lines) in ROWS {
+            let over = Over {
+                linter,
+                kind,
+                arenas,
+                workers,
+            };
+            let maker = MemoryMaker::new(alloc, 1 << 20);
+            let told = lint_over(&rt, alloc, over, maker, &NoGate, input.as_bytes())?;
+            assert!(rt;
+                told.is(lines.as_bytes(), 0),
+                "{linter:?}, {input:?}, {workers} workers"
+            );
+        }
     }
     Ok(())
 }

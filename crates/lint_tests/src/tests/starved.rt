@@ -1,5 +1,5 @@
 // Sources on arenas that may not have their chunks, beside others.
-use super::over::{Over, Told, lint_over, linted_over};
+use super::over::{LINTERS, Linter, Over, Told, lint_over, linted_over};
 use arena_chunks::RefusingChunks;
 use arena_lint::{NoGate, Starved};
 use arena_pool::{ChunkMaker, MemoryMaker, PoolKind};
@@ -22,6 +22,7 @@ fn input(alloc: Global) -> Result<Vec<u8>, Fail> {
 
 /// One worker on a pool that begins with one arena.
 const ALONE: Over = Over {
+    linter: Linter::Parts,
     kind: PoolKind::Standard,
     arenas: 1,
     workers: 1,
@@ -51,11 +52,20 @@ const BUDGETS: [(u64, u32, &str, u64); 6] = [
 fn budgets(rt: HostRuntime) -> Result<(), Fail> {
     let alloc = rt.alloc();
     let input = input(alloc)?;
-    for (budget, workers, lines, starved) in BUDGETS {
-        let over = Over { workers, ..ALONE };
-        let maker = MemoryMaker::new(alloc, budget);
-        let told = lint_over(&rt, alloc, over, maker, &NoGate, &input)?;
-        assert!(rt; told.is(lines.as_bytes(), starved), "budget {budget}");
+    for linter in LINTERS {
+        for (budget, workers, lines, starved) in BUDGETS {
+            let over = Over {
+                linter,
+                workers,
+                ..ALONE
+            };
+            let maker = MemoryMaker::new(alloc, budget);
+            let told = lint_over(&rt, alloc, over, maker, &NoGate, &input)?;
+            assert!(rt;
+                told.is(lines.as_bytes(), starved),
+                "{linter:?}, budget {budget}"
+            );
+        }
     }
     Ok(())
 }
@@ -84,6 +94,7 @@ impl ChunkMaker for RefusingMaker {
 fn refusing<R: Threads + Wait + Abort + Sync>(
     rt: &R,
     alloc: Global,
+    linter: Linter,
     first: u64,
     count: u64,
 ) -> Result<Told, Fail> {
@@ -93,31 +104,38 @@ fn refusing<R: Threads + Wait + Abort + Sync>(
         count,
     };
     let input = input(alloc)?;
-    lint_over(rt, alloc, ALONE, maker, &NoGate, &input)
+    let over = Over { linter, ..ALONE };
+    lint_over(rt, alloc, over, maker, &NoGate, &input)
 }
 
 // Smaller chunks are asked for where one is refused, and so a source that refuses one request may starve nobody.
 #[test]
 fn each_request_is_refused_in_turn(rt: HostRuntime) -> Result<(), Fail> {
-    for first in 1..=20 {
-        let told = refusing(&rt, rt.alloc(), first, 1)?;
-        let starved = told.starved;
-        assert!(rt;
-            told.is(REPORTS.as_bytes(), 0)
-                || told.is(FIRST_REFUSED.as_bytes(), 1)
-                || told.is(BOTH_REFUSED.as_bytes(), 2),
-            "request {first}, {starved} starved"
-        );
+    for linter in LINTERS {
+        for first in 1..=20 {
+            let told = refusing(&rt, rt.alloc(), linter, first, 1)?;
+            let starved = told.starved;
+            assert!(rt;
+                told.is(REPORTS.as_bytes(), 0)
+                    || told.is(FIRST_REFUSED.as_bytes(), 1)
+                    || told.is(BOTH_REFUSED.as_bytes(), 2),
+                "{linter:?}, request {first}, {starved} starved"
+            );
+        }
     }
     Ok(())
 }
 
-// From the first request on both programs are starved, from a later one on the large program alone, and at last none.
-#[test]
-fn all_requests_from_one_on_are_refused(rt: HostRuntime) -> Result<(), Fail> {
+// From the first request on both programs are starved, from a later one on the large program alone, and at last none. How many are
+// at last.
+fn fewer_and_fewer<R: Threads + Wait + Abort + Sync>(
+    rt: &R,
+    alloc: Global,
+    linter: Linter,
+) -> Result<u64, Fail> {
     let mut before = 2;
     for first in 1..=20 {
-        let told = refusing(&rt, rt.alloc(), first, 100)?;
+        let told = refusing(rt, alloc, linter, first, 100)?;
         let starved = told.starved;
         let lines = match starved {
             0 => REPORTS,
@@ -129,7 +147,14 @@ fn all_requests_from_one_on_are_refused(rt: HostRuntime) -> Result<(), Fail> {
         assert!(rt; first != 2 || starved == 1);
         before = starved;
     }
-    assert_eq!(rt; before, 0);
+    Ok(before)
+}
+
+#[test]
+fn all_requests_from_one_on_are_refused(rt: HostRuntime) -> Result<(), Fail> {
+    for linter in LINTERS {
+        assert_eq!(rt; fewer_and_fewer(&rt, rt.alloc(), linter)?, 0);
+    }
     Ok(())
 }
 
@@ -158,19 +183,22 @@ fn tells(rt: &impl Abort, starved: &Option<Starved<RefusingChunks>>, first: u64)
 fn starved_sources_tell_their_requests(rt: HostRuntime) -> Result<(), Fail> {
     let alloc = rt.alloc();
     let input = input(alloc)?;
-    for (first, wanted) in HANDED_BACK {
-        let maker = RefusingMaker {
-            alloc,
-            first,
-            count: 100,
-        };
-        let all = linted_over(&rt, alloc, ALONE, maker, &NoGate, &input)?;
-        assert_eq!(rt; all.len(), 4);
-        for (linted, is_back) in all.iter().zip(wanted) {
-            assert!(rt;
-                tells(&rt, &linted.starved, first) == is_back,
-                "from {first}"
-            );
+    for linter in LINTERS {
+        for (first, wanted) in HANDED_BACK {
+            let maker = RefusingMaker {
+                alloc,
+                first,
+                count: 100,
+            };
+            let over = Over { linter, ..ALONE };
+            let all = linted_over(&rt, alloc, over, maker, &NoGate, &input)?;
+            assert_eq!(rt; all.len(), 4);
+            for (linted, is_back) in all.iter().zip(wanted) {
+                assert!(rt;
+                    tells(&rt, &linted.starved, first) == is_back,
+                    "{linter:?}, from {first}"
+                );
+            }
         }
     }
     Ok(())

@@ -1,7 +1,8 @@
 // Trees, their texts and values.
-ghost use Rattle.std.specs.Prelude.{◌≡◌, ◌≤◌, ℕ, ℤ, List, Ok};
+ghost use Rattle.std.specs.Prelude.{◌≡◌, ◌≤◌, ℕ, ℤ, List, Ok, length};
 ghost use Rattle.tree_rules.specs.Tokens.{tokens, without_places};
 ghost use Rattle.tree_rules.specs.Trees.{Expr, Stmts, AreStmts, StmtsFit, text, value_of, folded, folded_stmts};
+ghost use Rattle.tree_rules.specs.Weights.{weights};
 ghost use Rattle.tree_rules.specs.Grammar.{IsProgram};
 ghost use Rattle.tree_rules.specs.Refusals.{TreeOf, most_nest};
 
@@ -16,6 +17,12 @@ pub fn texts()
 /// The tree of a text is well formed, and its numbers fit.
 pub fn well_formed()
     ensures { (bytes : List ℕ) (t : Stmts) → TreeOf bytes (Ok t) → AreStmts t × StmtsFit t }
+{}
+
+/// A text has at least the weight of its tree in bytes: one for each definition and each block, and those of the names that are
+/// defined.
+pub fn tree_weight()
+    ensures { (bytes : List ℕ) (t : Stmts) → TreeOf bytes (Ok t) → weights t ≤ length bytes }
 {}
 
 /// A folded expression has the value that it had, whatever names stand for. Folded trees are well formed, and their

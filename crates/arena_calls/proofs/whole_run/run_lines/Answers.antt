@@ -1,6 +1,6 @@
 use Rattle.std.proofs.Common.{◌≡◌, ◌∙◌, [], refl, inr, arith}
 use Rattle.placement.specs.Replies.{text_of}
-use Rattle.arena_calls.proofs.RunLemmas.{stopped_first}
+use Rattle.arena_calls.proofs.RunLemmas.{calls_read, stopped_first}
 use Rattle.arena_calls.proofs.whole_run.run_lines.Goals as goal
 
 pub returns-in_default : goal.returns-in_default
@@ -9,11 +9,8 @@ returns-in_default g c =
       record { reads = c.in-Ok.ensures.faults; writes = refl },
       inr (
         c.in-Ok-parse_calls.calls.items,
-        record {
-          bytes = c.in-Ok.bytes.items;
-          whole = record { told = c.in-Ok.ensures.all; small = omega (arith, c.in-Ok.ensures.kept) };
-          lines = rw c.as_slice.ensures.value at c.in-Ok-parse_calls.ensures.calls;
-        },
+        calls_read _ _ c.in-Ok.bytes.items _ _ c.in-Ok.ensures.all (omega (arith, c.in-Ok.ensures.kept)) c.as_slice.ensures.value
+            c.in-Ok-parse_calls.ensures.calls,
         record { done = first.0; runs = first.1; written = refl },
       ),
     )
@@ -25,11 +22,8 @@ returns-in-Ok-write_all g c =
       record { reads = c.in-Ok.ensures.faults; writes = c.in-Ok-write_all.ensures.no_fault },
       (
         c.in-Ok-parse_calls.calls.items,
-        record {
-          bytes = c.in-Ok.bytes.items;
-          whole = record { told = c.in-Ok.ensures.all; small = omega (arith, c.in-Ok.ensures.kept) };
-          lines = rw c.as_slice.ensures.value at c.in-Ok-parse_calls.ensures.calls;
-        },
+        calls_read _ _ c.in-Ok.bytes.items _ _ c.in-Ok.ensures.all (omega (arith, c.in-Ok.ensures.kept)) c.as_slice.ensures.value
+            c.in-Ok-parse_calls.ensures.calls,
         record {
           replies = ran.0;
           blocks = c.in-Ok-run_calls_into.field-0.items;
@@ -46,11 +40,8 @@ returns g c =
       record { reads = c.in-Ok.ensures.faults; writes = c.in-Err.ensures.one_fault },
       (
         c.in-Ok-parse_calls.calls.items,
-        record {
-          bytes = c.in-Ok.bytes.items;
-          whole = record { told = c.in-Ok.ensures.all; small = omega (arith, c.in-Ok.ensures.kept) };
-          lines = rw c.as_slice.ensures.value at c.in-Ok-parse_calls.ensures.calls;
-        },
+        calls_read _ _ c.in-Ok.bytes.items _ _ c.in-Ok.ensures.all (omega (arith, c.in-Ok.ensures.kept)) c.as_slice.ensures.value
+            c.in-Ok-parse_calls.ensures.calls,
         record {
           replies = ran.0;
           blocks = c.in-Ok-run_calls_into.field-0.items;

@@ -1,14 +1,13 @@
-use Rattle.std.proofs.Common.{ℕ, ◌<◌, ap, subst, ◌∙◌, arith}
+use Rattle.std.proofs.Common.{ℕ, ◌<◌, subst, arith}
 use Rattle.std.proofs.Math.Nat.{mod-lt}
 use Rattle.std.proofs.lemmas.Bool.Decides.{nat_tests}
 use Rattle.std.specs.Prelude.{slice_index}
 use Rattle.arena_items.specs.Values.{bytes_of}
 use Rattle.arena_hash.specs.Contents.{kind}
-use Rattle.arena_hash.specs.Slots.{spot, IsAway}
 use Rattle.arena_hash.specs.Tables.{home_of, pair_hash, slots_in}
 use Rattle.arena_hash.proofs.HandleLemmas.{handle-shape, in-marked}
 use Rattle.arena_hash.proofs.MarkLemmas.{near-by}
-use Rattle.arena_hash.proofs.Order.{away-same}
+use Rattle.arena_hash.proofs.Order.{away-by, away-same}
 use Rattle.arena_hash.proofs.SlotLemmas.{slot-taken}
 use Rattle.arena_hash.proofs.far.is_behind.Goals as goal
 
@@ -48,12 +47,8 @@ returns-clause-behind g c = λ is_true.
     let shape = handle-shape g.K.Item g.V.Item m c.args.table c.requires.keys_small c.requires.values_small c.requires.held.handle some in
     let there = slot-taken g.K.Item g.V.Item n (bytes_of m c.args.table.block) shape c.args.at c.requires.index
     (omega (arith, rw c.read.ensures at c.if-read-at-lt-FAR.false)) in
-    let is = c.hash_at.ensures there.0 there.1 in
-    let away : IsAway (λ p. home_of n (hash p)) n slots c.args.at there.0 c.distance.result = record {
-      there = there.1;
-      less = c.distance.ensures.less;
-      place = c.distance.ensures.place ∙ ap (λ w. spot n (home_of n w) c.distance.result) is;
-    } in
+    let away = away-by hash n slots c.args.at _ _ there.0 there.1 (c.hash_at.ensures there.0 there.1) c.distance.ensures.less
+    c.distance.ensures.place in
     record { item = there.0; distance = c.distance.result; away = away; far = grind (arith, nat_tests, is_true) }
 
 pub returns-clause-nearer : goal.returns-clause-nearer
@@ -67,11 +62,7 @@ returns-clause-nearer g c = λ is_false y e other.
     let shape = handle-shape g.K.Item g.V.Item m c.args.table c.requires.keys_small c.requires.values_small c.requires.held.handle some in
     let there = slot-taken g.K.Item g.V.Item n (bytes_of m c.args.table.block) shape c.args.at c.requires.index
     (omega (arith, rw c.read.ensures at c.if-read-at-lt-FAR.false)) in
-    let is = c.hash_at.ensures there.0 there.1 in
-    let away : IsAway (λ p. home_of n (hash p)) n slots c.args.at there.0 c.distance.result = record {
-      there = there.1;
-      less = c.distance.ensures.less;
-      place = c.distance.ensures.place ∙ ap (λ w. spot n (home_of n w) c.distance.result) is;
-    } in
+    let away = away-by hash n slots c.args.at _ _ there.0 there.1 (c.hash_at.ensures there.0 there.1) c.distance.ensures.less
+    c.distance.ensures.place in
     let same = away-same (λ p. home_of n (hash p)) n (λ p. mod-lt (hash p) some) slots c.args.at c.distance.result e there.0 y away other in
     grind (arith, nat_tests, is_false, same)

@@ -1,3 +1,4 @@
+use Rattle.std.proofs.Common.{[], ◌∷◌}
 use Rattle.arena_lint.proofs.LintLemmas.{tree_room, nothing_spends}
 use Rattle.arena_lint.proofs.SpendingLemmas.{err_takes}
 use Rattle.arena_lint.proofs.lint.findings.Goals as goal
@@ -15,3 +16,7 @@ returns-in_err-walk-clause-spends g c trees means = nothing_spends trees c.requi
 pub returns-clause-spends : goal.returns-clause-spends
 returns-clause-spends g c trees means =
     nothing_spends trees c.requires c.nothing-known.ensures means (c.in_ok-walk.ensures.takes trees means)
+
+pub returns-clause-found : goal.returns-clause-found
+returns-clause-found g c trees means = rw c.new-found.ensures at
+    (c.in_ok-walk.ensures.finds trees means ([] ∷ []) (c.nothing-known.ensures.knows c.args.a.now.memory)).1

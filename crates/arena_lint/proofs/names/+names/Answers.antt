@@ -1,34 +1,27 @@
-use Rattle.std.proofs.Common.{◌++◌, sym, refl, append-nil, arith}
-use Rattle.arena_vec.specs.Vecs.{vec_list}
-use Rattle.arena_tree.specs.TreesAt.{node_item}
+use Rattle.std.proofs.Common.{sym, refl, append-nil, arith}
 use Rattle.arena_lint.proofs.NameLemmas.{name_at, name_is, no_names, kid_found, kids_found}
-use Rattle.tree_rules.specs.Report.{undefined, all_names}
 use Rattle.arena_lint.proofs.names.+names.Goals as goal
 
 pub all_names-kids-init : goal.all_names-kids-init
-all_names-kids-init g t c es sets at knows = refl
+all_names-kids-init g t c es sets at knows = record { exprs = es; stand = at; all_is = refl }
 
 pub all_names-kids-preserved : goal.all_names-kids-preserved
-all_names-kids-preserved g t c es sets at knows =
-    let m = c.args.a.now.memory in
-    kid_found es m (vec_list node_item m c.args.list) c.kids.i c.kid-next.result sets (c.args.found.now ++ undefined sets (all_names es))
-    c.kids.found c.names_in.new.found at c.kid-next.ensures.kid (λ e stands. c.in_ok-names_in.ensures e sets stands knows)
-    (c.kids.invariant es sets at knows)
+all_names-kids-preserved g t c es sets at knows = kid_found _ c.kids.i c.kid-next.result c.kid-next.ensures.kid
+    (λ e stands. c.in_ok-names_in.ensures e sets stands knows) (c.kids.invariant es sets at knows)
 
 pub all_names-returns : goal.all_names-returns
-all_names-returns g t c es sets at knows =
-    kids_found es c.args.a.now.memory c.args.list c.kids.i sets (c.args.found.now ++ undefined sets (all_names es)) c.kids.found at
+all_names-returns g t c es sets at knows = kids_found c.args.list c.kids.i
     (omega (arith, c.kids-test.false, c.kids.auto.i-end, c.len-i-end.ensures)) (c.kids.invariant es sets at knows)
 
-pub names_in-uses-requires-clause-text : goal.names_in-uses-requires-clause-text
-names_in-uses-requires-clause-text g t c = (name_at c.requires.tree c.in-Name.is).held
+pub names_in-use_name-requires-clause-text : goal.names_in-use_name-requires-clause-text
+names_in-use_name-requires-clause-text g t c = (name_at c.requires.tree c.in-Name.is).0
 
-pub names_in-uses-requires-clause-utf8 : goal.names_in-uses-requires-clause-utf8
-names_in-uses-requires-clause-utf8 g t c = (name_at c.requires.tree c.in-Name.is).text
+pub names_in-use_name-requires-clause-utf8 : goal.names_in-use_name-requires-clause-utf8
+names_in-use_name-requires-clause-utf8 g t c = (name_at c.requires.tree c.in-Name.is).1
 
 pub names_in-returns-in-Num : goal.names_in-returns-in-Num
 names_in-returns-in-Num g t c e sets at knows = rw (no_names e c.args.a.now.memory c.args.node at c.in-Num.is) (sym (append-nil _))
 
 pub names_in-returns-in-Name : goal.names_in-returns-in-Name
-names_in-returns-in-Name g t c e sets at knows = rw (name_is e c.args.a.now.memory c.args.node at c.in-Name.is) (c.uses.ensures sets
-    knows)
+names_in-returns-in-Name g t c e sets at knows =
+    rw (name_is e c.args.a.now.memory c.args.node at c.in-Name.is) (c.use_name.ensures sets knows)

@@ -1,10 +1,10 @@
-use Rattle.std.proofs.Common.{◌≡◌, ◌+◌, ◌*◌, ◌++◌, List}
+use Rattle.std.proofs.Common.{◌+◌, ◌*◌, ◌++◌, List, drop}
 use Rattle.arena_vec.specs.Vecs.{vec_list}
 use Rattle.arena_tree.specs.TreesAt.{node_item, ExprsAt}
 use Rattle.tree_rules.specs.Report.{Names, all_names, undefined}
 use Rattle.tree_rules.specs.Trees.{Exprs}
 use Rattle.arena_lint.specs.Knowing.{Knows}
-use Rattle.arena_lint.specs.Rooms.{dropped}
+use Rattle.arena_lint.specs.Steps.{Left}
 use Rattle.arena_lint.proofs.names.+names.Given as goal
 
 abbrev pub decreases-names_in : goal.decreases-names_in
@@ -15,5 +15,5 @@ decreases-all_names g l = 2 * l.room
 
 abbrev pub invariant-all_names-kids : goal.invariant-all_names-kids
 invariant-all_names-kids g l = (es : Exprs) (sets : List Names) → ExprsAt es l.a.memory (vec_list node_item l.a.memory l.list)
-    → Knows l.a.memory l.known sets → l.found ++ undefined sets (all_names (dropped l.i es)) ≡ l.fn.found ++ undefined sets (all_names
-    es)
+    → Knows l.a.memory l.known sets
+    → Left l.a.memory (drop l.i (vec_list node_item l.a.memory l.list)) sets l.found (l.fn.found ++ undefined sets (all_names es))

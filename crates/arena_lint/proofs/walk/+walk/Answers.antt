@@ -1,9 +1,10 @@
 use Rattle.std.proofs.Common.{arith}
 use Rattle.arena_tree.specs.Spending.{error_of}
 use Rattle.arena_lint.proofs.SpendingLemmas.{err_takes, takes_wanting, takes_then, takes_more}
-use Rattle.arena_lint.proofs.StatementLemmas.{moves_then, moves_none, list_moved, show_finds}
-use Rattle.arena_lint.proofs.WalkLemmas.{block_weight, body_takes, block_finds, walking_begin, walking_next, walking_end, walking_takes, walked_takes}
-use Rattle.arena_lint.specs.Weights.{weight}
+use Rattle.arena_symbols.proofs.Layers.{moves_then}
+use Rattle.tree_rules.specs.Weights.{weight}
+use Rattle.arena_lint.proofs.StatementLemmas.{list_moved, show_finds}
+use Rattle.arena_lint.proofs.WalkLemmas.{moves_none, block_weight, body_takes, block_finds, walking_begin, walking_next, walking_end, walking_takes, walked_takes}
 use Rattle.arena_lint.proofs.walk.+walk.Goals as goal
 
 pub walk-stmt-node-requires-clause-trees : goal.walk-stmt-node-requires-clause-trees

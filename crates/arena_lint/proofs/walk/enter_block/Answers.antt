@@ -1,7 +1,7 @@
+use Rattle.arena_lint.proofs.KnownLemmas.{begun, begun_knows}
 use Rattle.arena_lint.proofs.SpendingLemmas.{err_takes}
-use Rattle.arena_lint.proofs.StatementLemmas.{stmt_moved, block_body, body_moved}
+use Rattle.arena_lint.proofs.StatementLemmas.{stmt_moved, block_body, body_still}
 use Rattle.arena_lint.proofs.TakingLemmas.{begun_takes}
-use Rattle.arena_lint.proofs.WalkLemmas.{begun, begun_knows}
 use Rattle.arena_lint.proofs.walk.enter_block.Goals as goal
 
 pub returns-in_err-enter-clause-moves : goal.returns-in_err-enter-clause-moves
@@ -19,7 +19,7 @@ returns-clause-tree g c =
 
 pub returns-clause-enters : goal.returns-clause-enters
 returns-clause-enters g c = rw c.kids.ensures (record {
-  body = λ s at. body_moved (begun c.requires.known c.enter.ensures) c.requires.tree s c.requires.kind at;
+  body = body_still (begun c.requires.known c.enter.ensures) c.requires.tree c.requires.kind;
   knows = λ sets knows. begun_knows sets c.requires.known c.in_ok-enter.ensures knows;
 })
 

@@ -1,16 +1,16 @@
 use Rattle.std.proofs.Common.{Some}
 use Rattle.arena_lint.proofs.SpendingLemmas.{err_takes, takes_wanting}
-use Rattle.arena_lint.proofs.StatementLemmas.{has_let, let_finds, let_weight}
+use Rattle.arena_lint.proofs.StatementLemmas.{let_name, let_finds, let_weight}
 use Rattle.arena_lint.proofs.walk.let_line.Goals as goal
 
 pub define-requires-clause-held : goal.define-requires-clause-held
-define-requires-clause-held g c = (has_let c.requires.tree c.requires.kind).held
+define-requires-clause-held g c = (let_name c.requires.tree c.requires.kind).0
 
 pub define-requires-clause-utf8 : goal.define-requires-clause-utf8
-define-requires-clause-utf8 g c = (has_let c.requires.tree c.requires.kind).text
+define-requires-clause-utf8 g c = (let_name c.requires.tree c.requires.kind).1
 
 pub define-requires-clause-short : goal.define-requires-clause-short
-define-requires-clause-short g c = (has_let c.requires.tree c.requires.kind).short
+define-requires-clause-short g c = (let_name c.requires.tree c.requires.kind).2
 
 pub returns-clause-finds : goal.returns-clause-finds
 returns-clause-finds g c s at =

@@ -1,6 +1,6 @@
 use Rattle.std.proofs.Common.{◌∙◌, ap, refl, inr, arith, length}
 use Rattle.arena_calls.specs.Streams.{Writes, WritesPart}
-use Rattle.arena_calls.proofs.RunLemmas.{stopped_first}
+use Rattle.arena_calls.proofs.RunLemmas.{calls_read, stopped_first}
 use Rattle.arena_picture.specs.Ends.{picture_of}
 use Rattle.arena_picture.proofs.EndLemmas.{drawn, first_all}
 use Rattle.arena_picture.proofs.picture.draw_lines.Goals as goal
@@ -11,11 +11,8 @@ returns-in_default g c =
       record { reads = c.in-Ok.ensures.faults; writes = refl },
       inr (
         c.in-Ok-parse_calls.calls.items,
-        record {
-          bytes = c.in-Ok.bytes.items;
-          whole = record { told = c.in-Ok.ensures.all; small = omega (arith, c.in-Ok.ensures.kept) };
-          lines = rw c.as_slice.ensures.value at c.in-Ok-parse_calls.ensures.calls;
-        },
+        calls_read _ _ c.in-Ok.bytes.items _ _ c.in-Ok.ensures.all (omega (arith, c.in-Ok.ensures.kept)) c.as_slice.ensures.value
+            c.in-Ok-parse_calls.ensures.calls,
         record { done = first.0; runs = first.1; written = refl },
       ),
     )
@@ -26,11 +23,8 @@ returns-in_default-picture_of g c =
       record { reads = c.in-Ok.ensures.faults; writes = refl },
       inr (
         c.in-Ok-parse_calls.calls.items,
-        record {
-          bytes = c.in-Ok.bytes.items;
-          whole = record { told = c.in-Ok.ensures.all; small = omega (arith, c.in-Ok.ensures.kept) };
-          lines = rw c.as_slice.ensures.value at c.in-Ok-parse_calls.ensures.calls;
-        },
+        calls_read _ _ c.in-Ok.bytes.items _ _ c.in-Ok.ensures.all (omega (arith, c.in-Ok.ensures.kept)) c.as_slice.ensures.value
+            c.in-Ok-parse_calls.ensures.calls,
         record {
           done = length c.in-Ok-parse_calls.calls.items;
           runs = first_all _ _ c.in-Ok-parse_calls.calls.items _ _ (rw c.as_slice-2.ensures.value at ran.1);
@@ -45,11 +39,8 @@ returns-in-Ok-write_all g c =
       record { reads = c.in-Ok.ensures.faults; writes = c.in-Ok-write_all.ensures.no_fault },
       (
         c.in-Ok-parse_calls.calls.items,
-        record {
-          bytes = c.in-Ok.bytes.items;
-          whole = record { told = c.in-Ok.ensures.all; small = omega (arith, c.in-Ok.ensures.kept) };
-          lines = rw c.as_slice.ensures.value at c.in-Ok-parse_calls.ensures.calls;
-        },
+        calls_read _ _ c.in-Ok.bytes.items _ _ c.in-Ok.ensures.all (omega (arith, c.in-Ok.ensures.kept)) c.as_slice.ensures.value
+            c.in-Ok-parse_calls.ensures.calls,
         drawn _ _ _ _ c.in-Ok-run_calls_into.held.items Writes c.as_slice-4.result.now (rw c.as_slice-2.ensures.value at ran.1)
             c.in-Ok-write_all.ensures.ok
             (c.as_slice-4.ensures.value ∙ c.in-Ok-picture_of.ensures
@@ -63,11 +54,8 @@ returns g c =
       record { reads = c.in-Ok.ensures.faults; writes = c.in-Err.ensures.one_fault },
       (
         c.in-Ok-parse_calls.calls.items,
-        record {
-          bytes = c.in-Ok.bytes.items;
-          whole = record { told = c.in-Ok.ensures.all; small = omega (arith, c.in-Ok.ensures.kept) };
-          lines = rw c.as_slice.ensures.value at c.in-Ok-parse_calls.ensures.calls;
-        },
+        calls_read _ _ c.in-Ok.bytes.items _ _ c.in-Ok.ensures.all (omega (arith, c.in-Ok.ensures.kept)) c.as_slice.ensures.value
+            c.in-Ok-parse_calls.ensures.calls,
         drawn _ _ _ _ c.in-Ok-run_calls_into.held.items WritesPart c.as_slice-4.result.now (rw c.as_slice-2.ensures.value at ran.1)
             c.in-Err.ensures.part
             (c.as_slice-4.ensures.value ∙ c.in-Ok-picture_of.ensures

@@ -1,12 +1,11 @@
-use Rattle.std.proofs.Common.{◌∙◌, refl, inl, inr}
-use Rattle.arena_program.proofs.ProgramLemmas.{in_either}
+use Rattle.std.proofs.Common.{refl, inl, inr}
 use Rattle.arena_program.proofs.program.run_program.Goals as goal
 use Rattle.arena_program.proofs.program.run_program.Goals.{in-Ok+in-Ok-words, in-Ok+in-Err-words, in-Err}
 
 pub returns : goal.returns
 returns g c = (
   c.match-args.status,
-  c.from.ensures ∙ c.code.ensures,
+  c.exit_with.ensures.code,
   elim c.match-args.branch [
     | in-Ok+in-Ok-words w ↦ rw (w.in-Ok.is, w.status-is, w.arena-is, w.chunks-is, w.input-is, w.output-is, w.starved-is)
         (inl (rw (w.as_slice-words.ensures.value, w.in-Ok-words.ensures) at w.serve.ensures))
@@ -15,5 +14,5 @@ returns g c = (
     | in-Err w ↦ rw (w.in-Err.is, w.status-is, w.arena-is, w.chunks-is, w.input-is, w.output-is, w.starved-is)
         (w.without_words-status.ensures, refl, refl)
   ],
-  in_either c.explain.result c.explain.ensures.ok c.explain.ensures.part c.explain.ensures.no_fault c.explain.ensures.one_fault,
+  c.exit_with.ensures.said,
 )

@@ -1,13 +1,13 @@
-use Rattle.arena_tree.proofs.PartLemmas.{next_token}
-use Rattle.arena_tree.proofs.LineLemmas.{some_equals, only_equals}
+use Rattle.std.proofs.Common.{refl}
+use Rattle.tree_rules.specs.Reading.{state}
+use Rattle.tree_rules.specs.declared.machine.Mode.TheVariants.{AtEquals}
+use Rattle.arena_tree.proofs.TokenLemmas.{some_token, only_equals}
 use Rattle.arena_tree.proofs.begin.equals_at.Goals as goal
 
 pub unreachable-requires : goal.unreachable-requires
-unreachable-requires c = some_equals c.args.src.now c.args.at c.requires.place.0 c.requires.place.1 c.in_default.ensures.none
+unreachable-requires c =
+    some_token c.args.src.now c.args.at (state AtEquals c.requires.place.0) refl c.requires.place.1 c.in_default.ensures.none
 
 pub unreachable-requires-in_default-seen : goal.unreachable-requires-in_default-seen
 unreachable-requires-in_default-seen c =
-    let n = c.in-Some.ensures.some in
-    only_equals c.args.src.now c.args.at c.in-Some.l.seen _ n.token c.in-Some.l.end c.requires.place.0 c.requires.place.1 (next_token
-    c.args.src.now c.args.at c.in-Some.l n) n.seen
-    c.in_default-seen.not-Equals
+    only_equals c.in-Some.ensures.some c.requires.place.0 c.requires.place.1 c.in_default-seen.not-Equals

@@ -1,48 +1,53 @@
-use Rattle.std.proofs.Common.{◌≤◌, arith}
-use Rattle.arena_tree.proofs.LineLemmas.{let_token, name_place, equals_place, brace_token, block_place, is_let, let_place, expr_start}
+use Rattle.std.proofs.Common.{◌≤◌, ℕ, suc, refl, arith}
+use Rattle.tree_rules.specs.Tokens.{LetKey, LeftBrace}
+use Rattle.tree_rules.specs.Reading.{State, state}
+use Rattle.tree_rules.specs.declared.machine.Mode.TheVariants.{AtName, AtEquals}
+use Rattle.arena_tree.specs.LineParts.{braces, at_line, at_value}
+use Rattle.arena_tree.proofs.TokenLemmas.{token_seen, expr_start}
+use Rattle.arena_tree.proofs.PartLemmas.{reads_token, reads_then, opens_brace}
 use Rattle.arena_tree.proofs.begin.line_at.Goals as goal
+
+abbrev at_name : ℕ → State
+at_name depth = state AtName (braces depth)
+
+abbrev at_equals : ℕ → State
+at_equals depth = state AtEquals (braces depth)
 
 pub name_at-begin-requires-clause-place : goal.name_at-begin-requires-clause-place
 name_at-begin-requires-clause-place c =
     let place = c.requires.place in
-    let t = let_token c.args.src.now c.args.at c.in-Some.l c.in-Some.ensures.some c.in-LetKey.is in
-    (place.opens, name_place c.args.src.now c.args.at c.in-Some.l.end place.opens t place.passed)
+    let t = token_seen LetKey c.in-Some.ensures.some c.in-LetKey.is (λ h. h) in
+    (braces place.0, (reads_token at_line at_name t (λ depth. refl)).passes place.0 place.1)
 
 pub equals_at-behind-requires-clause-place : goal.equals_at-behind-requires-clause-place
 equals_at-behind-requires-clause-place c =
     let place = c.requires.place in
-    let t = let_token c.args.src.now c.args.at c.in-Some.l c.in-Some.ensures.some c.in-LetKey.is in (
-      place.opens,
-      equals_place c.args.src.now c.in-Some.l.end _ _ place.opens c.name_at-begin.ensures.token
-          (name_place c.args.src.now c.args.at c.in-Some.l.end place.opens t place.passed),
-    )
+    let t = token_seen LetKey c.in-Some.ensures.some c.in-LetKey.is (λ h. h) in
+    let key = reads_token at_line at_name t (λ depth. refl) in
+    let name = reads_token at_name at_equals c.name_at-begin.ensures.token (λ depth. refl) in
+    (braces place.0, (reads_then key name).passes place.0 place.1)
 
 pub returns-in-LeftBrace : goal.returns-in-LeftBrace
 returns-in-LeftBrace c =
-    let t = brace_token c.args.src.now c.args.at c.in-Some.l c.in-Some.ensures.some c.in-LeftBrace.is in
-    (t, block_place c.args.src.now c.args.at c.in-Some.l.end t c.requires.place, t.later, t.within)
+    let place = c.requires.place in
+    let t = token_seen LeftBrace c.in-Some.ensures.some c.in-LeftBrace.is (λ h. h) in
+    (t, (suc place.0, (opens_brace t).passes place.0 place.1), t.later, t.within)
 
 pub returns-in-LetKey : goal.returns-in-LetKey
 returns-in-LetKey c =
-    let t = let_token c.args.src.now c.args.at c.in-Some.l c.in-Some.ensures.some c.in-LetKey.is in
-    let name = c.name_at-begin.ensures.token in
-    let is = is_let c.args.src.now c.args.at c.in-Some.l.end c.name_at-begin.result.1 c.equals_at-behind.result _ t name
-    c.equals_at-behind.ensures in
-    let begins : c.args.at ≤ c.name_at-begin.result.0 = omega (arith, t.later, c.name_at-begin.ensures.begin) in
-    let ends : c.name_at-begin.result.1 ≤ c.equals_at-behind.result = omega (arith, c.equals_at-behind.ensures.later) in (
-      is,
-      let_place c.args.src.now c.args.at c.equals_at-behind.result _ is c.requires.place,
-      is.later,
-      is.within,
-      c.name_at-begin.ensures.range,
-      name.within,
-      begins,
-      ends,
-    )
+    let place = c.requires.place in
+    let t = token_seen LetKey c.in-Some.ensures.some c.in-LetKey.is (λ h. h) in
+    let name = c.name_at-begin.ensures in
+    let equals = c.equals_at-behind.ensures in
+    let is = reads_then (reads_token at_line at_name t (λ depth. refl)) (reads_then (reads_token at_name at_equals name.token (λ depth.
+    refl)) (reads_token at_equals at_value equals (λ depth. refl))) in
+    let begins : c.args.at ≤ c.name_at-begin.result.0 = omega (arith, t.later, name.begin) in
+    let ends : c.name_at-begin.result.1 ≤ c.equals_at-behind.result = omega (arith, equals.later) in
+    (is, (braces place.0, is.passes place.0 place.1), is.later, is.within, name.range, name.token.within, begins, ends)
 
 pub returns-in_default-seen : goal.returns-in_default-seen
 returns-in_default-seen c =
     let place = c.requires.place in
-    let starts = expr_start c.args.src.now c.args.at c.in-Some.l c.in-Some.ensures.some c.in_default-seen.not-RightBrace
-    c.in_default-seen.not-LeftBrace c.in_default-seen.not-LetKey in
-    ((place.opens, starts place.opens place.passed), starts)
+    let arm = c.in_default-seen in
+    let starts = expr_start c.in-Some.ensures.some arm.not-RightBrace arm.not-LeftBrace arm.not-LetKey in
+    ((braces place.0, starts (braces place.0) place.1), (λ depth. starts (braces depth)))

@@ -1,6 +1,7 @@
 use Rattle.std.proofs.Common.{◌+◌, arith}
 use Rattle.arena_vec.specs.Growth.{amortised}
-use Rattle.arena_tree.proofs.BuildLemmas.{first_built}
+use Rattle.arena_tree.specs.Subtrees.{OfExpr}
+use Rattle.arena_tree.proofs.RowLemmas.{row_first}
 use Rattle.arena_tree.proofs.BlockCostLemmas.{spends_same}
 use Rattle.arena_tree.proofs.CloneCostLemmas.{err_spends}
 use Rattle.arena_tree.proofs.CloneListLemmas.{never_refused, fills}
@@ -10,32 +11,25 @@ use Rattle.arena_tree.proofs.build.first_of.Goals as goal
 pub unreachable-requires : goal.unreachable-requires
 unreachable-requires g c =
     let v = c.in_ok-list.list in
+    let l = c.in_ok-list.ensures in
     never_refused c.roomy.new.a c.push.new.a v c.push.new.self c.args.node
-    (c.growth_rule.ensures.stays 88 v.raw.cap (v.raw.len + 1) (amortised 88 v.raw.cap (v.raw.len + 1)) (omega (
-      arith,
-      c.in_ok-list.ensures.len,
-      c.in_ok-list.ensures.cap,
-    ))) c.in-Err.field-0 c.in-Err.ensures
+    (c.growth_rule.ensures.stays 88 v.raw.cap (v.raw.len + 1) (amortised 88 v.raw.cap (v.raw.len + 1)) (omega arith)) c.in-Err.field-0
+    c.in-Err.ensures
 
 pub returns-clause-tree : goal.returns-clause-tree
 returns-clause-tree g c = λ e old placed.
     let l = c.in_ok-list.ensures in
     let grows = c.in-Ok.ensures in
-    first_built e old c.args.a.now.memory c.roomy.new.a.memory c.push.new.a.memory c.in_ok-list.list c.push.new.self c.args.node placed
-    l.kids grows.held grows.list_is grows.frame
+    row_first (OfExpr e) _ _ _ _ _ _ _ placed l.row grows.held grows.list_is grows.frame
 
 pub returns-clause-spends : goal.returns-clause-spends
 returns-clause-spends g c =
     let v = c.in_ok-list.list in
+    let l = c.in_ok-list.ensures in
     let filled = fills c.roomy.new.a c.push.new.a v c.push.new.self c.args.node
-    (c.growth_rule.ensures.stays 88 v.raw.cap (v.raw.len + 1) (amortised 88 v.raw.cap (v.raw.len + 1)) (omega (
-      arith,
-      c.in_ok-list.ensures.len,
-      c.in_ok-list.ensures.cap,
-    ))) c.in-Ok.ensures in
-    spends_more (spends_same filled.places c.in_ok-list.ensures.spends) (omega arith) (omega arith)
+    (c.growth_rule.ensures.stays 88 v.raw.cap (v.raw.len + 1) (amortised 88 v.raw.cap (v.raw.len + 1)) (omega arith)) c.in-Ok.ensures in
+    spends_more (spends_same filled l.spends) (omega arith) (omega arith)
 
 pub returns-in_err-list-clause-spends : goal.returns-in_err-list-clause-spends
 returns-in_err-list-clause-spends g c =
-    err_spends c.from_residual.result _ c.from_residual.ensures
-    (spends_more c.in_err-list.ensures.spends (omega arith) (omega arith))
+    err_spends _ _ c.from_residual.ensures (spends_more c.in_err-list.ensures.spends (omega arith) (omega arith))

@@ -1,15 +1,15 @@
-use Rattle.std.proofs.Common.{ap, None}
+use Rattle.std.proofs.Common.{ap, None, []}
 use Rattle.arena_chunks.specs.declared.block.Block.{Block}
-use Rattle.tree_rules.specs.Trees.{NoExprs}
-use Rattle.arena_tree.proofs.BuildLemmas.{built_none}
+use Rattle.arena_tree.specs.Subtrees.{OfExpr}
+use Rattle.arena_tree.proofs.RowLemmas.{row_none}
 use Rattle.arena_tree.proofs.NodeCostLemmas.{first_node}
 use Rattle.arena_tree.proofs.build.only.Goals as goal
 
 pub returns-clause-tree : goal.returns-clause-tree
 returns-clause-tree g c = λ e old placed.
     let list = c.new_in-list.ensures in
-    let none = built_none old c.new_in-list.result (list.held old) (list.list old) (ap (λ (b : Block). b.size) list.block) in
-    c.in_ok-push_node.ensures.kids NoExprs e old old none placed
+    let none = row_none old c.new_in-list.result (list.held old) (list.list old) (ap (λ (b : Block). b.size) list.block) in
+    c.in_ok-push_node.ensures.row [] (OfExpr e) old old none placed
 
 pub returns-clause-spends : goal.returns-clause-spends
 returns-clause-spends g c =

@@ -1,6 +1,5 @@
 use Rattle.std.proofs.lemmas.Result.{on_ok_weaker}
-use Rattle.arena_tree.proofs.BuildLemmas.{built_more}
-use Rattle.arena_tree.proofs.LinesLemmas.{lines_more}
+use Rattle.arena_tree.proofs.RowLemmas.{row_more}
 use Rattle.std.proofs.Common.{◌∙◌}
 use Rattle.arena_items.proofs.Layers.{length-elements}
 use Rattle.arena_vec.specs.Vecs.{vec_list}
@@ -8,17 +7,10 @@ use Rattle.arena_tree.specs.TreesAt.{node_item}
 use Rattle.arena_tree.proofs.NodeCostLemmas.{node_spends, pushed_length}
 use Rattle.arena_tree.proofs.build.push_node.Goals as goal
 
-pub returns-clause-kids : goal.returns-clause-kids
-returns-clause-kids g c = λ es e old one built placed.
-    on_ok_weaker c.push.result (λ list. built_more es e old one c.args.a.now.memory c.push.new.a.memory c.args.list.now c.push.new.self
-    c.args.node built placed c.push.ensures.held list c.push.ensures.frame)
-    c.push.ensures.list_is
-
-pub returns-clause-lines : goal.returns-clause-lines
-returns-clause-lines g c = λ ss s old one built placed.
-    on_ok_weaker c.push.result (λ list. lines_more ss s old one c.args.a.now.memory c.push.new.a.memory c.args.list.now c.push.new.self
-    c.args.node built placed c.push.ensures.held list c.push.ensures.frame)
-    c.push.ensures.list_is
+pub returns-clause-row : goal.returns-clause-row
+returns-clause-row g c = λ ts t old one built placed.
+    let push = c.push.ensures in
+    on_ok_weaker c.push.result (λ list. row_more ts t _ _ _ _ _ built placed _ _ push.held list push.frame) push.list_is
 
 pub returns-clause-spends : goal.returns-clause-spends
 returns-clause-spends g c =

@@ -1,160 +1,138 @@
-use Rattle.std.proofs.Common.{rules, ◌≡◌, ◌-◌, ◌≤◌, ◌∙◌, ap, sym, take, length, inl, inr, add-one, arith}
+use Rattle.std.proofs.Common.{rules, ◌≡◌, ◌-◌, ◌≤◌, ◌∙◌, ap, sym, length, inl, inr, add-one, arith}
 use Rattle.arena_vec.specs.Vecs.{vec_list}
 use Rattle.arena_tree.specs.TreesAt.{node_item}
 use Rattle.arena_tree.specs.Subtrees.{has_kids, HasTree, HasRow}
 use Rattle.arena_tree.proofs.WalkLemmas.{list_len}
-use Rattle.arena_tree.proofs.SpendingLemmas.{frees}
+use Rattle.arena_tree.proofs.SpendingLemmas.{frees, err_spends}
 use Rattle.arena_tree.proofs.BlockCostLemmas.{spends_same}
 use Rattle.arena_tree.proofs.SubtreeLemmas.{kids_it, kids_at}
 use Rattle.arena_tree.proofs.RowLemmas.{row_held, kid_of, kid_can, row_whole}
 use Rattle.arena_tree.proofs.CloneLemmas.{more_kinds, number_copied, name_copied, let_copied, kids_copied, text_of, row_at, has_row}
-use Rattle.arena_tree.proofs.CloneCostLemmas.{err_spends, forget, row_room, row_kid, text_spends, kids_spend, both_spend}
+use Rattle.arena_tree.proofs.CloneCostLemmas.{forget, row_room, row_kid, part_spends, both_spend}
 use Rattle.arena_tree.proofs.clone.+clone.Goals as goal
 
 -- ---- A number, a name
 
 pub clone_node-returns-in-Num-clause-tree : goal.clone_node-returns-in-Num-clause-tree
 clone_node-returns-in-Num-clause-tree g t c = λ tree at.
-    number_copied c.args.from.now.memory c.args.node c.number.result c.args.to.now.memory c.args.to.now.memory c.args.to.now.memory tree at
-    c.in-Num.is c.number.ensures.kind c.number.ensures.number
+    number_copied _ _ _ _ tree at c.in-Num.is c.number.ensures.kind c.number.ensures.number
 
 pub clone_node-clone_text-requires : goal.clone_node-clone_text-requires
-clone_node-clone_text-requires g t c =
-    (text_of c.args.from.now.memory c.args.node c.requires.tree c.requires.stands (inl c.in-Name.is)).0
+clone_node-clone_text-requires g t c = (text_of _ _ c.requires.tree c.requires.stands (inl c.in-Name.is)).0
 
 pub clone_node-returns-in_ok-name-in-Name-clause-tree : goal.clone_node-returns-in_ok-name-in-Name-clause-tree
 clone_node-returns-in_ok-name-in-Name-clause-tree g t c = λ tree at.
     let text = c.in_ok-name-in-Name.ensures in
-    name_copied c.args.from.now.memory c.args.node c.named.result c.args.to.now.memory c.args.to.now.memory c.clone_text.new.to.memory tree
-    c.in_ok-name-in-Name.name at c.in-Name.is text.held text.text text.frame c.named.ensures.kind c.named.ensures.text
+    name_copied _ _ _ _ _ tree _ at c.in-Name.is text.held text.text text.frame c.named.ensures.kind c.named.ensures.text
 
 pub clone_node-returns-in_ok-name-in-Name-clause-spends : goal.clone_node-returns-in_ok-name-in-Name-clause-spends
 clone_node-returns-in_ok-name-in-Name-clause-spends g t c = λ tree at.
-    text_spends tree (text_of c.args.from.now.memory c.args.node tree at (inl c.in-Name.is)).1 c.in_ok-name-in-Name.ensures.spends
+    part_spends tree (omega (arith, (text_of _ _ tree at (inl c.in-Name.is)).1)) c.in_ok-name-in-Name.ensures.spends
 
 pub clone_node-returns-in_err-name-in-Name-clause-spends : goal.clone_node-returns-in_err-name-in-Name-clause-spends
 clone_node-returns-in_err-name-in-Name-clause-spends g t c = λ tree at.
-    err_spends c.from_residual.result _ c.from_residual.ensures
-    (text_spends tree (text_of c.args.from.now.memory c.args.node tree at (inl c.in-Name.is)).1 c.in_err-name-in-Name.ensures.spends)
+    err_spends _ _ c.from_residual.ensures
+    (part_spends tree (omega (arith, (text_of _ _ tree at (inl c.in-Name.is)).1)) c.in_err-name-in-Name.ensures.spends)
 
 -- ---- A definition
 
 pub clone_node-clone_text-requires-in-Let : goal.clone_node-clone_text-requires-in-Let
-clone_node-clone_text-requires-in-Let g t c =
-    (text_of c.args.from.now.memory c.args.node c.requires.tree c.requires.stands (inr c.in-Let.is)).0
+clone_node-clone_text-requires-in-Let g t c = (text_of _ _ c.requires.tree c.requires.stands (inr c.in-Let.is)).0
 
 pub clone_node-kids-requires : goal.clone_node-kids-requires
-clone_node-kids-requires g t c =
-    (kids_at c.requires.tree c.args.from.now.memory c.args.node c.requires.stands (ap has_kids c.in-Let.is)).held
+clone_node-kids-requires g t c = (kids_at c.requires.tree _ _ c.requires.stands (ap has_kids c.in-Let.is)).held
 
 pub clone_node-clone_row-requires : goal.clone_node-clone_row-requires
 clone_node-clone_row-requires g t c κs within =
     let can : HasRow c.args.from.now.memory c.kids.result c.args.room
-    = has_row c.args.from.now.memory c.args.node c.kids.result (ap has_kids c.in-Let.is) c.kids.ensures c.requires.tree c.requires.stands
-    c.args.room c.requires.low in
+    = has_row _ _ _ (ap has_kids c.in-Let.is) c.kids.ensures c.requires.tree c.requires.stands c.args.room c.requires.low in
     search (rules, can)
 
 pub clone_node-returns-in_ok-value-in-Let-clause-tree : goal.clone_node-returns-in_ok-value-in-Let-clause-tree
 clone_node-returns-in_ok-value-in-Let-clause-tree g t c = λ tree at.
-    let text = c.in_ok-name-in-Let in
-    let row = row_at c.args.from.now.memory c.args.node c.kids.result (ap has_kids c.in-Let.is) c.kids.ensures tree at in
-    let_copied c.args.from.now.memory c.args.node c.let_node.result c.args.to.now.memory c.clone_text-in-Let.new.to.memory
-    c.clone_row.new.to.memory tree text.name c.in_ok-value-in-Let.value at c.in-Let.is text.ensures.held text.ensures.text
-    text.ensures.frame (c.in_ok-value-in-Let.ensures.trees (kids_it tree) row) c.let_node.ensures.kind c.let_node.ensures.text
-    c.let_node.ensures.kids
+    let text = c.in_ok-name-in-Let.ensures in
+    let row = row_at _ _ _ (ap has_kids c.in-Let.is) c.kids.ensures tree at in
+    let_copied _ _ _ _ _ _ tree _ _ at c.in-Let.is text.held text.text text.frame
+    (c.in_ok-value-in-Let.ensures.trees (kids_it tree) row) c.let_node.ensures.kind c.let_node.ensures.text c.let_node.ensures.kids
 
 pub clone_node-returns-in_ok-value-in-Let-clause-spends : goal.clone_node-returns-in_ok-value-in-Let-clause-spends
 clone_node-returns-in_ok-value-in-Let-clause-spends g t c = λ tree at.
     let text = c.in_ok-name-in-Let.ensures in
-    both_spend tree (text_of c.args.from.now.memory c.args.node tree at (inr c.in-Let.is)).1 text.spends (frees text.frame)
-    (c.in_ok-value-in-Let.ensures.spends (kids_it tree)
-    (row_at c.args.from.now.memory c.args.node c.kids.result (ap has_kids c.in-Let.is) c.kids.ensures tree at))
+    both_spend tree (text_of _ _ tree at (inr c.in-Let.is)).1 text.spends (frees text.frame)
+    (c.in_ok-value-in-Let.ensures.spends (kids_it tree) (row_at _ _ _ (ap has_kids c.in-Let.is) c.kids.ensures tree at))
 
 pub clone_node-returns-in_err-name-in-Let-clause-spends : goal.clone_node-returns-in_err-name-in-Let-clause-spends
 clone_node-returns-in_err-name-in-Let-clause-spends g t c = λ tree at.
-    err_spends c.from_residual-in_err-name-in-Let.result _ c.from_residual-in_err-name-in-Let.ensures
-    (text_spends tree (text_of c.args.from.now.memory c.args.node tree at (inr c.in-Let.is)).1 c.in_err-name-in-Let.ensures.spends)
+    err_spends _ _ c.from_residual-in_err-name-in-Let.ensures
+    (part_spends tree (omega (arith, (text_of _ _ tree at (inr c.in-Let.is)).1)) c.in_err-name-in-Let.ensures.spends)
 
 pub clone_node-returns-in_err-value-in-Let-clause-spends : goal.clone_node-returns-in_err-value-in-Let-clause-spends
 clone_node-returns-in_err-value-in-Let-clause-spends g t c = λ tree at.
     let text = c.in_ok-name-in-Let.ensures in
-    err_spends c.from_residual-in_err-value-in-Let.result _ c.from_residual-in_err-value-in-Let.ensures
-    (both_spend tree (text_of c.args.from.now.memory c.args.node tree at (inr c.in-Let.is)).1 text.spends (frees text.frame)
-    (c.in_err-value-in-Let.ensures.spends (kids_it tree)
-    (row_at c.args.from.now.memory c.args.node c.kids.result (ap has_kids c.in-Let.is) c.kids.ensures tree at)))
+    err_spends _ _ c.from_residual-in_err-value-in-Let.ensures
+    (both_spend tree (text_of _ _ tree at (inr c.in-Let.is)).1 text.spends (frees text.frame)
+    (c.in_err-value-in-Let.ensures.spends (kids_it tree) (row_at _ _ _ (ap has_kids c.in-Let.is) c.kids.ensures tree at)))
 
 -- ---- The other nodes
 
 pub clone_node-kids-requires-in_default : goal.clone_node-kids-requires-in_default
 clone_node-kids-requires-in_default g t c =
-    (kids_at c.requires.tree c.args.from.now.memory c.args.node c.requires.stands
-    (more_kinds c.args.node.kind c.in_default.not-Num c.in_default.not-Name)).held
+    (kids_at c.requires.tree _ _ c.requires.stands (more_kinds _ c.in_default.not-Num c.in_default.not-Name)).held
 
 pub clone_node-clone_row-requires-in_default : goal.clone_node-clone_row-requires-in_default
 clone_node-clone_row-requires-in_default g t c κs within =
     let can : HasRow c.args.from.now.memory c.kids-in_default.result c.args.room
-    = has_row c.args.from.now.memory c.args.node c.kids-in_default.result
-    (more_kinds c.args.node.kind c.in_default.not-Num c.in_default.not-Name) c.kids-in_default.ensures c.requires.tree c.requires.stands
-    c.args.room c.requires.low in
+    = has_row _ _ _ (more_kinds _ c.in_default.not-Num c.in_default.not-Name) c.kids-in_default.ensures c.requires.tree
+    c.requires.stands c.args.room c.requires.low in
     search (rules, can)
 
 pub clone_node-returns-in_ok-list-in_default : goal.clone_node-returns-in_ok-list-in_default
 clone_node-returns-in_ok-list-in_default g t c =
-    let m = c.args.from.now.memory in
-    let more = more_kinds c.args.node.kind c.in_default.not-Num c.in_default.not-Name in
+    let d = c.in_default in
+    let list = c.in_ok-list-in_default.ensures in
+    let more = more_kinds c.args.node.kind d.not-Num d.not-Name in
     let named : c.with_kids.result.kind ≡ c.args.node.kind = cc in
     record {
-      tree = λ tree at.
-          kids_copied m c.args.node c.with_kids.result c.args.to.now.memory c.args.to.now.memory c.clone_row-in_default.new.to.memory tree
-          c.in_ok-list-in_default.list at c.in_default.not-Num c.in_default.not-Name c.in_default.not-Let
-          (c.in_ok-list-in_default.ensures.trees (kids_it tree)
-          (row_at m c.args.node c.kids-in_default.result more c.kids-in_default.ensures tree at)) named c.with_kids.ensures.kids;
-      spends = λ tree at. kids_spend tree (c.in_ok-list-in_default.ensures.spends (kids_it tree)
-          (row_at m c.args.node c.kids-in_default.result more c.kids-in_default.ensures tree at));
+      tree = λ tree at. kids_copied _ _ _ _ _ tree _ at d.not-Num d.not-Name d.not-Let
+          (list.trees (kids_it tree) (row_at _ _ _ more c.kids-in_default.ensures tree at)) named c.with_kids.ensures.kids;
+      spends = λ tree at.
+          part_spends tree (omega arith) (list.spends (kids_it tree) (row_at _ _ _ more c.kids-in_default.ensures tree at));
     }
 
 pub clone_node-returns-in_err-list-in_default-clause-spends : goal.clone_node-returns-in_err-list-in_default-clause-spends
 clone_node-returns-in_err-list-in_default-clause-spends g t c = λ tree at.
     let more = more_kinds c.args.node.kind c.in_default.not-Num c.in_default.not-Name in
-    err_spends c.from_residual-in_err-list-in_default.result _ c.from_residual-in_err-list-in_default.ensures
-    (kids_spend tree (c.in_err-list-in_default.ensures.spends (kids_it tree)
-    (row_at c.args.from.now.memory c.args.node c.kids-in_default.result more c.kids-in_default.ensures tree at)))
+    err_spends _ _ c.from_residual-in_err-list-in_default.ensures
+    (part_spends tree (omega arith)
+    (c.in_err-list-in_default.ensures.spends (kids_it tree) (row_at _ _ _ more c.kids-in_default.ensures tree at)))
 
 -- ---- A list of nodes
 
 pub clone_row-loop-i-init : goal.clone_row-loop-i-init
 clone_row-loop-i-init g t c =
-    let m = c.args.from.now.memory in
     let room = c.in_ok-list.ensures in
     record {
       within = omega arith;
       len = room.len;
       cap = room.cap ∙ c.len.ensures;
       built = λ ts at. room.row;
-      spends = λ ts at. row_room ts m (vec_list node_item m c.args.nodes) c.len.result at
-          (list_len m c.args.nodes ∙ sym c.len.ensures) room.spends;
+      spends = λ ts at. row_room ts _ _ _ at (list_len c.args.from.now.memory c.args.nodes ∙ sym c.len.ensures) room.spends;
     }
 
 pub clone_row-clone_node-requires : goal.clone_row-clone_node-requires
 clone_row-clone_node-requires g t c κs within =
-    let m = c.args.from.now.memory in
-    let h = c.requires in
-    let can : HasTree m c.get-node.result (c.args.room - 1)
-    = kid_can h.trees m (vec_list node_item m c.args.nodes) c.loop-i.i c.args.room c.get-node.result h.stand c.get-node.ensures h.low in
+    let can : HasTree c.args.from.now.memory c.get-node.result (c.args.room - 1)
+    = kid_can c.requires.trees _ _ c.loop-i.i c.args.room _ c.requires.stand c.get-node.ensures c.requires.low in
     search (rules, can)
 
 pub clone_row-fill-requires-clause-held : goal.clone_row-fill-requires-clause-held
 clone_row-fill-requires-clause-held g t c =
-    let m = c.args.from.now.memory in
     let h = c.requires in
-    let k = kid_of h.trees m (vec_list node_item m c.args.nodes) c.loop-i.i c.get-node.result h.stand c.get-node.ensures in
-    row_held (take c.loop-i.i h.trees) k.tree c.args.to.now.memory c.loop-i.to.memory c.clone_node.new.to.memory c.loop-i.list
-    c.in_ok-copy.copy (c.loop-i.invariant.built h.trees h.stand) (c.in_ok-copy.ensures.tree k.tree k.stands)
+    let k = kid_of h.trees _ _ c.loop-i.i _ h.stand c.get-node.ensures in
+    row_held _ k.tree _ _ _ _ _ (c.loop-i.invariant.built h.trees h.stand) (c.in_ok-copy.ensures.tree k.tree k.stands)
 
 pub clone_row-loop-i-preserved : goal.clone_row-loop-i-preserved
 clone_row-loop-i-preserved g t c =
-    let m = c.args.from.now.memory in
-    let ns = vec_list node_item m c.args.nodes in
     let i = c.loop-i.invariant in
     let put = c.fill.ensures in
     record {
@@ -162,37 +140,32 @@ clone_row-loop-i-preserved g t c =
       len = omega (arith, put.len, i.len);
       cap = put.cap ∙ i.cap;
       built = λ ts at.
-          let k = kid_of ts m ns c.loop-i.i c.get-node.result at c.get-node.ensures in
-          rw (add-one, k.front) (put.row (take c.loop-i.i ts) k.tree c.args.to.now.memory c.loop-i.to.memory (i.built ts at)
-          (c.in_ok-copy.ensures.tree k.tree k.stands));
+          let k = kid_of ts _ _ c.loop-i.i _ at c.get-node.ensures in
+          rw (add-one, k.front) (put.row _ k.tree _ _ (i.built ts at) (c.in_ok-copy.ensures.tree k.tree k.stands));
       spends = λ ts at.
-          let k = kid_of ts m ns c.loop-i.i c.get-node.result at c.get-node.ensures in
-          rw add-one (spends_same put.places (row_kid ts m c.loop-i.i c.get-node.result k (frees (i.built ts at).frame)
+          let k = kid_of ts _ _ c.loop-i.i _ at c.get-node.ensures in
+          rw add-one (spends_same put.places (row_kid ts _ c.loop-i.i _ k (frees (i.built ts at).frame)
           (c.in_ok-copy.ensures.spends k.tree k.stands) (i.spends ts at)));
     }
 
 pub clone_row-returns-clause-trees : goal.clone_row-returns-clause-trees
 clone_row-returns-clause-trees g t c = λ ts at.
     let m = c.args.from.now.memory in
-    let ns = vec_list node_item m c.args.nodes in
-    let done : length ns ≤ c.loop-i.i = omega (arith, c.loop-i-test.false, c.len-in-loop-i.ensures, list_len m c.args.nodes) in
-    rw (row_whole ts m ns c.loop-i.i at done) at (c.loop-i.invariant.built ts at)
+    let done : length (vec_list node_item m c.args.nodes) ≤ c.loop-i.i
+    = omega (arith, c.loop-i-test.false, c.len-in-loop-i.ensures, list_len m c.args.nodes) in
+    rw (row_whole ts _ _ c.loop-i.i at done) at (c.loop-i.invariant.built ts at)
 
 pub clone_row-returns-clause-spends : goal.clone_row-returns-clause-spends
 clone_row-returns-clause-spends g t c = λ ts at. forget (c.loop-i.invariant.spends ts at)
 
 pub clone_row-returns-in_err-list-clause-spends : goal.clone_row-returns-in_err-list-clause-spends
 clone_row-returns-in_err-list-clause-spends g t c = λ ts at.
-    let m = c.args.from.now.memory in
-    err_spends c.from_residual.result _ c.from_residual.ensures
-    (forget (row_room ts m (vec_list node_item m c.args.nodes) c.len.result at (list_len m c.args.nodes ∙ sym c.len.ensures)
-    c.in_err-list.ensures.spends))
+    err_spends _ _ c.from_residual.ensures
+    (forget (row_room ts _ _ _ at (list_len c.args.from.now.memory c.args.nodes ∙ sym c.len.ensures) c.in_err-list.ensures.spends))
 
 pub clone_row-returns-in_err-copy-clause-spends : goal.clone_row-returns-in_err-copy-clause-spends
 clone_row-returns-in_err-copy-clause-spends g t c = λ ts at.
-    let m = c.args.from.now.memory in
     let i = c.loop-i.invariant in
-    let k = kid_of ts m (vec_list node_item m c.args.nodes) c.loop-i.i c.get-node.result at c.get-node.ensures in
-    err_spends c.from_residual-in_err-copy.result _ c.from_residual-in_err-copy.ensures
-    (forget (row_kid ts m c.loop-i.i c.get-node.result k (frees (i.built ts at).frame) (c.in_err-copy.ensures.spends k.tree k.stands)
-    (i.spends ts at)))
+    let k = kid_of ts _ _ c.loop-i.i _ at c.get-node.ensures in
+    err_spends _ _ c.from_residual-in_err-copy.ensures
+    (forget (row_kid ts _ c.loop-i.i _ k (frees (i.built ts at).frame) (c.in_err-copy.ensures.spends k.tree k.stands) (i.spends ts at)))

@@ -1,29 +1,17 @@
-use Rattle.std.proofs.Common.{◌≡◌, ◌*◌, ℕ, sym, subst, false, true, refl, ◌∙◌, arith, [], ◌∷◌}
-use Rattle.arena_place.specs.declared.layout.Layout.{Layout}
-use Rattle.arena_chunks.specs.Memory.{Memory}
+use Rattle.std.proofs.Common.{sym, subst, refl, ◌∙◌, arith, [], ◌∷◌}
 use Rattle.arena_chunks.specs.Frame.{Frame}
 use Rattle.arena_chunks.specs.declared.block.Block.{Block}
 use Rattle.arena_items.proofs.Layers.{row_is_layout, elements-empty}
-use Rattle.arena_items.specs.Values.{IsHeld}
 use Rattle.arena_tree.specs.NodeForms.{plain_88_8}
 use Rattle.arena_tree.specs.TreesAt.{node_item}
-use Rattle.arena_tree.proofs.SpendingLemmas.{spends_more}
-use Rattle.arena_tree.proofs.CloneCostLemmas.{err_spends}
+use Rattle.arena_tree.proofs.SpendingLemmas.{spends_more, err_spends}
+use Rattle.arena_tree.proofs.SubtreeLemmas.{true_false}
 use Rattle.arena_tree.proofs.CloneListLemmas.{room_built}
-use Rattle.arena_tree.proofs.RowLemmas.{exprs_built}
-use Rattle.tree_rules.specs.Trees.{NoExprs}
 use Rattle.arena_tree.proofs.clone_list.roomy.Goals as goal
-
-false_true : false ≡ true → ⊥
-false_true e = cc
-
-held_as : (m : Memory) (l : Layout) (b : Block) (len : ℕ) → (l.size ≡ len * 88) × (l.align ≡ 8) → IsHeld l.size l.align m.state b
-    → IsHeld (len * 88) 8 m.state b
-held_as m l b len is h = record { readable = h.readable; of_size = h.of_size ∙ is.0; of_align = h.of_align ∙ is.1 }
 
 pub unreachable-requires : goal.unreachable-requires
 unreachable-requires g c =
-    false_true (c.in_default.ensures.valid ∙ row_is_layout c.args.len 88 8 plain_88_8 (omega arith) (omega arith))
+    true_false (sym (c.in_default.ensures.valid ∙ row_is_layout c.args.len 88 8 plain_88_8 (omega arith) (omega arith)))
 
 pub place_block-requires : goal.place_block-requires
 place_block-requires g c =
@@ -36,12 +24,9 @@ returns-clause-row g c =
     let v = c.from_raw_parts_in.ensures in
     let block = c.in_ok-block.ensures in
     room_built c.args.a.now.memory new c.from_raw_parts_in.result
-    (v.held new (held_as new c.in-Some.layout c.in_ok-block.block c.args.len c.in-Some.ensures.value block.held))
+    (v.held new (rw (c.in-Some.ensures.value.0, c.in-Some.ensures.value.1) at block.held))
     (v.list new ∙ elements-empty 88 node_item.decoded 0 _ refl)
     (subst (λ (b : Block). Frame c.args.a.now.memory new [] (b ∷ [])) (sym v.block) block.frame)
-
-pub returns-clause-kids : goal.returns-clause-kids
-returns-clause-kids g c = exprs_built NoExprs _ _ _ (returns-clause-row g c)
 
 pub returns-clause-spends : goal.returns-clause-spends
 returns-clause-spends g c =
@@ -51,5 +36,4 @@ returns-clause-spends g c =
 pub returns-in_err-block-clause-spends : goal.returns-in_err-block-clause-spends
 returns-in_err-block-clause-spends g c =
     let is = c.in-Some.ensures.value in
-    err_spends c.from_residual.result _ c.from_residual.ensures
-    (spends_more c.in_err-block.ensures.spends (omega (arith, is.0, is.1)) (omega (arith, is.0, is.1)))
+    err_spends _ _ c.from_residual.ensures (spends_more c.in_err-block.ensures.spends (omega (arith, is.0, is.1)) (omega (arith, is.0, is.1)))

@@ -1,112 +1,89 @@
-use Rattle.std.proofs.Common.{rules, ◌+◌, ◌-◌, ◌∙◌, refl, sym, arith}
-use Rattle.arena_tree.specs.FoldingParts.{CanFold, CanFoldRow}
+use Rattle.std.proofs.Common.{rules, ◌≡◌, ◌-◌, ◌∙◌, refl, sym, Some, None, arith}
+use Rattle.arena_clone.proofs.Layers.{same_places}
+use Rattle.arena_items.proofs.Layers.{same_then}
+use Rattle.arena_tree.specs.FoldingParts.{CanFold, CanFoldRow, kids_folded}
 use Rattle.arena_tree.proofs.SubtreeLemmas.{kids_at}
-use Rattle.arena_tree.proofs.FoldNodeLemmas.{leaf_folded, kids_can, kids_done, can_rule, rule_done, count_fits}
-use Rattle.arena_tree.proofs.FoldRowLemmas.{no_places, same_places, row_begins, turn_of, turn_can, count_low, row_next, row_done, held_still, set_is}
+use Rattle.arena_tree.proofs.FoldNodeLemmas.{leaf_folded, kids_can, kids_done, rule_done}
+use Rattle.arena_tree.proofs.FoldRowLemmas.{row_begins, turn_of, turn_whole, turn_can, row_next, held_still, set_list}
 use Rattle.arena_tree.proofs.fold.+fold.Goals as goal
 
 -- ---- A node
 
 pub fold_node-returns-then-not-has_kids-clause-folded : goal.fold_node-returns-then-not-has_kids-clause-folded
-fold_node-returns-then-not-has_kids-clause-folded g t c = λ tree at clear.
-    leaf_folded tree c.args.a.now.memory c.args.node.now at (sym c.has_kids.ensures ∙ c.if-not-has_kids.true)
+fold_node-returns-then-not-has_kids-clause-folded g t c = λ tree whole.
+    leaf_folded tree _ _ whole.stands (sym c.has_kids.ensures ∙ c.if-not-has_kids.true)
 
 pub fold_node-kids-list-requires : goal.fold_node-kids-list-requires
 fold_node-kids-list-requires g t c =
-    (kids_at c.requires.tree c.args.a.now.memory c.args.node.now c.requires.stands
-    (sym c.has_kids.ensures ∙ c.if-not-has_kids.false)).held
+    (kids_at c.requires.tree _ _ c.requires.whole.stands (sym c.has_kids.ensures ∙ c.if-not-has_kids.false)).held
 
 pub fold_node-fold_row-count-requires : goal.fold_node-fold_row-count-requires
 fold_node-fold_row-count-requires g t c κs within =
-    let h = c.requires in
     let can : CanFoldRow c.args.a.now.memory c.kids-list.result c.args.room
-    = rw c.kids-list.ensures (kids_can c.args.a.now.memory c.args.node.now h.tree h.stands
-    (sym c.has_kids.ensures ∙ c.if-not-has_kids.false) c.args.room h.clear h.low) in
+    = rw c.kids-list.ensures (kids_can c.requires.whole (sym c.has_kids.ensures ∙ c.if-not-has_kids.false) c.args.room c.requires.low) in
     search (rules, can)
 
 pub fold_node-rule-requires : goal.fold_node-rule-requires
 fold_node-rule-requires g t c =
-    let h = c.requires in
-    can_rule h.tree c.args.a.now.memory c.fold_row-count.new.a.memory c.args.node.now c.fold_row-count.result c.args.room
-    (kids_done h.tree c.args.a.now.memory c.fold_row-count.new.a.memory c.args.node.now c.kids-list.result c.fold_row-count.result h.stands
-    h.clear (sym c.has_kids.ensures ∙ c.if-not-has_kids.false) c.kids-list.ensures c.fold_row-count.ensures.folded) h.low
+    let kids = kids_done c.requires.whole (sym c.has_kids.ensures ∙ c.if-not-has_kids.false) c.kids-list.ensures
+    c.fold_row-count.ensures.folded in
+    record { tree = kids_folded c.requires.tree; stands = kids.becomes.on.stands }
 
 pub fold_node-overflow_add-result : goal.fold_node-overflow_add-result
 fold_node-overflow_add-result g t c =
-    let h = c.requires in
-    let fits = count_fits h.tree c.args.a.now.memory c.fold_row-count.new.a.memory c.args.node.now c.fold_row-count.result c.args.room
-    (kids_done h.tree c.args.a.now.memory c.fold_row-count.new.a.memory c.args.node.now c.kids-list.result c.fold_row-count.result h.stands
-    h.clear (sym c.has_kids.ensures ∙ c.if-not-has_kids.false) c.kids-list.ensures c.fold_row-count.ensures.folded) h.low c.ranges.room.fits
-    in
-    omega (arith, fits)
+    let kids = kids_done c.requires.whole (sym c.has_kids.ensures ∙ c.if-not-has_kids.false) c.kids-list.ensures
+    c.fold_row-count.ensures.folded in
+    omega (arith, kids.few, c.requires.low, c.ranges.room.fits)
 
 pub fold_node-returns-in-Some-clause-folded : goal.fold_node-returns-in-Some-clause-folded
-fold_node-returns-in-Some-clause-folded g t c = λ tree at clear.
-    let done = kids_done tree c.args.a.now.memory c.fold_row-count.new.a.memory c.args.node.now c.kids-list.result c.fold_row-count.result
-    at
-    clear (sym c.has_kids.ensures ∙ c.if-not-has_kids.false) c.kids-list.ensures c.fold_row-count.ensures.folded in
-    rw c.replace.ensures (rule_done tree c.args.a.now.memory c.fold_row-count.new.a.memory c.args.node.now c.in-Some.by
-    c.fold_row-count.result 1 (c.fold_row-count.result + 1) done (c.in-Some.ensures _ done.stands) refl)
+fold_node-returns-in-Some-clause-folded g t c = λ tree whole.
+    let kids = kids_done whole (sym c.has_kids.ensures ∙ c.if-not-has_kids.false) c.kids-list.ensures c.fold_row-count.ensures.folded in
+    rw c.replace.ensures (rule_done (Some c.in-Some.by) kids c.in-Some.ensures refl)
 
 pub fold_node-returns-in-None-clause-folded : goal.fold_node-returns-in-None-clause-folded
-fold_node-returns-in-None-clause-folded g t c = λ tree at clear.
-    let done = kids_done tree c.args.a.now.memory c.fold_row-count.new.a.memory c.args.node.now c.kids-list.result c.fold_row-count.result
-    at
-    clear (sym c.has_kids.ensures ∙ c.if-not-has_kids.false) c.kids-list.ensures c.fold_row-count.ensures.folded in
-    rule_done tree c.args.a.now.memory c.fold_row-count.new.a.memory c.args.node.now c.args.node.now c.fold_row-count.result 0
-    c.fold_row-count.result done (c.in-None.ensures _ done.stands) (omega arith)
+fold_node-returns-in-None-clause-folded g t c = λ tree whole.
+    let kids = kids_done whole (sym c.has_kids.ensures ∙ c.if-not-has_kids.false) c.kids-list.ensures c.fold_row-count.ensures.folded in
+    rule_done None kids c.in-None.ensures (omega arith)
 
 -- ---- A list of nodes
 
 pub fold_row-loop-i-init : goal.fold_row-loop-i-init
 fold_row-loop-i-init g t c = record {
-  within = omega arith;
-  row = λ ts at clear. row_begins ts c.args.a.now.memory c.args.list at clear;
-  places = no_places c.args.a.now;
+  within = omega (arith, c.len-i.ensures);
+  row = λ trees whole. row_begins c.len-i.result whole (omega (arith, c.len-i.ensures));
+  places = same_places c.args.a.now;
 }
 
 pub fold_row-fold_node-count-requires : goal.fold_row-fold_node-count-requires
 fold_row-fold_node-count-requires g t c κs within =
-    let h = c.requires in
-    let turn = turn_of h.trees c.args.a.now.memory c.loop-i.a.memory c.args.list c.loop-i.i c.loop-i.count c.get-kid.result
-    (c.loop-i.invariant.row h.trees h.stand h.clear) c.get-kid.ensures in
-    let can : CanFold c.loop-i.a.memory c.get-kid.result (c.args.room - 1)
-    = turn_can h.trees c.args.a.now.memory c.loop-i.a.memory c.args.list c.loop-i.i c.loop-i.count c.args.room c.get-kid.result turn h.low
-    in
+    let turn = turn_of (c.loop-i.i - 1) (omega (arith, c.loop-i-test.true)) (c.loop-i.invariant.row c.requires.trees c.requires.whole)
+    c.get-kid.ensures in
+    let can : CanFold c.loop-i.a.memory c.get-kid.result (c.args.room - 1) = turn_can turn c.requires.low in
     search (rules, can)
 
 pub fold_row-overflow_add-count : goal.fold_row-overflow_add-count
 fold_row-overflow_add-count g t c =
-    let h = c.requires in
-    let turn = turn_of h.trees c.args.a.now.memory c.loop-i.a.memory c.args.list c.loop-i.i c.loop-i.count c.get-kid.result
-    (c.loop-i.invariant.row h.trees h.stand h.clear) c.get-kid.ensures in
-    let low = count_low h.trees c.args.a.now.memory c.loop-i.a.memory c.args.list c.loop-i.i c.loop-i.count c.args.room c.get-kid.result
-    turn
-    h.low c.fold_node-count.new.a.memory c.fold_node-count.new.node c.fold_node-count.result
-    (c.fold_node-count.ensures.folded turn.tree turn.rest.stand.0 turn.split.first) in
-    omega (arith, low, c.ranges.room.fits)
+    let turn = turn_of (c.loop-i.i - 1) (omega (arith, c.loop-i-test.true)) (c.loop-i.invariant.row c.requires.trees c.requires.whole)
+    c.get-kid.ensures in
+    let one = c.fold_node-count.ensures.folded turn.place.tree (turn_whole turn) in
+    omega (arith, turn.left.row.few, one.few, turn.place.low, c.requires.low, c.ranges.room.fits)
 
 pub fold_row-loop-i-preserved : goal.fold_row-loop-i-preserved
 fold_row-loop-i-preserved g t c =
-    let two = c.fold_node-count.new.a.memory in
-    let v = c.args.list in
-    let b = c.set.ensures.becomes in
+    let i = c.loop-i.invariant in
+    let set = c.set.ensures in
     record {
-      within = omega (arith, c.loop-i-test.true, c.len.ensures);
-      row = λ ts at clear.
-          let left = c.loop-i.invariant.row ts at clear in
-          let turn = turn_of ts c.args.a.now.memory c.loop-i.a.memory v c.loop-i.i c.loop-i.count c.get-kid.result left c.get-kid.ensures in
-          row_next ts c.args.a.now.memory c.loop-i.a.memory two c.set.new.a.memory v c.loop-i.i c.loop-i.count c.fold_node-count.result
-          c.get-kid.result c.fold_node-count.new.node turn
-          (held_still c.args.a.now.memory c.loop-i.a.memory v c.loop-i.invariant.places.state c.requires.held)
-          (c.fold_node-count.ensures.folded turn.tree turn.rest.stand.0 turn.split.first)
-          (set_is v c.set.new.self c.loop-i.i c.fold_node-count.new.node b);
-      places = same_places c.args.a.now c.loop-i.a c.set.new.a c.loop-i.invariant.places
-          (same_places c.loop-i.a c.fold_node-count.new.a c.set.new.a c.fold_node-count.ensures.places b.places);
+      within = omega (arith, i.within);
+      row = λ trees whole.
+          let turn = turn_of (c.loop-i.i - 1) (omega (arith, c.loop-i-test.true)) (i.row trees whole) c.get-kid.ensures in
+          row_next turn (held_still c.args.a.now.memory c.loop-i.a.memory c.args.list i.places.state c.requires.held)
+          (c.fold_node-count.ensures.folded turn.place.tree (turn_whole turn))
+          (record { frame = set.writes.frame; state = set.writes.state }) (set_list _ _ set.becomes);
+      places = same_then c.args.a.now c.loop-i.a c.set.new.a i.places
+          (same_then c.loop-i.a c.fold_node-count.new.a c.set.new.a c.fold_node-count.ensures.places set.becomes.places);
     }
 
 pub fold_row-returns-clause-folded : goal.fold_row-returns-clause-folded
-fold_row-returns-clause-folded g t c = λ ts at clear.
-    row_done ts c.args.a.now.memory c.loop-i.a.memory c.args.list c.loop-i.i c.loop-i.count
-    (omega (arith, c.loop-i-test.false, c.len.ensures))
-    (c.loop-i.invariant.row ts at clear)
+fold_row-returns-clause-folded g t c =
+    let end : c.loop-i.i ≡ 0 = omega (arith, c.loop-i-test.false) in
+    record { each = λ trees whole. (rw end at (c.loop-i.invariant.row trees whole)).row }

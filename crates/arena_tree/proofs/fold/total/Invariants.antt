@@ -1,16 +1,13 @@
-use Rattle.std.proofs.Common.{◌≤◌}
-use Rattle.tree_rules.specs.Trees.{Exprs, numbers_of}
+use Rattle.std.proofs.Common.{◌≤◌, drop}
 use Rattle.arena_vec.specs.Vecs.{vec_list}
-use Rattle.arena_tree.specs.TreesAt.{node_item, ExprsAt}
-use Rattle.arena_tree.specs.FoldingParts.{IsTail}
-use Rattle.arena_tree.proofs.PrintLemmas.{exprs_from}
+use Rattle.arena_tree.specs.TreesAt.{node_item}
+use Rattle.arena_tree.specs.FoldingParts.{numbers_in, IsTail}
 use Rattle.arena_tree.proofs.fold.total.Given as goal
 
 abbrev pub invariant-loop-i : goal.invariant-loop-i
 invariant-loop-i g l = record {
   within : l.i ≤ l.list.raw.len;
-  tail : (es : Exprs) → ExprsAt es l.a.memory (vec_list node_item l.a.memory l.list)
-      → IsTail l.product (numbers_of (exprs_from l.i es)) l.total;
+  tail : IsTail l.product (numbers_in (drop l.i (vec_list node_item l.a.memory l.list))) l.total;
 }
 
 abbrev pub decreases-loop-i : goal.decreases-loop-i

@@ -1,46 +1,108 @@
-use Rattle.std.proofs.Common.{◌≤◌, length, arith}
-use Rattle.std.specs.Prelude.{◌==◌}
-use Rattle.std.proofs.lemmas.Result.{on_ok_weaker}
+use Rattle.std.proofs.Common.{rules, ◌≡◌, true, ◌≤◌, ◌-◌, ◌∙◌, sym, refl, length, inl, inr, append-nil, arith}
+use Rattle.std.proofs.lemmas.List.{drop_all}
+use Rattle.std.proofs.lemmas.Grind.{common_steps}
 use Rattle.arena_vec.specs.Vecs.{vec_list}
+use Rattle.arena_tree.specs.declared.node.Kind.TheVariants as kind
 use Rattle.arena_tree.specs.TreesAt.{node_item}
+use Rattle.arena_tree.specs.Subtrees.{has_kids, HasTree}
+use Rattle.arena_tree.specs.Printing.{stand_of}
 use Rattle.arena_tree.proofs.WalkLemmas.{list_len}
-use Rattle.arena_tree.proofs.PrintLemmas.{sum_put, product_put, kids_more, kids_end}
+use Rattle.arena_tree.proofs.SubtreeLemmas.{kids_it, kids_at, row_length}
+use Rattle.arena_tree.proofs.RowLemmas.{kid_of, kid_can}
+use Rattle.arena_tree.proofs.CloneLemmas.{more_kinds, text_of, row_at, has_row}
+use Rattle.arena_tree.proofs.PrintLemmas.{text_is, inner_kind, taken_kids, taken_piece, plain_piece, row_more}
 use Rattle.arena_tree.proofs.print.+print.Goals as goal
 
-pub put_expr-returns-in-Sum : goal.put_expr-returns-in-Sum
-put_expr-returns-in-Sum g t c = λ e at.
-    let s = c.in-Sum.ensures.1 e at in
-    on_ok_weaker c.put_kids.result
-    (λ put. sum_put e s.kids c.args.out.now c.put_kids.new.out c.args.stand c.parens_of_sum-parens.result s.is put
-    c.parens_of_sum-parens.ensures)
-    (c.put_kids.ensures s.kids s.stand)
+-- ---- A number, a name
 
-pub put_expr-returns-in-Prod : goal.put_expr-returns-in-Prod
-put_expr-returns-in-Prod g t c = λ e at.
-    let s = c.in-Prod.ensures.1 e at in
-    on_ok_weaker c.put_kids-in-Prod.result
-    (λ put. product_put e s.kids c.args.out.now c.put_kids-in-Prod.new.out c.args.stand c.parens_of_product-parens.result s.is put
-    c.parens_of_product-parens.ensures)
-    (c.put_kids-in-Prod.ensures s.kids s.stand)
+pub put_node-returns-in-Num : goal.put_node-returns-in-Num
+put_node-returns-in-Num g t c = λ tree at.
+    rw (text_is c.args.a.now.memory c.args.node (stand_of c.args.stand) tree at kind.Num c.in-Num.is) c.put_number.ensures
 
-pub put_kids-loop-i-preserved : goal.put_kids-loop-i-preserved
-put_kids-loop-i-preserved g t c =
+pub put_node-read-requires : goal.put_node-read-requires
+put_node-read-requires g t c = (text_of c.args.a.now.memory c.args.node c.requires.tree c.requires.stands (inl c.in-Name.is)).0
+
+pub put_node-returns-in-Name : goal.put_node-returns-in-Name
+put_node-returns-in-Name g t c = λ tree at.
+    rw (text_is c.args.a.now.memory c.args.node (stand_of c.args.stand) tree at kind.Name c.in-Name.is, ← c.read.ensures) c.put.ensures
+
+-- ---- The other nodes
+
+pub put_node-put_before-requires : goal.put_node-put_before-requires
+put_node-put_before-requires g t c = λ is. (text_of c.args.a.now.memory c.args.node c.requires.tree c.requires.stands (inr is)).0
+
+pub put_node-put_kids-requires : goal.put_node-put_kids-requires
+put_node-put_kids-requires g t c κs within =
+    let more : has_kids c.args.node.kind ≡ true = more_kinds c.args.node.kind c.in_default.not-Num c.in_default.not-Name in
+    search (rules, more)
+
+pub put_node-returns-in_ok-put_kids-in_default : goal.put_node-returns-in_ok-put_kids-in_default
+put_node-returns-in_ok-put_kids-in_default g t c = λ tree at.
+    let m = c.args.a.now.memory in
+    let s = stand_of c.args.stand in
+    let d = c.in_default in
+    let text = text_is m c.args.node s tree at c.args.node.kind refl ∙ inner_kind m c.args.node s c.args.node.kind _ d.not-Num d.not-Name in
+    let put = rw c.kids_stand.ensures at (c.in_ok-put_kids-in_default.ensures tree at) in
+    rw text (grind (arith, common_steps, put))
+
+-- ---- The kids of a node
+
+pub put_kids-kids-requires : goal.put_kids-kids-requires
+put_kids-kids-requires g t c =
+    (kids_at c.requires.node.tree c.args.a.now.memory c.args.node c.requires.node.stands c.requires.kids).held
+
+pub put_kids-put_row-requires : goal.put_kids-put_row-requires
+put_kids-put_row-requires g t c κs within =
+    let h = c.requires.node in
+    let can = has_row c.args.a.now.memory c.args.node c.kids.result c.requires.kids c.kids.ensures h.tree h.stands c.args.room h.low in
+    search (rules, can)
+
+pub put_kids-returns : goal.put_kids-returns
+put_kids-returns g t c = λ tree at.
+    c.put_row.ensures (kids_it tree)
+    (row_at c.args.a.now.memory c.args.node c.kids.result c.requires.kids c.kids.ensures tree at)
+
+-- ---- A node of a list
+
+pub put_kid-put_kids-requires : goal.put_kid-put_kids-requires
+put_kid-put_kids-requires g t c κs within =
+    let more : has_kids c.args.node.kind ≡ true = taken_kids _ _ _ (sym c.is_taken.ensures ∙ c.if-is_taken.true) in
+    search (rules, more)
+
+pub put_kid-returns-then-is_taken : goal.put_kid-returns-then-is_taken
+put_kid-returns-then-is_taken g t c = λ tree at.
+    let is = sym c.is_taken.ensures ∙ c.if-is_taken.true in
+    rw (taken_piece _ _ tree _ _ at is) (grind (arith, common_steps, c.put_kids.ensures tree at))
+
+pub put_kid-returns : goal.put_kid-returns
+put_kid-returns g t c = λ tree at.
+    let is = sym c.is_taken.ensures ∙ c.if-is_taken.false in
+    rw (plain_piece _ _ tree _ _ at is) (grind (arith, common_steps, c.put_node.ensures tree at))
+
+-- ---- A list
+
+pub put_row-put_kid-requires : goal.put_row-put_kid-requires
+put_row-put_kid-requires g t c κs within =
+    let m = c.args.a.now.memory in
+    let h = c.requires in
+    let can : HasTree m c.get-kid.result (c.args.room - 1)
+    = kid_can h.trees m (vec_list node_item m c.args.list) c.loop-i.i c.args.room c.get-kid.result h.stand c.get-kid.ensures h.low in
+    search (rules, can)
+
+pub put_row-loop-i-preserved : goal.put_row-loop-i-preserved
+put_row-loop-i-preserved g t c =
     let m = c.args.a.now.memory in
     record {
       within = omega (arith, c.loop-i-test.true, c.len.ensures);
-      text = λ es at.
-          kids_more es m (vec_list node_item m c.args.list) c.loop-i.i c.kid_at-kid.result c.args.product c.loop-i.out c.put_kid.new.out
-          _ at c.kid_at-kid.ensures.kid
-          c.in_ok-put_kid.ensures (c.loop-i.invariant.text es at);
+      text = λ ts at.
+          let k = kid_of ts m (vec_list node_item m c.args.list) c.loop-i.i c.get-kid.result at c.get-kid.ensures in
+          row_more (stand_of c.args.stand) c.loop-i.i k.tree ts _ _ _ k.rest (c.in_ok-put_kid.ensures k.tree k.stands)
+          (c.loop-i.invariant.text ts at);
     }
 
-pub put_kids-returns : goal.put_kids-returns
-put_kids-returns g t c = λ es at.
-    let m = c.args.a.now.memory in
-    let ns = vec_list node_item m c.args.list in
-    let done : length ns ≤ c.loop-i.i = omega (arith, c.loop-i-test.false, c.len.ensures, list_len m c.args.list) in
-    on_ok_weaker c.put_if-2.result
-    (λ put. kids_end es m ns c.loop-i.i c.args.product c.args.parens (c.loop-i.i == 0) c.args.out.now c.loop-i.out c.put_if-2.new.out at
-    done
-    (c.loop-i.invariant.text es at) put)
-    c.put_if-2.ensures
+pub put_row-returns : goal.put_row-returns
+put_row-returns g t c = λ ts at.
+    let ns = vec_list node_item c.args.a.now.memory c.args.list in
+    let same = row_length ts c.args.a.now.memory ns at in
+    let done : length ts ≤ c.loop-i.i = omega (arith, list_len c.args.a.now.memory c.args.list) in
+    simp append-nil at (rw (drop_all c.loop-i.i ts done) at (c.loop-i.invariant.text ts at))

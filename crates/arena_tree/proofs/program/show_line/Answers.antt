@@ -1,51 +1,47 @@
-use Rattle.std.proofs.Common.{length, arith}
+use Rattle.std.proofs.Common.{arith}
 use Rattle.arena_tree.proofs.SpendingLemmas.{spends_then, frees, err_up_to}
-use Rattle.tree_rules.specs.Grammar.{terms_tree}
+use Rattle.tree_rules.specs.Trees.{NoExprs, And}
+use Rattle.tree_rules.specs.Grammar.{ShowLine, terms_tree}
+use Rattle.arena_tree.specs.LineParts.{braces}
 use Rattle.arena_tree.proofs.LinesLemmas.{show_placed}
-use Rattle.arena_tree.proofs.StatementLemmas.{must_end, show_line}
+use Rattle.arena_tree.proofs.RowLemmas.{exprs_built}
+use Rattle.arena_tree.proofs.PartLemmas.{reads_value}
 use Rattle.arena_tree.proofs.program.show_line.Goals as goal
 
 pub semicolon_at-last-requires-clause-must : goal.semicolon_at-last-requires-clause-must
 semicolon_at-last-requires-clause-must g c =
-    must_end c.args.src.now c.args.at c.args.at c.in_ok-stop.stop c.args.a.now.memory c.expr.new.a.memory c.expr.new.node
-    c.requires.place c.requires.starts
-    c.in_ok-stop.ensures.tree
+    let e = c.in_ok-stop.ensures.tree in
+    let place = c.requires.place in
+    record { depth = place.0; passed = e.passes (braces place.0) (c.requires.starts place.0 place.1); stop = e.stopped }
 
 pub returns-clause-tree : goal.returns-clause-tree
 returns-clause-tree g c =
-    let old = c.args.a.now.memory in
-    let new = c.only.new.a.memory in
     let e = c.in_ok-stop.ensures.tree in
-    show_line c.args.src.now c.args.at c.in_ok-stop.stop c.semicolon_at-last.result old old c.expr.new.a.memory new c.expr.new.node
-    c.with_kids.result
-    c.requires.starts e c.semicolon_at-last.ensures
-    (show_placed (terms_tree e.part) old new c.in_ok-list.list c.with_kids.result (c.in_ok-list.ensures.tree (terms_tree e.part) old
-    e.placed)
-    c.with_kids.ensures.kind c.with_kids.ensures.kids)
+    let r = reads_value e.read c.semicolon_at-last.ensures in
+    let node = c.with_kids.ensures in
+    record {
+      part = ShowLine e.part;
+      read = record {
+        tokens_are = r.tokens_are;
+        passes = λ depth p. r.passes depth (c.requires.starts depth p);
+        later = r.later;
+        within = r.within;
+      };
+      placed = show_placed _ _ _ c.in_ok-list.list c.with_kids.result (exprs_built (And (terms_tree e.part) NoExprs) _ _ _
+          (c.in_ok-list.ensures.tree _ _ e.placed)) node.kind node.kids;
+    }
 
 pub returns-in_err-list-clause-spends : goal.returns-in_err-list-clause-spends
 returns-in_err-list-clause-spends g c =
     let e = c.in_ok-stop.ensures in
-    err_up_to c.args.at (length c.args.src.now) c.from_residual-in_err-list.result _ c.from_residual-in_err-list.ensures (spends_then
-    (e.spends) (c.in_err-list.ensures.spends) (frees e.tree.placed.frame) (omega (arith, e.tree.within, e.tree.later)) (omega (
-      arith,
-      e.tree.within,
-      e.tree.later,
-    )) (omega (arith, e.tree.within, e.tree.later)))
+    err_up_to _ _ _ _ c.from_residual-in_err-list.ensures
+    (spends_then e.spends c.in_err-list.ensures.spends (frees e.tree.placed.frame) (omega arith) (omega arith) (omega arith))
 
 pub returns-in_err-stop-clause-spends : goal.returns-in_err-stop-clause-spends
 returns-in_err-stop-clause-spends g c =
-    err_up_to c.args.at (length c.args.src.now) c.from_residual.result _ c.from_residual.ensures c.in_err-stop.ensures.spends
+    err_up_to _ _ _ _ c.from_residual.ensures c.in_err-stop.ensures.spends
 
 pub returns-clause-spends : goal.returns-clause-spends
 returns-clause-spends g c =
     let e = c.in_ok-stop.ensures in
-    spends_then (e.spends) (c.in_ok-list.ensures.spends) (frees e.tree.placed.frame) (omega (
-      arith,
-      e.tree.later,
-      c.semicolon_at-last.ensures.later,
-    )) (omega (arith, e.tree.later, c.semicolon_at-last.ensures.later)) (omega (
-      arith,
-      e.tree.later,
-      c.semicolon_at-last.ensures.later,
-    ))
+    spends_then e.spends c.in_ok-list.ensures.spends (frees e.tree.placed.frame) (omega arith) (omega arith) (omega arith)

@@ -4,10 +4,10 @@ use Rattle.lint_reports.proofs.SourceLemmas.{first_fed, first_unfed}
 use Rattle.lint_reports.proofs.sources.first_line.Goals as goal
 
 pub returns-then-n-bytes : goal.returns-then-n-bytes
-returns-then-n-bytes c = first_fed c.args.bytes.now c.len_before_feed-n.result c.if-n-bytes.true c.len_before_feed-n.ensures.before
-    (c.len_before_feed-n.ensures.found c.if-n-bytes.true)
+returns-then-n-bytes c = first_fed c.args.bytes.now c.len_before-n.result c.if-n-bytes.true c.len_before-n.ensures.before
+    (c.len_before-n.ensures.found c.if-n-bytes.true)
 
 pub returns-else-n-bytes : goal.returns-else-n-bytes
 returns-else-n-bytes c = first_unfed c.args.bytes.now
-    (subst (All (λ b. b ≢ 10)) (take_all c.len_before_feed-n.result c.args.bytes.now (omega (arith, c.if-n-bytes.false)))
-    c.len_before_feed-n.ensures.before)
+    (subst (All (λ b. b ≢ 10)) (take_all c.len_before-n.result c.args.bytes.now (omega (arith, c.if-n-bytes.false)))
+    c.len_before-n.ensures.before)

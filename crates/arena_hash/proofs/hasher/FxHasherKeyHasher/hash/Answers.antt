@@ -18,3 +18,7 @@ returns-in_default c = grind (arith, nat_tests)
 pub returns-then-n-gt8 : goal.returns-then-n-gt8
 unfolding fx_of
 returns-then-n-gt8 c = grind (arith, nat_tests)
+
+pub returns-then-n-gt16 : goal.returns-then-n-gt16
+unfolding fx_of
+returns-then-n-gt16 c = grind (arith, nat_tests)

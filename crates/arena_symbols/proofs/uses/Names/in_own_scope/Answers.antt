@@ -1,8 +1,8 @@
-use Rattle.std.proofs.Common.{ap, sym, inl, ◌∙◌, ◌<◌, subst, length, arith}
+use Rattle.std.proofs.Common.{ap, inl, inr, ◌∙◌, arith}
 use Rattle.std.proofs.lemmas.Result.{err_from_is_err_and}
 use Rattle.arena_symbols.specs.Scoping.{innermost, outer_of}
 use Rattle.arena_symbols.specs.Tables.{entry_item}
-use Rattle.arena_symbols.proofs.NamedLemmas.{moves_then, outer_long, texts_later, maybe_later}
+use Rattle.arena_symbols.proofs.NamedLemmas.{moves_then, outer_long}
 use Rattle.arena_symbols.proofs.TableLemmas.{depth_is}
 use Rattle.arena_symbols.proofs.uses.Names.in_own_scope.Goals as goal
 
@@ -19,13 +19,15 @@ pub returns-in_err-enter : goal.returns-in_err-enter
 returns-in_err-enter g c =
     let p = err_from_is_err_and c.from_residual.result c.from_residual.ensures.1 in
     let enter = c.in_err-enter.ensures in
-    rw p.1 (record {
+    rw (p.1, p.2) (record {
       held = enter.moves.held;
       found = tt;
       after = enter.kept;
       texts = tt;
       refused = inl enter.names;
       frame = enter.moves.frame;
+      deepest = λ many. (let is = enter.overflows.1 many in cc);
+      overflows = λ is. inl (enter.overflows.0 (cc));
     })
 
 pub returns : goal.returns
@@ -36,9 +38,14 @@ returns g c =
     record {
       held = c.leave.ensures.moves.held;
       found = declared.found;
-      after = c.leave.ensures.scopes (outer_long _ (subst (λ l. 0 < length l) (sym outer)
-          (omega (arith, depth_is entry_item c.args.a.now.memory c.args.self.now.scopes)))) ∙ outer;
-      texts = texts_later c.declared-found.result c.args.name.now enter.names declared.texts c.leave.ensures.names;
-      refused = maybe_later c.declared-found.result c.args.name.now enter.names declared.refused c.leave.ensures.names;
+      after = c.leave.ensures.scopes (outer_long _ (rw outer (omega (
+        arith,
+        depth_is entry_item c.args.a.now.memory
+            c.args.self.now.scopes,
+      )))) ∙ outer;
+      texts = rw (c.leave.ensures.names, ← enter.names) declared.texts;
+      refused = rw (c.leave.ensures.names, ← enter.names) declared.refused;
       frame = (moves_then (moves_then enter.moves declared.moves) c.leave.ensures.moves).frame;
+      deepest = λ many. absurd (let no = enter.overflows.1 many in cc);
+      overflows = λ is. inr (rw (c.leave.ensures.names, ← enter.names) (rw enter.scopes at (declared.overflows.0 is)));
     }

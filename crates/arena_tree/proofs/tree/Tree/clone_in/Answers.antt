@@ -1,6 +1,6 @@
-use Rattle.std.proofs.Common.{◌+◌, ◌/◌, subst, sym, arith}
+use Rattle.std.proofs.Common.{arith}
 use Rattle.arena_tree.specs.Cloning.{clone_bytes}
-use Rattle.arena_tree.specs.Subtrees.{stmt_row, HasRow}
+use Rattle.arena_tree.specs.Subtrees.{stmt_row}
 use Rattle.arena_tree.proofs.CloneCostLemmas.{spends_tree}
 use Rattle.arena_tree.proofs.FoldTreeLemmas.{given_row}
 use Rattle.arena_tree.proofs.GivenLemmas.{built_given}
@@ -11,8 +11,7 @@ use Rattle.arena_tree.proofs.tree.Tree.clone_in.Goals as goal
 
 pub clone_row-requires : goal.clone_row-requires
 clone_row-requires g c =
-    subst (λ used. HasRow c.args.from.now.memory c.args.self.now.stmts (used / 88 + 1)) (sym c.used_bytes.ensures)
-    (given_row c.args.from.now.memory c.args.self.now c.requires)
+    rw c.used_bytes.ensures (given_row c.args.from.now.memory c.args.self.now c.requires)
 
 pub returns-in-Ok-clause-clones : goal.returns-in-Ok-clause-clones
 returns-in-Ok-clause-clones g c = λ trees means.
@@ -25,8 +24,7 @@ returns-in-Ok-clause-tree g c =
 
 pub returns-in-Ok-clause-bytes : goal.returns-in-Ok-clause-bytes
 returns-in-Ok-clause-bytes g c = λ trees means.
-    spends_takes (clone_bytes trees) (spends_tree trees (c.in-Ok.ensures.spends (stmt_row trees) (stmt_row_at trees _ _ means)))
-    (omega arith)
+    spends_takes _ (spends_tree trees (c.in-Ok.ensures.spends (stmt_row trees) (stmt_row_at trees _ _ means))) (omega arith)
 
 pub returns-in-Err-AllocErr-clause-clones : goal.returns-in-Err-AllocErr-clause-clones
 returns-in-Err-AllocErr-clause-clones g c = λ trees means.

@@ -1,19 +1,12 @@
-use Rattle.std.proofs.Common.{◌+◌, ◌/◌, subst, sym}
-use Rattle.arena_tree.specs.FoldingParts.{CanFoldRow}
 use Rattle.arena_tree.proofs.FoldTreeLemmas.{can_fold, tree_folds, tree_stands}
 use Rattle.arena_tree.proofs.tree.Tree.fold.Goals as goal
 
 pub fold_row-requires : goal.fold_row-requires
 fold_row-requires g c =
-    subst (λ used. CanFoldRow c.args.a.now.memory c.args.self.now.stmts (used / 88 + 1)) (sym c.used_bytes.ensures)
-    (can_fold c.args.a.now.memory c.args.self.now c.requires)
+    rw c.used_bytes.ensures (can_fold c.args.a.now.memory c.args.self.now c.requires)
 
 pub returns-clause-folded : goal.returns-clause-folded
-returns-clause-folded g c = λ trees means.
-    tree_folds trees c.args.a.now c.fold_row.new.a c.args.self.now c.fold_row.result c.requires means c.fold_row.ensures.folded
-    c.fold_row.ensures.places
+returns-clause-folded g c = λ trees means. tree_folds trees c.requires means c.fold_row.ensures.folded c.fold_row.ensures.places
 
 pub returns-clause-tree : goal.returns-clause-tree
-returns-clause-tree g c =
-    tree_stands c.args.a.now.memory c.fold_row.new.a.memory c.args.self.now c.fold_row.result c.folding.ensures.keeps c.requires
-    c.fold_row.ensures.folded
+returns-clause-tree g c = tree_stands c.folding.ensures.keeps c.requires c.fold_row.ensures.folded

@@ -14,6 +14,9 @@ pub returns-in-Some-clause-bytes : goal.returns-in-Some-clause-bytes
 returns-in-Some-clause-bytes g c =
     spends_takes (parse_bytes (length c.args.src.now)) (spends_nothing 0 0 0 c.args.a.now (omega arith)) (omega arith)
 
+pub lines-requires-clause-place : goal.lines-requires-clause-place
+lines-requires-clause-place g c = (0, sym c.refusal.ensures.machine ∙ c.in_default.is)
+
 pub returns-in-Ok-clause-parses : goal.returns-in-Ok-clause-parses
 returns-in-Ok-clause-parses g c =
     let src = c.args.src.now in
@@ -24,40 +27,32 @@ returns-in-Ok-clause-parses g c =
 
 pub returns-in-Ok-clause-tree : goal.returns-in-Ok-clause-tree
 returns-in-Ok-clause-tree g c =
-    let src = c.args.src.now in
-    let r = c.some_reading.ensures src in
-    let k = c.in-Ok.ensures.trees in
-    let read = all_read src c.in-Ok._end c.args.a.now.memory c.lines.new.a.memory c.in-Ok.stmts r.0 c.one_program.ensures r.1
-    (c.machine.ensures.same src r.0 r.1) (sym c.refusal.ensures.machine ∙ c.in_default.is) k.0 k.1 in
-    built_given read.0 c.args.a.now.memory c.lines.new.a.memory (record { stmts = c.in-Ok.stmts }) (c.well_formed-2.ensures src read.0
-    read.1).0
-    read.2
+    let read = returns-in-Ok-clause-parses g c in
+    built_given read.0 c.args.a.now.memory c.lines.new.a.memory (record { stmts = c.in-Ok.stmts })
+    (c.well_formed-2.ensures c.args.src.now read.0 read.1).0 read.2
 
 pub returns-in-Ok-clause-bytes : goal.returns-in-Ok-clause-bytes
 returns-in-Ok-clause-bytes g c =
-    spends_takes (parse_bytes (length c.args.src.now)) c.in-Ok.ensures.spends (omega (arith, c.in-Ok.ensures.trees.0.within))
+    spends_takes _ c.in-Ok.ensures.spends (omega (arith, c.in-Ok.ensures.trees.0.within))
 
 pub returns-in-Err-AllocErr-clause-parses : goal.returns-in-Err-AllocErr-clause-parses
 returns-in-Err-AllocErr-clause-parses g c =
-    let why = short (parse_bytes (length c.args.src.now)) c.in-Err-AllocErr.refused
-    (rw c.in-Err-AllocErr.field-0-is at c.in-Err-AllocErr.ensures.spends) (omega arith) in
+    let why = short (parse_bytes (length c.args.src.now)) _ (rw c.in-Err-AllocErr.field-0-is at c.in-Err-AllocErr.ensures.spends)
+    (omega arith) in
     (rw c.in_default.is at c.refusal.ensures.read, why.0, why.1)
 
 pub returns-in-Err-AllocErr-clause-bytes : goal.returns-in-Err-AllocErr-clause-bytes
 returns-in-Err-AllocErr-clause-bytes g c =
-    spends_takes (parse_bytes (length c.args.src.now)) (rw c.in-Err-AllocErr.field-0-is at c.in-Err-AllocErr.ensures.spends) (omega arith)
+    spends_takes _ (rw c.in-Err-AllocErr.field-0-is at c.in-Err-AllocErr.ensures.spends) (omega arith)
 
 pub returns-in-Err-OutOfMemory-clause-parses : goal.returns-in-Err-OutOfMemory-clause-parses
 returns-in-Err-OutOfMemory-clause-parses g c =
-    let spends = rw c.in-Err-OutOfMemory.field-0-is at c.in-Err-OutOfMemory.ensures.spends in
-    (rw c.in_default.is at c.refusal.ensures.read, spends.stops)
+    (rw c.in_default.is at c.refusal.ensures.read, (rw c.in-Err-OutOfMemory.field-0-is at c.in-Err-OutOfMemory.ensures.spends).stops)
 
 pub returns-in-Err-OutOfMemory-clause-bytes : goal.returns-in-Err-OutOfMemory-clause-bytes
 returns-in-Err-OutOfMemory-clause-bytes g c =
-    spends_takes (parse_bytes (length c.args.src.now)) (rw c.in-Err-OutOfMemory.field-0-is at c.in-Err-OutOfMemory.ensures.spends)
-    (omega arith)
+    spends_takes _ (rw c.in-Err-OutOfMemory.field-0-is at c.in-Err-OutOfMemory.ensures.spends) (omega arith)
 
 pub unreachable-requires : goal.unreachable-requires
 unreachable-requires g c =
-    let spends = rw c.in-Err-CapacityOverflow.field-0-is at c.in-Err-CapacityOverflow.ensures.spends in
-    spends.stops
+    (rw c.in-Err-CapacityOverflow.field-0-is at c.in-Err-CapacityOverflow.ensures.spends).stops

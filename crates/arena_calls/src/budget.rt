@@ -1,0 +1,33 @@
+// How much memory the program's arena may take.
+ghost use Rattle.std.specs.Prelude.{◌≡◌, ℕ};
+ghost use Rattle.arena_calls.specs.Budget.{budget};
+
+use arena_chunks::{ChunkSource, MemoryChunks};
+use std::alloc::Global;
+
+const BUDGET: u64 = 1_073_741_824;
+
+/// A source of chunks with a budget of bytes.
+pub trait Budgeted: ChunkSource {
+    // How many bytes are left of the budget.
+    ghost left: { Self → ℕ };
+
+    /// How many bytes are left of the budget.
+    fn bytes_left(&self) -> u64
+        ensures { result ≡ left self.now };
+}
+
+impl Budgeted for MemoryChunks {
+    ghost left = { λ c. c.left };
+
+    fn bytes_left(&self) -> u64 {
+        self.left
+    }
+}
+
+/// The source of the program's chunks: memory, up to 1 GiB.
+pub fn program_chunks(alloc: Global) -> MemoryChunks
+    ensures { result.left ≡ budget }
+{
+    MemoryChunks::new(alloc, BUDGET)
+}

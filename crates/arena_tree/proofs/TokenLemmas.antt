@@ -1,0 +1,172 @@
+-- What comes next in a text that isn't refused.
+use Rattle.std.proofs.Common.{◌≡◌, ℕ, zero, Bool, true, false, cond, Option, Some, None, Ok, Err, List, [], ◌∷◌, length, refl, sym, ap, ◌∙◌, subst, arith}
+use Rattle.std.specs.Prelude.{Result, nat_lt, slice_range}
+use Rattle.tree_rules.specs.Tokens.{Token, RightBrace, Placed}
+use Rattle.tree_rules.specs.Refusals.{most_nest}
+use Rattle.tree_rules.specs.Reading.{State, state, step, is_too_big, or_refused, judged, ended, refusal_from}
+use Rattle.tree_rules.specs.declared.machine.Open.{Open}
+use Rattle.tree_rules.specs.declared.machine.Open.TheVariants.{Paren}
+use Rattle.tree_rules.specs.declared.machine.Mode.TheVariants.{AtLine, AtName, AtEquals, AtFactor, BehindFactor}
+use Rattle.tree_rules.specs.declared.refused.Refused.{Refused}
+use Rattle.tree_rules.specs.declared.refused.Refused.TheVariants.{TooDeep, NumberTooBig}
+use Rattle.tree_reader.specs.Seen.{IsSeen, IsNext, tokens_at}
+use Rattle.tree_reader.specs.Steps.{like}
+use Rattle.tree_reader.specs.declared.token.Lexeme.{Lexeme}
+use Rattle.tree_reader.specs.declared.token.Seen.{Seen}
+use Rattle.tree_reader.specs.declared.token.Seen.TheVariants as seen
+use Rattle.tree_reader.proofs.JudgeLemmas.{judged_next, ended_next}
+use Rattle.arena_tree.specs.Parts.{IsPassed, behind_factor, IsTokenAt, TermsStop, MustClose}
+use Rattle.arena_tree.specs.LineParts.{braces, LinesStop, MustEnd, MustCloseBlock}
+
+-- ---- One token
+
+next_token : {bytes : List ℕ} {at : ℕ} {l : Lexeme} (n : IsNext bytes at l) → IsTokenAt bytes at n.token l.end
+next_token {l = l} n = record { place = l.at; tokens_are = n.tokens_are; later = omega (arith, n.behind, n.some); within = n.within }
+
+-- a token of a kind, by what is seen
+pub token_seen : {bytes : List ℕ} {at : ℕ} {l : Lexeme} {s : Seen} (token : Token) (n : IsNext bytes at l) → l.seen ≡ s
+    → (IsSeen s (slice_range bytes l.at l.end) n.token → n.token ≡ token) → IsTokenAt bytes at token l.end
+token_seen {bytes} {at} {l} token n is same =
+    subst (λ t. IsTokenAt bytes at t l.end) (same (subst (λ (s : Seen). IsSeen s (slice_range bytes l.at l.end) n.token) is n.seen))
+    (next_token n)
+
+some_none : (r : Refused) → ◌≡◌ {A = Option Refused} (Some r) None → ⊥
+some_none r e = cc
+
+pub not_some : (s : State) → ◌≡◌ {A = Option State} None (Some s) → ⊥
+not_some s e = cc
+
+-- A token that is passed is one that may stand there, and the text isn't refused behind it.
+pub record Passed (size : ℕ) (s : State) (token : Token) (ts : List Placed) : Type 0 where
+  pub next : State
+  pub step_is : step s token ≡ Some next
+  pub small : is_too_big token ≡ false
+  pub rest : refusal_from size next ts ≡ None
+
+abbrev then : ℕ → List Placed → Result State Refused → Option Refused
+then size ts r = elim r [ Err refused ↦ Some refused | Ok next ↦ refusal_from size next ts ]
+
+pub passed_from : (size : ℕ) (s : State) (t : Placed) (ts : List Placed) → refusal_from size s (t ∷ ts) ≡ None → Passed size s t.token ts
+unfolding refusal_from
+passed_from size s t ts h = by (step s t.token) refl h
+  where
+    sized : (next : State) → step s t.token ≡ Some next → (b c : Bool) → is_too_big t.token ≡ c
+        → then size ts (cond {A = Result State Refused} b (Err (TooDeep t.at)) (cond c (Err (NumberTooBig t.at)) (Ok next))) ≡ None
+        → Passed size s t.token ts
+    sized next is false false small h = record { next = next; step_is = is; small = small; rest = h }
+    sized next is b c small h = absurd (some_none _ h)
+
+    by : (o : Option State) → step s t.token ≡ o → then size ts (or_refused t o) ≡ None → Passed size s t.token ts
+    by None is h = absurd (some_none _ h)
+    by (Some next) is h = sized next is (nat_lt most_nest (length next.opens)) (is_too_big t.token) refl h
+
+-- the step that a token makes
+pub passed_to : {bytes : List ℕ} {at end : ℕ} {token : Token} (s next : State) → IsTokenAt bytes at token end → step s token ≡ Some next
+    → IsPassed bytes s at → IsPassed bytes next end
+passed_to {bytes} {at} {end} {token} s next t is p =
+    let q = passed_from (length bytes) s (record { at = t.place; token = token }) (tokens_at bytes end)
+    (subst (λ ts. refusal_from (length bytes) s ts ≡ None) t.tokens_are p) in
+    subst (λ (n : State). IsPassed bytes n end) (same_state q.next next (sym q.step_is ∙ is)) q.rest
+  where
+    same_state : (s t : State) → Some s ≡ Some t → s ≡ t
+    same_state s t e = cc
+
+-- ---- What is seen
+
+-- what is seen next may stand there
+passed_next : {bytes : List ℕ} {at : ℕ} {l : Lexeme} → IsNext bytes at l → (s : State) → IsPassed bytes s at
+    → Passed (length bytes) s (like l.seen) (tokens_at bytes l.end)
+unfolding refusal_from
+passed_next {bytes} {at} {l} n s p =
+    let next : Placed = record { at = l.at; token = like l.seen } in
+    passed_from (length bytes) s next (tokens_at bytes l.end) (sym (judged_next bytes at l s (judged s next) n refl) ∙ p)
+
+-- where a text may not end, a token comes
+pub some_token : (bytes : List ℕ) (at : ℕ) (s : State) {r : Refused} → ended (length bytes) s ≡ Some r → IsPassed bytes s at
+    → tokens_at bytes at ≡ [] → ⊥
+some_token bytes at s {r} is p none = some_none r (sym is ∙ sym (ended_next bytes at s none) ∙ p)
+
+module _ {bytes : List ℕ} {at : ℕ} {l : Lexeme} (n : IsNext bytes at l) where
+  pub only_name : (opens : List Open) → IsPassed bytes (state AtName opens) at → (l.seen ≡ seen.Word → ⊥) → ⊥
+  only_name opens p = by l.seen (passed_next n (state AtName opens) p)
+    where
+      by : (s : Seen) → Passed (length bytes) (state AtName opens) (like s) (tokens_at bytes l.end) → (s ≡ seen.Word → ⊥) → ⊥
+      by seen.Word q other = other refl
+      by s q other = not_some q.next q.step_is
+
+  pub only_equals : (opens : List Open) → IsPassed bytes (state AtEquals opens) at → (l.seen ≡ seen.Equals → ⊥) → ⊥
+  only_equals opens p = by l.seen (passed_next n (state AtEquals opens) p)
+    where
+      by : (s : Seen) → Passed (length bytes) (state AtEquals opens) (like s) (tokens_at bytes l.end) → (s ≡ seen.Equals → ⊥) → ⊥
+      by seen.Equals q other = other refl
+      by s q other = not_some q.next q.step_is
+
+  -- in a factor's place a factor comes
+  pub only_factor : (opens : List Open) → IsPassed bytes (state AtFactor opens) at → ((n : ℕ) → l.seen ≡ seen.Number n → ⊥)
+      → (l.seen ≡ seen.Word → ⊥) → (l.seen ≡ seen.Minus → ⊥) → (l.seen ≡ seen.LeftParen → ⊥) → ⊥
+  only_factor opens p = by l.seen (passed_next n (state AtFactor opens) p)
+    where
+      true_false : true ≡ false → ⊥
+      true_false e = cc
+
+      by : (s : Seen) → Passed (length bytes) (state AtFactor opens) (like s) (tokens_at bytes l.end) → ((n : ℕ) → s ≡ seen.Number n → ⊥)
+          → (s ≡ seen.Word → ⊥) → (s ≡ seen.Minus → ⊥) → (s ≡ seen.LeftParen → ⊥) → ⊥
+      by (seen.Number k) q number word minus paren = number k refl
+      by seen.TooBig q number word minus paren = true_false q.small
+      by seen.Word q number word minus paren = word refl
+      by seen.Minus q number word minus paren = minus refl
+      by seen.LeftParen q number word minus paren = paren refl
+      by s q number word minus paren = not_some q.next q.step_is
+
+  -- behind an expression in parentheses they close
+  pub only_close : MustClose bytes at → (l.seen ≡ seen.RightParen → ⊥) → ⊥
+  only_close m = by l.seen (passed_next n (state BehindFactor (Paren ∷ m.opens)) m.passed) (subst TermsStop n.tokens_are m.stop) n.seen
+    where
+      by : (s : Seen) → Passed (length bytes) (state BehindFactor (Paren ∷ m.opens)) (like s) (tokens_at bytes l.end)
+          → TermsStop (record { at = l.at; token = n.token } ∷ tokens_at bytes l.end) → IsSeen s (slice_range bytes l.at l.end) n.token
+          → (s ≡ seen.RightParen → ⊥) → ⊥
+      by seen.RightParen q stop h other = other refl
+      by seen.Star q stop h other = stop.0 h
+      by seen.Plus q stop h other = stop.1.0 h
+      by seen.Minus q stop h other = stop.1.1 h
+      by s q stop h other = not_some q.next q.step_is
+
+  -- behind a statement's expression a semicolon comes
+  pub only_semicolon : MustEnd bytes at → (l.seen ≡ seen.Semicolon → ⊥) → ⊥
+  only_semicolon m =
+      by l.seen m.depth (passed_next n (behind_factor (braces m.depth)) m.passed) (subst TermsStop n.tokens_are m.stop) n.seen
+    where
+      by : (s : Seen) (depth : ℕ) → Passed (length bytes) (behind_factor (braces depth)) (like s) (tokens_at bytes l.end)
+          → TermsStop (record { at = l.at; token = n.token } ∷ tokens_at bytes l.end) → IsSeen s (slice_range bytes l.at l.end) n.token
+          → (s ≡ seen.Semicolon → ⊥) → ⊥
+      by seen.Semicolon depth q stop h other = other refl
+      by seen.Star depth q stop h other = stop.0 h
+      by seen.Plus depth q stop h other = stop.1.0 h
+      by seen.Minus depth q stop h other = stop.1.1 h
+      by seen.RightParen zero q stop h other = not_some q.next q.step_is
+      by s depth q stop h other = not_some q.next q.step_is
+
+  -- a block's end
+  pub only_brace : MustCloseBlock bytes at → (l.seen ≡ seen.RightBrace → ⊥) → ⊥
+  only_brace m = by l.seen n.seen (subst LinesStop n.tokens_are m.stop)
+    where
+      by : (s : Seen) → IsSeen s (slice_range bytes l.at l.end) n.token → n.token ≡ RightBrace → (s ≡ seen.RightBrace → ⊥) → ⊥
+      by seen.RightBrace h is other = other refl
+      by s h is other = cc
+
+  -- an expression, where no other statement begins
+  pub expr_start : (l.seen ≡ seen.RightBrace → ⊥) → (l.seen ≡ seen.LeftBrace → ⊥) → (l.seen ≡ seen.LetKey → ⊥) → (opens : List Open)
+      → IsPassed bytes (state AtLine opens) at → IsPassed bytes (state AtFactor opens) at
+  expr_start right left key opens p =
+      let next : Placed = record { at = l.at; token = like l.seen } in
+      let as_factor = judged (state AtFactor opens) next in
+      judged_next bytes at l (state AtFactor opens) as_factor n refl
+      ∙ sym (judged_next bytes at l (state AtLine opens) as_factor n (ap (or_refused next) (same l.seen right left key)))
+      ∙ p
+    where
+      same : (s : Seen) → (s ≡ seen.RightBrace → ⊥) → (s ≡ seen.LeftBrace → ⊥) → (s ≡ seen.LetKey → ⊥)
+          → step (state AtLine opens) (like s) ≡ step (state AtFactor opens) (like s)
+      same seen.RightBrace right left key = absurd (right refl)
+      same seen.LeftBrace right left key = absurd (left refl)
+      same seen.LetKey right left key = absurd (key refl)
+      same s right left key = refl

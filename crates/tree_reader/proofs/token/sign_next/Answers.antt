@@ -1,0 +1,9 @@
+use Rattle.std.proofs.Common.{arith}
+use Rattle.tree_reader.proofs.ByteLemmas.{front_next, front_some, sign_seen}
+use Rattle.tree_reader.proofs.token.sign_next.Goals as goal
+
+pub returns : goal.returns
+returns c =
+    let begin = c.requires.begin in
+    let front = sign_seen c.args.src.now c.args.here c.args.seen begin.within c.requires.digit c.requires.name c.requires.seen in
+    front_next c.args.src.now c.args.at c.args.here _ begin front (front_some c.args.src.now c.args.here begin.within) (omega (arith, begin.within))

@@ -1,0 +1,144 @@
+-- The definitions and blocks of a text have at most its bytes.
+use Rattle.std.proofs.Common.{◌≡◌, ℕ, zero, suc, ◌+◌, ◌-◌, ◌≤◌, ◌||◌, Bool, true, false, cond, List, [], ◌∷◌, length, refl, sym, subst, arith, Ok}
+use Rattle.std.specs.List.{AllByRecursion}
+use Rattle.tree_rules.specs.Tokens.{Token, LetKey, Word, Number, Plus, Minus, Star, LeftParen, RightParen, LeftBrace, RightBrace, Equals, Semicolon, Other, is_space, is_digit, is_name_start, is_name_byte, run, look_up, signs, has_needless_zero, word_front, number_front, sign_front, front, placed, tokens_from, without_places}
+use Rattle.tree_rules.specs.Trees.{Stmt, Stmts, NoStmts, Then, with_stmt}
+use Rattle.tree_rules.specs.Grammar.{Factor, ANumber, AName, InParens, Negated, Factors, OneFactor, Times, Terms, OneTerm, Added, Taken, Line, LetLine, ShowLine, BlockLine, Program, Empty, Next, spell_factor, spell_factors, spell_terms, spell_line, spell, line_tree, trees_of}
+use Rattle.tree_rules.specs.Refusals.{TreeOf}
+use Rattle.tree_rules.specs.Weights.{weight, weights}
+
+-- what a token adds at most
+abbrev letters : Token → ℕ
+letters LetKey = 1
+letters (Word bytes) = length bytes
+letters (Number n) = 1
+letters Plus = 1
+letters Minus = 1
+letters Star = 1
+letters LeftParen = 1
+letters RightParen = 1
+letters LeftBrace = 1
+letters RightBrace = 1
+letters Equals = 1
+letters Semicolon = 1
+letters Other = 1
+
+abbrev all_letters : List Token → ℕ
+all_letters [] = 0
+all_letters (t ∷ ts) = letters t + all_letters ts
+
+-- ---- Of a program's tokens
+
+mutual
+  factor_letters : (f : Factor) (more : List Token) → all_letters more ≤ all_letters (spell_factor f more)
+  factor_letters (ANumber n) more = omega arith
+  factor_letters (AName bytes) more = omega arith
+  factor_letters (InParens s) more = omega (arith, terms_letters s (RightParen ∷ more))
+  factor_letters (Negated f) more = omega (arith, factor_letters f more)
+
+  factors_letters : (t : Factors) (more : List Token) → all_letters more ≤ all_letters (spell_factors t more)
+  factors_letters (OneFactor f) more = factor_letters f more
+  factors_letters (Times t f) more = omega (arith, factors_letters t (Star ∷ spell_factor f more), factor_letters f more)
+
+  terms_letters : (s : Terms) (more : List Token) → all_letters more ≤ all_letters (spell_terms s more)
+  terms_letters (OneTerm t) more = factors_letters t more
+  terms_letters (Added s t) more = omega (arith, terms_letters s (Plus ∷ spell_factors t more), factors_letters t more)
+  terms_letters (Taken s t) more = omega (arith, terms_letters s (Minus ∷ spell_factors t more), factors_letters t more)
+
+with_weight : (ss : Stmts) (s : Stmt) → weights (with_stmt ss s) ≡ weights ss + weight s
+with_weight NoStmts s = omega arith
+with_weight (Then t rest) s = omega (arith, with_weight rest s)
+
+mutual
+  line_weight : (l : Line) (more : List Token) → weight (line_tree l) + all_letters more ≤ all_letters (spell_line l more)
+  line_weight (LetLine name s) more = omega (arith, terms_letters s (Semicolon ∷ more))
+  line_weight (ShowLine s) more = omega (arith, terms_letters s (Semicolon ∷ more))
+  line_weight (BlockLine p) more = omega (arith, program_weight p (RightBrace ∷ more))
+
+  program_weight : (p : Program) (more : List Token) → weights (trees_of p) + all_letters more ≤ all_letters (spell p more)
+  program_weight Empty more = omega arith
+  program_weight (Next p l) more =
+      omega (arith, program_weight p (spell_line l more), line_weight l more, with_weight (trees_of p) (line_tree l))
+
+-- ---- Of a text's tokens
+
+run_length : (passes : ℕ → Bool) (bytes : List ℕ) → length (run passes bytes) ≤ length bytes
+run_length passes [] = omega arith
+run_length passes (b ∷ bytes) = by (passes b) (run_length passes bytes)
+  where
+    by : (p : Bool) → length (run passes bytes) ≤ length bytes → length (cond p (b ∷ run passes bytes) []) ≤ suc (length bytes)
+    by true less = omega (arith, less)
+    by false less = omega arith
+
+-- at least one byte, no more than there are, and no fewer than the token adds
+record IsFront (token : Token) (n most : ℕ) : Type 0 where
+  pub some : 1 ≤ n
+  pub few : n ≤ most
+  pub covers : letters token ≤ n
+
+one_letter : (c : Bool) (t u : Token) (n : ℕ) → letters t ≤ n → letters u ≤ n → letters (cond c t u) ≤ n
+one_letter true t u n first other = first
+one_letter false t u n first other = other
+
+sign_letters : (rows : List (ℕ × Token)) (b : ℕ) → AllByRecursion (λ (row : ℕ × Token). letters row.1 ≤ 1) rows
+    → letters (look_up rows b) ≤ 1
+sign_letters [] b all = omega arith
+sign_letters (row ∷ rows) b all = one_letter _ row.1 (look_up rows b) 1 all.0 (sign_letters rows b all.1)
+
+front_is : (b : ℕ) (bytes : List ℕ) → IsFront (front b bytes).token (front b bytes).length (suc (length bytes))
+unfolding front
+front_is b bytes = by (is_digit b) (is_name_start b) refl refl
+  where
+    begun : (passes : ℕ → Bool) → passes b ≡ true → 1 ≤ length (run passes (b ∷ bytes))
+    begun passes is = rw is (omega arith)
+
+    word-start : (p q : Bool) → p ≡ true → 1 ≤ length (cond (p || q) (b ∷ run is_name_byte bytes) [])
+    word-start p q is = rw is (omega arith)
+
+    signs-small : letters (look_up signs b) ≤ 1
+    signs-small =
+        let one : 1 ≤ 1 = omega arith in
+        sign_letters signs b (one, (one, (one, (one, (one, (one, (one, (one, (one, tt)))))))))
+
+    by : (digit start : Bool) → is_digit b ≡ digit → is_name_start b ≡ start
+        → IsFront (cond digit (number_front (run is_digit (b ∷ bytes))) (cond start (word_front (run is_name_byte (b ∷ bytes)))
+        (sign_front b))).token
+        (cond digit (number_front (run is_digit (b ∷ bytes))) (cond start (word_front (run is_name_byte (b ∷ bytes))) (sign_front
+        b))).length
+        (suc (length bytes))
+    by true start is s = record {
+      some = begun is_digit is;
+      few = run_length is_digit (b ∷ bytes);
+      covers = one_letter (has_needless_zero (run is_digit (b ∷ bytes))) Other _ _ (begun is_digit is) (begun is_digit is);
+    }
+    by false true d is = record {
+      some = word-start (is_name_start b) (is_digit b) is;
+      few = run_length is_name_byte (b ∷ bytes);
+      covers = one_letter _ LetKey (Word (run is_name_byte (b ∷ bytes))) _ (word-start (is_name_start b) (is_digit b) is) (omega arith);
+    }
+    by false false d is = record { some = omega arith; few = omega arith; covers = signs-small }
+
+tokens_letters : (at skip : ℕ) (bytes : List ℕ) → all_letters (without_places (tokens_from at skip bytes)) ≤ length bytes - skip
+unfolding tokens_from
+tokens_letters at skip [] = omega arith
+tokens_letters at (suc skip) (b ∷ bytes) = omega (arith, tokens_letters (suc at) skip bytes)
+tokens_letters at zero (b ∷ bytes) =
+    by (is_space b) (tokens_letters (suc at) zero bytes) (tokens_letters (suc at) ((front b bytes).length - 1) bytes)
+  where
+    by : (space : Bool) → all_letters (without_places (tokens_from (suc at) zero bytes)) ≤ length bytes - 0
+        → all_letters (without_places (tokens_from (suc at) ((front b bytes).length - 1) bytes)) ≤ length bytes - ((front b
+        bytes).length - 1)
+        → all_letters (without_places (elim space [
+          | true ↦ tokens_from (suc at) zero bytes
+          | false ↦ placed at (front b bytes) ∷ tokens_from (suc at) ((front b bytes).length - 1) bytes
+        ]))
+        ≤ suc (length bytes) - 0
+    by true near far = omega (arith, near)
+    by false near far = let f = front_is b bytes in omega (arith, far, f.some, f.few, f.covers)
+
+pub tree_light : (bytes : List ℕ) (ss : Stmts) → TreeOf bytes (Ok ss) → weights ss ≤ length bytes
+tree_light bytes ss tree =
+    let is = tree.program in
+    let all : all_letters (spell is.program []) ≤ length bytes - 0
+    = subst (λ (ts : List Token). all_letters ts ≤ length bytes - 0) (sym is.tokens_are) (tokens_letters 0 0 bytes) in
+    subst (λ (t : Stmts). weights t ≤ length bytes) is.trees_are (omega (arith, program_weight is.program [], all))
