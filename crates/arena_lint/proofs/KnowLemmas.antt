@@ -1,6 +1,6 @@
 -- Sets of names and scopes, as texts are given numbers and names are defined.
 use Rattle.std.proofs.Common.{◌≡◌, ℕ, ◌<◌, List, [], ◌∷◌, ◌++◌, length, length-append, refl, sym, ap, ◌∙◌, inl, inr, Some, None, Option, true, false, Bool, ◌||◌, ◌&&◌, is_some, not, arith}
-use Rattle.std.specs.Prelude.{Decides, if◌then◌else◌, bytes_eq, ◌==◌, slice_get}
+use Rattle.std.specs.Prelude.{if◌then◌else◌, bytes_eq, ◌==◌, slice_get}
 use Rattle.std.specs.List.{AllZip}
 use Rattle.std.proofs.lemmas.Bool.{cases_Bool, cond-false, eqb-true, eq-eqb, ne_eqb}
 use Rattle.std.proofs.lemmas.Bool.Decides.{Decides-at, same_from_decides}
@@ -25,8 +25,9 @@ zip_weaker R S follows _ _ all = absurd all
 
 -- ---- Whether a name is known
 
-some_seen : (a b : Option ℕ) → is_some (seen a b) ≡ (is_some a || is_some b)
-some_seen a b = grind arith
+-- What stands outside is seen where nothing stands inside.
+seen_outside : (a b : Option ℕ) → is_some a ≡ false → is_some (seen a b) ≡ is_some b
+seen_outside a b none = grind arith
 
 -- A scope more has what its own set has.
 meant_more : (scope : List (ℕ × ℕ)) (scopes : List (List (ℕ × ℕ))) (o : Option ℕ)
@@ -40,9 +41,7 @@ pub known_has : (texts : List (List ℕ)) (sets : List Names) (scopes : List (Li
     → is_some (meant scopes (number_of texts name)) ≡ have_name sets name
 known_has texts [] [] name are = no_meaning (number_of texts name)
 known_has texts (names ∷ sets) (scope ∷ scopes) name are =
-    meant_more scope scopes (number_of texts name)
-    ∙ ap (λ (b : Bool). has_number scope (number_of texts name) || b) (known_has texts sets scopes name are.1)
-    ∙ ap (λ (b : Bool). b || have_name sets name) (sym (are.0.same name))
+    rw (meant_more scope scopes (number_of texts name), known_has texts sets scopes name are.1, are.0.same name) refl
 known_has texts _ _ name are = absurd are
 
 -- ---- Numbers
@@ -74,15 +73,10 @@ same_number texts name other id is = same_from_decides (are_same name other) (is
 scope_grown : (texts : List (List ℕ)) (text : List ℕ) → number_of texts text ≡ None → (names : Names) (scope : List (ℕ × ℕ))
     → IsScope texts names scope → IsScope (texts ++ text ∷ []) names scope
 scope_grown texts text none names scope is = record {
-  same = λ name. is.same name ∙ sym (ap (has_number scope) (number_push texts text name none) ∙ by name (bytes_eq name text) refl);
+  same = λ name. let is_text = (bytes_eq-Decides name text).0 in let away = is.within (length texts) (omega arith) in
+      grind (arith, is.same name, number_push texts text name none, away, is_text, none);
   within = λ id far. is.within id (omega (arith, far, length-append texts (text ∷ [])));
 }
-  where
-    by : (name : List ℕ) (b : Bool) → bytes_eq name text ≡ b
-        → has_number scope (if b then Some (length texts) else number_of texts name) ≡ has_number scope (number_of texts name)
-    by name false differ = refl
-    by name true equal = ap is_some (is.within (length texts) (omega arith))
-        ∙ sym (ap (has_number scope) (ap (number_of texts) ((bytes_eq-Decides name text).0 equal) ∙ none))
 
 pub scopes_grown : (texts : List (List ℕ)) (text : List ℕ) (sets : List Names) (scopes : List (List (ℕ × ℕ)))
     → AreScopes texts sets scopes → AreScopes (with_text texts text) sets scopes
@@ -94,13 +88,10 @@ scopes_grown texts text sets scopes are = by (number_of texts text) refl
 
 -- ---- A pair more in a scope
 
-has_push : (scope : List (ℕ × ℕ)) (id v : ℕ) (o : Option ℕ) → has_number (scope ++ (id, v) ∷ []) o ≡ (is_number id o || has_number scope o)
-has_push scope id v o = grind (arith, value_push)
-
 scope_defined : {texts : List (List ℕ)} {name : List ℕ} {names : Names} {scope : List (ℕ × ℕ)} {id : ℕ} (v : ℕ)
     → number_of texts name ≡ Some id → IsScope texts names scope → IsScope texts (name ∷ names) (scope ++ (id, v) ∷ [])
 scope_defined {texts} {name} {names} {scope} {id} v number is = record {
-  same = λ n. rw (same_number texts name n id number, is.same n) (sym (has_push scope id v (number_of texts n)));
+  same = λ n. grind (arith, value_push, same_number texts name n id number, is.same n);
   within = λ j far.
       let low = slice_get_within texts id name (number_there name texts id number) in
       value_push scope id v j ∙ cond-false _ _ _ (ne_eqb id j (λ e. omega (arith, e, far, low))) ∙ is.within j far;
@@ -123,9 +114,8 @@ defined_is texts (names ∷ outer) (scope ∷ scopes) after name id is_new is_se
     elim (cases_Bool (is_some (value_in scope id))) [
       | inl there ↦ rw (becomes, new ∙ ap not there, has ∙ there) (are, refl)
       | inr away ↦
-          let any : is_seen ≡ have_name outer name = saw ∙ some_seen (value_in scope id) (lookup scopes id)
-          ∙ ap (λ (b : Bool). b || is_some (lookup scopes id)) away ∙ sym (ap (λ (o : Option ℕ). is_some (meant scopes o)) number)
-          ∙ known_has texts outer scopes name are.1 in
+          let known = rw number at (known_has texts outer scopes name are.1) in
+          let any : is_seen ≡ have_name outer name = saw ∙ seen_outside (value_in scope id) (lookup scopes id) away ∙ known in
           let more : AreScopes texts ((name ∷ names) ∷ outer) ((scope ++ (id, 0) ∷ []) ∷ scopes) = (scope_defined 0 number are.0, are.1) in
           elim (cases_Bool (have_name outer name)) [
             | inl inside ↦ rw (becomes, new ∙ ap not away, has ∙ away, any, inside) (more, refl)
@@ -134,10 +124,7 @@ defined_is texts (names ∷ outer) (scope ∷ scopes) after name id is_new is_se
     ]
 defined_is texts _ _ after name id is_new is_seen some number are new saw becomes = absurd are
 
--- ---- A set more, and one less
-
-none : (o : Option ℕ) → false ≡ has_number [] o
-none o = grind arith
+-- ---- A set more
 
 pub no_names : (texts : List (List ℕ)) → IsScope texts [] []
-no_names texts = record { same = λ name. none (number_of texts name); within = λ id far. refl }
+no_names texts = record { same = λ name. grind arith; within = λ id far. refl }

@@ -1,5 +1,5 @@
 -- The handles of a walk, as calls change them.
-use Rattle.std.proofs.Common.{◌≡◌, ℕ, ◌<◌, List, [], ◌∷◌, length, length-append, refl, sym, ap, ◌∙◌, arith, Ok, Err, true, false, Bool, is_some}
+use Rattle.std.proofs.Common.{◌≡◌, ℕ, ◌<◌, List, [], ◌∷◌, length, arith, Ok, true, Bool, is_some}
 use Rattle.std.specs.Prelude.{Result}
 use Rattle.arena_chunks.specs.Memory.{Memory}
 use Rattle.arena_chunks.specs.Source.{View}
@@ -52,8 +52,8 @@ module _ {old mid new : View} {k : Known} {t : Symbols} {d : Scopes} {name : Lis
       let scopes = scopes_in entry_item mid.memory k.scopes in
       let between : AreScopes texts sets scopes = rw (interns.names, one.1)
       (scopes_grown (names_in old.memory k.symbols) name sets (scopes_in entry_item old.memory k.scopes) knows) in
-      rw two.1 (defined_is texts sets scopes (scopes_in entry_item new.memory d) name id is_new is_seen (some_scope mid.memory k.scopes) interns.number
-      between puts.says saw puts.scopes)
+      rw two.1 (defined_is texts sets scopes (scopes_in entry_item new.memory d) name id is_new is_seen
+      (some_scope mid.memory k.scopes) interns.number between puts.says saw puts.scopes)
 
 -- ---- Blocks, as scopes
 
@@ -75,7 +75,10 @@ begun_knows {old} {new} {k} {d} sets held enters knows =
 pub ended_knows : {old new : View} {k : Known} {d : Scopes} {result : Bool} (names : Names) (sets : List Names) → AreNames old.memory k
     → Leaves entry_item old new k.scopes d result → Knows old.memory k (names ∷ sets) → IsNotEmpty sets
     → Knows new.memory (record k { scopes = d }) sets
-ended_knows {old} {new} {k} {d} {result} names sets held leaves knows some = by result refl
+ended_knows {old} {new} {k} {d} {result} names sets held leaves knows some =
+    let outer = inner (scopes_in entry_item old.memory k.scopes) sets knows some in
+    let left : result ≡ true = grind (arith, leaves.alone, outer.1) in
+    rw ((scopes_moved held d leaves.held leaves.frame).1, leaves.left left) outer.0
   where
     inner : (scopes : List (List (ℕ × ℕ))) (sets : List Names) → AreScopes (names_in old.memory k.symbols) (names ∷ sets) scopes
         → IsNotEmpty sets → AreScopes (names_in old.memory k.symbols) sets (outer_of scopes) × (length scopes ≡ 1 → ⊥)
@@ -83,8 +86,3 @@ ended_knows {old} {new} {k} {d} {result} names sets held leaves knows some = by 
     inner (scope ∷ []) [] are some = absurd some
     inner (scope ∷ []) (n ∷ sets) are some = absurd are.1
     inner (scope ∷ t ∷ scopes) sets are some = (are.1, λ one. omega (arith, one))
-
-    by : (b : Bool) → result ≡ b → Knows new.memory (record k { scopes = d }) sets
-    by true is = rw ((scopes_moved held d leaves.held leaves.frame).1, leaves.left is)
-        (inner (scopes_in entry_item old.memory k.scopes) sets knows some).0
-    by false is = absurd ((inner (scopes_in entry_item old.memory k.scopes) sets knows some).1 (leaves.alone is).0)

@@ -1,8 +1,7 @@
 -- The report of one text.
-use Rattle.std.proofs.Common.{◌≡◌, ◌≢◌, ℕ, ◌+◌, ◌^◌, ◌<◌, ◌≤◌, inl, inr, List, [], ◌∷◌, length, refl, sym, ap, subst, ◌∙◌, true, false, Bool, Ok, Err, Some, None, arith}
+use Rattle.std.proofs.Common.{◌≡◌, ℕ, ◌+◌, ◌^◌, ◌≤◌, List, [], ◌∷◌, length, refl, sym, ap, ◌∙◌, true, false, Bool, Ok, Err, Some, None, arith}
 use Rattle.std.specs.Prelude.{Option, IfNone}
-use Rattle.std.proofs.lemmas.Bool.{cases_lt}
-use Rattle.placement.specs.State.{used_bytes, allocated_bytes}
+use Rattle.placement.specs.State.{used_bytes}
 use Rattle.placement.proofs.AskingLemmas.{asks_more}
 use Rattle.arena_chunks.specs.Memory.{Memory}
 use Rattle.arena_chunks.specs.Source.{View}
@@ -36,12 +35,12 @@ use Rattle.arena_tree.proofs.Layers.{nodes_used, one_stmts}
 use Rattle.lint_reports.specs.Reports.{Reports, said}
 use Rattle.lint_reports.specs.declared.report.FileReport.{FileReport}
 use Rattle.lint_reports.specs.declared.report.FileReport.TheVariants.{Checked, Syntax, TooDeep, NumberTooBig, Full, Refused, OutOfMemory}
-use Rattle.arena_lint.specs.Knowing.{IsNothing, credit}
+use Rattle.arena_lint.specs.Knowing.{IsNothing}
 use Rattle.arena_lint.specs.Linting.{Lints, lint_bytes, no_place, stopped_by, unparsed_by}
 use Rattle.arena_lint.specs.Rooms.{ListHasStmts, IsLight}
 use Rattle.arena_lint.specs.Spending.{IsStarvedSince, Spends, Takes, walk_bytes}
 use Rattle.arena_lint.proofs.KnowLemmas.{no_names}
-use Rattle.arena_lint.proofs.SpendingLemmas.{spends_then}
+use Rattle.arena_lint.proofs.SpendingLemmas.{spends_then, spends_nothing}
 
 -- ---- Nothing
 
@@ -96,34 +95,18 @@ parsed_light bytes old new light small parsed given = record {
 pub nothing_spends : {old new : View} {t : Tree} {k l : Known} {error : Option AllocError} (trees : Stmts) → IsLight old.memory t
     → IsNothing k → Means old.memory t trees → Takes (weights trees) old new k l error
     → Spends (walk_bytes (weights trees)) 0 0 old new error
-nothing_spends {old} {new} {t} {k} {l} {error} trees is none means takes =
-    let spent = takes.spends (omega (
-      arith,
-      is.light,
-      ap weights (given_is is.tree trees means),
-      ap (λ (l : List (List ℕ)). length l) (none.names old.memory),
-      ap (λ (l : List (List (ℕ × ℕ))). pair_count l + length l) (none.scopes old.memory),
-    )) in
-    subst (λ (n : ℕ). Spends (walk_bytes (weights trees)) n 0 old new error) none.credit (record {
-      takes = omega (arith, spent.takes);
-      asks = spent.asks;
-      kind = spent.kind;
-      fits = spent.fits;
-      starved = spent.starved;
-      full = spent.full;
-    })
+nothing_spends {old} trees is none means takes = spends_then (spends_nothing {bytes = 0} tt) (takes.spends (omega (
+  arith,
+  is.light,
+  ap weights (given_is is.tree trees means),
+  ap (λ (l : List (List ℕ)). length l) (none.names old.memory),
+  ap (λ (l : List (List (ℕ × ℕ))). pair_count l + length l) (none.scopes old.memory),
+))) (omega (arith, none.credit)) (omega (arith, none.credit))
 
 -- ---- What is spent
 
--- Calls spend no more than that, and a text's tree was not refused.
-takes_most : {all : ℕ} {old new : View} {error : Option AllocError} → Spends all 0 0 old new error → TakesAtMost all old new
-takes_most {all} {old} {new} spent = record {
-  takes = omega (arith, spent.takes);
-  asks = asks_more _ _ old.memory.state new.memory.state old.source new.source (omega arith) spent.asks;
-  kind = spent.kind;
-}
-
-parse_spends : {few all : ℕ} {old new : View} → few ≤ all → TakesAtMost few old new → Spends all 0 0 old new None
+-- A text's tree was not refused.
+pub parse_spends : {few all : ℕ} {old new : View} → few ≤ all → TakesAtMost few old new → Spends all 0 0 old new None
 parse_spends {few} {all} {old} {new} less takes = record {
   takes = omega (arith, takes.takes, less);
   asks = asks_more _ _ old.memory.state new.memory.state old.source new.source (omega (arith, less)) takes.asks;
@@ -134,33 +117,26 @@ parse_spends {few} {all} {old} {new} less takes = record {
 }
 
 starved : (old new : View) → old.memory.state.is_growing ≡ true → IsStarvedSince old new → IsStarved (2 ^ 62) old new
-starved old new growing (inr rest) = record { growing = growing; cause = inr rest }
-starved old new growing (inl up) = record {
-  growing = growing;
-  cause = elim (cases_lt (allocated_bytes new.memory.state) (2 ^ 60)) [
-    | inl few ↦ inl (omega (arith, up, few))
-    | inr much ↦ inr (inl much)
-  ];
-}
+starved old new growing since = record { growing = growing; cause = grind arith }
 
 -- ---- Reports
 
-module _ {bytes : List ℕ} {old new : View} {few : ℕ} (unused : used old ≡ 0) (less : few ≤ lint_bytes (length bytes))
-    (takes : TakesAtMost few old new) where
+module _ {bytes : List ℕ} {old new : View} {error : Option AllocError} (unused : used old ≡ 0)
+    (spends : Spends (lint_bytes (length bytes)) 0 0 old new error) where
   -- No more was taken than may be, of an arena of which nothing was used.
   lints : (report : FileReport) → Reports bytes report → IfNone (said report) (IsProgram bytes)
       → (report ≡ Full → IsFull (lint_bytes (length bytes)) old) → (report ≡ Refused → IsStarved (2 ^ 62) old new)
       → Lints bytes old new report
   lints report reports stopped full refused =
       let asks : AsksWithin (used old + lint_bytes (length bytes)) old new
-      = asks_more _ _ old.memory.state new.memory.state old.source new.source (omega (arith, less)) takes.asks in record {
+      = asks_more _ _ old.memory.state new.memory.state old.source new.source (omega arith) spends.asks in record {
         reports = reports;
         stopped = stopped;
-        most = omega (arith, takes.takes, less, unused);
+        most = omega (arith, spends.takes, unused);
         asks = asks;
         full = full;
         refused = λ is. record { asks = asks; starved = refused is };
-        kind = takes.kind;
+        kind = spends.kind;
       }
 
   -- no place for a block
@@ -168,9 +144,9 @@ module _ {bytes : List ℕ} {old new : View} {few : ℕ} (unused : used old ≡ 
       → (old.memory.state.is_growing ≡ true → IsStarved (2 ^ 62) old new)
       → (old.memory.state.is_growing ≡ false → IsFull (used old + lint_bytes (length bytes)) old) → Lints bytes old new (no_place growing)
   lints_unplaced true is program starved full =
-      lints Refused tt program (λ no. absurd (cc)) (λ refused. starved (sym takes.kind.is_growing ∙ is))
+      lints Refused tt program (λ no. absurd (cc)) (λ refused. starved (sym spends.kind.is_growing ∙ is))
   lints_unplaced false is program starved full = lints Full tt program (λ said.
-      let short = full (sym takes.kind.is_growing ∙ is) in record { still = short.still; short = omega (arith, short.short, unused) })
+      let short = full (sym spends.kind.is_growing ∙ is) in record { still = short.still; short = omega (arith, short.short, unused) })
       (λ no. absurd (cc))
 
   -- A text that has no tree is told so.
@@ -188,22 +164,23 @@ module _ {bytes : List ℕ} {old mid new : View} (t : Tree) (light : AreLight) (
   all_spends : {error : Option AllocError}
       → ((trees : Stmts) → Means mid.memory t trees → Spends (walk_bytes (weights trees)) 0 0 mid new error)
       → Spends (lint_bytes (length bytes)) 0 0 old new error
-  all_spends spends = spends_then (parse_spends {all = parse_bytes (length bytes)} (omega arith) takes) (spends parsed.0 parsed.2.stand)
-      (omega (arith, light bytes parsed.0 parsed.1))
+  all_spends spends = let few = light bytes parsed.0 parsed.1 in
+      spends_then (parse_spends {all = parse_bytes (length bytes)} (omega arith) takes) (spends parsed.0 parsed.2.stand)
+      (omega (arith, few)) (omega (arith, few))
 
   pub checked : (found : List Finding) → ((trees : Stmts) → Means mid.memory t trees → found ≡ findings_of trees)
       → ((trees : Stmts) → Means mid.memory t trees → Spends (walk_bytes (weights trees)) 0 0 mid new None)
       → Lints bytes old new (Checked found)
-  checked found is spends = lints unused (omega arith) (takes_most (all_spends spends)) (Checked found)
-      (parsed.0, parsed.1, is parsed.0 parsed.2.stand) tt (λ no. absurd (cc)) (λ no. absurd (cc))
+  checked found is spends = lints unused (all_spends spends) (Checked found) (parsed.0, parsed.1, is parsed.0 parsed.2.stand) tt
+      (λ no. absurd (cc)) (λ no. absurd (cc))
 
   pub stopped : (why : AllocError)
       → ((trees : Stmts) → Means mid.memory t trees → Spends (walk_bytes (weights trees)) 0 0 mid new (Some why))
       → Lints bytes old new (stopped_by new.memory.state.is_growing why)
   stopped (alloc.AllocErr k) spends = let spent = all_spends spends in
-      lints_unplaced unused (omega arith) (takes_most spent) new.memory.state.is_growing refl (parsed.0, parsed.1)
+      lints_unplaced unused spent new.memory.state.is_growing refl (parsed.0, parsed.1)
       (λ growing. starved old new growing (spent.starved growing k refl))
       (λ still. let short = spent.full still k refl in record { still = still; short = omega (arith, short.short) })
   stopped alloc.CapacityOverflow spends = absurd ((all_spends spends).fits refl)
   stopped alloc.OutOfMemory spends =
-      lints unused (omega arith) (takes_most (all_spends spends)) OutOfMemory tt (parsed.0, parsed.1) (λ no. absurd (cc)) (λ no. absurd (cc))
+      lints unused (all_spends spends) OutOfMemory tt (parsed.0, parsed.1) (λ no. absurd (cc)) (λ no. absurd (cc))

@@ -1,5 +1,5 @@
 -- What calls spend that are made one after another.
-use Rattle.std.proofs.Common.{◌≡◌, ℕ, ◌+◌, ◌^◌, ◌<◌, ◌≤◌, inl, inr, refl, ap, ◌∙◌, arith, Ok, Err, Some, None, List}
+use Rattle.std.proofs.Common.{◌≡◌, ℕ, ◌+◌, ◌≤◌, refl, ap, ◌∙◌, arith, Ok, Err, Some, None, List}
 use Rattle.std.specs.Prelude.{Result, Option, IsErr, IsErrAnd}
 use Rattle.std.proofs.lemmas.Option.{none-some, same_Some}
 use Rattle.placement.proofs.AskingLemmas.{asks_more, asks_then, refused_after}
@@ -10,7 +10,7 @@ use Rattle.arena_chunks.specs.declared.block.Block.{Block}
 use Rattle.arena_chunks.proofs.Layers.{asks_same}
 use Rattle.arena_items.specs.Costs.{Costs, used}
 use Rattle.arena_items.specs.declared.room.AllocError.{AllocError}
-use Rattle.arena_items.specs.declared.room.AllocError.TheVariants.{AllocErr, CapacityOverflow, OutOfMemory}
+use Rattle.arena_items.specs.declared.room.AllocError.TheVariants.{AllocErr, CapacityOverflow}
 use Rattle.arena_symbols.specs.Paying.{far_up}
 use Rattle.arena_symbols.specs.declared.uses.Names.{Names as Known}
 use Rattle.arena_tree.specs.Spending.{KeepsKind, error_of}
@@ -34,22 +34,20 @@ spends_costs {X} {few} {many} {before} {after} {all} {left} {old} {new} {result}
   asks = asks_more _ _ old.memory.state new.memory.state old.source new.source (omega (arith, less)) costs.asks;
   kind = kind;
   fits = λ is. fits (err_is result CapacityOverflow is);
-  starved = λ growing k is. elim (costs.starved growing k (err_is result (AllocErr k) is)).cause [
-    | inl up ↦ inl (omega (arith, up, costs.asks.chunks.allocated))
-    | inr other ↦ inr other
-  ];
+  starved = λ growing k is.
+      grind (arith, (costs.starved growing k (err_is result (AllocErr k) is)).cause, costs.asks.chunks.allocated);
   full = λ still k is.
       let full = costs.full still k (err_is result (AllocErr k) is) in
       record { still = full.still; short = omega (arith, full.short, less) };
 }
 
 -- Calls, and then others.
-pub spends_then : {one two all before between after : ℕ} {old mid new : View} {error : Option AllocError}
-    → Spends one before between old mid None → Spends two between after mid new error → one + two ≤ all
-    → Spends all before after old new error
-spends_then {one} {two} {all} {before} {between} {after} {old} {mid} {new} {error} first second less =
-    let within : used mid + (two + between) ≤ used old + (all + before) = omega (arith, first.takes, less) in record {
-      takes = omega (arith, first.takes, second.takes, less);
+pub spends_then : {one two all total before between after left : ℕ} {old mid new : View} {error : Option AllocError}
+    → Spends one before between old mid None → Spends two between after mid new error → one + two + before ≤ all + total
+    → one + two + before + left ≤ all + total + after → Spends all total left old new error
+spends_then {one} {two} {all} {total} {before} {between} {after} {left} {old} {mid} {new} {error} first second less paid =
+    let within : used mid + (two + between) ≤ used old + (all + total) = omega (arith, first.takes, less) in record {
+      takes = omega (arith, first.takes, second.takes, paid);
       asks = asks_then _ old.memory.state mid.memory.state new.memory.state old.source mid.source new.source
           (asks_more _ _ old.memory.state mid.memory.state old.source mid.source (omega (arith, less)) first.asks)
           (asks_more _ _ mid.memory.state new.memory.state mid.source new.source within second.asks);
@@ -58,14 +56,9 @@ spends_then {one} {two} {all} {before} {between} {after} {old} {mid} {new} {erro
         allocated = λ still. second.kind.allocated (first.kind.is_growing ∙ still) ∙ first.kind.allocated still;
       };
       fits = second.fits;
-      starved = λ growing k is. elim (second.starved (first.kind.is_growing ∙ growing) k is) [
-        | inl up ↦ inl (omega (arith, up, first.asks.chunks.top))
-        | inr other ↦ inr (elim other [
-          | inl much ↦ inl much
-          | inr refused ↦ inr
-              (refused_after _ old.memory.state mid.memory.state old.source mid.source new.source first.asks refused)
-        ])
-      ];
+      starved = λ growing k is.
+          let after = refused_after _ old.memory.state mid.memory.state old.source mid.source new.source first.asks in
+          grind (arith, second.starved (first.kind.is_growing ∙ growing) k is, first.asks.chunks.top, after);
       full = λ still k is.
           let full = second.full (first.kind.is_growing ∙ still) k is in
           record { still = still; short = omega (arith, full.short, first.kind.allocated still, within) };
@@ -77,13 +70,10 @@ spends_nothing {bytes} {saved} {a} {error} wanting = record {
   takes = omega arith;
   asks = asks_same _ a a refl refl;
   kind = record { is_growing = refl; allocated = λ still. refl };
-  fits = λ is. let no = only CapacityOverflow is in cc;
-  starved = λ growing k is. let no = only (AllocErr k) is in absurd (cc);
-  full = λ still k is. let no = only (AllocErr k) is in absurd (cc);
+  fits = λ is. let no = rw is at wanting in cc;
+  starved = λ growing k is. let no = rw is at wanting in absurd (cc);
+  full = λ still k is. let no = rw is at wanting in absurd (cc);
 }
-  where
-    only : (e : AllocError) → error ≡ Some e → e ≡ OutOfMemory
-    only e is = rw is at wanting
 
 -- ---- Statements
 
@@ -91,7 +81,8 @@ pub takes_then : {one two : ℕ} {old mid new : View} {k j l : Known} {error : O
     → Takes two mid new j l error → Takes (one + two) old new k l error
 takes_then first second = record {
   numbers = λ is. omega (arith, first.numbers refl, second.numbers is);
-  spends = λ few. spends_then (first.spends (omega (arith, few))) (second.spends (omega (arith, few, first.numbers refl))) (omega arith);
+  spends = λ few. spends_then (first.spends (omega (arith, few))) (second.spends (omega (arith, few, first.numbers refl)))
+      (omega arith) (omega arith);
 }
 
 -- More may be taken than was.
@@ -99,8 +90,8 @@ pub takes_more : {few : ℕ} {old new : View} {k l : Known} {error : Option Allo
     → Takes few old new k l error → Takes many old new k l error
 takes_more many less takes = record {
   numbers = λ is. omega (arith, less, takes.numbers is);
-  spends = λ room.
-      spends_then (spends_nothing {bytes = 0} tt) (takes.spends (omega (arith, less, room))) (omega (arith, less));
+  spends = λ room. spends_then (spends_nothing {bytes = 0} tt) (takes.spends (omega (arith, less, room)))
+      (omega (arith, less)) (omega (arith, less));
 }
 
 -- Nothing is taken, and memory may be wanting.

@@ -1,12 +1,12 @@
 -- Statements of a tree, one by one, and in a later arena.
-use Rattle.std.proofs.Common.{◌≡◌, ℕ, zero, suc, ◌+◌, ◌-◌, ◌<◌, ◌≤◌, ◌^◌, List, [], ◌∷◌, ◌++◌, length, refl, sym, ap, subst, ◌∙◌, Some, Ok, Err, arith}
+use Rattle.std.proofs.Common.{◌≡◌, ℕ, zero, suc, ◌-◌, ◌<◌, ◌≤◌, ◌^◌, List, [], ◌∷◌, ◌++◌, length, refl, sym, ap, subst, Some, Ok, Err, arith}
 use Rattle.std.specs.Prelude.{slice_get, Result, OnOk}
 use Rattle.std.specs.Str.{IsUtf8}
 use Rattle.std.proofs.lemmas.List.{append_assoc}
 use Rattle.arena_chunks.specs.Memory.{Memory}
 use Rattle.arena_chunks.specs.Frame.{AreAllApart}
 use Rattle.arena_chunks.specs.declared.block.Block.{Block}
-use Rattle.arena_chunks.proofs.Layers.{all_of_both, frame_keeps_all, frame_reflexive}
+use Rattle.arena_chunks.proofs.Layers.{all_of_both, frame_keeps_all}
 use Rattle.arena_items.specs.Footprint.{AreReadable, Agree}
 use Rattle.arena_items.specs.Values.{IsTextIn, text_bytes}
 use Rattle.arena_items.specs.declared.room.AllocError.{AllocError}
@@ -18,7 +18,7 @@ use Rattle.arena_symbols.specs.declared.uses.Names.{Names as Known}
 use Rattle.tree_rules.specs.Trees.{Expr, Stmt, Let, Show, Stmts, NoStmts, Then, IsStmt, AreStmts}
 use Rattle.tree_rules.specs.Trees as tree
 use Rattle.tree_rules.specs.Weights.{weight, weights}
-use Rattle.tree_rules.specs.Report.{Names, undefined, defined, Walk, found_first, walk_stmt}
+use Rattle.tree_rules.specs.Report.{Names, undefined, defined, walk_stmt}
 use Rattle.tree_rules.specs.declared.finding.Finding.{Finding}
 use Rattle.tree_rules.proofs.NameLemmas.{name_text}
 use Rattle.arena_tree.specs.declared.node.Kind.TheVariants as kind
@@ -28,34 +28,36 @@ use Rattle.arena_tree.specs.TreesAt.{node_item, kids_of, kids_in}
 use Rattle.arena_tree.specs.TreeLaws.{list_same, list_held}
 use Rattle.arena_tree.specs.StmtsAt.{StmtAt, StmtsAt, stmt_blocks, stmts_blocks}
 use Rattle.arena_tree.specs.StmtLaws.{stmt_readable, stmts_readable, stmt_names as blocks_same, stmts_names as all_blocks_same, stmt_again, stmts_again}
-use Rattle.arena_tree.proofs.Layers.{one_stmts, line_seen}
+use Rattle.arena_tree.proofs.Layers.{one_stmts, line_seen, some_node}
 use Rattle.arena_lint.specs.Knowing.{Knows}
 use Rattle.arena_lint.specs.Rooms.{HasStmt, HaveStmts, ListHasStmts, stmt_names}
 use Rattle.arena_lint.specs.Steps.{Finds}
-use Rattle.arena_lint.proofs.NameLemmas.{from}
 
 -- ---- Statements one by one
 
--- the first one, and those behind it
-pub first_line : {m : Memory} {n : Node} {ns : List Node} {room : ℕ} {others : List Block} → HaveStmts m (n ∷ ns) room others
-    → HasStmt m n (room - 1) others × (1 ≤ room) × HaveStmts m ns room others
-first_line {m} {n} {ns} {room} {others} have = by have.stmts have.stand have.good have.light have.few have.apart
-  where
-    by : (ss : Stmts) → StmtsAt ss m (n ∷ ns) → AreStmts ss → weights ss ≤ 2 ^ 24 → stmt_nodes ss ≤ room
-        → AreAllApart (stmts_blocks ss m (n ∷ ns)) others → HasStmt m n (room - 1) others × (1 ≤ room) × HaveStmts m ns room others
-    by NoStmts at good light few apart = absurd at
-    by (Then s rest) at good light few apart =
-        let each = (all_of_both (stmt_blocks s m n) (stmts_blocks rest m ns) others).0 apart in (
-          record { stmt = s; stands = at.0; good = good.0; light = omega (arith, light); few = omega (arith, few); apart = each.0 },
-          omega (arith, few),
-          record { stmts = rest; stand = at.1; good = good.1; light = omega (arith, light); few = omega (arith, few); apart = each.1 },
-        )
-
+-- each one has room, of which it takes one itself
 pub line_within : {m : Memory} {ns : List Node} {room : ℕ} {others : List Block} (i : ℕ) (n : Node) → HaveStmts m ns room others
     → slice_get ns i ≡ Some n → HasStmt m n (room - 1) others × (1 ≤ room)
-line_within {m} {ns} {room} {others} i n have is =
-    let first = first_line (from (λ (l : List Node). HaveStmts m l room others) (λ n ns have. (first_line have).2) i n ns is have) in
-    (first.0, first.1)
+line_within {m} {ns} {room} {others} i n have = by have.stmts ns i have.stand have.good have.light have.few have.apart
+  where
+    by : (ss : Stmts) (ns : List Node) (i : ℕ) → StmtsAt ss m ns → AreStmts ss → weights ss ≤ 2 ^ 24 → stmt_nodes ss ≤ room
+        → AreAllApart (stmts_blocks ss m ns) others → slice_get ns i ≡ Some n → HasStmt m n (room - 1) others × (1 ≤ room)
+    by NoStmts [] i at good light few apart is = absurd (cc)
+    by (Then s rest) (k ∷ ns) zero at good light few apart is = subst (λ (k : Node). HasStmt m k (room - 1) others × (1 ≤ room))
+        (some_node k n is) (
+          record {
+            stmt = s;
+            stands = at.0;
+            good = good.0;
+            light = omega (arith, light);
+            few = omega (arith, few);
+            apart = ((all_of_both (stmt_blocks s m k) (stmts_blocks rest m ns) others).0 apart).0;
+          },
+          omega (arith, few),
+        )
+    by (Then s rest) (k ∷ ns) (suc i) at good light few apart is = by rest ns i at.1 good.1 (omega (arith, light)) (omega (arith, few))
+        ((all_of_both (stmt_blocks s m k) (stmts_blocks rest m ns) others).0 apart).1 is
+    by _ _ i at good light few apart is = absurd at
 
 -- A node stands for one statement at most.
 one_stmt : (s t : Stmt) (m : Memory) (n : Node) → StmtAt s m n → StmtAt t m n → s ≡ t
@@ -73,9 +75,6 @@ let_name {m} {n} has is =
     let s = line_seen kind.Let m n is has.stmt has.stands in
     (s.1, name_text (text_bytes m n.text) (subst IsStmt s.3 has.good).0, omega (arith, ap weight s.3, has.light))
 
-pub let_weight : (s : Stmt) (m : Memory) (n : Node) → StmtAt s m n → n.kind ≡ kind.Let → 1 + length (text_bytes m n.text) ≡ weight s
-let_weight s m n at is = sym (ap weight (line_seen kind.Let m n is s at).3)
-
 pub let_finds : (old new : Memory) (k l : Known) (first mid found : List Finding) (result : Result (Unit {0}) AllocError) (s : Stmt)
     (n : Node) → StmtAt s old n → n.kind ≡ kind.Let
     → ((sets : List Names) → Knows old k sets → mid ≡ first ++ undefined sets (stmt_names s))
@@ -84,12 +83,8 @@ unfolding walk_stmt
 let_finds old new k l first mid found (Err e) s n at is uses finds sets knows = tt
 let_finds old new k l first mid found (Ok x) s n at is uses finds sets knows =
     let one = finds sets knows in
-    let name = text_bytes old n.text in
-    let used = undefined sets (stmt_names s) in
-    let walks : walk_stmt s sets ≡ found_first used (defined name sets) = rw (line_seen kind.Let old n is s at).3 refl in
-    let all = one.1 ∙ ap (λ (f : List Finding). f ++ (defined name sets).findings) (uses sets knows)
-    ∙ append_assoc first used (defined name sets).findings in
-    rw walks (one.0, all)
+    let line = (line_seen kind.Let old n is s at).3 in
+    rw line (one.0, rw (one.1, rw line at (uses sets knows)) (append_assoc first _ _))
 
 -- ---- Statements that show
 
@@ -146,7 +141,8 @@ module _ {old new : Memory} {k l : Known} (moves : Moves old new k l) where
 
     stmts_still : StmtsAt has.have.stmts new ns × AreAllApart (stmts_blocks has.have.stmts new ns) (all_blocks new l)
     stmts_still = let have = has.have in
-        still moves (λ m. StmtsAt have.stmts m ns) (λ m. stmts_blocks have.stmts m ns) (stmts_readable have.stmts old ns have.stand) have.apart
+        still moves (λ m. StmtsAt have.stmts m ns) (λ m. stmts_blocks have.stmts m ns) (stmts_readable have.stmts old ns have.stand)
+        have.apart
         (λ agree readable. (stmts_again have.stmts old new ns have.stand agree readable, all_blocks_same have.stmts old new ns agree))
 
     pub same_list : vec_list node_item new v ≡ vec_list node_item old v

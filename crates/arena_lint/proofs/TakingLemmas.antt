@@ -1,6 +1,6 @@
 -- What a definition takes, and what the beginning and the end of a block do.
-use Rattle.std.proofs.Common.{◌≡◌, ℕ, ◌+◌, ◌*◌, ◌≤◌, List, [], ◌∷◌, ◌++◌, length, length-append, refl, ap, ◌∙◌, arith, true, false, Bool, Ok, Err, Some, None}
-use Rattle.std.specs.Prelude.{Result, IfOk, OnOk, map, is_some, if◌then◌else◌}
+use Rattle.std.proofs.Common.{◌≡◌, ℕ, ◌+◌, ◌*◌, ◌≤◌, List, [], ◌∷◌, ◌++◌, length, length-append, ap, ◌∙◌, arith, true, false, Bool, Ok, Err, Some, None}
+use Rattle.std.specs.Prelude.{Result, map, if◌then◌else◌}
 use Rattle.std.proofs.lemmas.List.Sums.{sum_by-cons}
 use Rattle.arena_chunks.specs.Source.{View}
 use Rattle.arena_chunks.specs.Frame.{Frame}
@@ -8,7 +8,7 @@ use Rattle.arena_items.specs.Costs.{Costs}
 use Rattle.arena_items.specs.declared.room.AllocError.{AllocError}
 use Rattle.arena_items.specs.declared.room.AllocError.TheVariants.{CapacityOverflow}
 use Rattle.arena_items.proofs.Layers.{costs_nothing}
-use Rattle.arena_symbols.specs.Interner.{number_of, with_text, most_texts}
+use Rattle.arena_symbols.specs.Interner.{with_text, most_texts}
 use Rattle.arena_symbols.specs.Interning.{Interns}
 use Rattle.arena_symbols.specs.Named.{AreNames}
 use Rattle.arena_symbols.specs.Names.{names_in}
@@ -60,7 +60,7 @@ pub unnamed_takes : {old mid : View} {k : Known} {t : Symbols} {name : List ℕ}
     → Interns old mid k.symbols t name (Err e) → Takes (1 + length name) old mid k (record k { symbols = t }) (Some e)
 unnamed_takes {k = k} interns = record {
   numbers = λ never. absurd (cc);
-  spends = λ few. spends_then (spends_nothing {bytes = 0} tt) (name_spends k few interns) (omega arith);
+  spends = λ few. spends_then (spends_nothing {bytes = 0} tt) (name_spends k few interns) (omega arith) (omega arith);
 }
 
 pub define_takes : {old mid new : View} {k : Known} {t : Symbols} {d : Scopes} {name : List ℕ} {id : ℕ} {result : Result Bool AllocError}
@@ -69,22 +69,19 @@ pub define_takes : {old mid new : View} {k : Known} {t : Symbols} {d : Scopes} {
 define_takes {old} {mid} {new} {k} {t} {d} {name} {id} {result} held interns puts =
     let one = texts_moved held interns in
     let names = (scopes_moved one.0.held d puts.held puts.frame).1 ∙ interns.names in record {
-      numbers = λ is. omega (
-        arith,
-        ap (λ (l : List (List ℕ)). length l) names,
-        text_more (names_in old.memory k.symbols) name,
-        more result puts.scopes is,
-        ap size one.1,
-      );
-      spends = λ few. spends_then (name_spends k few interns) (spends_costs {many = 512} puts.pays.costs (frame_kind puts.frame)
-          (λ is. omega (arith, (puts.overflows.0 is).1, ap pair_count one.1, few)) (omega arith) (omega arith)) (omega arith);
+      numbers = λ is.
+          let more : size (scopes_in entry_item new.memory d) ≤ size (scopes_in entry_item mid.memory k.scopes) + 1
+          = grind (arith, puts.scopes, is, size_push) in omega (
+            arith,
+            ap (λ (l : List (List ℕ)). length l) names,
+            text_more (names_in old.memory k.symbols) name,
+            more,
+            ap size one.1,
+          );
+      spends = λ few. spends_then {after = credit (record { symbols = t; scopes = d })} (name_spends k few interns)
+          (spends_costs {many = 512} puts.pays.costs (frame_kind puts.frame)
+          (λ is. omega (arith, (puts.overflows.0 is).1, ap pair_count one.1, few)) (omega arith) (omega arith)) (omega arith) (omega arith);
     }
-  where
-    more : (r : Result Bool AllocError) → IfOk r (λ b. scopes_in entry_item new.memory d
-        ≡ (if b then with_pair (scopes_in entry_item mid.memory k.scopes) id 0 else scopes_in entry_item mid.memory k.scopes))
-        → error_of r ≡ None → size (scopes_in entry_item new.memory d) ≤ size (scopes_in entry_item mid.memory k.scopes) + 1
-    more (Ok b) is none = rw is (size_push b (scopes_in entry_item mid.memory k.scopes) id 0)
-    more (Err e) is none = absurd (cc)
 
 -- ---- Blocks
 
@@ -97,28 +94,17 @@ scopes_take : {X : Type 0} {weight few : ℕ} {old new : View} {k : Known} {d : 
     → Takes weight old new k (record k { scopes = d }) (error_of result)
 scopes_take {d = d} held there frame costs less overflows more = record {
   numbers = λ is. omega (arith, ap (λ (l : List (List ℕ)). length l) (scopes_moved held d there frame).1, more is);
-  spends = λ fit. spends_costs costs (frame_kind frame) (λ is. omega (arith, overflows is, fit)) (omega (arith, less)) (omega (arith, less));
+  spends = λ fit.
+      spends_costs costs (frame_kind frame) (λ is. omega (arith, overflows is, fit)) (omega (arith, less)) (omega (arith, less));
 }
 
 pub begun_takes : {old new : View} {k : Known} {d : Scopes} {result : Result (Unit {0}) AllocError} → AreNames old.memory k
     → Enters entry_item old new k.scopes d result → Takes 1 old new k (record k { scopes = d }) (error_of result)
 begun_takes {old} {new} {k} {d} {result} held enters = scopes_take held enters.held enters.frame enters.pays.costs (omega arith)
-    enters.overflows.0 (λ is. omega (
-      arith,
-      ap size (begun result enters.scopes is),
-      size_cons [] (scopes_in entry_item old.memory k.scopes),
-    ))
-  where
-    begun : (r : Result (Unit {0}) AllocError) {P : Type 0} → OnOk r P → error_of r ≡ None → P
-    begun (Ok x) is none = is
-    begun (Err e) is none = absurd (cc)
+    enters.overflows.0 (λ is. grind (arith, enters.scopes, is, size_cons [] (scopes_in entry_item old.memory k.scopes)))
 
 pub ended_takes : {old new : View} {k : Known} {d : Scopes} {result : Bool} → AreNames old.memory k
     → Leaves entry_item old new k.scopes d result → Takes 0 old new k (record k { scopes = d }) None
 ended_takes {old} {new} {k} {d} {result} held leaves = scopes_take {result = Ok tt} held leaves.held leaves.frame
     (costs_nothing {X = Unit {0}} far_up 0 (table_credit k.scopes) (table_credit d) old new tt leaves.places (omega (arith, leaves.credit)))
-    (omega arith) (λ never. absurd (cc)) (λ is. omega (arith, fewer result refl))
-  where
-    fewer : (b : Bool) → result ≡ b → size (scopes_in entry_item new.memory d) ≤ size (scopes_in entry_item old.memory k.scopes)
-    fewer true is = rw (leaves.left is) (size_outer (scopes_in entry_item old.memory k.scopes))
-    fewer false is = rw (leaves.alone is).1 (rw (leaves.alone is).2 (omega arith))
+    (omega arith) (λ never. absurd (cc)) (λ is. grind (arith, leaves.left, leaves.alone, size_outer))

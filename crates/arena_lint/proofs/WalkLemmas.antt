@@ -1,6 +1,6 @@
 -- Walks over statements.
-use Rattle.std.proofs.Common.{◌≡◌, ℕ, ◌+◌, ◌≤◌, List, [], ◌∷◌, ◌++◌, drop, refl, sym, ap, subst, ◌∙◌, None, Some, Ok, Option, arith, append-nil}
-use Rattle.std.specs.Prelude.{Result, slice_get}
+use Rattle.std.proofs.Common.{◌≡◌, ℕ, ◌+◌, List, [], ◌∷◌, ◌++◌, drop, refl, sym, ap, subst, ◌∙◌, None, Some, Ok, Option, arith, append-nil}
+use Rattle.std.specs.Prelude.{slice_get}
 use Rattle.std.proofs.lemmas.List.{append_assoc, drop_all}
 use Rattle.arena_chunks.specs.Memory.{Memory}
 use Rattle.arena_chunks.specs.Source.{View}
@@ -15,18 +15,17 @@ use Rattle.arena_symbols.proofs.Layers.{moves_then}
 use Rattle.tree_rules.specs.Trees.{Stmt, Stmts, NoStmts, Then}
 use Rattle.tree_rules.specs.Trees as tree
 use Rattle.tree_rules.specs.Weights.{weight, weights}
-use Rattle.tree_rules.specs.Report.{Names, Walk, found, found_first, walk_stmt, walk}
+use Rattle.tree_rules.specs.Report.{Names, Walk, walk_stmt, walk}
 use Rattle.tree_rules.specs.declared.finding.Finding.{Finding}
 use Rattle.tree_rules.proofs.FindingLemmas.{walk_outer}
-use Rattle.arena_tree.specs.declared.node.Kind.TheVariants as kind
 use Rattle.arena_tree.specs.declared.node.Node.{Node}
 use Rattle.arena_tree.specs.TreesAt.{node_item}
 use Rattle.arena_tree.specs.StmtsAt.{StmtAt, StmtsAt}
-use Rattle.arena_tree.proofs.Layers.{line_seen, list_len}
+use Rattle.arena_tree.proofs.Layers.{list_len}
 use Rattle.arena_lint.specs.Knowing.{Knows}
 use Rattle.arena_lint.specs.Rooms.{ListHasStmts}
 use Rattle.arena_lint.specs.Spending.{Takes}
-use Rattle.arena_lint.specs.Steps.{Finds, Halfway, Behind, Walking, IsNotEmpty}
+use Rattle.arena_lint.specs.Steps.{Finds, Halfway, Walking, IsNotEmpty}
 use Rattle.arena_lint.proofs.SpendingLemmas.{takes_then, takes_more, takes_wanting}
 use Rattle.arena_lint.proofs.StatementLemmas.{line_within, stands_still, same_list}
 
@@ -47,13 +46,6 @@ block_finds old mid far new k l j i first last s ss is enters finds leaves sets 
     let outer = walk_outer ss [] sets in
     let ended : Knows new i sets = leaves outer.names sets (subst (Knows far j) outer.known body.0) begun.1 in
     subst (λ (t : Stmt). Knows new i (walk_stmt t sets).known × (last ≡ first ++ (walk_stmt t sets).findings)) (sym is) (ended, body.1)
-
-pub block_weight : (s : Stmt) (m : Memory) (n : Node) → StmtAt s m n → n.kind ≡ kind.Block → 1 ≤ weight s
-block_weight s m n at is = omega (arith, ap weight (line_seen kind.Block m n is s at).2)
-
-pub body_takes : {old mid new : View} {k l j : Known} {error : Option AllocError} {s : Stmt} {ss : Stmts} → s ≡ tree.Block ss
-    → Takes 1 old mid k l None → Takes (weights ss) mid new l j error → Takes (weight s) old new k j error
-body_takes is first second = rw is (takes_then first second)
 
 -- ---- All statements
 
@@ -97,17 +89,14 @@ halfway_next {before = before} {rest = rest} s is finds half =
     let more = walk rest mid.known in record {
       between = mid.known;
       knows = one.0;
-      all = ap (λ (f : List Finding). found f more.known)
-          (ap (λ (f : List Finding). f ++ more.findings) one.1 ∙ append_assoc before mid.findings more.findings)
-          ∙ ap (λ (l : Stmts). found_first before (walk l half.between)) (sym is) ∙ half.all;
+      all = rw (one.1, append_assoc before mid.findings more.findings) (rw is at half.all);
     }
 
 halfway_end : {now : Memory} {l : Known} {first before : List Finding} {ss left : Stmts} {sets : List Names} → left ≡ NoStmts
     → Halfway now l first before ss left sets → Knows now l (walk ss sets).known × (before ≡ first ++ (walk ss sets).findings)
 unfolding walk
 halfway_end {now} {l} {first} {before} {ss} {left} {sets} none half =
-    let all : found_first before (walk NoStmts half.between) ≡ found_first first (walk ss sets)
-    = ap (λ (left : Stmts). found_first before (walk left half.between)) (sym none) ∙ half.all in (
+    let all = rw none at half.all in (
       subst (Knows now l) (ap (λ (w : Walk). w.known) all) half.knows,
       sym (append-nil before) ∙ ap (λ (w : Walk). w.findings) all,
     )
@@ -126,7 +115,8 @@ module _ {old now : View} {k l : Known} {first before : List Finding} (v : Vec N
     line : (ss : Stmts) (at : StmtsAt ss old.memory (vec_list node_item old.memory v))
         → IsFirst old.memory n (drop (i + 1) (vec_list node_item old.memory v)) (walking.behind ss at).left
     line ss at = let left = (walking.behind ss at).left in
-        first_left left (subst (StmtsAt left old.memory) (drop_item (vec_list node_item old.memory v) i n there) (walking.behind ss at).stand)
+        first_left left
+        (subst (StmtsAt left old.memory) (drop_item (vec_list node_item old.memory v) i n there) (walking.behind ss at).stand)
 
     module _ {new : View} {j : Known} where
       -- What is behind, and one statement more, are among all of them.

@@ -22,6 +22,7 @@ use std::str;
 pub(crate) type Known = arena_symbols::Names;
 
 // Whether a name is defined.
+#[tactic(auto, using(crate::proofs::KnowLemmas::known_has))]
 fn is_defined<C: ChunkSource>(a: &Allocator<C>, known: &Known, name: &str) -> bool
     requires { AreNames a.now.memory known.now }
     ensures { (sets : List Names) → Knows a.now.memory known.now sets → result ≡ have_name sets name.now }

@@ -1,5 +1,5 @@
 -- What a call on other blocks leaves of maps, of vectors and of texts.
-use Rattle.std.proofs.Common.{◌≡◌, ℕ, List, [], ◌∷◌, map, sym, ap, subst, refl}
+use Rattle.std.proofs.Common.{◌≡◌, ℕ, List, [], ◌∷◌, map, sym, ap, refl}
 use Rattle.arena_chunks.specs.Memory.{Memory}
 use Rattle.arena_chunks.specs.Frame.{Frame, IsApart, AreAllApart}
 use Rattle.arena_chunks.specs.declared.block.Block.{Block}
@@ -12,7 +12,6 @@ use Rattle.arena_items.specs.declared.item.Item.{Ghosts}
 use Rattle.arena_items.proofs.Layers.{stays_readable, stays_agree, stays_apart}
 use Rattle.arena_vec.specs.Vecs.{IsVecIn, vec_list}
 use Rattle.arena_vec.specs.declared.vec.Vec.{Vec}
-use Rattle.arena_hash.specs.Contents.{Kind}
 use Rattle.arena_hash.specs.Maps.{IsMapIn, StaysMap, pairs_in, footprint}
 use Rattle.arena_hash.specs.declared.hasher.FxHasher.{FxHasher}
 use Rattle.arena_hash.specs.declared.map.HashMap.{HashMap}
@@ -43,13 +42,9 @@ plain_apart memory m others apart = (apart, go (pairs_in id_kind memory m))
     go (p ∷ ps) = (apart_empty 1 0 others refl, go ps)
 
 module _ {old new : Memory} {before after : List Block} (frame : Frame old new before after) where
-  pub map_beside : {K V S : Type 0} (k : Kind K V S) (m : HashMap K V S) → IsMapIn k old m → AreAllApart (footprint k old m) before
-      → StaysMap k old new after m
-  map_beside k m held apart = map_stays k m frame held apart
-
   pub plain_beside : (m : HashMap ℕ ℕ FxHasher) → IsMapIn id_kind old m → IsApart m.table.block.addr m.table.block.size before
       → StaysMap id_kind old new after m
-  plain_beside m held apart = map_beside id_kind m held (plain_apart old m before apart)
+  plain_beside m held apart = map_stays id_kind m frame held (plain_apart old m before apart)
 
   pub vec_beside : {T : Type 0} (item : Ghosts T) (v : Vec T) → IsVecIn item old v → IsApart v.raw.block.addr v.raw.block.size before
       → VecStays old new after item v

@@ -1,13 +1,13 @@
 -- What `intern` does, in each of its ways.
-use Rattle.std.proofs.Common.{◌≡◌, ℕ, ◌+◌, ◌^◌, ◌<◌, ◌≤◌, List, [], ◌∷◌, ◌++◌, length, refl, sym, ap, subst, ◌∙◌, arith, Some, None, Ok, Err, append-nil}
+use Rattle.std.proofs.Common.{◌≡◌, ℕ, ◌+◌, ◌^◌, ◌<◌, ◌≤◌, List, [], ◌∷◌, ◌++◌, length, refl, sym, ap, ◌∙◌, arith, Some, None, Ok, Err, append-nil}
 use Rattle.std.specs.Prelude.{Result, ◌↔◌}
-use Rattle.std.proofs.lemmas.Option.{none-some}
 use Rattle.std.proofs.lemmas.Slice.Eq.{bytes_eq-Decides}
 use Rattle.arena_chunks.specs.Memory.{Memory}
 use Rattle.arena_chunks.specs.Source.{View}
 use Rattle.arena_chunks.specs.Answers.Answer.{Placed}
 use Rattle.arena_chunks.specs.BlockCalls.{PlacesBlock}
 use Rattle.arena_chunks.specs.Frame.{Frame}
+use Rattle.arena_chunks.specs.declared.block.Block.{Block}
 use Rattle.arena_chunks.specs.declared.allocator.text.Str.{Str}
 use Rattle.arena_chunks.proofs.Layers.{blocks_turned, all_from_none, frame_reflexive, frame_then, frame_weaken, frame_beside, frame_behind}
 use Rattle.arena_items.specs.Room.{RoomAnswer}
@@ -19,7 +19,7 @@ use Rattle.arena_hash.specs.declared.hasher.FxHasher.{FxHasher}
 use Rattle.arena_hash.specs.declared.map.HashMap.{HashMap}
 use Rattle.arena_vec.specs.declared.vec.Vec.{Vec}
 use Rattle.arena_symbols.specs.Interner.{number_of, most_texts}
-use Rattle.arena_symbols.specs.Interning.{Interns}
+use Rattle.arena_symbols.specs.Interning.{KeepsTexts, Interns}
 use Rattle.arena_symbols.specs.Listing.{CanList, Lists}
 use Rattle.arena_symbols.specs.Names.{name_kind, blocks_of, contents_of, texts_in, names_in, own_blocks, names_footprint, names_credit, IsInternerIn}
 use Rattle.arena_symbols.specs.Paying.{Pays, far_up}
@@ -37,17 +37,11 @@ module _ (old : View) (s : Symbols) (text : List ℕ) (held : IsInternerIn old.m
 
   -- The text is there.
   pub interns_known : (n : ℕ) → number_of names text ≡ Some n → Interns old old s s text (Ok n)
-  interns_known n is = record {
-    held = held;
-    names = rw is refl;
-    kept = tt;
-    number = is;
-    overflows = (λ no. absurd (cc), λ both. absurd (none-some n (sym both.0 ∙ is)));
-    known = λ some. (refl, refl);
-    fresh = tt;
-    pays = pays_nothing far_up (1024 + length text) (names_credit s) old (Ok n) (λ k no. cc);
-    texts = ([], record { blocks = sym (append-nil (blocks_of list)); frame = frame_reflexive old.memory (own_blocks s) });
-  }
+  interns_known n is =
+      let pays = pays_nothing {X = ℕ} far_up (1024 + length text) (names_credit s) old (Ok n) (λ k no. cc) in
+      let texts : (more : List Block) × KeepsTexts old old s s more =
+      ([], record { blocks = sym (append-nil (blocks_of list)); frame = frame_reflexive _ _ }) in
+      grind (arith, is, pays, texts)
 
   -- Refused, it names the texts that it named.
   interns_not : (new : View) (u : Symbols) (e : AllocError) → number_of names text ≡ None → IsInternerIn new.memory u
@@ -55,30 +49,19 @@ module _ (old : View) (s : Symbols) (text : List ℕ) (held : IsInternerIn old.m
       → ◌≡◌ {A = Result ℕ AllocError} (Err e) (Err CapacityOverflow) ↔ (most_texts ≤ length names)
       → Pays {X = ℕ} far_up (1024 + length text) (names_credit s) (names_credit u) old new (Err e)
       → Frame old.memory new.memory (own_blocks s) (own_blocks u) → Interns old new s u text (Err e)
-  interns_not new u e none still same kept full pays frame = record {
-    held = still;
-    names = tt;
-    kept = kept;
-    number = tt;
-    overflows = (λ is. (none, full.0 is), λ both. full.1 both.1);
-    known = λ some. absurd (some none);
-    fresh = none;
-    pays = pays;
-    texts = ([], record { blocks = ap blocks_of same ∙ sym (append-nil (blocks_of list)); frame = frame });
-  }
+  interns_not new u e none still same kept full pays frame =
+      let texts : (more : List Block) × KeepsTexts old new s u more =
+      ([], record { blocks = ap blocks_of same ∙ sym (append-nil (blocks_of list)); frame = frame }) in
+      grind (arith, none, still, kept, full, pays, texts)
 
   -- There are as many as there may be.
   pub interns_full : number_of names text ≡ None → most_texts ≤ s.texts.raw.len → Interns old old s s text (Err CapacityOverflow)
-  interns_full none full = interns_not old s CapacityOverflow none held refl refl
-      (λ is. omega (arith, full, length_names old.memory s), λ many. refl)
-      (pays_nothing far_up (1024 + length text) (names_credit s) old (Err CapacityOverflow) (λ k no. cc))
-      (frame_reflexive old.memory (own_blocks s))
+  interns_full none full =
+      let pays = pays_nothing {X = ℕ} far_up (1024 + length text) (names_credit s) old (Err CapacityOverflow) (λ k no. cc) in
+      interns_not old s CapacityOverflow none held refl refl (grind (arith, full, length_names old.memory s)) pays (frame_reflexive _ _)
 
   module _ (none : number_of names text ≡ None) (few : s.texts.raw.len < most_texts) (one : old.memory.state.min_align ≡ 1)
       (short : length text < 2 ^ 32) where
-    fits_more : {P : Type 0} → (P → ⊥) → P ↔ (most_texts ≤ length names)
-    fits_more never = (λ is. absurd (never is), λ many. absurd (omega (arith, many, few, length_names old.memory s)))
-
     pays_place : (mid : View) (result : Result Str AllocError)
         → RoomAnswer (λ t. t.block) result (PlacesBlock old mid (length text) 1)
         → Pays far_up (length text) (names_credit s) (names_credit s) old mid result
@@ -91,10 +74,9 @@ module _ (old : View) (s : Symbols) (text : List ℕ) (held : IsInternerIn old.m
         → Interns old new s s text (Err e)
     interns_unplaced new e places =
         let same : new.memory ≡ old.memory = grind (arith, places) in
-        interns_not new s e none (rw same held) (ap (λ (m : Memory). texts_in m s) same) (ap (λ (m : Memory). names_in m s) same)
-        (fits_more (λ is. grind (arith, is, places)))
+        interns_not new s e none (rw same held) (cc) (cc) (grind (arith, places, few, length_names old.memory s))
         (pays_as 0 (λ d is. cc) (omega arith) (omega arith) (omega arith) (omega arith) (pays_place new (Err e) places))
-        (subst (λ (m : Memory). Frame old.memory m (own_blocks s) (own_blocks s)) (sym same) (frame_reflexive old.memory (own_blocks s)))
+        (rw same (frame_reflexive _ _))
 
     module _ (mid : View) (t : Str) (places : PlacesBlock old mid (length text) 1 (Placed t.block))
         (bytes : bytes_of mid.memory t.block ≡ text) where
@@ -103,14 +85,10 @@ module _ (old : View) (s : Symbols) (text : List ℕ) (held : IsInternerIn old.m
       stays = interner_beside s places.1.outcome.frame held (all_from_none (names_footprint old.memory s))
 
       fresh : IsNewText mid.memory s t
-      fresh = record {
-        readable = places.1.outcome.of_layout.readable;
-        apart = (
-          blocks_turned s.numbers.table.block t.block stays.apart.0.0,
-          (blocks_turned s.texts.raw.block t.block stays.apart.1.0.0, tt),
-        );
-        new = ap (λ (l : List (List ℕ)). number_of l (bytes_of mid.memory t.block)) stays.names ∙ ap (number_of names) bytes ∙ none;
-      }
+      fresh =
+          let numbers = blocks_turned s.numbers.table.block t.block stays.apart.0.0 in
+          let list = blocks_turned s.texts.raw.block t.block stays.apart.1.0.0 in
+          grind (arith, places.1.outcome.of_layout.readable, numbers, list, stays.names, bytes, none)
 
       pub can_list : CanList name_kind.keys name_kind mid.memory s.numbers s.texts t
       can_list = can_append stays.held few fresh
@@ -128,10 +106,8 @@ module _ (old : View) (s : Symbols) (text : List ℕ) (held : IsInternerIn old.m
         pays_all : (result : Result ℕ AllocError) → Lists name_kind.keys name_kind mid new s.numbers s.texts t t n v result
             → Pays far_up (1024 + length text) (names_credit s) (names_credit now) old new result
         pays_all result lists =
-            let both : Pays far_up (length text + 839) (names_credit s) (names_credit now) old new result =
-            pays_then t places.1.outcome.frame.is_growing places.1.outcome.frame.allocated lists.pays.refused (pays_place mid (Ok t) places)
-            lists.pays in
-            pays_more 0 (omega arith) (omega arith) (omega arith) (omega arith) both
+            pays_more {few = length text + 839} 0 (omega arith) (omega arith) (omega arith) (omega arith) (pays_then t
+            places.1.outcome.frame.is_growing places.1.outcome.frame.allocated lists.pays.refused (pays_place mid (Ok t) places) lists.pays)
 
         -- and then it is put at the end, or not.
         pub interns_placed : (result : Result ℕ AllocError)
@@ -142,27 +118,17 @@ module _ (old : View) (s : Symbols) (text : List ℕ) (held : IsInternerIn old.m
             lists in
             let named : names_in new.memory now ≡ names ++ text ∷ [] = ap (contents_of new.memory) lists.list_is ∙ are.1
             ∙ (λ i. stays.names i ++ bytes i ∷ []) in
-            record {
-              held = are.0;
-              names = named ∙ (rw none refl);
-              kept = tt;
-              number = ap (λ (l : List (List ℕ)). number_of l text) named ∙ number_push names text text none
-                  ∙ rw ((bytes_eq-Decides text text).1 refl) (ap Some (length_names old.memory s ∙ sym lists.place));
-              overflows = (λ no. absurd (cc), λ both. absurd (omega (arith, both.1, few, length_names old.memory s)));
-              known = λ some. absurd (some none);
-              fresh = tt;
-              pays = pays_all (Ok at) lists;
-              texts = (
-                t.block ∷ [],
-                record {
-                  blocks = ap blocks_of (lists.list_is ∙ ap (λ (l : List Str). l ++ t ∷ []) stays.texts) ∙ blocks_push list t;
-                  frame = framed lists.frame;
-                },
-              );
-            }
+            let number = number_push names text text none in
+            let blocks = ap blocks_of (lists.list_is ∙ ap (λ (l : List Str). l ++ t ∷ []) stays.texts) ∙ blocks_push list t in
+            let texts : (more : List Block) × KeepsTexts old new s now more =
+            (t.block ∷ [], record { blocks = blocks; frame = framed lists.frame }) in
+            let same = (bytes_eq-Decides text text).1 refl in
+            let pays = pays_all (Ok at) lists in
+            grind (arith, are.0, named, none, number, same, lists.place, few, length_names old.memory s, pays, texts)
         interns_placed (Err e) texts lists =
             let are = not_appended mid new n v stays.held fresh lists in
             interns_not new now e none are.0 (lists.kept.1 ∙ stays.texts)
-            (ap (contents_of new.memory) lists.kept.1 ∙ are.1 ∙ stays.names) (fits_more lists.fits) (pays_all (Err e) lists)
+            (ap (contents_of new.memory) lists.kept.1 ∙ are.1 ∙ stays.names)
+            (grind (arith, lists.fits, few, length_names old.memory s)) (pays_all (Err e) lists)
             (frame_weaken _ _ (own_blocks s) (own_blocks s) (own_blocks now ++ t.block ∷ []) (own_blocks now)
             (λ addr n some apart. apart) (λ addr n some apart after. (after.0, (after.1.0, tt))) (framed lists.frame))

@@ -2,8 +2,7 @@
 use Rattle.std.proofs.Common.{◌≡◌, ℕ, ◌+◌, ◌<◌, ◌⊎◌, inl, inr, List, [], ◌∷◌, ◌++◌, length, length-append, refl, sym, ap, subst, ◌∙◌, arith, Some, None, Option, Ok, Err, Bool, IsTrue, cond}
 use Rattle.std.specs.Prelude.{bytes_eq, slice_get, if◌then◌else◌, ◌↔◌}
 use Rattle.std.specs.List.{Contains}
-use Rattle.std.proofs.lemmas.Bool.{cases_Bool, cond-true, cond-false}
-use Rattle.std.proofs.lemmas.Option.{same_Some, slice_get-map, slice_get_within, get_or_from_slice_get}
+use Rattle.std.proofs.lemmas.Option.{slice_get-map, slice_get_within, get_or_from_slice_get}
 use Rattle.std.proofs.lemmas.List.{length-map, map-append}
 use Rattle.std.proofs.lemmas.List.Elements.{Contains-append_left, Contains-append_right}
 use Rattle.arena_chunks.specs.Memory.{Memory, is_readable}
@@ -11,24 +10,23 @@ use Rattle.arena_chunks.specs.Source.{View}
 use Rattle.arena_chunks.specs.Frame.{Frame, IsApart, AreAllApart}
 use Rattle.arena_chunks.specs.declared.block.Block.{Block}
 use Rattle.arena_chunks.specs.declared.allocator.text.Str.{Str}
-use Rattle.arena_chunks.proofs.Layers.{all_from_both, all_from_none, all_of_both, all_among, all_each, frame_keeps_all}
+use Rattle.arena_chunks.proofs.Layers.{all_from_both, all_of_both, all_among, all_each, frame_keeps_all}
 use Rattle.arena_items.specs.Footprint.{AreReadable}
 use Rattle.arena_items.specs.FootprintLaws.{readable_both}
 use Rattle.arena_items.specs.Values.{bytes_of}
 use Rattle.arena_items.proofs.Layers.{length-elements, stays_readable, stays_agree, stays_apart}
 use Rattle.arena_items.specs.declared.room.AllocError.{AllocError}
-use Rattle.arena_hash.specs.Finite.{Finite, key_or, value_of, with_pair}
-use Rattle.arena_hash.specs.Maps.{IsLookIn, map_in, texts_in as map_texts, footprint as map_footprint}
+use Rattle.arena_hash.specs.Finite.{Finite, value_of, with_pair}
+use Rattle.arena_hash.specs.Maps.{map_in, texts_in as map_texts}
 use Rattle.arena_hash.specs.declared.hasher.FxHasher.{FxHasher}
 use Rattle.arena_hash.specs.declared.map.HashMap.{HashMap}
-use Rattle.arena_hash.specs.declared.map.Look.{Look}
 use Rattle.arena_vec.specs.declared.vec.Vec.{Vec}
 use Rattle.arena_symbols.specs.Interner.{number_of, most_texts}
 use Rattle.arena_symbols.specs.Listing.{CanList, Lists}
 use Rattle.arena_symbols.specs.NameLaws.{all_at, behind_same, interner_of, names_readable, names_same, texts_same, names_held_again}
 use Rattle.arena_symbols.specs.Names.{name_kind, blocks_of, contents_of, texts_in, names_in, own_blocks, names_footprint, IsInternerIn}
 use Rattle.arena_symbols.specs.declared.symbols.Symbols.{Symbols}
-use Rattle.arena_symbols.proofs.BesideLemmas.{TextsStay, map_beside, texts_beside}
+use Rattle.arena_symbols.proofs.BesideLemmas.{texts_beside}
 use Rattle.arena_symbols.proofs.NumberLemmas.{number_push, distinct_push}
 
 -- ---- Lists
@@ -52,14 +50,17 @@ text_readable m list n t readable there = all_at (λ (b : Block). IsTrue (is_rea
 pub length_names : (memory : Memory) (s : Symbols) → length (names_in memory s) ≡ s.texts.raw.len
 length_names memory s = simp length-map (length-elements _ _ _ _)
 
+-- for automatic proof
+pub ruleset text_laws = (length_names, name_at, text_readable)
+
 -- what its map tells of a text is its number
 pub number_is : {memory : Memory} {s : Symbols} {o : Option ℕ} (text : List ℕ) → IsInternerIn memory s
     → o ≡ value_of (map_in name_kind memory s.numbers text) → number_of (names_in memory s) text ≡ o
 number_is text held told = sym (told ∙ held.places text)
 
-pub value_put : {K V : Type 0} (here : Bool) (p : K × V) (found : Option (K × V))
-    → value_of (if here then Some p else found) ≡ (if here then Some p.1 else value_of found)
-value_put here p found = grind arith
+pub value_if : {K V : Type 0} (here : Bool) (one other : Option (K × V))
+    → value_of (if here then one else other) ≡ (if here then value_of one else value_of other)
+value_if here one other = grind arith
 
 -- ---- Beside a call on other blocks
 
@@ -76,20 +77,8 @@ interner_beside {old = old} {new = new} {before = before} {after = after} s fram
     let blocks = names_footprint old s in
     let stays = frame_keeps_all old new before after blocks frame (names_readable old s held) apart in
     let agree = stays_agree old new after blocks stays in
-    record {
-      held = names_held_again old new s agree held (stays_readable old new after blocks stays);
-      texts = sym (texts_same old new s agree);
-      names = sym (names_same old new s agree);
-      apart = stays_apart old new after blocks stays;
-    }
-
--- A search for a text ends where it did, once that is placed.
-pub look_placed : {old mid : Memory} {s : Symbols} {text : List ℕ} {t : Str} (look : Look) → IsInternerIn old s
-    → Frame old mid [] (t.block ∷ []) → bytes_of mid t.block ≡ text → IsLookIn name_kind old s.numbers text look
-    → IsLookIn name_kind mid s.numbers (bytes_of mid t.block) look
-look_placed {old = old} {mid = mid} {s = s} {text = text} look held frame bytes is =
-    subst (λ (q : List ℕ). IsLookIn name_kind mid s.numbers q look) (sym bytes)
-    ((map_beside frame name_kind s.numbers held.numbers (all_from_none (map_footprint name_kind old s.numbers))).looks text look is)
+    let again = names_held_again old new s agree held (stays_readable old new after blocks stays) in
+    grind (arith, again, texts_same old new s agree, names_same old new s agree, stays_apart old new after blocks stays)
 
 -- ---- A text at the end
 
@@ -104,47 +93,20 @@ pub can_append : {memory : Memory} {s : Symbols} {t : Str} → IsInternerIn memo
     → CanList name_kind.keys name_kind memory s.numbers s.texts t
 can_append {memory = memory} {s = s} held few fresh =
     let list = blocks_of (texts_in memory s) in
-    let apart = ((all_from_both list (s.numbers.table.block ∷ []) (s.texts.raw.block ∷ [])).0 held.texts_apart).1 in
-    record {
-      some = omega arith;
-      small = omega arith;
-      low = omega arith;
-      keys_small = omega arith;
-      map = held.numbers;
-      list = held.texts;
-      beside = (
-        (held.apart.0.0, tt),
-        all_each (map_texts name_kind memory s.numbers) (s.texts.raw.block ∷ [])
-            (λ b among. all_among list (s.texts.raw.block ∷ []) b apart (held.keys b among)),
-      );
-      readable = fresh.readable;
-      apart = fresh.apart;
-      few = omega (arith, few);
-      few_keys = omega (arith, held.count, few);
-    }
+    let own = s.texts.raw.block ∷ [] in
+    let apart = ((all_from_both list (s.numbers.table.block ∷ []) own).0 held.texts_apart).1 in
+    let keys = all_each (map_texts name_kind memory s.numbers) own (λ b among. all_among list own b apart (held.keys b among)) in
+    grind (arith, held.numbers, held.texts, held.apart, held.count, keys, fresh.readable, fresh.apart, few)
 
 -- A map's texts are those of the keys that stand in it.
 abbrev pub AreTexts : Memory → HashMap Str ℕ FxHasher → Type 0
 AreTexts memory m = (b : Block) → Contains (map_texts name_kind memory m) b
     ↔ ((q : List ℕ) × (p : Str × ℕ) × (map_in name_kind memory m q ≡ Some p) × (p.0.block ≡ b))
 
--- Where a pair was put under a new content, a text of the map was one before, or is that of the key.
-texts_more : (old new : Memory) (m w : HashMap Str ℕ FxHasher) (q : List ℕ) (key : Str) (n : ℕ) → map_in name_kind old m q ≡ None
-    → map_in name_kind new w ≡ with_pair (map_in name_kind old m) q key n → AreTexts old m → AreTexts new w
-    → (b : Block) → Contains (map_texts name_kind new w) b → Contains (map_texts name_kind old m) b ⊎ (b ≡ key.block)
-texts_more old new m w q key n none is before after b within =
-    let at = (after b).0 within in
-    let found : with_pair (map_in name_kind old m) q key n at.0 ≡ Some at.1 = ap (λ (f : Finite Str ℕ). f at.0) (sym is) ∙ at.2 in
-    elim (cases_Bool (bytes_eq at.0 q)) [
-      | inl t ↦
-          let put = same_Some (key_or (map_in name_kind old m q) key, n) at.1 (sym (cond-true _ _ _ t) ∙ found) in
-          inr (sym at.3 ∙ ap (λ (p : Str × ℕ). p.0.block) (sym put) ∙ ap (λ here. (key_or here key).block) none)
-      | inr t ↦ inl ((before b).1 (at.0, at.1, sym (cond-false _ _ _ t) ∙ found, at.3))
-    ]
-
--- a value stands where something does
-no_value : {K V : Type 0} (found : Option (K × V)) → value_of found ≡ None → found ≡ None
-no_value found none = grind (arith, none)
+-- Where a pair was put under a new content, a key of the map was one before, or is this text.
+key_before : (before : Finite Str ℕ) (q at : List ℕ) (key : Str) (n : ℕ) (p : Str × ℕ) → before q ≡ None
+    → with_pair before q key n at ≡ Some p → (before at ≡ Some p) ⊎ (key.block ≡ p.0.block)
+key_before before q at key n p none is = grind (arith, none, is)
 
 module _ (old new : View) {s : Symbols} {t : Str} (n : HashMap Str ℕ FxHasher) (v : Vec Str) (held : IsInternerIn old.memory s)
     (fresh : IsNewText old.memory s t) where
@@ -163,31 +125,29 @@ module _ (old new : View) {s : Symbols} {t : Str} (n : HashMap Str ℕ FxHasher)
       → IsInternerIn new.memory (record { numbers = n; texts = v })
       × (contents_of new.memory (list ++ t ∷ []) ≡ names ++ text ∷ [])
   appended had has_now lists =
-      let own : List Block = n.table.block ∷ v.raw.block ∷ [] in
       let blocks = blocks_push list t in
-      let stay : TextsStay old.memory new.memory own (list ++ t ∷ []) = texts_beside lists.frame (list ++ t ∷ [])
+      let stay = texts_beside lists.frame (list ++ t ∷ [])
       (rw blocks (readable_both old.memory.state (blocks_of list) (t.block ∷ []) held.readable (fresh.readable, tt)))
       (rw blocks ((all_of_both (blocks_of list) (t.block ∷ []) (own_blocks s)).1 (held.texts_apart, (fresh.apart, tt)))) in
-      let named : contents_of new.memory (list ++ t ∷ []) ≡ names ++ text ∷ [] =
-      stay.contents ∙ map-append (λ (t : Str). bytes_of old.memory t.block) list (t ∷ []) in
-      let nothing : map_in name_kind old.memory s.numbers text ≡ None = no_value _ (held.places text ∙ fresh.new) in
-      let more = texts_more old.memory new.memory s.numbers n text t s.texts.raw.len nothing lists.map_is had has_now in
-      let len : v.raw.len ≡ s.texts.raw.len + 1 = sym (length-elements _ _ _ _) ∙ ap (λ (l : List Str). length l) lists.list_is
-      ∙ simp (length-append, length-elements) (omega arith) in (
+      let named = stay.contents ∙ map-append (λ (t : Str). bytes_of old.memory t.block) list (t ∷ []) in
+      let nothing : map_in name_kind old.memory s.numbers text ≡ None = grind (arith, held.places text, fresh.new) in
+      let len : v.raw.len ≡ s.texts.raw.len + 1 = simp (length-append, length-elements) at
+      (ap {A = List Str} {B = ℕ} (λ l. length l) lists.list_is) in (
         interner_of new.memory (record { numbers = n; texts = v }) (list ++ t ∷ []) (names ++ text ∷ []) lists.list_is named (record {
           numbers = lists.map;
           texts = lists.list;
           readable = stay.readable;
           apart = ((lists.apart, tt), (tt, tt));
           texts_apart = stay.apart;
-          keys = λ b among. rw blocks (elim (more b among) [
-            | inl earlier ↦ Contains-append_left (blocks_of list) (t.block ∷ []) b (held.keys b earlier)
-            | inr is ↦ Contains-append_right (blocks_of list) (t.block ∷ []) b (0, omega arith, sym is)
-          ]);
-          count = (rw nothing at lists.len) ∙ ap (λ (n : ℕ). n + 1) held.count ∙ sym len;
-          places = λ q. ap (λ (f : Finite Str ℕ). value_of (f q)) lists.map_is
-              ∙ value_put (bytes_eq q text) (key_or (map_in name_kind old.memory s.numbers text) t, s.texts.raw.len)
-              (map_in name_kind old.memory s.numbers q)
+          keys = λ b among.
+              let at = (has_now b).0 among in
+              rw blocks (elim (key_before (map_in name_kind old.memory s.numbers) text at.0 t s.texts.raw.len at.1 nothing
+              (ap (λ (f : Finite Str ℕ). f at.0) (sym lists.map_is) ∙ at.2)) [
+                | inl earlier ↦ Contains-append_left (blocks_of list) (t.block ∷ []) b (held.keys b ((had b).1 (at.0, at.1, earlier, at.3)))
+                | inr is ↦ Contains-append_right (blocks_of list) (t.block ∷ []) b (0, omega arith, is ∙ at.3)
+              ]);
+          count = omega (arith, rw nothing at lists.len, held.count, len);
+          places = λ q. ap (λ (f : Finite Str ℕ). value_of (f q)) lists.map_is ∙ value_if (bytes_eq q text) _ _
               ∙ (λ i. cond (bytes_eq q text) (Some (sym (length_names old.memory s) i)) (held.places q i))
               ∙ sym (number_push names text q fresh.new);
           distinct = distinct_push names text held.distinct fresh.new;
@@ -200,10 +160,8 @@ module _ (old new : View) {s : Symbols} {t : Str} (n : HashMap Str ℕ FxHasher)
       → IsInternerIn new.memory (record { numbers = n; texts = v }) × (contents_of new.memory list ≡ names)
   not_appended lists =
       let same = lists.kept in
-      let own : List Block = n.table.block ∷ v.raw.block ∷ [] in
-      let stay : TextsStay old.memory new.memory own list = texts_beside lists.frame list held.readable held.texts_apart in
-      let len : v.raw.len ≡ s.texts.raw.len = sym (length-elements _ _ _ _) ∙ ap (λ (l : List Str). length l) same.1
-      ∙ length-elements _ _ _ _ in (
+      let stay = texts_beside lists.frame list held.readable held.texts_apart in
+      let len : v.raw.len ≡ s.texts.raw.len = simp length-elements at (ap {A = List Str} {B = ℕ} (λ l. length l) same.1) in (
         interner_of new.memory (record { numbers = n; texts = v }) list names same.1 stay.contents (record {
           numbers = lists.map;
           texts = lists.list;

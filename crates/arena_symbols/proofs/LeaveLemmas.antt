@@ -1,5 +1,5 @@
 -- The innermost map is ended.
-use Rattle.std.proofs.Common.{◌≡◌, ℕ, ◌-◌, ◌<◌, ◌≤◌, List, ◌∷◌, length, take, reverse, refl, sym, ap, subst, ◌∙◌, arith, true, false}
+use Rattle.std.proofs.Common.{◌≡◌, ℕ, ◌-◌, ◌<◌, ◌≤◌, ◌∷◌, length, take, subst, arith, true, false}
 use Rattle.std.specs.Prelude.{◌==◌}
 use Rattle.std.proofs.lemmas.Bool.{eqb-false}
 use Rattle.std.proofs.lemmas.List.{length-take, take-map}
@@ -11,9 +11,9 @@ use Rattle.arena_vec.specs.Changes.{Becomes}
 use Rattle.arena_vec.specs.Vecs.{vec_list}
 use Rattle.arena_vec.specs.declared.vec.Vec.{Vec}
 use Rattle.arena_symbols.specs.Listing.{place_item}
-use Rattle.arena_symbols.specs.Scoping.{scopes_of, outer_of, AreStarts, start_in}
+use Rattle.arena_symbols.specs.Scoping.{AreStarts, start_in}
 use Rattle.arena_symbols.specs.TableCalls.{Cuts, Leaves}
-use Rattle.arena_symbols.specs.Tables.{Entry, pairs_of, entries_in, recent_in, starts_in, table_blocks, IsTableIn}
+use Rattle.arena_symbols.specs.Tables.{Entry, entries_in, recent_in, starts_in, table_blocks, IsTableIn}
 use Rattle.arena_symbols.specs.declared.scopes.Scopes.{Scopes}
 use Rattle.arena_symbols.proofs.PayLemmas.{credit_less}
 use Rattle.arena_symbols.proofs.ScopeLemmas.{start_within, less_starts, reverse_front}
@@ -22,15 +22,7 @@ use Rattle.arena_symbols.proofs.TableLemmas.{depth_is, length_recent}
 -- The only map stays.
 pub left_alone : {item : Ghosts Entry} (old : View) (s : Scopes) → IsTableIn item old.memory s → s.starts.raw.len ≡ 0
     → Leaves item old old s s false
-left_alone {item} old s held none = record {
-  held = held;
-  left = λ yes. absurd (cc);
-  alone = λ no. (depth_is item old.memory s ∙ omega (arith, none), refl, refl);
-  more = λ yes. absurd (cc);
-  places = record { state = refl; statistics = refl; source = refl };
-  credit = omega arith;
-  frame = frame_reflexive old.memory (table_blocks s);
-}
+left_alone {item} old s held none = grind (arith, frame_reflexive old.memory (table_blocks s), depth_is item old.memory s)
 
 module _ {item : Ghosts Entry} (old : View) (s : Scopes) (v : Vec ℕ) (start : ℕ) (held : IsTableIn item old.memory s)
     (some : (s.starts.raw.len == 0) ≡ false) (is : start ≡ start_in (starts_in old.memory s))
@@ -46,26 +38,18 @@ module _ {item : Ghosts Entry} (old : View) (s : Scopes) (v : Vec ℕ) (start : 
 
   starts_are : starts_in old.memory s ≡ start ∷ starts_in old.memory outer
   starts_are =
-      reverse_front (vec_list place_item old.memory s.starts) (s.starts.raw.len - 1) (length-elements _ _ _ _ ∙ omega (arith, positive))
-      ∙ (λ i. sym is i ∷ reverse (sym cut.list_is i))
+      let front = reverse_front (vec_list place_item old.memory s.starts) (s.starts.raw.len - 1) in
+      grind (arith, is, cut.list_is, front, length-elements, positive)
 
   begin : AreStarts (length (recent_in item old.memory s)) (start ∷ starts_in old.memory outer)
   begin = subst (AreStarts (length (recent_in item old.memory s))) starts_are held.begins
 
   -- Without the innermost map's start it is a table still, whose pairs from there on are one map's.
   pub outer_held : IsTableIn item old.memory outer
-  outer_held = record {
-    ids = held.ids;
-    pairs = held.pairs;
-    starts = cut.held;
-    apart = rw cut.block held.apart;
-    places = held.places;
-    hidden = held.hidden;
-    begins = less_starts start (length (recent_in item old.memory s)) (starts_in old.memory outer)
-        (omega (arith, begin.0, start_within start (starts_in old.memory outer) begin.1)) begin.1;
-    depth = omega (arith, fewer, held.depth);
-    count = held.count;
-  }
+  outer_held =
+      let begins = less_starts start (length (recent_in item old.memory s)) (starts_in old.memory outer)
+      (omega (arith, begin.0, start_within start (starts_in old.memory outer) begin.1)) begin.1 in
+      grind (arith, held, begins, cut.held, cut.block, fewer)
 
   pub inner_start : start_in (starts_in old.memory outer) ≤ start
   inner_start = start_within start (starts_in old.memory outer) begin.1
@@ -75,15 +59,7 @@ module _ {item : Ghosts Entry} (old : View) (s : Scopes) (v : Vec ℕ) (start : 
 
   -- They go too.
   pub left : (new : View) (t : Scopes) → Cuts item old new outer t start → Leaves item old new s t true
-  left new t cuts = record {
-    held = cuts.held;
-    left = λ yes. (λ i. scopes_of (pairs_of (cuts.entries i)) (cuts.starts i))
-        ∙ ap (λ (ps : List (ℕ × ℕ)). scopes_of ps (starts_in old.memory outer)) (sym (take-map (λ (e : Entry). (e.0, e.1.0)) start
-        (entries_in item old.memory s)))
-        ∙ ap (λ (l : List ℕ). outer_of (scopes_of (pairs_of (entries_in item old.memory s)) l)) (sym starts_are);
-    alone = λ no. absurd (cc);
-    more = λ yes. omega (arith, depth_is item old.memory s, positive);
-    places = cuts.places;
-    credit = omega (arith, cuts.credit, credit_less 4 v.raw.len s.starts.raw.len s.starts.raw.cap v.raw.cap fewer (omega (arith, cut.cap)));
-    frame = rw cut.block at cuts.frame;
-  }
+  left new t cuts =
+      let less = credit_less 4 v.raw.len s.starts.raw.len s.starts.raw.cap v.raw.cap fewer (omega (arith, cut.cap)) in
+      let front = take-map {Y = ℕ × ℕ} (λ (e : Entry). (e.0, e.1.0)) start (entries_in item old.memory s) in
+      grind (arith, cuts, front, starts_are, depth_is item old.memory s, positive, less, cut.block)

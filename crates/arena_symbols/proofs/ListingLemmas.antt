@@ -5,7 +5,7 @@ use Rattle.std.proofs.lemmas.List.{length-take, take_at}
 use Rattle.std.proofs.Math.Nat.{mul-le-mul_left}
 use Rattle.arena_chunks.specs.Memory.{Memory}
 use Rattle.arena_chunks.specs.Source.{View}
-use Rattle.arena_chunks.specs.Frame.{Frame, Stays}
+use Rattle.arena_chunks.specs.Frame.{AreBlocksApart, Frame, Stays}
 use Rattle.arena_chunks.specs.declared.block.Block.{Block}
 use Rattle.arena_chunks.proofs.Layers.{blocks_turned, frame_behind, frame_both, frame_keeps}
 use Rattle.arena_items.specs.Costs.{Costs, farthest}
@@ -23,30 +23,25 @@ use Rattle.arena_hash.specs.Accounts.{unit_of, credit_of}
 use Rattle.arena_hash.specs.Changes.{Puts, is_value}
 use Rattle.arena_hash.specs.Contents.{Kind, content_in}
 use Rattle.arena_hash.specs.Finite.{has, with_pair}
-use Rattle.arena_hash.specs.Maps.{IsLookIn, StaysMap, map_in, footprint}
+use Rattle.arena_hash.specs.Maps.{IsLookIn, StaysMap}
 use Rattle.arena_hash.specs.declared.hasher.FxHasher.{FxHasher}
+use Rattle.arena_hash.proofs.Layers.{map_stays}
 use Rattle.arena_hash.specs.declared.map.HashMap.{HashMap}
 use Rattle.arena_hash.specs.declared.map.Look.{Look}
 use Rattle.arena_symbols.specs.Listing.{CanList, Lists}
 use Rattle.arena_symbols.specs.Paying.{Pays, far_up}
-use Rattle.arena_symbols.proofs.BesideLemmas.{map_beside, vec_beside}
-use Rattle.arena_symbols.proofs.PayLemmas.{Paid, pays_more, pays_told, pays_then, pays_push, pays_insert, insert_fits, credit_less}
-
-pub other_error : {X Y : Type 0} (e d : AllocError) → ◌≡◌ {A = Result X AllocError} (Err e) (Err d)
-    → ◌≡◌ {A = Result Y AllocError} (Err e) (Err d)
-other_error e d is = grind (arith, is)
+use Rattle.arena_symbols.proofs.BesideLemmas.{vec_beside}
+use Rattle.arena_symbols.proofs.PayLemmas.{Paid, pays_as, pays_more, pays_told, pays_then, pays_push, pays_insert, insert_fits, credit_less}
 
 -- so many values, and their bytes, fit 32 bits
 pub fits_both : (n size : ℕ) → 4 ≤ size → n * (2 * size) ≤ 2 ^ 32 → (n < 2 ^ 32) × (n * size < 2 ^ 32)
-fits_both n size some few =
-    let eight : n * 8 ≤ n * (2 * size) = mul-le-mul_left n (let h : 8 ≤ 2 * size = omega (arith, some) in h) in
-    (omega (arith, eight, few), omega (arith, few))
+fits_both n size some few = (omega (arith, mul-le-mul_left n some, few), omega (arith, few))
 
 module _ {K T : Type 0} {item : Ghosts T} {k : Kind K ℕ FxHasher} {old mid : Memory} {m : HashMap K ℕ FxHasher} {v : Vec T} {key : K}
     {after : List Block} (can : CanList item k old m v key) (frame : Frame old mid (v.raw.block ∷ []) after) where
   -- Beside a push the map is as it was, and so is the key's text.
   pub stays : StaysMap k old mid after m
-  stays = map_beside frame k m can.map can.beside
+  stays = map_stays k m frame can.map can.beside
 
   pub text : Stays old mid after (k.key.text key)
   text = frame_keeps old mid (v.raw.block ∷ []) after (k.key.text key) frame can.readable can.apart.1
@@ -61,16 +56,17 @@ module _ {K T : Type 0} (paid : Paid) {item : Ghosts T} (plain : IsItemLayout it
   abbrev list : List T
   list = vec_list item old.memory v
 
-  abbrev Pushes : Result (Unit {0}) AllocError → Type 0
-  Pushes result = Grows item old mid v (amortised_growth item.SIZE v.raw.cap (v.raw.len + 1))
-      (vec_list item old.memory v ++ value ∷ []) w result
+  abbrev saved : Vec T → ℕ
+  saved v = list_credit item.SIZE v.raw.len v.raw.cap
 
-  many : length (vec_list item old.memory v ++ value ∷ []) ≡ v.raw.len + 1
+  abbrev Pushes : Result (Unit {0}) AllocError → Type 0
+  Pushes result = Grows item old mid v (amortised_growth item.SIZE v.raw.cap (v.raw.len + 1)) (list ++ value ∷ []) w result
+
+  many : length (list ++ value ∷ []) ≡ v.raw.len + 1
   many = simp (length-append, length-elements) (omega arith)
 
   pays_list : (result : Result (Unit {0}) AllocError) → (result ≡ Err CapacityOverflow → ⊥) → Pushes result
-      → Pays farthest (4 * item.SIZE + 7) (list_credit item.SIZE v.raw.len v.raw.cap) (list_credit item.SIZE w.raw.len w.raw.cap) old mid
-      result
+      → Pays farthest (4 * item.SIZE + 7) (saved v) (saved w) old mid result
   pays_list result fits grows =
       pays_push paid item plain can.some can.small can.low old mid v w (list ++ value ∷ []) one can.list can.few many result fits grows
 
@@ -78,62 +74,36 @@ module _ {K T : Type 0} (paid : Paid) {item : Ghosts T} (plain : IsItemLayout it
   pub unlisted : (e : AllocError) → (◌≡◌ {A = Result (Unit {0}) AllocError} (Err e) (Err CapacityOverflow) → ⊥) → Pushes (Err e)
       → Lists item k old mid m v key value m w (Err e)
   unlisted e fits grows =
-      let same = stays can grows.frame in
-      record {
-        map = same.held;
-        list = grows.held;
-        apart = same.apart.0.0;
-        place = tt;
-        list_is = tt;
-        map_is = tt;
-        len = tt;
-        kept = (refl, (λ i. vec_list item (grows.err.1 i) (grows.err.0 i)), same.means, same.blocks);
-        fits = λ is. fits (other_error {X = ℕ} e CapacityOverflow is);
-        pays = pays_told (λ _. 0) (Err e) (pays_more (credit_of k m) (omega arith) (omega arith) refl (omega arith)
-            (pays_list (Err e) fits grows));
-        frame = frame_behind old.memory mid.memory (v.raw.block ∷ []) (w.raw.block ∷ []) (m.table.block ∷ []) grows.frame;
-      }
-
-  module _ (grows : Pushes (Ok tt)) (new : View) (n : HashMap K ℕ FxHasher) (result : Result (Option ℕ) AllocError)
-      (costs : Costs farthest (2 * unit_of k) (credit_of k m) (credit_of k n) mid new result)
-      (puts : Puts k mid new m key v.raw.len is_value n result) where
-    -- A push, and then an insert, after which some of the credit may be gone.
-    both : (after : ℕ) → after ≤ list_credit item.SIZE w.raw.len w.raw.cap + credit_of k n
-        → OnErr result (after ≤ list_credit item.SIZE v.raw.len v.raw.cap + credit_of k m)
-        → Pays (far_up + 2 ^ 61) (4 * item.SIZE + 7 + 2 * unit_of k) (list_credit item.SIZE v.raw.len v.raw.cap + credit_of k m) after old
-        new result
-    both after less err =
-        let first : Pays (far_up + 2 ^ 61) (4 * item.SIZE + 7) (list_credit item.SIZE v.raw.len v.raw.cap + credit_of k m)
-        (list_credit item.SIZE w.raw.len w.raw.cap + credit_of k m) old mid (Ok tt) =
-        pays_more (credit_of k m) (omega arith) (omega arith) refl (omega arith) (pays_list (Ok tt) (λ no. cc) grows) in
-        let second : Pays (far_up + 2 ^ 61 + 2 ^ 61) (2 * unit_of k) (list_credit item.SIZE w.raw.len w.raw.cap + credit_of k m) after
-        mid new result =
-        pays_more (list_credit item.SIZE w.raw.len w.raw.cap) (omega arith) (omega arith) (omega arith) (omega (arith, less))
-        (pays_insert k is_value mid new m n key v.raw.len (2 * unit_of k) result costs puts) in
-        pays_then tt grows.frame.is_growing grows.frame.allocated err first second
+      let pays : Pays {X = ℕ} (far_up + 2 ^ 61) (4 * item.SIZE + 7 + 2 * unit_of k) (saved v + credit_of k m) (saved w + credit_of k m) old
+      mid (Err e) = pays_as (credit_of k m) (λ d is. cc) (omega arith) (omega arith) refl (omega arith) (pays_list (Err e) fits grows) in
+      let frame = frame_behind old.memory mid.memory (v.raw.block ∷ []) (w.raw.block ∷ []) (m.table.block ∷ []) grows.frame in
+      let same : vec_list item mid.memory w ≡ list = λ i. vec_list item (grows.err.1 i) (grows.err.0 i) in
+      grind (arith, stays can grows.frame, grows.held, same, fits, pays, frame)
 
   module _ (grows : Pushes (Ok tt)) (new : View) (n : HashMap K ℕ FxHasher) where
+    -- A push, and then an insert, after which some of the credit may be gone.
+    both : {after : ℕ} (result : Result (Option ℕ) AllocError)
+        → Costs farthest (2 * unit_of k) (credit_of k m) (credit_of k n) mid new result → Puts k mid new m key v.raw.len is_value n result
+        → after ≤ saved w + credit_of k n → OnErr result (after ≤ saved v + credit_of k m)
+        → Pays (far_up + 2 ^ 61) (4 * item.SIZE + 7 + 2 * unit_of k) (saved v + credit_of k m) after old new result
+    both result costs puts less err =
+        pays_then {between = saved w + credit_of k m} tt grows.frame.is_growing grows.frame.allocated err
+        (pays_more (credit_of k m) (omega arith) (omega arith) refl (omega arith) (pays_list (Ok tt) (λ no. cc) grows))
+        (pays_more (saved w) (omega arith) (omega arith) (omega arith) (omega (arith, less))
+        (pays_insert k is_value mid new m n key v.raw.len (2 * unit_of k) result costs puts))
+
     pub listed : (before : Option ℕ) → Costs farthest (2 * unit_of k) (credit_of k m) (credit_of k n) mid new (Ok before)
         → Puts k mid new m key v.raw.len is_value n (Ok before) → Lists item k old new m v key value n w (Ok v.raw.len)
     listed before costs puts =
         let same = stays can grows.frame in
         let vec = vec_beside puts.frame item w grows.held (blocks_turned m.table.block w.raw.block same.apart.0.0, tt) in
-        let content : content_in k.key mid.memory key ≡ content_in k.key old.memory key =
-        ap (k.key.content key) (text can grows.frame).bytes in
-        record {
-          map = puts.held;
-          list = vec.held;
-          apart = blocks_turned w.raw.block n.table.block vec.apart.0;
-          place = refl;
-          list_is = vec.list_is ∙ grows.list_is;
-          map_is = puts.map_is ∙ (λ i. with_pair (same.means i) (content i) key v.raw.len);
-          len = puts.len ∙ (λ i. if has (same.means i) (content i) then m.len else m.len + 1);
-          kept = tt;
-          fits = λ no. cc;
-          pays = pays_told (λ _. v.raw.len) (Ok before) (both grows new n (Ok before) costs puts _ (omega arith) tt);
-          frame = frame_both old.memory mid.memory new.memory (m.table.block ∷ []) (v.raw.block ∷ []) (n.table.block ∷ [])
-              (w.raw.block ∷ []) grows.frame puts.frame;
-        }
+        let content = ap (k.key.content key) (text can grows.frame).bytes in
+        let map_is = puts.map_is ∙ (λ i. with_pair (same.means i) (content i) key v.raw.len) in
+        let len = puts.len ∙ (λ i. if has (same.means i) (content i) then m.len else m.len + 1) in
+        let pays = pays_told (λ _. v.raw.len) (Ok before) (both {after = saved w + credit_of k n} (Ok before) costs puts (omega arith) tt) in
+        let frame = frame_both _ _ _ _ _ _ _ grows.frame puts.frame in
+        let apart = blocks_turned w.raw.block n.table.block vec.apart.0 in
+        grind (arith, puts.held, vec.held, apart, vec.list_is ∙ grows.list_is, map_is, len, pays, frame)
 
     -- The insert is refused, and the list's end is cut off.
     pub cut_off : (u : Vec T) (e : AllocError)
@@ -148,23 +118,11 @@ module _ {K T : Type 0} (paid : Paid) {item : Ghosts T} (plain : IsItemLayout it
         ∙ take_at list (value ∷ []) v.raw.len (length-elements _ _ _ _) in
         let back = credit_less item.SIZE u.raw.len v.raw.len v.raw.cap u.raw.cap (omega (arith, len)) (omega (arith, cut.cap, room)) in
         let less = credit_less item.SIZE u.raw.len w.raw.len w.raw.cap u.raw.cap (omega (arith, len, more)) (omega (arith, cut.cap)) in
-        record {
-          map = puts.held;
-          list = subst (λ (x : Memory). IsVecIn item x u) (sym puts.err.1) cut.held;
-          apart = rw (puts.err.0, cut.block) same.apart.0.0;
-          place = tt;
-          list_is = tt;
-          map_is = tt;
-          len = tt;
-          kept = (
-            puts.err.0,
-            ap (λ (x : Memory). vec_list item x u) puts.err.1 ∙ front,
-            ap (λ (x : Memory). map_in k x m) puts.err.1 ∙ same.means,
-            ap (λ (x : Memory). footprint k x m) puts.err.1 ∙ same.blocks,
-          );
-          fits = λ is. insert_fits k is_value mid new m n key v.raw.len (Err e) can.few_keys puts (other_error e CapacityOverflow is);
-          pays = pays_told (λ _. 0) (Err e) (both grows new n (Err e) costs puts _ (omega (arith, less))
-              (omega (arith, back, puts.costs.refused.1)));
-          frame = rw cut.block (frame_both old.memory mid.memory new.memory (m.table.block ∷ []) (v.raw.block ∷ []) (n.table.block ∷ [])
-              (w.raw.block ∷ []) grows.frame puts.frame);
-        }
+        let held : IsVecIn item new.memory u = rw puts.err.1 cut.held in
+        let apart : AreBlocksApart n.table.block u.raw.block = rw (puts.err.0, cut.block) same.apart.0.0 in
+        let fits = insert_fits k is_value mid new m n key v.raw.len (Err e) can.few_keys puts in
+        let pays = pays_told {Y = ℕ} (λ _. 0) (Err e) (both {after = saved u + credit_of k n} (Err e) costs puts (omega (arith, less))
+        (omega (arith, back, puts.costs.refused.1))) in
+        let frame : Frame old.memory new.memory (m.table.block ∷ v.raw.block ∷ []) (n.table.block ∷ u.raw.block ∷ []) =
+        rw cut.block (frame_both _ _ _ _ _ _ _ grows.frame puts.frame) in
+        grind (arith, puts.held, held, apart, puts.err, front, same.means, same.blocks, fits, pays, frame)

@@ -1,20 +1,20 @@
 -- An interner and a scoped table side by side.
-use Rattle.std.proofs.Common.{◌≡◌, ℕ, List, [], ◌∷◌, ◌++◌, refl, ap, sym, subst, ◌∙◌, inl, inr, Some, Ok, Err, Bool, true, false, ◌<◌, ◌≤◌, length, arith, eq-eqb, None, ◌+◌, ◌-◌, ◌^◌}
-use Rattle.std.specs.Prelude.{if◌then◌else◌, not, is_some, Result, ◌↔◌}
-use Rattle.std.proofs.lemmas.Result.{IfOk-weaker, on_err_weaker}
-use Rattle.std.proofs.lemmas.Bool.{cond-true}
+use Rattle.std.proofs.Common.{◌≡◌, ℕ, List, [], ◌∷◌, ◌++◌, refl, ap, ◌∙◌, inr, Some, Ok, Err, Bool, true, false, ◌<◌, ◌≤◌, length, arith, None, ◌+◌, ◌-◌, ◌^◌}
+use Rattle.std.specs.Prelude.{if◌then◌else◌, not, Result, IfOk, ◌↔◌}
+use Rattle.std.proofs.lemmas.Result.{IfOk-weaker}
 use Rattle.arena_chunks.specs.Memory.{Memory}
 use Rattle.arena_chunks.specs.Source.{View}
 use Rattle.arena_chunks.specs.Frame.{Frame, AreAllApart}
 use Rattle.arena_chunks.specs.declared.block.Block.{Block}
 use Rattle.arena_chunks.proofs.Layers.{all_apart, all_from_none, all_from_both, apart_both, frame_then, frame_weaken, frame_beside, frame_behind, frame_keeps_all}
+use Rattle.arena_items.specs.Costs.{Costs}
 use Rattle.arena_items.specs.declared.room.AllocError.{AllocError}
 use Rattle.arena_items.proofs.Layers.{stays_readable, stays_agree, stays_apart, costs_weaken, costs_then}
 use Rattle.arena_symbols.specs.Interner.{number_of, most_texts}
 use Rattle.arena_symbols.specs.Interning.{Interns}
 use Rattle.arena_symbols.specs.Named.{AreNames, Moves, Declares, DeclaresWithin, IsFullFor, all_credit, meant, meaning}
-use Rattle.arena_symbols.specs.Names.{blocks_of, texts_in, names_in, own_blocks, names_footprint, names_credit}
-use Rattle.arena_symbols.specs.Scoping.{value_in, innermost, is_in_last, outer_of, with_pair, pair_count, most_pairs}
+use Rattle.arena_symbols.specs.Names.{names_in, own_blocks, names_footprint, names_credit}
+use Rattle.arena_symbols.specs.Scoping.{innermost, is_in_last, outer_of, with_pair, pair_count, most_pairs}
 use Rattle.arena_symbols.specs.Paying.{Pays, far_up}
 use Rattle.arena_symbols.specs.TableCalls.{Defines}
 use Rattle.arena_symbols.specs.TableLaws.{table_readable, table_same, table_held_again}
@@ -23,7 +23,7 @@ use Rattle.arena_symbols.specs.declared.scopes.Scopes.{Scopes}
 use Rattle.arena_symbols.specs.declared.symbols.Symbols.{Symbols}
 use Rattle.arena_symbols.specs.declared.uses.Names.{Names}
 use Rattle.arena_symbols.proofs.InternLemmas.{interner_beside}
-use Rattle.arena_symbols.proofs.PayLemmas.{pays_as, pays_more, told_then}
+use Rattle.arena_symbols.proofs.PayLemmas.{pays_as, pays_more}
 use Rattle.arena_symbols.proofs.ScopeLemmas.{lookup_put}
 use Rattle.arena_symbols.proofs.TableLemmas.{depth_is}
 
@@ -40,17 +40,10 @@ module _ {old new : Memory} {n : Names} (held : AreNames old n) where
       → Moves old new n (record n { scopes = u }) × (names_in new n.symbols ≡ names_in old n.symbols)
   scopes_moved u there frame =
       let names = names_footprint old n.symbols in
-      let stays = interner_beside n.symbols frame held.symbols (all_turned (table_blocks n.scopes) names held.apart) in (
-        record {
-          held = record {
-            symbols = stays.held;
-            scopes = there;
-            apart = rw stays.texts (all_turned names (table_blocks u) stays.apart);
-          };
-          frame = rw stays.texts (frame_beside _ _ _ (table_blocks u) names frame);
-        },
-        stays.names,
-      )
+      let stays = interner_beside n.symbols frame held.symbols (all_turned (table_blocks n.scopes) names held.apart) in
+      let apart = all_turned names (table_blocks u) stays.apart in
+      let all = frame_beside old new (table_blocks n.scopes) (table_blocks u) names frame in
+      grind (arith, stays.held, stays.texts, stays.names, there, apart, all)
 
 module _ {old new : View} {n : Names} {t : Symbols} {name : List ℕ} {result : Result ℕ AllocError} (held : AreNames old.memory n)
     (interns : Interns old new n.symbols t name result) where
@@ -59,27 +52,17 @@ module _ {old new : View} {n : Names} {t : Symbols} {name : List ℕ} {result : 
       × (scopes_in entry_item new.memory n.scopes ≡ scopes_in entry_item old.memory n.scopes)
   texts_moved =
       let table = table_blocks n.scopes in
-      let own = own_blocks n.symbols in
-      let named = blocks_of (texts_in old.memory n.symbols) in
-      let more = interns.texts.0 in
-      let frame = subst (λ (bs : List Block). Frame old.memory new.memory (own ++ named) (own_blocks t ++ bs)) (sym interns.texts.1.blocks)
-      (frame_weaken old.memory new.memory own (own ++ named) (own_blocks t ++ more) (own_blocks t ++ (named ++ more))
-      (λ addr n some apart. (apart.0, (apart.1.0, tt)))
-      (λ addr n some apart after. (after.0, (after.1.0, apart_both addr n named more apart.1.1 after.1.1))) interns.texts.1.frame) in
-      let stays = frame_keeps_all old.memory new.memory _ (names_footprint new.memory t) table frame
+      let names = names_footprint new.memory t in
+      let frame : Frame old.memory new.memory (names_footprint old.memory n.symbols) names = rw interns.texts.1.blocks
+      (frame_weaken _ _ (own_blocks n.symbols) _ (own_blocks t ++ interns.texts.0) _
+      (λ addr k some apart. (apart.0, (apart.1.0, tt)))
+      (λ addr k some apart after. (after.0, (after.1.0, apart_both addr k _ _ apart.1.1 after.1.1))) interns.texts.1.frame) in
+      let stays = frame_keeps_all old.memory new.memory _ names table frame
       (table_readable entry_item old.memory n.scopes held.scopes) held.apart in
-      let agree = stays_agree old.memory new.memory (names_footprint new.memory t) table stays in (
-        record {
-          held = record {
-            symbols = interns.held;
-            scopes = table_held_again entry_item old.memory new.memory n.scopes agree held.scopes
-                (stays_readable old.memory new.memory (names_footprint new.memory t) table stays);
-            apart = stays_apart old.memory new.memory (names_footprint new.memory t) table stays;
-          };
-          frame = frame_behind _ _ _ _ table frame;
-        },
-        sym (table_same entry_item old.memory new.memory n.scopes agree),
-      )
+      let agree = stays_agree old.memory new.memory names table stays in
+      let again = table_held_again entry_item old.memory new.memory n.scopes agree held.scopes (stays_readable _ _ names table stays) in
+      let same = table_same entry_item old.memory new.memory n.scopes agree in
+      grind (arith, interns.held, again, stays_apart _ _ names table stays, frame_behind _ _ _ _ table frame, same)
 
 pub moves_then : {old mid new : Memory} {n m k : Names} → Moves old mid n m → Moves mid new m k → Moves old new n k
 moves_then first last = record { held = last.held; frame = frame_then _ _ _ _ _ _ first.frame last.frame }
@@ -92,24 +75,15 @@ pub unnamed : {old mid : View} {n : Names} {t : Symbols} {name : List ℕ} {valu
 unnamed {old = old} {mid = mid} {n = n} {t = t} {name = name} {e = e} held interns =
     let moved = texts_moved held interns in
     let pays : Pays {X = Bool} (far_up - 2 ^ 61) (1536 + length name) (all_credit n) (all_credit (record n { symbols = t })) old mid
-    (Err e) = pays_as (table_credit n.scopes) (λ d is. cc) (omega arith) (omega arith) (omega arith) (omega arith) interns.pays in (
-      record { moves = moved.0; texts = tt; put = tt; refused = inl interns.kept; kept = moved.1 },
-      record {
-        overflows = (
-          λ is. inl (interns.overflows.0 (cc)),
-          λ full. grind (arith, full, interns.overflows.1, interns.kept, interns.fresh),
-        );
-        costs = pays.costs;
-        told = pays.told;
-      },
-    )
+    (Err e) = pays_as (table_credit n.scopes) (λ d is. cc) (omega arith) (omega arith) (omega arith) (omega arith) interns.pays in
+    grind (arith, moved, interns.overflows, interns.kept, interns.fresh, pays.costs, pays.told)
 
 -- One that overflows at the pairs, as the name has its number.
 overflows_at : {P : Type 0} {maps scopes : List (List (ℕ × ℕ))} {id : ℕ} (texts now : List (List ℕ)) (name : List ℕ) → maps ≡ scopes
     → number_of now name ≡ Some id → ((number_of texts name ≡ None) × (most_texts ≤ length texts) → ⊥)
     → (P ↔ ((is_in_last maps id ≡ false) × (most_pairs ≤ pair_count maps))) → P ↔ IsFullFor texts now scopes name
 overflows_at texts now name same number room full = rw (← same) (
-  λ is. let both = full.0 is in inr ((_, number, both.0), both.1),
+  λ is. inr ((_, number, (full.0 is).0), (full.0 is).1),
   λ all. grind (arith, all, room, full.1, number),
 )
 
@@ -120,38 +94,30 @@ pub bound : {old mid new : View} {n : Names} {t : Symbols} {u : Scopes} {name : 
 bound {old = old} {mid = mid} {new = new} {n = n} {t = t} {u = u} {name = name} {id = id} {value = value} result held interns defines =
     let one = texts_moved held interns in
     let two = scopes_moved one.0.held u defines.held defines.frame in
-    let texts = two.1 ∙ interns.names in
     let scopes = scopes_in entry_item old.memory n.scopes in
     let number = ap (λ (l : List (List ℕ)). number_of l name) two.1 ∙ interns.number in
     let first : Pays (far_up - 2 ^ 61) (1024 + length name) (all_credit n) (names_credit t + table_credit n.scopes) old mid (Ok id) =
     pays_more (table_credit n.scopes) (omega arith) (omega arith) (omega arith) (omega arith) interns.pays in
     let second : Pays far_up 512 (names_credit t + table_credit n.scopes) (names_credit t + table_credit u) mid new result =
-    pays_more (names_credit t) (omega arith) (omega arith) (omega arith) (omega arith) defines.pays in (
-      record {
-        moves = moves_then one.0 two.0;
-        texts = grind (arith, texts);
-        put = IfOk-weaker result (λ b. (b ≡ not (is_in_last scopes id))
-            × (scopes_in entry_item new.memory u ≡ (if b then with_pair scopes id value else scopes))) _
-            (λ b is. (id, number, is.0, is.1)) (grind (arith, one.1, defines.says, defines.scopes));
-        refused = grind (arith, texts);
-        kept = on_err_weaker result (λ (same : scopes_in entry_item new.memory u ≡ _). same ∙ one.1) defines.kept;
-      },
-      record {
-        overflows = overflows_at (names_in old.memory n.symbols) (names_in new.memory t) name one.1 number
-            (λ many. (let no = interns.overflows.1 many in cc)) defines.overflows;
-        costs = costs_weaken _ _ _ _ _ _ old new result (omega arith) (omega arith)
-            (costs_then (far_up - 2 ^ 61) (1024 + length name) 512 _ _ _ old mid new (Ok id) result interns.texts.1.frame.is_growing
-            interns.texts.1.frame.allocated refl first.costs second.costs);
-        told = λ k is. told_then new k first.costs (second.told k is);
-      },
-    )
+    pays_more (names_credit t) (omega arith) (omega arith) (omega arith) (omega arith) defines.pays in
+    let overflows = overflows_at (names_in old.memory n.symbols) (names_in new.memory t) name one.1 number
+    (λ many. (let no = interns.overflows.1 many in cc)) defines.overflows in
+    let costs : Costs (far_up - 2 ^ 61) (1536 + length name) (all_credit n) (names_credit t + table_credit u) old new result =
+    costs_weaken _ _ _ _ _ _ old new result (omega arith) (omega arith)
+    (costs_then (far_up - 2 ^ 61) (1024 + length name) 512 _ _ _ old mid new (Ok id) result interns.texts.1.frame.is_growing
+    interns.texts.1.frame.allocated refl first.costs second.costs) in
+    let put : IfOk result (λ b. (id : ℕ) × (number_of (names_in new.memory t) name ≡ Some id) × (b ≡ not (is_in_last scopes id))
+    × (scopes_in entry_item new.memory u ≡ (if b then with_pair scopes id value else scopes))) =
+    IfOk-weaker result (λ b. (b ≡ not (is_in_last scopes id))
+    × (scopes_in entry_item new.memory u ≡ (if b then with_pair scopes id value else scopes))) _ (λ b is. (id, number, is.0, is.1))
+    (grind (arith, one.1, defines.says, defines.scopes)) in
+    let moves = moves_then one.0 two.0 in
+    grind (arith, moves, two.1, interns.names, put, one.1, defines.kept, overflows, costs, second.told, first.costs.asks.refusals)
 
--- the outer maps where a pair was put, or not
-outer_put : (b : Bool) (scopes : List (List (ℕ × ℕ))) (id value : ℕ)
-    → outer_of (if b then with_pair scopes id value else scopes) ≡ outer_of scopes
-outer_put true [] id value = refl
-outer_put true (scope ∷ outer) id value = refl
-outer_put false scopes id value = refl
+-- the outer maps where a pair was put
+outer_put : (scopes : List (List (ℕ × ℕ))) (id value : ℕ) → outer_of (with_pair scopes id value) ≡ outer_of scopes
+outer_put [] id value = refl
+outer_put (scope ∷ outer) id value = refl
 
 module _ {old new : Memory} {n m : Names} {name : List ℕ} {value : ℕ} where
   -- A name that was put means its value,
@@ -160,21 +126,20 @@ module _ {old new : Memory} {n m : Names} {name : List ℕ} {value : ℕ} where
   means_value result declares is =
       let put = (rw is at declares).put in
       (λ i. meant (put.3 i) (put.1 i))
-      ∙ lookup_put (scopes_in entry_item old n.scopes) put.0 value put.0 (omega (arith, depth_is entry_item old n.scopes))
-      ∙ cond-true _ _ _ (eq-eqb put.0 put.0 refl)
+      ∙ grind (arith, depth_is entry_item old n.scopes, lookup_put (scopes_in entry_item old n.scopes) put.0 value put.0)
 
   -- as it is in an empty scope.
   pub not_there : (result : Result Bool AllocError) → Declares old new n m name value result
       → innermost (scopes_in entry_item old n.scopes) ≡ [] → result ≡ Ok false → ⊥
-  not_there result declares none is =
-      let put = (rw is at declares).put in
-      let no : false ≡ true = put.2 ∙ ap (λ (s : List (ℕ × ℕ)). not (is_some (value_in s put.0))) none in cc
+  not_there result declares none is = grind (arith, (rw is at declares).put.2, none)
 
   -- The outer scopes stay.
   pub outer_kept : (result : Result Bool AllocError) → Declares old new n m name value result
       → outer_of (scopes_in entry_item new m.scopes) ≡ outer_of (scopes_in entry_item old n.scopes)
-  outer_kept (Ok b) declares = ap outer_of declares.put.3 ∙ outer_put b (scopes_in entry_item old n.scopes) declares.put.0 value
-  outer_kept (Err e) declares = ap outer_of declares.kept
+  outer_kept result declares = grind (arith, declares.put, declares.kept, outer_put)
+
+-- for automatic proof of declarations
+pub ruleset declarations = (means_value, not_there, outer_kept)
 
 pub outer_long : (scopes : List (List (ℕ × ℕ))) → 0 < length (outer_of scopes) → 2 ≤ length scopes
 outer_long [] some = absurd (omega (arith, some))

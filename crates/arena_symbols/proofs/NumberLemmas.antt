@@ -1,13 +1,13 @@
 -- Numbers of texts.
-use Rattle.std.proofs.Common.{◌≡◌, ℕ, ◌+◌, List, [], ◌∷◌, ◌++◌, length, get_or, refl, sym, ap, ◌∙◌, arith, inl, inr, Some, None, true, false, Bool, cond, ltb}
+use Rattle.std.proofs.Common.{◌≡◌, ℕ, ◌+◌, List, [], ◌∷◌, ◌++◌, length, get_or, refl, sym, ap, ◌∙◌, arith, Some, None, false, Bool}
 use Rattle.std.specs.Prelude.{bytes_eq, slice_get, if◌then◌else◌}
 use Rattle.std.specs.List.{position_from, IsDistinct, list_any}
-use Rattle.std.proofs.lemmas.Bool.{both_ways, cases_Bool, cond-true, cond-false, lt-ltb}
+use Rattle.std.proofs.lemmas.Bool.Decides.{nat_tests}
 use Rattle.std.proofs.lemmas.Cmp.{nat_list_eq_equiv}
 use Rattle.std.proofs.lemmas.Iterator.Adapters.{position_from-zero}
 use Rattle.std.proofs.lemmas.List.Quantifiers.{position-Some}
 use Rattle.std.proofs.lemmas.List.Sums.{position_or_len_is}
-use Rattle.std.proofs.lemmas.Option.{none-some, slice_get-get_or, slice_get_within, get_or_from_slice_get}
+use Rattle.std.proofs.lemmas.Option.{slice_get-get_or, slice_get_within, get_or_from_slice_get}
 use Rattle.std.proofs.lemmas.Slice.Eq.{bytes_eq-Decides}
 use Rattle.std.proofs.lemmas.Map.Keys.{IsDistinct-push, apart_from_distinct}
 use Rattle.arena_symbols.specs.Interner.{number_of}
@@ -16,19 +16,14 @@ push_position : (text : List ℕ) (xs : List (List ℕ)) (q : List ℕ) (i : ℕ
     → position_from (bytes_eq q) i (xs ++ text ∷ [])
     ≡ (if bytes_eq q text then Some (i + length xs) else position_from (bytes_eq q) i xs)
 push_position text [] q i none = ap (λ (n : ℕ). if bytes_eq q text then Some n else None) (omega arith)
-push_position text (x ∷ xs) q i none = elim (cases_Bool (bytes_eq text x)) [
-  | inl same ↦ absurd (none-some i (sym none ∙ cond-true _ _ _ same))
-  | inr away ↦
-      let never : bytes_eq q x ≡ true → bytes_eq q text ≡ true → ⊥ = λ one other. both_ways _ away ((bytes_eq-Decides text x).1
-      (sym ((bytes_eq-Decides q text).0 other) ∙ (bytes_eq-Decides q x).0 one)) in
-      rw (push_position text xs q (i + 1) (sym (cond-false _ _ _ away) ∙ none)) (grind (arith, never))
-]
+push_position text (x ∷ xs) q i none =
+    let is = bytes_eq-Decides in
+    grind (arith, none, push_position text xs q (i + 1), (is q x).0, (is q text).0, (is text x).1)
 
 -- A new text at the end has the next number, and the others have theirs.
 pub number_push : (texts : List (List ℕ)) (text q : List ℕ) → number_of texts text ≡ None
     → number_of (texts ++ text ∷ []) q ≡ (if bytes_eq q text then Some (length texts) else number_of texts q)
-number_push texts text q none =
-    push_position text texts q 0 none ∙ ap (λ (n : ℕ). if bytes_eq q text then Some n else number_of texts q) (omega arith)
+number_push texts text q none = grind (arith, push_position text texts q 0 none)
 
 -- a text that none equals has no number
 none_any : {X : Type 0} (p : X → Bool) → (xs : List X) (i : ℕ) → position_from p i xs ≡ None → list_any p xs ≡ false
@@ -62,5 +57,4 @@ number_place text texts n distinct there =
     (λ k less. nat_list_eq_equiv.symm text (get_or texts k []) ∙ ap (bytes_eq (get_or texts k [])) (sym is)
     ∙ apart_from_distinct bytes_eq texts k n [] distinct less within)
     (λ more. (bytes_eq-Decides text (get_or texts n [])).1 (sym is)) in
-    sym (position_from-zero (bytes_eq text) texts) ∙ (λ i. cond (ltb (place i) (length texts)) (Some (place i)) None)
-    ∙ cond-true _ _ _ (lt-ltb n (length texts) within)
+    grind (arith, nat_tests, place, within, position_from-zero (bytes_eq text) texts)

@@ -1,19 +1,17 @@
 -- What calls pay, by what they are made of: nothing, a text that is placed, a value at a vector's end, a pair in a map; and one after
 -- another.
-use Rattle.std.proofs.Common.{◌≡◌, ℕ, ◌+◌, ◌-◌, ◌*◌, ◌^◌, ◌<◌, ◌≤◌, refl, subst, arith, inl, inr, false, Ok, Err, Option, List, length}
-use Rattle.std.specs.Prelude.{Result, OnErr, ◌↔◌}
+use Rattle.std.proofs.Common.{◌≡◌, ℕ, ◌+◌, ◌-◌, ◌*◌, ◌^◌, ◌<◌, ◌≤◌, refl, arith, inl, inr, false, Ok, Err, Option, List, length}
+use Rattle.std.specs.Prelude.{Result, OnErr}
 use Rattle.std.proofs.lemmas.Bool.{cases_Bool}
-use Rattle.std.proofs.lemmas.Result.{on_err_weaker}
 use Rattle.std.proofs.Math.Nat.{mul-le-mul_left}
-use Rattle.placement.specs.Moves.{Outcome}
 use Rattle.placement.specs.State.{allocated_bytes}
 use Rattle.placement.proofs.AskingLemmas.{asks_more, starved_nearer}
 use Rattle.arena_chunks.specs.Answers.{Answer}
 use Rattle.arena_chunks.specs.Source.{View}
-use Rattle.arena_chunks.specs.BlockCalls.{PlacesBlock, IsRefused}
+use Rattle.arena_chunks.specs.BlockCalls.{PlacesBlock}
 use Rattle.arena_chunks.specs.declared.block.Block.{Block}
 use Rattle.arena_chunks.proofs.Layers.{asks_same}
-use Rattle.arena_items.specs.Costs.{Costs, Covers, farthest}
+use Rattle.arena_items.specs.Costs.{used, Costs, Covers, farthest}
 use Rattle.arena_items.specs.Layout.{IsItemLayout}
 use Rattle.arena_items.specs.LayoutLaws.{plain_1}
 use Rattle.arena_items.specs.Room.{capacity_after, MakesRoom, TakesRoom, RoomAnswer}
@@ -42,25 +40,14 @@ abbrev pub told : {X Y : Type 0} → (X → Y) → Result X AllocError → Resul
 told f (Ok x) = Ok (f x)
 told f (Err e) = Err e
 
-pub overflows_told : {X Y Full : Type 0} (f : X → Y) (result : Result X AllocError) → ((result ≡ Err CapacityOverflow) ↔ Full)
-    → (told f result ≡ Err CapacityOverflow) ↔ Full
-overflows_told f result is = grind (arith, is)
-
 -- ---- No memory
 
 -- Nothing is done, and the answer is no refusal of the arena's.
 pub pays_nothing : {X : Type 0} (far bytes credit : ℕ) (old : View) (result : Result X AllocError)
     → ((k : ℕ) → result ≡ Err (AllocErr k) → ⊥) → Pays far bytes credit credit old old result
-pays_nothing far bytes credit old result none = record {
-  costs = record {
-    takes = omega arith;
-    asks = asks_same _ old old refl refl;
-    starved = λ growing k is. absurd (none k is);
-    full = λ still k is. absurd (none k is);
-  };
-  refused = grind arith;
-  told = λ k is. absurd (none k is);
-}
+pays_nothing far bytes credit old result none =
+    let asks = asks_same (used old + (bytes + credit)) old old refl refl in
+    grind (arith, none, asks)
 
 -- ---- More, and together
 
@@ -68,20 +55,12 @@ pays_nothing far bytes credit old result none = record {
 pub pays_as : {X Y : Type 0} {far near few many before after more later : ℕ} {old new : View} {first : Result X AllocError}
     {result : Result Y AllocError} (rest : ℕ) → ((e : AllocError) → result ≡ Err e → first ≡ Err e) → far ≤ near → few ≤ many
     → before + rest ≡ more → later ≤ after + rest → Pays near few before after old new first → Pays far many more later old new result
-pays_as {Y = Y} {far = far} {near = near} {more = more} {later = later} {old = old} {new = new} {first = first} {result = result} rest same
-    close le sum less pays = record {
-      costs = record {
-        takes = omega (arith, pays.costs.takes, sum, less);
-        asks = asks_more _ _ old.memory.state new.memory.state old.source new.source (omega (arith, sum)) pays.costs.asks;
-        starved = λ growing k is. starved_nearer near far old.memory.state new.memory.state old.source new.source close
-            (pays.costs.starved growing k (same (AllocErr k) is));
-        full = λ still k is.
-            let short = pays.costs.full still k (same (AllocErr k) is) in
-            record { still = still; short = omega (arith, short.short, sum) };
-      };
-      refused = grind (arith, pays.refused, same, sum, less);
-      told = λ k is. pays.told k (same (AllocErr k) is);
-    }
+pays_as {far = far} {near = near} {few = few} {many = many} {before = before} {more = more} {old = old} {new = new} rest same close le sum
+    less pays =
+    let asks = asks_more (used old + (few + before)) (used old + (many + more)) old.memory.state new.memory.state old.source new.source
+    (omega (arith, sum)) pays.costs.asks in
+    let nearer = starved_nearer near far old.memory.state new.memory.state old.source new.source close in
+    grind (arith, asks, nearer, same, pays, sum, less)
 
 pub pays_more : {X : Type 0} {far near few many before after more later : ℕ} {old new : View} {result : Result X AllocError} (rest : ℕ)
     → far ≤ near → few ≤ many → before + rest ≡ more → later ≤ after + rest → Pays near few before after old new result
@@ -93,28 +72,16 @@ pub pays_told : {X Y : Type 0} {far bytes before after : ℕ} {old new : View} (
     → Pays far bytes before after old new result → Pays far bytes before after old new (told f result)
 pays_told f result pays = pays_as 0 (λ e is. grind (arith, is)) (omega arith) (omega arith) (omega arith) (omega arith) pays
 
--- What is told of the second call is told of both.
-pub told_then : {X : Type 0} {far bytes before after : ℕ} {old mid : View} {first : Result X AllocError} (new : View) (k : ℕ)
-    → Costs far bytes before after old mid first → HasRefused mid new k → HasRefused old new k
-told_then new k costs more = grind (arith, more, costs.asks.refusals)
-
 pub pays_then : {X Y : Type 0} {far one two before between after : ℕ} {old mid new : View} (x : X) {second : Result Y AllocError}
     → mid.memory.state.is_growing ≡ old.memory.state.is_growing
     → (old.memory.state.is_growing ≡ false → allocated_bytes mid.memory.state ≡ allocated_bytes old.memory.state)
     → OnErr second (after ≤ before) → Pays far one before between old mid (Ok x)
     → Pays (far + 2 ^ 61) two between after mid new second → Pays far (one + two) before after old new second
-pays_then {new = new} x growing still err first more = record {
-  costs = costs_then _ _ _ _ _ _ _ _ _ (Ok x) _ growing still refl first.costs more.costs;
-  refused = err;
-  told = λ k is. told_then new k first.costs (more.told k is);
-}
+pays_then x growing still err first more =
+    let costs = costs_then _ _ _ _ _ _ _ _ _ (Ok x) _ growing still refl first.costs more.costs in
+    grind (arith, costs, err, more.told, first.costs.asks.refusals)
 
 -- ---- What the arena refuses
-
--- The count of a source that refused k requests rose by k, as far as it can.
-has_refused : {move : ℕ → Option Outcome} {asks : ℕ → List (ℕ × ℕ)} {k : ℕ} (old new : View) (j : ℕ)
-    → (j ≡ k) × IsRefused move asks old new k → HasRefused old new j
-has_refused {k = k} old new j refuses = grind (arith, refuses.0, refuses.1.asked.refusals, refuses.1.asked.bounded)
 
 -- A refusal of room is the arena's, and tells how many requests were refused.
 room_told : {X : Type 0} (size align : ℕ) (old new : View) (block : Block) (cap : ℕ) (f : X → Block) (k : ℕ) (growth : Growth)
@@ -122,8 +89,8 @@ room_told : {X : Type 0} (size align : ℕ) (old new : View) (block : Block) (ca
 room_told size align old new block cap f k Stays made = absurd made.0
 room_told size align old new block cap f k Overflows made = absurd (let no = made.0 in cc)
 room_told size align old new block cap f k (GrowsTo more) made = rw made.places.source (elim (zero_or_more cap) [
-  | inl none ↦ has_refused old made.between k (made.took.placed none).1.outcome
-  | inr some ↦ has_refused old made.between k (made.took.grown some).1.outcome
+  | inl none ↦ (let is = (made.took.placed none).1.outcome in grind (arith, is.0, is.1.asked.refusals, is.1.asked.bounded))
+  | inr some ↦ (let is = (made.took.grown some).1.outcome in grind (arith, is.0, is.1.asked.refusals, is.1.asked.bounded))
 ])
 
 -- What takes the room of a block that grows pays for that block.
@@ -134,8 +101,7 @@ pays_room : {X : Type 0} (size align : ℕ) (old new : View) (block : Block) (ca
 pays_room {X} size align old new block cap more f bytes before after result one held greater covers err made = record {
   costs = room_costs old new block size align cap more f bytes before after one held result greater covers made;
   refused = err;
-  told = λ k is. room_told size align old new block cap f k (GrowsTo more)
-      (subst (λ (r : Result X AllocError). MakesRoom size align old new block cap (GrowsTo more) f r) is made);
+  told = λ k is. room_told size align old new block cap f k (GrowsTo more) (rw is at made);
 }
 
 -- ---- A text
@@ -147,22 +113,11 @@ nowhere = record { generation = 0; addr = 1; size = 0; align = 1 }
 pub pays_text : {X : Type 0} (f : X → Block) (old new : View) (n : ℕ) (result : Result X AllocError) → old.memory.state.min_align ≡ 1
     → n < 2 ^ 32 → RoomAnswer f result (PlacesBlock old new n 1) → Pays farthest n 0 0 old new result
 pays_text f old new n result one short places =
+    let taken : (answer : Answer) → PlacesBlock old new n 1 answer → TakesRoom old new nowhere 0 (n * 1) 1 answer =
+    λ answer placed. grind (arith, placed) in
     pays_room 1 1 old new nowhere 0 n f n 0 0 result one (record { readable = refl; of_size = omega arith; of_align = refl }) (omega arith)
-    (record {
-      layout = row_is_layout n 1 1 plain_1 short (omega arith);
-      small = omega arith;
-      bounded = omega (arith, short);
-      within = omega arith;
-      ok = grind arith;
-      err = grind arith;
-    }) (grind arith)
+    (grind (arith, short, row_is_layout n 1 1 plain_1 short (omega arith))) (grind arith)
     (record { between = new; took = grind (arith, taken, places); places = record { state = refl; statistics = refl; source = refl } })
-  where
-    taken : (answer : Answer) → PlacesBlock old new n 1 answer → TakesRoom old new nowhere 0 (n * 1) 1 answer
-    taken answer places = record {
-      placed = λ none. subst (λ (m : ℕ). PlacesBlock old new m 1 answer) (omega arith) places;
-      grown = λ some. absurd (omega (arith, some));
-    }
 
 -- ---- A value at a vector's end
 
@@ -189,36 +144,23 @@ module _ {T : Type 0} (paid : Paid) (item : Ghosts T) (plain : IsItemLayout item
   abbrev after : ℕ
   after = list_credit item.SIZE w.raw.len w.raw.cap
 
-  -- what a growth asks for, and what is saved up then
-  abbrev spent : Growth → ℕ
-  spent growth = asked_by item.SIZE growth + list_credit item.SIZE (v.raw.len + 1) (capacity_after growth v.raw.cap)
-
   pays_growth : {X : Type 0} (growth : Growth) (result : Result X AllocError) → v.raw.cap ≤ capacity_after growth v.raw.cap
-      → spent growth ≤ before + 4 * item.SIZE → (result ≡ Err CapacityOverflow → ⊥) → Grows item old new v growth list w result
+      → asked_by item.SIZE growth + list_credit item.SIZE (v.raw.len + 1) (capacity_after growth v.raw.cap) ≤ before + 4 * item.SIZE
+      → (result ≡ Err CapacityOverflow → ⊥) → Grows item old new v growth list w result
       → Pays farthest (4 * item.SIZE + 7) before after old new result
-  pays_growth Stays (Ok x) keeps asked fits grows = record {
-    costs = costs_nothing farthest (4 * item.SIZE + 7) before after old new x grows.made.1
-        (rw (grows.len, longer, grows.cap) (omega (arith, asked)));
-    refused = tt;
-    told = λ k no. absurd (cc);
-  }
+  pays_growth Stays (Ok x) keeps asked fits grows =
+      let saved : after ≤ 4 * item.SIZE + 7 + before = rw (grows.len, longer, grows.cap) (omega (arith, asked)) in
+      grind (arith, costs_nothing farthest (4 * item.SIZE + 7) before after old new x grows.made.1 saved)
   pays_growth Stays (Err e) keeps asked fits grows = absurd grows.made.0
   pays_growth Overflows result keeps asked fits grows = absurd (fits grows.made.0)
   pays_growth {X} (GrowsTo more) result keeps asked fits grows =
-      let saved : 2 * item.SIZE * (2 * v.raw.len - v.raw.cap) ≤ 2 * item.SIZE * v.raw.len = mul-le-mul_left (2 * item.SIZE)
-      (let h : 2 * v.raw.len - v.raw.cap ≤ v.raw.len = omega (arith, held.within) in h) in
+      let half : 2 * v.raw.len - v.raw.cap ≤ v.raw.len = omega (arith, held.within) in
       let four : more * 4 ≤ more * item.SIZE = mul-le-mul_left more some in
-      let most : more * item.SIZE ≤ 2 ^ 32 + 2 * item.SIZE = omega (arith, asked, saved, few) in
+      let most : more * item.SIZE ≤ 2 ^ 32 + 2 * item.SIZE = omega (arith, asked, mul-le-mul_left (2 * item.SIZE) half, few) in
       let err : OnErr result (after ≤ before) = grind (arith, grows.err) in
-      pays_room item.SIZE item.ALIGN old new v.raw.block v.raw.cap more (λ _. w.raw.block) (4 * item.SIZE + 7) before after result one
-      held.place keeps (record {
-        layout = row_is_layout more item.SIZE item.ALIGN plain (omega (arith, four, most, small)) small;
-        small = omega (arith, low);
-        bounded = omega (arith, most, small);
-        within = omega (arith, asked, low);
-        ok = grind (arith, grows.len, grows.cap, longer, asked, low);
-        err = on_err_weaker result (λ le. omega (arith, le)) err;
-      }) err grows.made
+      pays_room item.SIZE item.ALIGN old new v.raw.block v.raw.cap more (λ _. w.raw.block) _ before after result one held.place keeps
+      (let layout = row_is_layout more item.SIZE item.ALIGN plain (omega (arith, four, most, small)) small in
+      grind (arith, layout, most, small, low, asked, longer, grows.len, grows.cap, err)) err grows.made
 
   pub pays_push : {X : Type 0} (result : Result X AllocError) → (result ≡ Err CapacityOverflow → ⊥)
       → Grows item old new v (amortised_growth item.SIZE v.raw.cap (v.raw.len + 1)) list w result
@@ -235,21 +177,15 @@ module _ {X K V S : Type 0} (k : Kind K V S) (tells : Option V → X → Type 0)
     pub pays_insert : (bytes : ℕ) (result : Result X AllocError)
         → Costs farthest bytes (credit_of k m) (credit_of k w) old new result → Puts k old new m key value tells w result
         → Pays farthest bytes (credit_of k m) (credit_of k w) old new result
-    pays_insert bytes result costs puts = record {
-      costs = costs;
-      refused = on_err_weaker result (λ same. omega (arith, same.1)) puts.costs.refused;
-      told = λ j is. room_told _ _ old new m.table.block 0 (λ (x : X). w.table.block) j _ (rw is at puts.made);
-    }
+    pays_insert bytes result costs puts =
+        let told : (j : ℕ) → result ≡ Err (AllocErr j) → HasRefused old new j = λ j is.
+        room_told _ _ old new m.table.block 0 (λ (x : X). w.table.block) j _ (rw is at puts.made) in
+        grind (arith, costs, puts.costs.refused, told)
 
     -- It fits where there are fewer pairs than a map can have.
     pub insert_fits : (result : Result X AllocError) → m.len < 2 ^ 32 - 1 → Puts k old new m key value tells w result
         → result ≡ Err CapacityOverflow → ⊥
     insert_fits result few puts is =
         let costs = rw is at puts.costs in
-        elim (cases_Bool (has (map_in k old.memory m) (content_in k.key old.memory key))) [
-          | inl there ↦ (let no = (costs.there there).0 in cc)
-          | inr new ↦ elim (zero_or_more (spare_of m)) [
-            | inl none ↦ (costs.asks new none few).took.took
-            | inr some ↦ (let no = (costs.room new some).0 in cc)
-          ]
-        ]
+        let new = has (map_in k old.memory m) (content_in k.key old.memory key) in
+        grind (arith, cases_Bool new, zero_or_more (spare_of m), costs.there, costs.asks, costs.room)

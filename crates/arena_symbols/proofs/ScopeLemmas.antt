@@ -10,7 +10,8 @@ use Rattle.std.proofs.lemmas.Bool.{cases_lt}
 use Rattle.std.proofs.lemmas.Option.{get_or_from_slice_get, slice_get-get_or}
 use Rattle.std.proofs.lemmas.List.{length-map, length-take, length-drop, length-reverse, drop-append-le, take-append-le, take-append-drop, take_all, drop_all, take_more, nil_from_length}
 use Rattle.std.proofs.lemmas.List.Sums.{sum_by-cons}
-use Rattle.arena_symbols.specs.Scoping.{seen, value_in, lookup, innermost, is_in_last, with_pair, pair_count, scopes_of, AreStarts, start_in, stands_from}
+use Rattle.arena_items.proofs.Layers.{length-elements}
+use Rattle.arena_symbols.specs.Scoping.{seen, value_in, lookup, innermost, with_pair, pair_count, scopes_of, AreStarts, start_in, stands_from}
 use Rattle.arena_symbols.specs.Tables.{Entry, pairs_of, newest, first_count}
 
 -- ---- What is seen
@@ -34,8 +35,7 @@ lookup_put (scope ∷ outer) id value q some = rw (value_push scope id value q) 
 pub lookup_whole : (pairs : List (ℕ × ℕ)) (starts : List ℕ) (id : ℕ) → lookup (scopes_of pairs starts) id ≡ value_in pairs id
 lookup_whole pairs [] id = grind arith
 lookup_whole pairs (k ∷ ks) id =
-    ap (seen (value_in (drop k pairs) id)) (lookup_whole (take k pairs) ks id)
-    ∙ sym (value_append (take k pairs) (drop k pairs) id) ∙ ap (λ (ps : List (ℕ × ℕ)). value_in ps id) (take-append-drop k pairs)
+    grind (arith, lookup_whole (take k pairs) ks id, value_append (take k pairs) (drop k pairs) id, take-append-drop k pairs)
 
 -- ---- Entries, the newest first, as pairs that came one after another
 
@@ -46,14 +46,11 @@ arrived es = pairs_of (reverse es)
 pub reverse_push : {X : Type 0} (xs : List X) (x : X) → reverse (xs ++ x ∷ []) ≡ x ∷ reverse xs
 reverse_push xs x = reverse-append xs (x ∷ [])
 
-reverse_cons : {X : Type 0} (xs : List X) (x : X) → reverse (x ∷ xs) ≡ reverse xs ++ x ∷ []
-reverse_cons xs x = reverse-append (x ∷ []) xs
-
 pub pairs_push : (entries : List Entry) (e : Entry) → pairs_of (entries ++ e ∷ []) ≡ pairs_of entries ++ (e.0, e.1.0) ∷ []
 pairs_push entries e = map-append (λ (e : Entry). (e.0, e.1.0)) entries (e ∷ [])
 
 arrived_cons : (older : List Entry) (e : Entry) → arrived (e ∷ older) ≡ arrived older ++ (e.0, e.1.0) ∷ []
-arrived_cons older e = ap pairs_of (reverse_cons older e) ∙ pairs_push (reverse older) e
+arrived_cons older e = ap pairs_of (reverse-append (e ∷ []) older) ∙ pairs_push (reverse older) e
 
 length_arrived : (es : List Entry) → length (arrived es) ≡ length es
 length_arrived es = length-map (reverse es) (λ (e : Entry). (e.0, e.1.0)) ∙ length-reverse es
@@ -67,51 +64,43 @@ abbrev pub told : List Entry → Option ℕ → Option ℕ
 told entries None = None
 told entries (Some at) = option_map (λ (e : Entry). e.1.0) (slice_get entries at)
 
-get_behind : {X : Type 0} (xs ys : List X) (i : ℕ) → i < length xs → slice_get (xs ++ ys) i ≡ slice_get xs i
-get_behind [] ys i less = absurd (omega arith)
-get_behind (x ∷ xs) ys zero less = refl
-get_behind (x ∷ xs) ys (suc i) less = get_behind xs ys i (omega (arith, less))
-
-get_last : {X : Type 0} (xs : List X) (x : X) → slice_get (xs ++ x ∷ []) (length xs) ≡ Some x
-get_last [] x = refl
-get_last (y ∷ ys) x = get_last ys x
+get_push : {X : Type 0} (xs : List X) (x : X) (i : ℕ)
+    → slice_get (xs ++ x ∷ []) i ≡ (if i == length xs then Some x else slice_get xs i)
+get_push [] x zero = refl
+get_push [] x (suc i) = grind (arith, nat_tests)
+get_push (y ∷ ys) x zero = grind (arith, nat_tests)
+get_push (y ∷ ys) x (suc i) = grind (arith, nat_tests, get_push ys x i)
 
 -- An id has the value that its newest entry says.
 pub value_told : (es : List Entry) (id : ℕ) → value_in (arrived es) id ≡ told (reverse es) (newest es id)
 value_told [] id = refl
 value_told (e ∷ older) id =
-    rw (arrived_cons older e, value_push (arrived older) e.0 e.1.0 id, reverse_cons older e)
-    (grind (
-      arith,
-      value_told older id,
-      get_last (reverse older) e,
-      get_behind (reverse older) (e ∷ []),
-      newest_within older id,
-      length-reverse older,
-    ))
+    rw (arrived_cons older e, value_push (arrived older) e.0 e.1.0 id, reverse-append (e ∷ []) older)
+    (grind (arith, nat_tests, value_told older id, get_push (reverse older) e, newest_within older id, length-reverse older))
 
 -- The pairs from a place on have an id where its newest entry stands there.
-pub stands_there : (es : List Entry) (k id : ℕ) → k ≤ length es
-    → is_some (value_in (drop k (arrived es)) id) ≡ stands_from (newest es id) k
-stands_there [] zero id within = refl
-stands_there [] (suc k) id within = absurd (omega (arith, within))
-stands_there (e ∷ older) k id within = elim (cases_lt k (length (e ∷ older))) [
+pub stands_there : (es : List Entry) (k id : ℕ) → is_some (value_in (drop k (arrived es)) id) ≡ stands_from (newest es id) k
+stands_there [] zero id = refl
+stands_there [] (suc k) id = refl
+stands_there (e ∷ older) k id = elim (cases_lt k (length (e ∷ older))) [
   | inl less ↦
       let low : k ≤ length (arrived older) = omega (arith, less, length_arrived older) in
       rw (arrived_cons older e, drop-append-le k (arrived older) ((e.0, e.1.0) ∷ []) low, value_push (drop k (arrived older)) e.0 e.1.0 id)
-      (grind (arith, nat_tests, less, stands_there older k id (omega (arith, less))))
+      (grind (arith, nat_tests, less, stands_there older k id))
   | inr past ↦ rw (drop_all k (arrived (e ∷ older)) (omega (arith, past, length_arrived (e ∷ older))))
       (grind (arith, nat_tests, past, newest_within (e ∷ older) id))
 ]
 
-pub split_last : {X : Type 0} (xs : List X) (n : ℕ) (x : X) → length xs ≡ n + 1 → slice_get xs n ≡ Some x → xs ≡ take n xs ++ x ∷ []
-split_last {X} xs n x long there =
-    sym (take_all (n + 1) xs (omega (arith, long))) ∙ take_more xs n x (omega (arith, long))
-    ∙ ap (λ (y : X). take n xs ++ y ∷ []) (get_or_from_slice_get xs n x x there)
+-- Where this is the last of some, it comes first when they are turned.
+pub reverse_last : {X : Type 0} (xs : List X) (n : ℕ) (x : X) → length xs ≡ n + 1 → slice_get xs n ≡ Some x
+    → reverse xs ≡ x ∷ reverse (take n xs)
+reverse_last {X} xs n x long there =
+    ap reverse (sym (take_all (n + 1) xs (omega (arith, long))) ∙ take_more xs n x (omega (arith, long)))
+    ∙ reverse_push (take n xs) (get_or xs n x) ∙ ap (λ (y : X). y ∷ reverse (take n xs)) (get_or_from_slice_get xs n x x there)
 
 -- ---- The innermost map
 
-innermost_is : (pairs : List (ℕ × ℕ)) (starts : List ℕ) → innermost (scopes_of pairs starts) ≡ drop (start_in starts) pairs
+pub innermost_is : (pairs : List (ℕ × ℕ)) (starts : List ℕ) → innermost (scopes_of pairs starts) ≡ drop (start_in starts) pairs
 innermost_is pairs [] = refl
 innermost_is pairs (k ∷ ks) = refl
 
@@ -119,24 +108,15 @@ pub start_within : (n : ℕ) (starts : List ℕ) → AreStarts n starts → star
 start_within n [] begins = omega arith
 start_within n (k ∷ ks) begins = begins.0
 
--- The innermost map has an id whose newest entry stands there.
-pub is_in_last_is : (es : List Entry) (starts : List ℕ) (id : ℕ) → AreStarts (length es) starts
-    → is_in_last (scopes_of (arrived es) starts) id ≡ stands_from (newest es id) (start_in starts)
-is_in_last_is es starts id begins =
-    ap (λ (s : List (ℕ × ℕ)). is_some (value_in s id)) (innermost_is (arrived es) starts)
-    ∙ stands_there es (start_in starts) id (start_within (length es) starts begins)
-
--- Where the last of some places is this one, the innermost map begins there, and the next one before the others.
-pub start_last : (xs : List ℕ) (n k : ℕ) → length xs ≡ n + 1 → slice_get xs n ≡ Some k → reverse xs ≡ k ∷ reverse (take n xs)
-start_last xs n k long there = ap reverse (split_last xs n k long there) ∙ reverse_push (take n xs) k
-
+-- The innermost map begins at the last of the places, and the next one before the others.
 pub reverse_front : (xs : List ℕ) (n : ℕ) → length xs ≡ n + 1 → reverse xs ≡ start_in (reverse xs) ∷ reverse (take n xs)
-reverse_front xs n long =
-    let is = start_last xs n (get_or xs n 0) long (slice_get-get_or xs n 0 (omega (arith, long))) in
-    is ∙ ap (λ (k : ℕ). k ∷ reverse (take n xs)) (sym (ap start_in is))
+reverse_front xs n long = rw (reverse_last xs n (get_or xs n 0) long (slice_get-get_or xs n 0 (omega (arith, long)))) refl
 
 pub start_none : (xs : List ℕ) → length xs ≡ 0 → start_in (reverse xs) ≡ 0
 start_none xs none = ap (λ (l : List ℕ). start_in (reverse l)) (nil_from_length xs none)
+
+-- for automatic proof
+pub ruleset start_laws = (reverse_last, start_none, length-elements)
 
 pub length_scopes : (pairs : List (ℕ × ℕ)) (starts : List ℕ) → length (scopes_of pairs starts) ≡ length starts + 1
 length_scopes pairs [] = refl
@@ -148,11 +128,11 @@ pub scopes_enter : (pairs : List (ℕ × ℕ)) (starts : List ℕ) (n : ℕ) →
     → scopes_of pairs (n ∷ starts) ≡ [] ∷ scopes_of pairs starts
 scopes_enter pairs starts n is = (λ i. drop_all n pairs (omega (arith, is)) i ∷ scopes_of (take_all n pairs (omega (arith, is)) i) starts)
 
-pub scopes_push : (pairs : List (ℕ × ℕ)) (starts : List ℕ) (id value : ℕ) → AreStarts (length pairs) starts
+pub scopes_push : (pairs : List (ℕ × ℕ)) (starts : List ℕ) (id value : ℕ) → start_in starts ≤ length pairs
     → scopes_of (pairs ++ (id, value) ∷ []) starts ≡ with_pair (scopes_of pairs starts) id value
-scopes_push pairs [] id value begins = refl
-scopes_push pairs (k ∷ ks) id value begins =
-    (λ i. drop-append-le k pairs ((id, value) ∷ []) begins.0 i ∷ scopes_of (take-append-le k pairs ((id, value) ∷ []) begins.0 i) ks)
+scopes_push pairs [] id value low = refl
+scopes_push pairs (k ∷ ks) id value low =
+    (λ i. drop-append-le k pairs ((id, value) ∷ []) low i ∷ scopes_of (take-append-le k pairs ((id, value) ∷ []) low i) ks)
 
 pub count_pairs : (pairs : List (ℕ × ℕ)) (starts : List ℕ) → pair_count (scopes_of pairs starts) ≡ length pairs
 count_pairs pairs [] = omega arith

@@ -1,6 +1,6 @@
 -- A map that begins.
-use Rattle.std.proofs.Common.{◌≡◌, ℕ, ◌+◌, ◌-◌, ◌^◌, ◌<◌, ◌≤◌, [], ◌∷◌, ◌++◌, length, reverse, refl, sym, ap, subst, ◌∙◌, arith, Ok, Err, length-append}
-use Rattle.std.specs.Prelude.{Result, ◌↔◌}
+use Rattle.std.proofs.Common.{◌≡◌, ℕ, ◌+◌, ◌-◌, ◌^◌, ◌<◌, ◌≤◌, [], ◌∷◌, ◌++◌, length, reverse, sym, ap, subst, ◌∙◌, arith, Ok, Err, length-append}
+use Rattle.std.specs.Prelude.{Result}
 use Rattle.std.specs.Int.{w32, to_le_bytes}
 use Rattle.std.proofs.lemmas.List.{length-map}
 use Rattle.arena_chunks.specs.Memory.{Memory}
@@ -20,7 +20,7 @@ use Rattle.arena_hash.specs.Accounts.{credit_of}
 use Rattle.arena_hash.specs.Finite.{Finite, value_of}
 use Rattle.arena_symbols.specs.Listing.{place_item}
 use Rattle.arena_symbols.specs.Paying.{Pays, far_up}
-use Rattle.arena_symbols.specs.Scoping.{scopes_of, most_scopes}
+use Rattle.arena_symbols.specs.Scoping.{scopes_of}
 use Rattle.arena_symbols.specs.Tables.{Entry, id_kind, pairs_of, entries_in, starts_in, scopes_in, table_blocks, IsTableIn, table_credit}
 use Rattle.arena_symbols.specs.TableCalls.{Enters}
 use Rattle.arena_symbols.specs.TableLaws.{table_of}
@@ -32,14 +32,9 @@ use Rattle.arena_symbols.proofs.TableLemmas.{depth_is, length_recent}
 
 pub enter_full : {item : Ghosts Entry} (old : View) (s : Scopes) → IsTableIn item old.memory s → 2 ^ 29 - 1 ≤ s.starts.raw.len
     → Enters item old old s s (Err CapacityOverflow)
-enter_full {item} old s held full = record {
-  held = held;
-  scopes = tt;
-  kept = refl;
-  overflows = (λ is. omega (arith, full, depth_is item old.memory s), λ many. refl);
-  pays = pays_nothing far_up 64 (table_credit s) old (Err CapacityOverflow) (λ k no. cc);
-  frame = frame_reflexive old.memory (table_blocks s);
-}
+enter_full {item} old s held full =
+    let pays = pays_nothing {X = Unit {0}} far_up 64 (table_credit s) old (Err CapacityOverflow) (λ k no. cc) in
+    grind (arith, pays, frame_reflexive old.memory (table_blocks s), depth_is item old.memory s)
 
 module _ (paid : Paid) {item : Ghosts Entry} (old new : View) {s : Scopes} (v : Vec ℕ) (held : IsTableIn item old.memory s)
     (few : s.starts.raw.len < 2 ^ 29 - 1) (one : old.memory.state.min_align ≡ 1) where
@@ -58,9 +53,6 @@ module _ (paid : Paid) {item : Ghosts Entry} (old new : View) {s : Scopes} (v : 
       (pays_push paid place_item plain_4 (omega arith) (omega arith) (omega arith) old new s.starts v
       (vec_list place_item old.memory s.starts ++ s.pairs.raw.len ∷ []) one held.starts (omega (arith, few)) longer result fits grows)
 
-  fits_more : {P : Type 0} → (P → ⊥) → P ↔ (most_scopes ≤ length (scopes_in item old.memory s))
-  fits_more never = (λ is. absurd (never is), λ full. absurd (omega (arith, full, few, depth_is item old.memory s)))
-
   pub enters : (result : Result (Unit {0}) AllocError) → (result ≡ Err CapacityOverflow → ⊥) → Pushes result
       → Enters item old new s (record s { starts = v }) result
   enters (Ok x) fits grows =
@@ -69,33 +61,27 @@ module _ (paid : Paid) {item : Ghosts Entry} (old new : View) {s : Scopes} (v : 
       let entries = entries_in item old.memory s in
       let places : starts_in new.memory (record s { starts = v }) ≡ s.pairs.raw.len ∷ starts_in old.memory s =
       ap reverse grows.list_is ∙ reverse_push (vec_list place_item old.memory s.starts) s.pairs.raw.len in
-      record {
-        held = table_of (ap reverse vec.list_is) places (record {
-          ids = map.held;
-          pairs = vec.held;
-          starts = grows.held;
-          apart = ((held.apart.0.0, (map.apart.0.0, tt)), ((vec.apart.0, tt), (tt, tt)));
-          places = λ id fits. ap (λ (f : Finite ℕ ℕ). value_of (f (to_le_bytes w32 id))) map.means ∙ held.places id fits;
-          hidden = held.hidden;
-          begins = (omega (arith, length_recent item old.memory s), rw (length_recent item old.memory s) at held.begins);
-          depth = omega (arith, grows.len, few, longer);
-          count = held.count;
-        });
-        scopes = (λ i. scopes_of (pairs_of (vec.list_is i)) (places i))
-            ∙ scopes_enter (pairs_of entries) (starts_in old.memory s) s.pairs.raw.len
-            (sym (length-map entries (λ (e : Entry). (e.0, e.1.0)) ∙ length-elements _ _ _ _));
-        kept = tt;
-        overflows = fits_more fits;
-        pays = pays_start (Ok x) fits grows;
-        frame = frame_behind _ _ _ _ (s.newest.table.block ∷ s.pairs.raw.block ∷ []) grows.frame;
-      }
+      let still : IsTableIn item new.memory (record s { starts = v }) =
+      table_of (ap reverse vec.list_is) places (record {
+        ids = map.held;
+        pairs = vec.held;
+        starts = grows.held;
+        apart = ((held.apart.0.0, (map.apart.0.0, tt)), ((vec.apart.0, tt), (tt, tt)));
+        places = λ id fits. ap (λ (f : Finite ℕ ℕ). value_of (f (to_le_bytes w32 id))) map.means ∙ held.places id fits;
+        hidden = held.hidden;
+        begins = (omega (arith, length_recent item old.memory s), rw (length_recent item old.memory s) at held.begins);
+        depth = omega (arith, grows.len, few, longer);
+        count = held.count;
+      }) in
+      let pairs = length-map entries (λ (e : Entry). (e.0, e.1.0)) ∙ length-elements _ _ _ _ in
+      let scopes : scopes_in item new.memory (record s { starts = v }) ≡ [] ∷ scopes_in item old.memory s =
+      (λ i. scopes_of (pairs_of (vec.list_is i)) (places i))
+      ∙ scopes_enter (pairs_of entries) (starts_in old.memory s) s.pairs.raw.len (sym pairs) in
+      let frame = frame_behind _ _ _ _ (s.newest.table.block ∷ s.pairs.raw.block ∷ []) grows.frame in
+      grind (arith, still, scopes, fits, few, depth_is item old.memory s, pays_start (Ok x) fits grows, frame)
   enters (Err e) fits grows =
       let same = grows.err.1 in
-      record {
-        held = rw grows.err.0 (subst (λ (m : Memory). IsTableIn item m s) (sym same) held);
-        scopes = tt;
-        kept = (λ i. scopes_in item (same i) (record s { starts = grows.err.0 i }));
-        overflows = fits_more fits;
-        pays = pays_start (Err e) fits grows;
-        frame = frame_behind _ _ _ _ (s.newest.table.block ∷ s.pairs.raw.block ∷ []) grows.frame;
-      }
+      let still : IsTableIn item new.memory (record s { starts = v }) =
+      rw grows.err.0 (subst (λ (m : Memory). IsTableIn item m s) (sym same) held) in
+      let frame = frame_behind _ _ _ _ (s.newest.table.block ∷ s.pairs.raw.block ∷ []) grows.frame in
+      grind (arith, still, same, grows.err.0, fits, few, depth_is item old.memory s, pays_start (Err e) fits grows, frame)

@@ -8,6 +8,7 @@ ghost use Rattle.arena_symbols.specs.declared.scopes.Scopes.{Scopes};
 
 /// Of distinct texts, as an interner's are, two have one number exactly where they are equal: a number is that of the text at its
 /// place (`there`), each text has its place (`place`), and the numbers are those below the number of texts (`below`).
+#[tactic(auto, using(crate::proofs::NumberLemmas::number_there, crate::proofs::NumberLemmas::number_place))]
 pub fn numbers_law()
     ensures there { (texts : List (List ℕ)) (text : List ℕ) (n : ℕ) → number_of texts text ≡ Some n
         → slice_get texts n ≡ Some text }
@@ -19,6 +20,7 @@ pub fn numbers_law()
 {}
 
 /// A scoped table has a map. Where a pair is put into the innermost one its id has that value, and each other id has what it had.
+#[tactic(auto, using(crate::proofs::ScopeLemmas::lookup_put))]
 pub fn scopes_law()
     ensures some { (memory : Memory) (s : Scopes) → IsTableIn entry_item memory s
         → 0 < length (scopes_in entry_item memory s) }

@@ -57,6 +57,7 @@ impl Scopes {
 
     // Where the innermost map begins.
     #[inline(always)]
+    #[tactic(auto, using(crate::proofs::ScopeLemmas::start_laws))]
     fn start<C: ChunkSource>(&self, a: &Allocator<C>) -> u32
         requires { IsTableIn entry_item a.now.memory self.now }
         ensures { result ≡ start_in (starts_in a.now.memory self.now) }
@@ -67,6 +68,7 @@ impl Scopes {
 
     /// The value of an id in the innermost map that has it.
     #[inline(always)]
+    #[tactic(auto, using(crate::proofs::TableLemmas::entry_size))]
     pub fn lookup<C: ChunkSource>(&self, a: &Allocator<C>, id: u32) -> Option<u32>
         requires { IsTableIn entry_item a.now.memory self.now }
         ensures { result ≡ lookup (scopes_in entry_item a.now.memory self.now) id }
@@ -161,6 +163,7 @@ impl Scopes {
     // Takes the newest pair away, so that the one that it hid is the newest of its id. It takes no memory: a key that is
     // there is put again, or removed.
     #[inline(always)]
+    #[tactic(auto, using(crate::proofs::TableLemmas::entry_size))]
     fn undo<C: ChunkSource>(&mut self, a: &mut Allocator<C>)
         requires held { IsTableIn entry_item a.old.memory self.old }
         requires inner { start_in (starts_in a.old.memory self.old) < self.old.pairs.raw.len }

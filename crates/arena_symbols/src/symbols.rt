@@ -39,6 +39,7 @@ impl Symbols {
     }
 
     /// How many texts there are.
+    #[tactic(auto, using(crate::proofs::InternLemmas::length_names))]
     pub fn len(&self) -> u32
         ensures { (memory : Memory) → result ≡ length (names_in memory self.now) }
     {
@@ -56,6 +57,7 @@ impl Symbols {
 
     // The same, and where the search for the text ended.
     #[inline(always)]
+    #[tactic(auto, using(crate::proofs::InternLemmas::number_is))]
     fn search<C: ChunkSource>(&self, a: &Allocator<C>, text: &str) -> (Option<u32>, Look)
         requires { IsInternerIn a.now.memory self.now }
         ensures number { result.0 ≡ number_of (names_in a.now.memory self.now) text.now }
@@ -65,6 +67,7 @@ impl Symbols {
     }
 
     /// The text with a number.
+    #[tactic(auto, using(crate::proofs::InternLemmas::text_laws))]
     pub fn text<C: ChunkSource>(&self, a: &Allocator<C>, id: u32) -> Str
         requires held { IsInternerIn a.now.memory self.now }
         requires id { id < length (names_in a.now.memory self.now) }
@@ -82,6 +85,7 @@ impl Symbols {
     ///
     /// `CapacityOverflow` where a new text comes at 67,108,864 texts; `AllocErr` and `OutOfMemory` as of the arena's
     /// `alloc_layout` and `grow`. The texts are as they were; what was placed is dead.
+    #[tactic(auto, using(crate::proofs::InternCalls::interns_known, crate::proofs::InternCalls::interns_full))]
     pub fn intern<C: ChunkSource>(&mut self, a: &mut Allocator<C>, text: &str) -> Grown<u32>
         requires held { IsInternerIn a.old.memory self.old }
         requires length { length text.now < 2 ^ 32 }

@@ -51,6 +51,7 @@ impl Names {
     ///
     /// `CapacityOverflow` where a new name comes at 67,108,864 names, or a new pair at 134,217,728 pairs; else as of the arena's
     /// `alloc_layout` and `grow`. The scopes are as they were; the name may have its number.
+    #[tactic(auto, using(crate::proofs::NamedLemmas::declarations))]
     pub fn declare<C: ChunkSource>(
         &mut self,
         a: &mut Allocator<C>,
@@ -99,6 +100,7 @@ impl Names {
     }
 
     // Ends the innermost scope.
+    #[tactic(auto, using(crate::proofs::NamedLemmas::scopes_moved))]
     fn leave<C: ChunkSource>(&mut self, a: &mut Allocator<C>)
         requires { AreNames a.old.memory self.old }
         ensures moves { Moves a.old.memory a.new.memory self.old self.new }

@@ -1,5 +1,7 @@
 use Rattle.std.proofs.Common.{sym, refl, append-nil, arith}
-use Rattle.arena_lint.proofs.NameLemmas.{name_at, name_is, no_names, kid_found, kids_found}
+use Rattle.arena_tree.specs.declared.node.Kind.TheVariants as kind
+use Rattle.arena_tree.proofs.Layers.{seen}
+use Rattle.arena_lint.proofs.NameLemmas.{name_at, kid_found, kids_found}
 use Rattle.arena_lint.proofs.names.+names.Goals as goal
 
 pub all_names-kids-init : goal.all_names-kids-init
@@ -20,8 +22,8 @@ pub names_in-use_name-requires-clause-utf8 : goal.names_in-use_name-requires-cla
 names_in-use_name-requires-clause-utf8 g t c = (name_at c.requires.tree c.in-Name.is).1
 
 pub names_in-returns-in-Num : goal.names_in-returns-in-Num
-names_in-returns-in-Num g t c e sets at knows = rw (no_names e c.args.a.now.memory c.args.node at c.in-Num.is) (sym (append-nil _))
+names_in-returns-in-Num g t c e sets at knows = rw (seen kind.Num c.args.a.now.memory c.args.node c.in-Num.is e at) (sym (append-nil _))
 
 pub names_in-returns-in-Name : goal.names_in-returns-in-Name
 names_in-returns-in-Name g t c e sets at knows =
-    rw (name_is e c.args.a.now.memory c.args.node at c.in-Name.is) (c.use_name.ensures sets knows)
+    rw (seen kind.Name c.args.a.now.memory c.args.node c.in-Name.is e at).1 (c.use_name.ensures sets knows)

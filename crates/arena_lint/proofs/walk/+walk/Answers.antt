@@ -1,10 +1,12 @@
-use Rattle.std.proofs.Common.{arith}
+use Rattle.std.proofs.Common.{ap, arith}
 use Rattle.arena_tree.specs.Spending.{error_of}
+use Rattle.arena_tree.specs.declared.node.Kind.TheVariants as kind
+use Rattle.arena_tree.proofs.Layers.{line_seen}
 use Rattle.arena_lint.proofs.SpendingLemmas.{err_takes, takes_wanting, takes_then, takes_more}
 use Rattle.arena_symbols.proofs.Layers.{moves_then}
 use Rattle.tree_rules.specs.Weights.{weight}
 use Rattle.arena_lint.proofs.StatementLemmas.{list_moved, show_finds}
-use Rattle.arena_lint.proofs.WalkLemmas.{moves_none, block_weight, body_takes, block_finds, walking_begin, walking_next, walking_end, walking_takes, walked_takes}
+use Rattle.arena_lint.proofs.WalkLemmas.{moves_none, block_finds, walking_begin, walking_next, walking_end, walking_takes, walked_takes}
 use Rattle.arena_lint.proofs.walk.+walk.Goals as goal
 
 pub walk-stmt-node-requires-clause-trees : goal.walk-stmt-node-requires-clause-trees
@@ -52,20 +54,20 @@ walk_stmt-returns-in_ok-walk-in-Block-clause-finds g t c s at sets knows =
 pub walk_stmt-returns-in_err-list-in-Block-clause-takes : goal.walk_stmt-returns-in_err-list-in-Block-clause-takes
 walk_stmt-returns-in_err-list-in-Block-clause-takes g t c s at =
     err_takes c.from_residual.result c.from_residual.ensures
-    (takes_more (weight s) (block_weight s c.args.a.now.memory c.args.node at c.in-Block.is) c.in_err-list-in-Block.ensures.takes)
+    (takes_more _ (omega (arith, ap weight (line_seen kind.Block c.args.a.now.memory c.args.node c.in-Block.is s at).2))
+    c.in_err-list-in-Block.ensures.takes)
 
 pub walk_stmt-returns-in_err-walk-in-Block-clause-takes : goal.walk_stmt-returns-in_err-walk-in-Block-clause-takes
 walk_stmt-returns-in_err-walk-in-Block-clause-takes g t c s at =
     let body = c.in_ok-list-in-Block.ensures.enters.body s at in
     err_takes c.from_residual-in_err-walk-in-Block.result c.from_residual-in_err-walk-in-Block.ensures
-    (body_takes body.1 c.in_ok-list-in-Block.ensures.takes (c.in_err-walk-in-Block.ensures.takes body.0 body.2))
+    (rw body.1 (takes_then c.in_ok-list-in-Block.ensures.takes (c.in_err-walk-in-Block.ensures.takes body.0 body.2)))
 
 pub walk_stmt-returns-in_ok-walk-in-Block-clause-takes : goal.walk_stmt-returns-in_ok-walk-in-Block-clause-takes
 walk_stmt-returns-in_ok-walk-in-Block-clause-takes g t c s at =
     let body = c.in_ok-list-in-Block.ensures.enters.body s at in
-    takes_more (weight s) (omega arith) (takes_then
-    (body_takes body.1 c.in_ok-list-in-Block.ensures.takes (c.in_ok-walk-in-Block.ensures.takes body.0 body.2))
-    c.leave_block.ensures.takes)
+    rw body.1 (takes_more _ (omega arith) (takes_then
+    (takes_then c.in_ok-list-in-Block.ensures.takes (c.in_ok-walk-in-Block.ensures.takes body.0 body.2)) c.leave_block.ensures.takes))
 
 pub walk_stmt-returns-in_default : goal.walk_stmt-returns-in_default
 walk_stmt-returns-in_default g t c = record {

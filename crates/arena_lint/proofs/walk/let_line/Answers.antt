@@ -1,6 +1,8 @@
 use Rattle.std.proofs.Common.{Some}
+use Rattle.arena_tree.specs.declared.node.Kind.TheVariants as kind
+use Rattle.arena_tree.proofs.Layers.{line_seen}
 use Rattle.arena_lint.proofs.SpendingLemmas.{err_takes, takes_wanting}
-use Rattle.arena_lint.proofs.StatementLemmas.{let_name, let_finds, let_weight}
+use Rattle.arena_lint.proofs.StatementLemmas.{let_name, let_finds}
 use Rattle.arena_lint.proofs.walk.let_line.Goals as goal
 
 pub define-requires-clause-held : goal.define-requires-clause-held
@@ -23,4 +25,4 @@ returns-in_err-use_names-clause-takes g c s at = err_takes c.from_residual.resul
     (takes_wanting c.args.a.now c.args.known.now (Some _) c.in_err-use_names.ensures.wanting)
 
 pub returns-clause-takes : goal.returns-clause-takes
-returns-clause-takes g c s at = rw (let_weight s c.args.a.now.memory c.args.node at c.requires.kind) at c.define.ensures.takes
+returns-clause-takes g c s at = rw (line_seen kind.Let c.args.a.now.memory c.args.node c.requires.kind s at).3 c.define.ensures.takes

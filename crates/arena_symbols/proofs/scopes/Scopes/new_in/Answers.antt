@@ -1,4 +1,4 @@
-use Rattle.std.proofs.Common.{ℕ, [], reverse, ap, arith}
+use Rattle.std.proofs.Common.{ℕ, [], ◌∷◌, reverse, ap, arith}
 use Rattle.std.specs.Int.{w32, to_le_bytes}
 use Rattle.placement.specs.Rounding.{up}
 use Rattle.arena_chunks.proofs.Layers.{apart_empty}
@@ -15,15 +15,16 @@ returns c =
     let map = c.new_in.ensures in
     let pairs = c.new_in-2.ensures in
     let starts = c.new_in-3.ensures in
+    let v = c.new_in-2.result.raw.block in
+    let w = c.new_in-3.result.raw.block in
+    let none = ap (λ b. b.size) pairs.block in
+    let nothing = ap (λ b. b.size) starts.block in
     record {
       held = λ memory. table_of {es = []} {ks = []} (ap reverse (pairs.list memory)) (ap reverse (starts.list memory)) (record {
         ids = map.held memory;
         pairs = pairs.held memory;
         starts = starts.held memory;
-        apart = (
-          ((λ some more. absurd (omega (arith, map.block, some))), ((λ some more. absurd (omega (arith, map.block, some))), tt)),
-          (((λ some more. absurd (omega (arith, ap (λ b. b.size) pairs.block, some))), tt), (tt, tt)),
-        );
+        apart = (apart_empty c.new_in.result.table.block.addr _ (v ∷ w ∷ []) map.block, (apart_empty v.addr _ (w ∷ []) none, (tt, tt)));
         places = λ id fits. ap (λ (f : Finite ℕ ℕ). value_of (f (to_le_bytes w32 id))) (map.map_is memory);
         hidden = tt;
         begins = tt;
@@ -31,9 +32,6 @@ returns c =
         count = map.len;
       });
       scopes = λ memory. (λ i. scopes_of (pairs_of (pairs.list memory i)) (reverse (starts.list memory i)));
-      apart = λ others. (
-        apart_empty _ _ others map.block,
-        (apart_empty _ _ others (ap (λ b. b.size) pairs.block), (apart_empty _ _ others (ap (λ b. b.size) starts.block), tt)),
-      );
+      apart = λ others. (apart_empty _ _ others map.block, (apart_empty _ _ others none, (apart_empty _ _ others nothing, tt)));
       credit = omega (arith, map.credit, pairs.len, pairs.cap, starts.len, starts.cap);
     }

@@ -1,10 +1,7 @@
 use Rattle.std.proofs.Common.{arith}
 use Rattle.std.proofs.lemmas.Result.{err_from_is_err_and}
-use Rattle.arena_symbols.proofs.CallLemmas.{ran_none, ran_next, ran_stopped}
+use Rattle.arena_symbols.proofs.CallLemmas.{ran_next, ran_stopped}
 use Rattle.arena_symbols.proofs.uses.Names.run.Goals as goal
-
-pub loop-call-init : goal.loop-call-init
-loop-call-init g c = ran_none _ _ _ c.requires
 
 pub loop-call-preserved : goal.loop-call-preserved
 loop-call-preserved g c =
