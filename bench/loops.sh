@@ -4,9 +4,9 @@
 #     NATIVE=bench/driver/target/release/native bench/loops.sh vec_push "vec_push 1000"
 #     NATIVE=bench/driver/target/release/native bench/loops.sh hash pool
 # A word is a loop, behind whose name may stand how many calls it makes, and further words; or a section: arena, items, vec, text, bits,
-# hash, clone, symbols, pool. Without words all sections are timed. ROUNDS rounds (5 if not set) run the two programs by turns, each
-# the best of its own five runs, so that a noisy minute hits both. A loop's number depends on the calls alone: both programs must print
-# the same.
+# hash, clone, symbols, trees, pool. Without words all sections are timed. ROUNDS rounds (5 if not set) run the two programs by turns,
+# each the best of its own five runs, so that a noisy minute hits both. A loop's number depends on the calls alone: both programs must
+# print the same.
 set -euo pipefail
 here=$(dirname "$(readlink -f "$0")")
 
@@ -21,12 +21,13 @@ section() {
         hash) loops=(map_small map_get map_remove map_insert map_iter map_walked) ;;
         clone) loops=(vec_clone map_clone) ;;
         symbols) loops=(intern_new intern_known scope_define scope_lookup scope_enter) ;;
+        trees) loops=(tree_parse) ;;
         pool) loops=(pool_get pool_get_threads claim claim_threads) ;;
         *) loops=("$1") ;;
     esac
 }
 
-[ $# -gt 0 ] || set -- arena items vec text bits hash clone symbols pool
+[ $# -gt 0 ] || set -- arena items vec text bits hash clone symbols trees pool
 named=()
 for word; do
     section "$word"

@@ -9,7 +9,7 @@ use oxc_allocator::{
     Vec as ArenaVec,
 };
 
-use crate::symbols;
+use crate::{symbols, trees};
 
 /// One loop: its name, what an operation is, how many by default, and the work.
 struct Bench {
@@ -861,6 +861,12 @@ const BENCHES: &[Bench] = &[
         what: "scope begun, four names in it, and ended",
         ops: 10_000_000,
         run: symbols::scope_enter,
+    },
+    Bench {
+        name: "tree_parse",
+        what: "byte of a text parsed into a warm arena",
+        ops: 20_000_000,
+        run: trees::tree_parse,
     },
 ];
 

@@ -2,6 +2,7 @@
 //! pool and walked, with its findings. The natural linter that a user of the crate writes.
 
 use std::{
+    hint::black_box,
     io::{Read, Write},
     sync::{
         Mutex,
@@ -230,6 +231,12 @@ impl<'a, 's> Parser<'a, 's> {
             _ => self.syntax(),
         }
     }
+}
+
+/// How many statements the text has, parsed into the arena, if it is a program.
+pub fn statements(a: &Allocator, src: &[u8]) -> Option<usize> {
+    let stmts = black_box(Parser::new(a, src).stmts(false).ok()?);
+    Some(stmts.len())
 }
 
 /// Names by number, and for each the depths at which it is declared, innermost last.

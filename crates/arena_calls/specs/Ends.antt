@@ -66,17 +66,26 @@ pub record ReadsCalls (old new : Outside) (calls : List Call) : Type 0 where
   pub whole : ReadsWhole old new bytes
   pub lines : CallsOf bytes (Ok calls)
 
+-- whether a text was written whole, or a part of it
+abbrev pub IsWritten : Type 1
+IsWritten = Option (List ℕ) → Option (List ℕ) → List ℕ → Type 0
+
+-- The text was written, or a first part of it and then writing failed once.
+abbrev pub Prints : List ℕ → Status → Option (List ℕ) → ℕ → Option (List ℕ) → ℕ → Type 0
+Prints text Done old before new after = Writes old new text × (after ≡ before)
+Prints text WriteFault old before new after = WritesPart old new text × (after ≡ counted before 1)
+Prints text _ old before new after = ⊥
+
 -- what is written of a run, by its replies and the state behind it
 abbrev pub Told : Type 0
 Told = List Reply → State → List ℕ
 
 -- The calls were run, and the text that tells what they gave was written whole or in part, as this says.
-pub record RunsTo (old new : Outside) (calls : List Call) (text : Told)
-    (IsWritten : Option (List ℕ) → Option (List ℕ) → List ℕ → Type 0) : Type 0 where
+pub record RunsTo (old new : Outside) (calls : List Call) (text : Told) (Is : IsWritten) : Type 0 where
   pub replies : List Reply
   pub blocks : List (ℕ × Block)
   pub runs : Runs old.arena new.arena calls replies blocks
-  pub written : IsWritten old.written new.written (text replies new.arena.memory.state)
+  pub written : Is old.written new.written (text replies new.arena.memory.state)
 
 -- the first ones of these calls, so many, were run, and nothing was written
 pub record StopsIn (old new : Outside) (calls : List Call) : Type 0 where
@@ -90,29 +99,46 @@ pub record StopsIn (old new : Outside) (calls : List Call) : Type 0 where
 abbrev pub reply_lines : Told
 reply_lines replies state = text_of replies
 
+-- The whole input was read, its lines are calls, and they were run.
+pub record RunsInput (left now_left : Option (List ℕ)) (entry exit : View) (replies : List Reply) (held : List (ℕ × Block)) : Type 0 where
+  pub bytes : List ℕ
+  pub told : TakesWhole left now_left bytes
+  pub small : length bytes ≤ limit
+  pub calls : List Call
+  pub lines : CallsOf bytes (Ok calls)
+  pub runs : Runs entry exit calls replies held
+
 -- memory was wanting before the first call was run, and no more was taken than an input may have
 pub record StopsBefore (old new : Outside) : Type 0 where
   pub untouched : IsUntouched old new
   pub front : TakesFront old.left new.left (λ n. n ≤ limit)
 
--- Where memory is wanting in the run or behind it, the first calls were run, however few.
-abbrev pub Ends : Status → Outside → Outside → Type 0
-Ends Done old new =
-    HasNoFault old new × ((calls : List Call) × ReadsCalls old new calls × RunsTo old new calls reply_lines Writes)
-Ends Usage old new = ⊥
-Ends (BadLine n) old new =
+-- Nothing is written. Where memory is wanting in the run or behind it, the first calls were run, however few.
+abbrev pub EndsUnwritten : Status → Outside → Outside → Type 0
+EndsUnwritten Done old new = ⊥
+EndsUnwritten Usage old new = ⊥
+EndsUnwritten (BadLine n) old new =
     HasNoFault old new × IsUntouched old new
     × ((bytes : List ℕ) × ReadsWhole old new bytes × CallsOf bytes (Err n))
-Ends OutOfMemory old new =
+EndsUnwritten OutOfMemory old new =
     HasNoFault old new
     × (StopsBefore old new ⊎ ((calls : List Call) × ReadsCalls old new calls × StopsIn old new calls))
-Ends ReadFault old new =
+EndsUnwritten ReadFault old new =
     HasReadFault old new × IsUntouched old new × TakesFront old.left new.left (λ n. n ≤ limit)
-Ends WriteFault old new =
-    HasWriteFault old new
-    × ((calls : List Call) × ReadsCalls old new calls × RunsTo old new calls reply_lines WritesPart)
-Ends InputTooLong old new =
+EndsUnwritten WriteFault old new = ⊥
+EndsUnwritten InputTooLong old new =
     HasNoFault old new × IsUntouched old new × TakesFront old.left new.left (λ n. n ≡ limit + 1)
+
+-- The run ends, where this is what is told of it: the calls were run, and that was written whole or in part.
+abbrev pub EndsWith : (Outside → Outside → List Call → IsWritten → Type 0) → Status → Outside → Outside → Type 0
+EndsWith Ran Done old new = HasNoFault old new × ((calls : List Call) × ReadsCalls old new calls × Ran old new calls Writes)
+EndsWith Ran WriteFault old new =
+    HasWriteFault old new × ((calls : List Call) × ReadsCalls old new calls × Ran old new calls WritesPart)
+EndsWith Ran status old new = EndsUnwritten status old new
+
+-- the text of the replies is told
+abbrev pub Ends : Status → Outside → Outside → Type 0
+Ends = EndsWith (λ old new calls. RunsTo old new calls reply_lines)
 
 -- ---- A run of calls from a number
 

@@ -1,11 +1,9 @@
--- What is read of a line of calls, and why bytes are refused.
-use Rattle.std.specs.Prelude.{ℕ, nat_eq, IsTrue, List, ◌∷◌, [], Err}
+-- What is read of a line of calls.
+use Rattle.std.specs.Prelude.{ℕ, nat_eq, IsTrue, List, ◌∷◌, []}
 use Rattle.std.specs.List.{starts_with}
-use Rattle.placement.specs.Grammar.{Fits, fields, call_line, CallsOf}
+use Rattle.placement.specs.Grammar.{Fits, fields, call_line}
 use Rattle.placement.specs.declared.calls.Call.{Call}
 use Rattle.placement.specs.declared.calls.Call.TheVariants.{Alloc}
-use Rattle.arena_calls.specs.declared.lines.parse.LinesErr.{LinesErr}
-use Rattle.arena_calls.specs.declared.lines.parse.LinesErr.TheVariants.{BadLine, OutOfMemory}
 
 -- a name, a size, an alignment and a fill byte
 abbrev pub Placing : Type 0
@@ -20,8 +18,3 @@ placing_fields p = fields (p.0 ∷ p.1 ∷ p.2 ∷ p.3 ∷ [])
 -- a call whose line begins with this word
 abbrev pub BeginsWith : List ℕ → Call → Type 0
 BeginsWith word call = Fits call × IsTrue (starts_with nat_eq (call_line call) word)
-
--- a line is named only where it is the first that is refused; memory may always be wanting
-abbrev pub IsCauseIn : List ℕ → LinesErr → Type 0
-IsCauseIn bytes (BadLine n) = CallsOf bytes (Err n)
-IsCauseIn bytes OutOfMemory = Unit {0}

@@ -7,6 +7,7 @@ mod generator;
 pub mod laws;
 mod lines;
 mod messages;
+mod printing;
 mod replies;
 mod status;
 mod streams;
@@ -16,12 +17,14 @@ mod whole_run;
 
 pub use arguments::is_one_word;
 pub use budget::{Budgeted, program_chunks};
-pub use lines::{LinesErr, parse_calls};
+pub use line_parts::LinesErr;
+pub use lines::parse_calls;
 pub use messages::exit_with;
+pub use printing::print;
 pub use replies::Text;
 pub use status::Status;
 pub use streams::{
     Failed, Input, MemoryInput, MemoryOutput, Output, ReadErr, StdInput, StdOutput, read_all,
     write_all,
 };
-pub use whole_run::arena_calls;
+pub use whole_run::{arena_calls, run_input};

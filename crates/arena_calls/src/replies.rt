@@ -7,8 +7,9 @@ ghost use Rattle.arena_chunks.specs.Replies.{has_bytes};
 use arena_chunks::Replies;
 use itoa::Buffer;
 pub use line_parts::put;
-use line_parts::{put_field, put_hex};
+use line_parts::{make_room, put_field, put_hex};
 use placement::{OutOfMemory, Reply};
+use std::alloc::Global;
 
 // The most bytes that a line has with its feed, where the reply holds none: `placed`, a number of 64 bits,
 // `refused` and a number of 32 bits.
@@ -64,23 +65,23 @@ pub struct Text {
 }
 
 impl Text {
+    /// No text.
+    pub fn new(alloc: Global) -> Text
+        ensures { result.bytes.items ≡ [] }
+    {
+        Text {
+            bytes: Vec::new(alloc),
+        }
+    }
+
     // Makes room for so many lines of replies that hold no bytes, and for more bytes.
     fn make_room(&mut self, lines: usize, more: usize) -> Result<(), OutOfMemory>
         ensures same { self.new.bytes.items ≡ self.old.bytes.items }
         ensures room { OnOk result
             (vec_len self.new.bytes + more + 47 * lines ≤ vec_capacity self.new.bytes) }
     {
-        let Some(fixed) = LONGEST.checked_mul(lines) else {
-            return Err(OutOfMemory);
-        };
-        let Some(room) = fixed.checked_add(more) else {
-            return Err(OutOfMemory);
-        };
-        // Room may grow by doubling: what lies past the text's end isn't touched, and so takes no memory.
-        match self.bytes.reserve(room) {
-            Ok(()) => Ok(()),
-            Err(_) => Err(OutOfMemory),
-        }
+        let fixed = LONGEST.checked_mul(lines).ok_or(OutOfMemory)?;
+        make_room(&mut self.bytes, fixed.checked_add(more).ok_or(OutOfMemory)?)
     }
 }
 

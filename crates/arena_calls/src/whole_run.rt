@@ -1,17 +1,62 @@
 // A run of calls.
+ghost use Rattle.std.specs.Prelude.{◌≡◌, ℕ, List, Option, IfOk, IfErr, OnOk};
+ghost use Rattle.placement.specs.declared.calls.Reply.{Reply};
 ghost use Rattle.arena_chunks.specs.Source.{view};
-ghost use Rattle.arena_calls.specs.Ends.{Ends, EndsBy, outside};
+ghost use Rattle.arena_chunks.specs.Replies.{TakesMore};
+ghost use Rattle.arena_calls.specs.Ends.{Ends, EndsBy, EndsUnwritten, RunsInput, outside};
 
 use crate::arguments::{Command, asked_for};
 use crate::generator::run_generated;
-use crate::lines::{LinesErr, parse_calls};
+use crate::lines::parse_calls;
+use crate::printing::print;
 use crate::replies::Text;
 use crate::status::Status;
-use crate::streams::{Input, Output, ReadErr, read_all, write_all};
-use arena_chunks::{Arena, Bytes, ChunkSource, run_calls_into};
+use crate::streams::{Input, Output, ReadErr, read_all};
+use arena_chunks::{Arena, Block, Bytes, ChunkSource, Replies, run_calls_into};
+use line_parts::LinesErr;
 use std::alloc::Global;
 
-// Reads all of the input as calls, runs them over the arena and writes the replies.
+/// Reads all of the input as calls, and runs them over the arena: the blocks that names hold then.
+///
+/// # Errors
+///
+/// The status of a run that has nothing to write.
+pub fn run_input<C: ChunkSource, I: Input, R: Replies>(
+    alloc: Global,
+    arena: &mut Arena<1>,
+    chunks: &mut C,
+    input: &mut I,
+    replies: &mut R,
+) -> Result<Vec<(u32, Block)>, Status>
+    ensures ok { IfOk result (λ held. (list : List Reply)
+        × RunsInput (I.left input.old) (I.left input.new)
+        (view arena.old (C.source chunks.old)) (view arena.new (C.source chunks.new)) list held.items
+        × TakesMore R.has_taken replies.old replies.new list) }
+    ensures no_fault { OnOk result (I.faults input.new ≡ I.faults input.old) }
+    ensures err { IfErr result (λ status. (written : Option (List ℕ)) (faults : ℕ) → EndsUnwritten status
+        (outside (I.left input.old) (I.faults input.old) written faults (view arena.old (C.source chunks.old)))
+        (outside (I.left input.new) (I.faults input.new) written faults (view arena.new (C.source chunks.new)))) }
+{
+    let bytes = match read_all(alloc, input) {
+        Ok(bytes) => bytes,
+        Err(ReadErr::Failed) => return Err(Status::ReadFault),
+        Err(ReadErr::TooLong) => return Err(Status::InputTooLong),
+        Err(ReadErr::OutOfMemory) => return Err(Status::OutOfMemory),
+    };
+    let calls = match parse_calls(alloc, bytes.as_slice()) {
+        Ok(calls) => calls,
+        Err(LinesErr::BadLine(n)) => return Err(Status::BadLine(n)),
+        Err(LinesErr::OutOfMemory) => return Err(Status::OutOfMemory),
+    };
+    // What has been read is let go before the run, since the text of the replies needs the most memory.
+    drop(bytes);
+    match run_calls_into(alloc, arena, chunks, calls.as_slice(), replies) {
+        Ok(held) => Ok(held),
+        Err(_) => Err(Status::OutOfMemory),
+    }
+}
+
+// Runs the input's calls over the arena, and writes the replies.
 fn run_lines<C: ChunkSource, I: Input, O: Output>(
     alloc: Global,
     arena: &mut Arena<1>,
@@ -25,28 +70,10 @@ fn run_lines<C: ChunkSource, I: Input, O: Output>(
         (outside (I.left input.new) (I.faults input.new) (O.written output.new) (O.faults output.new)
         (view arena.new (C.source chunks.new))) }
 {
-    let bytes = match read_all(alloc, input) {
-        Ok(bytes) => bytes,
-        Err(ReadErr::Failed) => return Status::ReadFault,
-        Err(ReadErr::TooLong) => return Status::InputTooLong,
-        Err(ReadErr::OutOfMemory) => return Status::OutOfMemory,
-    };
-    let calls = match parse_calls(alloc, bytes.as_slice()) {
-        Ok(calls) => calls,
-        Err(LinesErr::BadLine(n)) => return Status::BadLine(n),
-        Err(LinesErr::OutOfMemory) => return Status::OutOfMemory,
-    };
-    // What has been read is let go before the run, since the text of the replies needs the most memory.
-    drop(bytes);
-    let mut text = Text {
-        bytes: Vec::new(alloc),
-    };
-    let Ok(_) = run_calls_into(alloc, arena, chunks, calls.as_slice(), &mut text) else {
-        return Status::OutOfMemory;
-    };
-    match write_all(output, text.bytes.as_slice()) {
-        Ok(()) => Status::Done,
-        Err(_) => Status::WriteFault,
+    let mut text = Text::new(alloc);
+    match run_input(alloc, arena, chunks, input, &mut text) {
+        Ok(_) => print(output, text.bytes.as_slice()),
+        Err(status) => status,
     }
 }
 

@@ -1,6 +1,7 @@
 -- Slots of a table's bytes: read, put and freed.
 use Rattle.std.proofs.Common.{◌≡◌, ℕ, zero, suc, ◌+◌, ◌-◌, ◌*◌, ◌<◌, ◌≤◌, ◌⊎◌, inl, inr, List, [], ◌∷◌, ◌++◌, length, take, drop, set}
-use Rattle.std.proofs.Common.{get_or, refl, sym, ap, ◌∙◌, arith, Some, None, Option, false, length-append, append_assoc}
+use Rattle.std.proofs.Common.{get_or, refl, sym, ap, subst, ◌∙◌, take-add, arith, Some, None, Option, false, length-append, append_assoc}
+use lib.Seq.{set-get_or}
 use Rattle.std.specs.Prelude.{slice_get, if◌then◌else◌, ◌==◌}
 use Rattle.std.proofs.lemmas.Grind.{common_steps}
 use Rattle.std.proofs.lemmas.Bool.Decides.{nat_tests}
@@ -73,7 +74,7 @@ module _ {X : Type 0} where
 -- ---- Lists of bytes
 
 -- a write within a list keeps its length
-length-splice : (bs : List ℕ) (at : ℕ) (ys : List ℕ) → at + length ys ≤ length bs → length (splice bs at ys) ≡ length bs
+pub length-splice : (bs : List ℕ) (at : ℕ) (ys : List ℕ) → at + length ys ≤ length bs → length (splice bs at ys) ≡ length bs
 length-splice bs at ys h = grind (arith, common_steps)
 
 -- what stands in the front of a list
@@ -95,6 +96,27 @@ pub mid-splice : (at n : ℕ) (xs ys : List ℕ) → length ys ≡ n → put_mid
 mid-splice at n xs ys h =
     let k : at + n - at ≡ n = omega arith in
     rw (k, h) (ap (λ zs. take at xs ++ (ys ++ zs)) (drop-drop n at xs) ∙ sym (append_assoc (take at xs) ys (drop (at + n) xs)))
+
+-- a write into a list is one into its second part,
+splice-split : (n at : ℕ) (xs ys : List ℕ) → splice xs (n + at) ys ≡ take n xs ++ splice (drop n xs) at ys
+splice-split n at xs ys =
+    let last : n + at + length ys ≡ n + (at + length ys) = omega arith in
+    let rest : drop (n + at + length ys) xs ≡ drop (at + length ys) (drop n xs) =
+    ap (λ k. drop k xs) last ∙ sym (drop-drop (at + length ys) n xs) in
+    ap (λ zs. (zs ++ ys) ++ drop (n + at + length ys) xs) (take-add n at xs)
+    ∙ (ap (λ zs. zs ++ drop (n + at + length ys) xs) (append_assoc (take n xs) (take at (drop n xs)) ys)
+    ∙ (append_assoc (take n xs) (take at (drop n xs) ++ ys) (drop (n + at + length ys) xs)
+    ∙ ap (λ zs. take n xs ++ ((take at (drop n xs) ++ ys) ++ zs)) rest))
+
+-- and one that begins earlier, with what stands there
+splice-behind : (at n : ℕ) (xs ys : List ℕ) → at + n ≤ length xs → splice xs (at + n) ys ≡ splice xs at (take n (drop at xs) ++ ys)
+splice-behind at n xs ys h =
+    let front : List ℕ = take n (drop at xs) in
+    let long : length front ≡ n = omega (arith, length-take n (drop at xs), length-drop at xs, h) in
+    let last : at + n + length ys ≡ at + length (front ++ ys) = omega (arith, length-append front ys, long) in
+    ap (λ zs. (zs ++ ys) ++ drop (at + n + length ys) xs) (take-add at n xs)
+    ∙ (ap (λ zs. zs ++ drop (at + n + length ys) xs) (append_assoc (take at xs) front ys)
+    ∙ ap (λ k. (take at xs ++ (front ++ ys)) ++ drop k xs) last)
 
 -- ---- Slots of bytes
 
@@ -221,6 +243,30 @@ module _ {K V : Type 0} (keys : Ghosts K) (values : Ghosts V) (n : ℕ) (bytes :
         others = λ j l e. front-get marks pairs j (omega (arith, front))
             ∙ (get_or-set_other (take n bytes) i j m 0 (λ q. e q) ∙ front-take n bytes j l);
       }
+
+  -- a value is written behind its key
+  pub value-set : (i : ℕ) (ys : List ℕ) (x : K × V) (v : V) → slice_get (slots_of keys values n bytes) i ≡ Some (Some x)
+      → length ys ≡ values.SIZE → values.decoded ys ≡ v
+      → SetsSlot keys values n bytes (splice bytes (n + i * (keys.SIZE + values.SIZE) + keys.SIZE) ys) i (get_or bytes i 0)
+      (Some (x.0, v))
+  value-set i ys x v there long back =
+      let h : i < n = slot-within-long i x there in
+      let at : ℕ = n + i * (keys.SIZE + values.SIZE) in
+      let fits : at + (keys.SIZE + values.SIZE) ≤ length bytes = omega (arith, slot-within i n keys.SIZE values.SIZE h, shape.long) in
+      let key : List ℕ = take keys.SIZE (drop at bytes) in
+      let size : length key ≡ keys.SIZE = omega (arith, length-take keys.SIZE (drop at bytes), length-drop at bytes, fits) in
+      let one : keys.decoded (take keys.SIZE (key ++ ys)) ≡ x.0 = ap keys.decoded (take_at key ys keys.SIZE size) ∙ key-is i x h there in
+      let two : values.decoded (drop keys.SIZE (key ++ ys)) ≡ v = ap values.decoded (drop_at key ys keys.SIZE size) ∙ back in
+      let pair : pair_of keys values (key ++ ys) ≡ (x.0, v) = λ p. (one p, two p) in
+      let kept : set (take n bytes) i (get_or bytes i 0) ≡ take n bytes =
+      ap (set (take n bytes) i) (sym (front-take n bytes i h)) ∙ set-get_or (take n bytes) i 0 in
+      let same : set (take n bytes) i (get_or bytes i 0) ++ splice (drop n bytes) (i * (keys.SIZE + values.SIZE)) (key ++ ys)
+      ≡ splice bytes (at + keys.SIZE) ys =
+      ap (λ marks. marks ++ splice (drop n bytes) (i * (keys.SIZE + values.SIZE)) (key ++ ys)) kept
+      ∙ sym (splice-behind at keys.SIZE bytes ys (omega (arith, fits)) ∙ splice-split n (i * (keys.SIZE + values.SIZE)) bytes (key ++ ys)) in
+      let whole : length (key ++ ys) ≡ keys.SIZE + values.SIZE = omega (arith, length-append key ys, size, long) in
+      subst (λ b. SetsSlot keys values n bytes b i (get_or bytes i 0) (Some (x.0, v))) same
+      (slot-set i (get_or bytes i 0) (key ++ ys) (x.0, v) h (slot-marked i x there) whole pair)
 
   -- a mark is cleared
   pub slot-clear : (i : ℕ) → i < n → SetsSlot keys values n bytes (set bytes i 0) i 0 None

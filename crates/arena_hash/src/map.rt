@@ -297,7 +297,9 @@ impl<K: ArenaKey, V: Item, S: KeyHasher> HashMap<K, V, S> {
                     self.len += 1;
                     Ok(None)
                 } else {
-                    self.insert_grown(a, look.hash, key, value)
+                    // A copy, so that the key itself stays in registers.
+                    let apart = key;
+                    self.insert_grown(a, look.hash, apart, value)
                 }
             }
         }

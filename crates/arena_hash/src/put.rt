@@ -4,7 +4,7 @@ ghost use Rattle.arena_hash.specs.Tables.{IsShape};
 ghost use Rattle.arena_hash.specs.Edits.{ChangesValue, PutsPair};
 
 use crate::marks::{farther, ring};
-use crate::pairs::{key_at, set_slot, value_at};
+use crate::pairs::{key_at, pair_size, set_slot, value_at};
 use arena_chunks::Edit;
 use arena_items::Item;
 use std::marker::PhantomData;
@@ -58,15 +58,16 @@ impl<K: Item, V: Item> Edit for PutPair<K, V> {
 }
 
 // Puts a value into a slot, whose mark and key stay.
+#[tactic(auto, using(crate::proofs::SlotLemmas::slot_laws))]
 #[inline]
 fn change_value<K: Item, V: Item>(bytes: &mut [u8], slots: u64, at: u64, value: V)
     requires shape { IsShape K.Item V.Item slots bytes.old }
     requires at { at < slots }
     ensures { ChangesValue K.Item V.Item slots bytes.old bytes.new at value }
 {
-    let mark = bytes[at as usize];
-    let key = key_at::<K, V>(bytes, slots, at);
-    set_slot(bytes, slots, at, mark, key, value);
+    value.known();
+    let place = slots as usize + at as usize * pair_size::<K, V>() + K::SIZE as usize;
+    value.encode(&mut bytes[place..place + V::SIZE as usize]);
 }
 
 /// Puts a value into a slot of a table's bytes, whose key stays.

@@ -1,17 +1,16 @@
 -- Sets of names and scopes, as texts are given numbers and names are defined.
-use Rattle.std.proofs.Common.{◌≡◌, ℕ, ◌<◌, List, [], ◌∷◌, ◌++◌, length, length-append, refl, sym, ap, ◌∙◌, inl, inr, Some, None, Option, true, false, Bool, ◌||◌, ◌&&◌, is_some, not, arith}
-use Rattle.std.specs.Prelude.{if◌then◌else◌, bytes_eq, ◌==◌, slice_get}
+use Rattle.std.proofs.Common.{◌≡◌, ℕ, ◌<◌, List, [], ◌∷◌, ◌++◌, length, length-append, refl, sym, ap, ◌∙◌, inl, inr, Some, None, Option, true, false, Bool, ◌||◌, is_some, not, arith}
+use Rattle.std.specs.Prelude.{if◌then◌else◌, ◌==◌, slice_get, bytes_eq}
 use Rattle.std.specs.List.{AllZip}
 use Rattle.std.proofs.lemmas.Bool.{cases_Bool, cond-false, eqb-true, eq-eqb, ne_eqb}
-use Rattle.std.proofs.lemmas.Bool.Decides.{Decides-at, same_from_decides}
+use Rattle.std.proofs.lemmas.Bool.Decides.{same_from_decides}
 use Rattle.std.proofs.lemmas.Option.{same_Some, slice_get_within}
 use Rattle.std.proofs.lemmas.Slice.Eq.{bytes_eq-Decides}
 use Rattle.arena_symbols.specs.Interner.{number_of, with_text}
 use Rattle.arena_symbols.specs.Named.{meant}
 use Rattle.arena_symbols.specs.Scoping.{seen, value_in, lookup, is_in_last, with_pair}
 use Rattle.arena_symbols.proofs.Layers.{number_push, number_there, value_push}
-use Rattle.tree_rules.specs.Tokens.{are_same}
-use Rattle.tree_rules.specs.Report.{Names, has_name, have_name, defined}
+use Rattle.tree_rules.specs.Report.{NameSet, has_name, have_name, defined}
 use Rattle.tree_rules.specs.declared.finding.FindKind.TheVariants.{Redefined, Shadowed}
 use Rattle.tree_rules.specs.declared.finding.FindKind.{FindKind}
 use Rattle.arena_lint.specs.Knowing.{has_number, IsScope, AreScopes, found_of}
@@ -37,7 +36,7 @@ meant_more scope scopes o = grind arith
 no_meaning : (o : Option ℕ) → is_some (meant [] o) ≡ false
 no_meaning o = grind arith
 
-pub known_has : (texts : List (List ℕ)) (sets : List Names) (scopes : List (List (ℕ × ℕ))) (name : List ℕ) → AreScopes texts sets scopes
+pub known_has : (texts : List (List ℕ)) (sets : List NameSet) (scopes : List (List (ℕ × ℕ))) (name : List ℕ) → AreScopes texts sets scopes
     → is_some (meant scopes (number_of texts name)) ≡ have_name sets name
 known_has texts [] [] name are = no_meaning (number_of texts name)
 known_has texts (names ∷ sets) (scope ∷ scopes) name are =
@@ -46,21 +45,15 @@ known_has texts _ _ name are = absurd are
 
 -- ---- Numbers
 
-same_bytes : (a b : List ℕ) → are_same a b ≡ bytes_eq a b
-same_bytes [] [] = refl
-same_bytes [] (c ∷ b) = refl
-same_bytes (c ∷ a) [] = refl
-same_bytes (c ∷ a) (d ∷ b) = ap (λ (x : Bool). (c == d) && x) (same_bytes a b)
-
 abbrev is_number : ℕ → Option ℕ → Bool
 is_number id None = false
 is_number id (Some j) = id == j
 
 -- A text is one with a number exactly where it has that number.
 same_number : (texts : List (List ℕ)) (name other : List ℕ) (id : ℕ) → number_of texts name ≡ Some id
-    → are_same name other ≡ is_number id (number_of texts other)
-same_number texts name other id is = same_from_decides (are_same name other) (is_number id (number_of texts other))
-    (Decides-at (are_same name other) (bytes_eq name other) (same_bytes name other) (bytes_eq-Decides name other))
+    → bytes_eq name other ≡ is_number id (number_of texts other)
+same_number texts name other id is = same_from_decides (bytes_eq name other) (is_number id (number_of texts other))
+    (bytes_eq-Decides name other)
     (to (number_of texts other) refl, λ e. ap (is_number id) (ap (number_of texts) (sym e) ∙ is) ∙ eq-eqb id id refl)
   where
     to : (o : Option ℕ) → number_of texts other ≡ o → is_number id o ≡ true → name ≡ other
@@ -70,7 +63,7 @@ same_number texts name other id is = same_from_decides (are_same name other) (is
 
 -- ---- A text more has a number
 
-scope_grown : (texts : List (List ℕ)) (text : List ℕ) → number_of texts text ≡ None → (names : Names) (scope : List (ℕ × ℕ))
+scope_grown : (texts : List (List ℕ)) (text : List ℕ) → number_of texts text ≡ None → (names : NameSet) (scope : List (ℕ × ℕ))
     → IsScope texts names scope → IsScope (texts ++ text ∷ []) names scope
 scope_grown texts text none names scope is = record {
   same = λ name. let is_text = (bytes_eq-Decides name text).0 in let away = is.within (length texts) (omega arith) in
@@ -78,7 +71,7 @@ scope_grown texts text none names scope is = record {
   within = λ id far. is.within id (omega (arith, far, length-append texts (text ∷ [])));
 }
 
-pub scopes_grown : (texts : List (List ℕ)) (text : List ℕ) (sets : List Names) (scopes : List (List (ℕ × ℕ)))
+pub scopes_grown : (texts : List (List ℕ)) (text : List ℕ) (sets : List NameSet) (scopes : List (List (ℕ × ℕ)))
     → AreScopes texts sets scopes → AreScopes (with_text texts text) sets scopes
 scopes_grown texts text sets scopes are = by (number_of texts text) refl
   where
@@ -88,7 +81,7 @@ scopes_grown texts text sets scopes are = by (number_of texts text) refl
 
 -- ---- A pair more in a scope
 
-scope_defined : {texts : List (List ℕ)} {name : List ℕ} {names : Names} {scope : List (ℕ × ℕ)} {id : ℕ} (v : ℕ)
+scope_defined : {texts : List (List ℕ)} {name : List ℕ} {names : NameSet} {scope : List (ℕ × ℕ)} {id : ℕ} (v : ℕ)
     → number_of texts name ≡ Some id → IsScope texts names scope → IsScope texts (name ∷ names) (scope ++ (id, v) ∷ [])
 scope_defined {texts} {name} {names} {scope} {id} v number is = record {
   same = λ n. grind (arith, value_push, same_number texts name n id number, is.same n);
@@ -103,7 +96,7 @@ scope_defined {texts} {name} {names} {scope} {id} v number is = record {
 abbrev pub answer : Bool → Bool → Option FindKind
 answer is_new is_seen = if is_new then (if is_seen then Some Shadowed else None) else Some Redefined
 
-pub defined_is : (texts : List (List ℕ)) (sets : List Names) (scopes after : List (List (ℕ × ℕ))) (name : List ℕ) (id : ℕ)
+pub defined_is : (texts : List (List ℕ)) (sets : List NameSet) (scopes after : List (List (ℕ × ℕ))) (name : List ℕ) (id : ℕ)
     (is_new is_seen : Bool) → 0 < length scopes → number_of texts name ≡ Some id → AreScopes texts sets scopes
     → is_new ≡ not (is_in_last scopes id) → is_seen ≡ is_some (lookup scopes id)
     → after ≡ (if is_new then with_pair scopes id 0 else scopes)

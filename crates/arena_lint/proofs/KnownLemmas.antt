@@ -12,9 +12,9 @@ use Rattle.arena_symbols.specs.TableCalls.{Defines, Enters, Leaves}
 use Rattle.arena_symbols.specs.Tables.{entry_item, pairs_of, entries_in, starts_in, scopes_in}
 use Rattle.arena_symbols.specs.declared.scopes.Scopes.{Scopes}
 use Rattle.arena_symbols.specs.declared.symbols.Symbols.{Symbols}
-use Rattle.arena_symbols.specs.declared.uses.Names.{Names as Known}
+use Rattle.arena_symbols.specs.declared.names.Names.{Names as Known}
 use Rattle.arena_symbols.proofs.Layers.{texts_moved, scopes_moved, moves_then}
-use Rattle.tree_rules.specs.Report.{Names, defined}
+use Rattle.tree_rules.specs.Report.{NameSet, defined}
 use Rattle.arena_lint.specs.Knowing.{AreScopes, Knows, found_of}
 use Rattle.arena_lint.specs.Steps.{IsNotEmpty}
 use Rattle.arena_lint.proofs.KnowLemmas.{scopes_grown, answer, defined_is, no_names}
@@ -27,7 +27,7 @@ some_scope m s = by (pairs_of (entries_in entry_item m s)) (starts_in m s)
     by pairs [] = omega arith
     by pairs (k ∷ ks) = omega arith
 
-not_empty : (texts : List (List ℕ)) (sets : List Names) (scopes : List (List (ℕ × ℕ))) → 0 < length scopes → AreScopes texts sets scopes
+not_empty : (texts : List (List ℕ)) (sets : List NameSet) (scopes : List (List (ℕ × ℕ))) → 0 < length scopes → AreScopes texts sets scopes
     → IsNotEmpty sets
 not_empty texts [] [] some are = absurd (omega (arith, some))
 not_empty texts [] (scope ∷ scopes) some are = are
@@ -42,7 +42,7 @@ module _ {old mid new : View} {k : Known} {t : Symbols} {d : Scopes} {name : Lis
   define_moves puts = let one = (texts_moved held interns).0 in moves_then one (scopes_moved one.held d puts.held puts.frame).0
 
   pub define_means : {is_new is_seen : Bool} → Defines entry_item mid new k.scopes d id 0 (Ok is_new)
-      → is_seen ≡ is_some (lookup (scopes_in entry_item mid.memory k.scopes) id) → (sets : List Names) → Knows old.memory k sets
+      → is_seen ≡ is_some (lookup (scopes_in entry_item mid.memory k.scopes) id) → (sets : List NameSet) → Knows old.memory k sets
       → Knows new.memory (record { symbols = t; scopes = d }) (defined name sets).known
       × ((defined name sets).findings ≡ found_of (answer is_new is_seen) name)
   define_means {is_new} {is_seen} puts saw sets knows =
@@ -61,7 +61,7 @@ pub begun : {old new : View} {k : Known} {d : Scopes} {result : Result (Unit {0}
     → Enters entry_item old new k.scopes d result → Moves old.memory new.memory k (record k { scopes = d })
 begun {d = d} held enters = (scopes_moved held d enters.held enters.frame).0
 
-pub begun_knows : {old new : View} {k : Known} {d : Scopes} {x : Unit {0}} (sets : List Names) → AreNames old.memory k
+pub begun_knows : {old new : View} {k : Known} {d : Scopes} {x : Unit {0}} (sets : List NameSet) → AreNames old.memory k
     → Enters entry_item old new k.scopes d (Ok x) → Knows old.memory k sets
     → Knows new.memory (record k { scopes = d }) ([] ∷ sets) × IsNotEmpty sets
 begun_knows {old} {new} {k} {d} sets held enters knows =
@@ -72,7 +72,7 @@ begun_knows {old} {new} {k} {d} sets held enters knows =
       not_empty texts sets scopes (some_scope old.memory k.scopes) knows,
     )
 
-pub ended_knows : {old new : View} {k : Known} {d : Scopes} {result : Bool} (names : Names) (sets : List Names) → AreNames old.memory k
+pub ended_knows : {old new : View} {k : Known} {d : Scopes} {result : Bool} (names : NameSet) (sets : List NameSet) → AreNames old.memory k
     → Leaves entry_item old new k.scopes d result → Knows old.memory k (names ∷ sets) → IsNotEmpty sets
     → Knows new.memory (record k { scopes = d }) sets
 ended_knows {old} {new} {k} {d} {result} names sets held leaves knows some =
@@ -80,7 +80,7 @@ ended_knows {old} {new} {k} {d} {result} names sets held leaves knows some =
     let left : result ≡ true = grind (arith, leaves.alone, outer.1) in
     rw ((scopes_moved held d leaves.held leaves.frame).1, leaves.left left) outer.0
   where
-    inner : (scopes : List (List (ℕ × ℕ))) (sets : List Names) → AreScopes (names_in old.memory k.symbols) (names ∷ sets) scopes
+    inner : (scopes : List (List (ℕ × ℕ))) (sets : List NameSet) → AreScopes (names_in old.memory k.symbols) (names ∷ sets) scopes
         → IsNotEmpty sets → AreScopes (names_in old.memory k.symbols) sets (outer_of scopes) × (length scopes ≡ 1 → ⊥)
     inner [] sets are some = absurd are
     inner (scope ∷ []) [] are some = absurd some

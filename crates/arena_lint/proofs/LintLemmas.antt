@@ -17,7 +17,7 @@ use Rattle.arena_symbols.specs.Names.{names_footprint}
 use Rattle.arena_symbols.specs.Scoping.{pair_count}
 use Rattle.arena_symbols.specs.TableCalls.{IsNewTable}
 use Rattle.arena_symbols.specs.Tables.{entry_item, table_blocks}
-use Rattle.arena_symbols.specs.declared.uses.Names.{Names as Known}
+use Rattle.arena_symbols.specs.declared.names.Names.{Names as Known}
 use Rattle.arena_symbols.proofs.Layers.{all_turned}
 use Rattle.tree_rules.specs.Report.{findings_of}
 use Rattle.tree_rules.specs.Trees.{Stmts}
@@ -25,9 +25,10 @@ use Rattle.tree_rules.specs.Refusals.{TreeOf}
 use Rattle.tree_rules.specs.Weights.{weights}
 use Rattle.tree_rules.specs.declared.finding.Finding.{Finding}
 use Rattle.arena_tree.specs.Given.{IsTreeIn, Means}
-use Rattle.arena_tree.specs.Parsing.{Parses, TakesAtMost, IsProgram, parse_bytes}
+use Rattle.arena_tree.specs.Parsing.{Parses, TakesAtMost, IsProgramText, parse_bytes}
 use Rattle.arena_tree.specs.StmtsAt.{stmts_blocks}
 use Rattle.arena_tree.specs.TreesAt.{node_item}
+use Rattle.arena_tree.specs.Spending.{IsStarvedBehind}
 use Rattle.arena_tree.specs.declared.tree.Tree.{Tree}
 use Rattle.arena_tree.specs.declared.tree.TreeErr.{TreeErr}
 use Rattle.arena_tree.specs.declared.tree.TreeErr.TheVariants as tree
@@ -36,9 +37,9 @@ use Rattle.lint_reports.specs.Reports.{Reports, said}
 use Rattle.lint_reports.specs.declared.report.FileReport.{FileReport}
 use Rattle.lint_reports.specs.declared.report.FileReport.TheVariants.{Checked, Syntax, TooDeep, NumberTooBig, Full, Refused, OutOfMemory}
 use Rattle.arena_lint.specs.Knowing.{IsNothing}
-use Rattle.arena_lint.specs.Linting.{Lints, lint_bytes, no_place, stopped_by, unparsed_by}
+use Rattle.arena_lint.specs.Linting.{Lints, lint_bytes, no_place, unparsed_by}
 use Rattle.arena_lint.specs.Rooms.{ListHasStmts, IsLight}
-use Rattle.arena_lint.specs.Spending.{IsStarvedSince, Spends, Takes, walk_bytes}
+use Rattle.arena_lint.specs.Spending.{Spends, Takes, walk_bytes}
 use Rattle.arena_lint.proofs.KnowLemmas.{no_names}
 use Rattle.arena_lint.proofs.SpendingLemmas.{spends_then, spends_nothing}
 
@@ -116,7 +117,7 @@ parse_spends {few} {all} {old} {new} less takes = record {
   full = λ still k no. absurd (cc);
 }
 
-starved : (old new : View) → old.memory.state.is_growing ≡ true → IsStarvedSince old new → IsStarved (2 ^ 62) old new
+starved : (old new : View) → old.memory.state.is_growing ≡ true → IsStarvedBehind old new → IsStarved (2 ^ 62) old new
 starved old new growing since = record { growing = growing; cause = grind arith }
 
 -- ---- Reports
@@ -124,7 +125,7 @@ starved old new growing since = record { growing = growing; cause = grind arith 
 module _ {bytes : List ℕ} {old new : View} {error : Option AllocError} (unused : used old ≡ 0)
     (spends : Spends (lint_bytes (length bytes)) 0 0 old new error) where
   -- No more was taken than may be, of an arena of which nothing was used.
-  lints : (report : FileReport) → Reports bytes report → IfNone (said report) (IsProgram bytes)
+  lints : (report : FileReport) → Reports bytes report → IfNone (said report) (IsProgramText bytes)
       → (report ≡ Full → IsFull (lint_bytes (length bytes)) old) → (report ≡ Refused → IsStarved (2 ^ 62) old new)
       → Lints bytes old new report
   lints report reports stopped full refused =
@@ -140,7 +141,7 @@ module _ {bytes : List ℕ} {old new : View} {error : Option AllocError} (unused
       }
 
   -- no place for a block
-  lints_unplaced : (growing : Bool) → new.memory.state.is_growing ≡ growing → IsProgram bytes
+  lints_unplaced : (growing : Bool) → new.memory.state.is_growing ≡ growing → IsProgramText bytes
       → (old.memory.state.is_growing ≡ true → IsStarved (2 ^ 62) old new)
       → (old.memory.state.is_growing ≡ false → IsFull (used old + lint_bytes (length bytes)) old) → Lints bytes old new (no_place growing)
   lints_unplaced true is program starved full =
@@ -158,29 +159,31 @@ module _ {bytes : List ℕ} {old new : View} {error : Option AllocError} (unused
       (λ still. let short = parsed.1.full still in record { still = still; short = omega (arith, short.short) })
   unparsed tree.OutOfMemory parsed = lints OutOfMemory tt parsed.0 (λ no. absurd (cc)) (λ no. absurd (cc))
 
+-- What a walk over a tree spends.
+abbrev Walks : View → View → Tree → Option AllocError → Type 0
+Walks old new t error = (trees : Stmts) → Means old.memory t trees → Spends (walk_bytes (weights trees)) 0 0 old new error
+
 -- A program that was walked over.
 module _ {bytes : List ℕ} {old mid new : View} (t : Tree) (light : AreLight) (unused : used old ≡ 0) (parsed : Parses bytes old mid (Ok t))
     (takes : TakesAtMost (parse_bytes (length bytes)) old mid) where
-  all_spends : {error : Option AllocError}
-      → ((trees : Stmts) → Means mid.memory t trees → Spends (walk_bytes (weights trees)) 0 0 mid new error)
-      → Spends (lint_bytes (length bytes)) 0 0 old new error
-  all_spends spends = let few = light bytes parsed.0 parsed.1 in
-      spends_then (parse_spends {all = parse_bytes (length bytes)} (omega arith) takes) (spends parsed.0 parsed.2.stand)
+  all_spends : {error : Option AllocError} → Walks mid new t error → Spends (lint_bytes (length bytes)) 0 0 old new error
+  all_spends walks = let few = light bytes parsed.0 parsed.1 in
+      spends_then (parse_spends {all = parse_bytes (length bytes)} (omega arith) takes) (walks parsed.0 parsed.2.stand)
       (omega (arith, few)) (omega (arith, few))
 
-  pub checked : (found : List Finding) → ((trees : Stmts) → Means mid.memory t trees → found ≡ findings_of trees)
-      → ((trees : Stmts) → Means mid.memory t trees → Spends (walk_bytes (weights trees)) 0 0 mid new None)
+  pub checked : (found : List Finding) → ((trees : Stmts) → Means mid.memory t trees → found ≡ findings_of trees) → Walks mid new t None
       → Lints bytes old new (Checked found)
-  checked found is spends = lints unused (all_spends spends) (Checked found) (parsed.0, parsed.1, is parsed.0 parsed.2.stand) tt
+  checked found is walks = lints unused (all_spends walks) (Checked found) (parsed.0, parsed.1, is parsed.0 parsed.2.stand) tt
       (λ no. absurd (cc)) (λ no. absurd (cc))
 
-  pub stopped : (why : AllocError)
-      → ((trees : Stmts) → Means mid.memory t trees → Spends (walk_bytes (weights trees)) 0 0 mid new (Some why))
-      → Lints bytes old new (stopped_by new.memory.state.is_growing why)
-  stopped (alloc.AllocErr k) spends = let spent = all_spends spends in
+  pub unplaced : (k : ℕ) → Walks mid new t (Some (alloc.AllocErr k)) → Lints bytes old new (no_place new.memory.state.is_growing)
+  unplaced k walks = let spent = all_spends walks in
       lints_unplaced unused spent new.memory.state.is_growing refl (parsed.0, parsed.1)
       (λ growing. starved old new growing (spent.starved growing k refl))
       (λ still. let short = spent.full still k refl in record { still = still; short = omega (arith, short.short) })
-  stopped alloc.CapacityOverflow spends = absurd ((all_spends spends).fits refl)
-  stopped alloc.OutOfMemory spends =
-      lints unused (all_spends spends) OutOfMemory tt (parsed.0, parsed.1) (λ no. absurd (cc)) (λ no. absurd (cc))
+
+  pub wanting : Walks mid new t (Some alloc.OutOfMemory) → Lints bytes old new OutOfMemory
+  wanting walks = lints unused (all_spends walks) OutOfMemory tt (parsed.0, parsed.1) (λ no. absurd (cc)) (λ no. absurd (cc))
+
+  pub fits : Walks mid new t (Some alloc.CapacityOverflow) → ⊥
+  fits walks = (all_spends walks).fits refl

@@ -10,7 +10,7 @@ use Rattle.arena_vec.specs.Vecs.{IsVecIn, vec_list}
 use Rattle.arena_vec.specs.declared.vec.Vec.{Vec}
 use Rattle.tree_rules.specs.Trees.{Expr, Num, Name, Neg, Sum, Prod, Exprs, NoExprs, And, IsExpr, AreExprs, Stmt, Let, Show, IsStmt}
 use Rattle.tree_rules.specs.Trees as tree
-use Rattle.tree_rules.specs.Report.{Names, names_of, all_names, undefined}
+use Rattle.tree_rules.specs.Report.{NameSet, names_of, all_names, undefined}
 use Rattle.tree_rules.specs.declared.finding.Finding.{Finding}
 use Rattle.tree_rules.proofs.FindingLemmas.{undefined_both}
 use Rattle.tree_rules.proofs.NameLemmas.{name_text}
@@ -34,11 +34,11 @@ name_at {m} {n} has is =
 -- ---- Nodes with kids
 
 -- The node's list of kids stands for expressions with these names. It has them where they are good, and where there is room for as many.
-pub record HasKids (m : Memory) (n : Node) (names : Names) (count : ℕ) (IsGood : Type 0) : Type 0 where
+pub record HasKids (m : Memory) (n : Node) (names : List (List ℕ)) (count : ℕ) (IsGood : Type 0) : Type 0 where
   pub named : AreNamed m (kids_in m n) names
   pub have : (room : ℕ) → IsGood → count ≤ room → ListHasExprs m (kids_of n) room
 
-kids_are : {IsGood : Type 0} {m : Memory} {n : Node} {names : Names} {count : ℕ} (es : Exprs) → IsVecIn node_item m (kids_of n)
+kids_are : {IsGood : Type 0} {m : Memory} {n : Node} {names : List (List ℕ)} {count : ℕ} (es : Exprs) → IsVecIn node_item m (kids_of n)
     → ExprsAt es m (kids_in m n) → names ≡ all_names es → nodes es ≡ count → (IsGood → AreExprs es) → HasKids m n names count IsGood
 kids_are es held stand are is good = record {
   named = record { exprs = es; stand = stand; names_are = are };
@@ -83,7 +83,7 @@ kid_within {m} {ns} {room} i n have = by have.exprs ns i have.stand have.good ha
     by _ _ i at good few is = absurd at
 
 -- One kid more is behind.
-pub kid_found : {m : Memory} {sets : List Names} {found new all : List Finding} (ns : List Node) (i : ℕ) (n : Node)
+pub kid_found : {m : Memory} {sets : List NameSet} {found new all : List Finding} (ns : List Node) (i : ℕ) (n : Node)
     → slice_get ns i ≡ Some n → ((e : Expr) → ExprAt e m n → new ≡ found ++ undefined sets (names_of e))
     → Left m (drop i ns) sets found all → Left m (drop (i + 1) ns) sets new all
 kid_found {m} {sets} {found} {new} {all} ns i n is one before =
@@ -99,7 +99,7 @@ kid_found {m} {sets} {found} {new} {all} ns i n is one before =
     }
 
 -- Behind the last one nothing is left.
-pub kids_found : {m : Memory} {sets : List Names} {found all : List Finding} (v : Vec Node) (i : ℕ) → i ≡ v.raw.len
+pub kids_found : {m : Memory} {sets : List NameSet} {found all : List Finding} (v : Vec Node) (i : ℕ) → i ≡ v.raw.len
     → Left m (drop i (vec_list node_item m v)) sets found all → found ≡ all
 kids_found {m} {sets} {found} {all} v i last left =
     by left.exprs (subst (ExprsAt left.exprs m) (drop_all i (vec_list node_item m v) (omega (arith, last, list_len m v))) left.stand)

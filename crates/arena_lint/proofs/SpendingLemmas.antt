@@ -12,7 +12,7 @@ use Rattle.arena_items.specs.Costs.{Costs, used}
 use Rattle.arena_items.specs.declared.room.AllocError.{AllocError}
 use Rattle.arena_items.specs.declared.room.AllocError.TheVariants.{AllocErr, CapacityOverflow}
 use Rattle.arena_symbols.specs.Paying.{far_up}
-use Rattle.arena_symbols.specs.declared.uses.Names.{Names as Known}
+use Rattle.arena_symbols.specs.declared.names.Names.{Names as Known}
 use Rattle.arena_tree.specs.Spending.{KeepsKind, error_of}
 use Rattle.arena_lint.specs.Spending.{Spends, Takes, IsWanting}
 

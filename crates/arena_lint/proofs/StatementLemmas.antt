@@ -14,11 +14,11 @@ use Rattle.arena_items.proofs.Layers.{stays_readable, stays_agree, stays_apart}
 use Rattle.arena_vec.specs.Vecs.{IsVecIn, vec_list}
 use Rattle.arena_vec.specs.declared.vec.Vec.{Vec}
 use Rattle.arena_symbols.specs.Named.{Moves, all_blocks}
-use Rattle.arena_symbols.specs.declared.uses.Names.{Names as Known}
+use Rattle.arena_symbols.specs.declared.names.Names.{Names as Known}
 use Rattle.tree_rules.specs.Trees.{Expr, Stmt, Let, Show, Stmts, NoStmts, Then, IsStmt, AreStmts}
 use Rattle.tree_rules.specs.Trees as tree
 use Rattle.tree_rules.specs.Weights.{weight, weights}
-use Rattle.tree_rules.specs.Report.{Names, undefined, defined, walk_stmt}
+use Rattle.tree_rules.specs.Report.{NameSet, undefined, defined, walk_stmt}
 use Rattle.tree_rules.specs.declared.finding.Finding.{Finding}
 use Rattle.tree_rules.proofs.NameLemmas.{name_text}
 use Rattle.arena_tree.specs.declared.node.Kind.TheVariants as kind
@@ -77,7 +77,7 @@ let_name {m} {n} has is =
 
 pub let_finds : (old new : Memory) (k l : Known) (first mid found : List Finding) (result : Result (Unit {0}) AllocError) (s : Stmt)
     (n : Node) → StmtAt s old n → n.kind ≡ kind.Let
-    → ((sets : List Names) → Knows old k sets → mid ≡ first ++ undefined sets (stmt_names s))
+    → ((sets : List NameSet) → Knows old k sets → mid ≡ first ++ undefined sets (stmt_names s))
     → Finds old new k l mid found result (defined (text_bytes old n.text)) → Finds old new k l first found result (walk_stmt s)
 unfolding walk_stmt
 let_finds old new k l first mid found (Err e) s n at is uses finds sets knows = tt
@@ -90,7 +90,7 @@ let_finds old new k l first mid found (Ok x) s n at is uses finds sets knows =
 
 pub show_finds : (m : Memory) (k : Known) (first found : List Finding) (result : Result (Unit {0}) AllocError) (s : Stmt) (n : Node)
     → StmtAt s m n → (n.kind ≡ kind.Let → ⊥) → (n.kind ≡ kind.Block → ⊥)
-    → ((sets : List Names) → Knows m k sets → OnOk result (found ≡ first ++ undefined sets (stmt_names s)))
+    → ((sets : List NameSet) → Knows m k sets → OnOk result (found ≡ first ++ undefined sets (stmt_names s)))
     → Finds m m k k first found result (walk_stmt s)
 unfolding walk_stmt
 show_finds m k first found result (Let name e) n at no-let no-block uses sets knows = absurd (no-let at.0)

@@ -18,7 +18,7 @@ use Rattle.arena_symbols.specs.TableCalls.{Defines, Enters, Leaves}
 use Rattle.arena_symbols.specs.Tables.{entry_item, IsTableIn, scopes_in, table_blocks, table_credit}
 use Rattle.arena_symbols.specs.declared.scopes.Scopes.{Scopes}
 use Rattle.arena_symbols.specs.declared.symbols.Symbols.{Symbols}
-use Rattle.arena_symbols.specs.declared.uses.Names.{Names as Known}
+use Rattle.arena_symbols.specs.declared.names.Names.{Names as Known}
 use Rattle.arena_symbols.proofs.Layers.{texts_moved, scopes_moved}
 use Rattle.arena_tree.specs.Spending.{error_of}
 use Rattle.arena_lint.specs.Knowing.{credit}

@@ -10,12 +10,12 @@ use Rattle.arena_items.specs.declared.room.AllocError.{AllocError}
 use Rattle.arena_vec.specs.Vecs.{vec_list}
 use Rattle.arena_vec.specs.declared.vec.Vec.{Vec}
 use Rattle.arena_symbols.specs.Named.{AreNames, Moves, all_blocks}
-use Rattle.arena_symbols.specs.declared.uses.Names.{Names as Known}
+use Rattle.arena_symbols.specs.declared.names.Names.{Names as Known}
 use Rattle.arena_symbols.proofs.Layers.{moves_then}
 use Rattle.tree_rules.specs.Trees.{Stmt, Stmts, NoStmts, Then}
 use Rattle.tree_rules.specs.Trees as tree
 use Rattle.tree_rules.specs.Weights.{weight, weights}
-use Rattle.tree_rules.specs.Report.{Names, Walk, walk_stmt, walk}
+use Rattle.tree_rules.specs.Report.{NameSet, Walk, walk_stmt, walk}
 use Rattle.tree_rules.specs.declared.finding.Finding.{Finding}
 use Rattle.tree_rules.proofs.FindingLemmas.{walk_outer}
 use Rattle.arena_tree.specs.declared.node.Node.{Node}
@@ -35,9 +35,9 @@ moves_none {m} {k} held = record { held = held; frame = frame_reflexive m (all_b
 -- ---- Blocks
 
 pub block_finds : (old mid far new : Memory) (k l j i : Known) (first last : List Finding) (s : Stmt) (ss : Stmts) → s ≡ tree.Block ss
-    → ((sets : List Names) → Knows old k sets → Knows mid l ([] ∷ sets) × IsNotEmpty sets)
+    → ((sets : List NameSet) → Knows old k sets → Knows mid l ([] ∷ sets) × IsNotEmpty sets)
     → Finds mid far l j first last (Ok tt) (walk ss)
-    → ((names : Names) (sets : List Names) → Knows far j (names ∷ sets) → IsNotEmpty sets → Knows new i sets)
+    → ((names : NameSet) (sets : List NameSet) → Knows far j (names ∷ sets) → IsNotEmpty sets → Knows new i sets)
     → Finds old new k i first last (Ok tt) (walk_stmt s)
 unfolding walk_stmt
 block_finds old mid far new k l j i first last s ss is enters finds leaves sets knows =
@@ -79,7 +79,7 @@ none_left : (left : Stmts) (m : Memory) → StmtsAt left m [] → left ≡ NoStm
 none_left NoStmts m at = refl
 none_left (Then s left) m at = absurd at
 
-halfway_next : {now new : Memory} {l j : Known} {first before after : List Finding} {ss left rest : Stmts} {sets : List Names} (s : Stmt)
+halfway_next : {now new : Memory} {l j : Known} {first before after : List Finding} {ss left rest : Stmts} {sets : List NameSet} (s : Stmt)
     → left ≡ Then s rest → Finds now new l j before after (Ok tt) (walk_stmt s) → Halfway now l first before ss left sets
     → Halfway new j first after ss rest sets
 unfolding walk walk_stmt
@@ -92,7 +92,7 @@ halfway_next {before = before} {rest = rest} s is finds half =
       all = rw (one.1, append_assoc before mid.findings more.findings) (rw is at half.all);
     }
 
-halfway_end : {now : Memory} {l : Known} {first before : List Finding} {ss left : Stmts} {sets : List Names} → left ≡ NoStmts
+halfway_end : {now : Memory} {l : Known} {first before : List Finding} {ss left : Stmts} {sets : List NameSet} → left ≡ NoStmts
     → Halfway now l first before ss left sets → Knows now l (walk ss sets).known × (before ≡ first ++ (walk ss sets).findings)
 unfolding walk
 halfway_end {now} {l} {first} {before} {ss} {left} {sets} none half =
@@ -152,7 +152,7 @@ module _ {old now : View} {k l : Known} {first before : List Finding} (v : Vec N
     all_behind = let behind = walking.behind ss at in none_left behind.left old.memory (subst (StmtsAt behind.left old.memory)
         (drop_all i (vec_list node_item old.memory v) (omega (arith, last, list_len old.memory v))) behind.stand)
 
-    pub walking_end : (sets : List Names) → Knows old.memory k sets
+    pub walking_end : (sets : List NameSet) → Knows old.memory k sets
         → Knows now.memory l (walk ss sets).known × (before ≡ first ++ (walk ss sets).findings)
     walking_end sets knows = halfway_end all_behind ((walking.behind ss at).halfway sets knows)
 

@@ -1,9 +1,9 @@
--- What comes of a source that a worker lints on an arena of a pool.
+-- What comes of a text that a worker lints on an arena of a pool.
 use Rattle.std.specs.Prelude.{◌≡◌, ◌≢◌, ℕ, ◌^◌, ◌≤◌, ◌⊎◌, Bool, true, false, List, length, None, IfNone, IsSomeAnd}
 use Rattle.arena_chunks.specs.Source.{Source}
 use Rattle.arena_pool.specs.declared.kind.PoolKind.{PoolKind}
 use Rattle.arena_pool.specs.declared.kind.PoolKind.TheVariants.{Standard}
-use Rattle.arena_tree.specs.Parsing.{IsProgram}
+use Rattle.arena_tree.specs.Parsing.{IsProgramText}
 use Rattle.arena_workers.specs.Working.{Terms}
 use Rattle.arena_workers.specs.Starving.{IsTooSmall, ShowsStarved}
 use Rattle.arena_workers.specs.declared.served.Served.{Served}
@@ -12,13 +12,13 @@ use Rattle.lint_reports.specs.declared.report.FileReport.{FileReport}
 use Rattle.lint_reports.specs.declared.report.FileReport.TheVariants.{Checked, Syntax, TooDeep, NumberTooBig, Full, Refused, OutOfMemory}
 use Rattle.arena_lint.specs.Linting.{Lints, lint_bytes}
 
--- What comes of a source alone, over a pool of this kind: its one report. It isn't told only of a program, for want of a place or of
--- memory, or where no memory was there for it. It is `Full` only where the pool's arenas have fewer bytes than it may take, and `Refused`
+-- What comes of a text alone, over a pool of this kind: its one report. A report that says nothing of the text comes of programs alone, or
+-- of want of memory before the text was begun. It is `Full` only where the pool's arenas have fewer bytes than it may take, and `Refused`
 -- only over a standard pool, exactly where what shows why is there.
 pub record IsLintedAlone {C : Type 0} (source : C → Source) (kind : PoolKind) (bytes : List ℕ) (linted : Served FileReport C)
     : Type 0 where
   pub reports : Reports bytes linted.outcome
-  pub stopped : IfNone (said linted.outcome) (IsProgram bytes ⊎ (linted.outcome ≡ OutOfMemory))
+  pub stopped : IfNone (said linted.outcome) (IsProgramText bytes ⊎ (linted.outcome ≡ OutOfMemory))
   pub full : linted.outcome ≡ Full → IsTooSmall kind (lint_bytes (length bytes))
   pub refused : linted.outcome ≡ Refused
       → (kind ≡ Standard) × IsSomeAnd linted.starved (ShowsStarved source (lint_bytes (length bytes)))
@@ -33,7 +33,7 @@ is_refused Full = false
 is_refused Refused = true
 is_refused OutOfMemory = false
 
--- sources as work on lent arenas
+-- texts as work on lent arenas
 abbrev pub lint_terms : Terms (List ℕ) FileReport
 lint_terms = record {
   accepts = λ bytes. length bytes ≤ 2 ^ 24;

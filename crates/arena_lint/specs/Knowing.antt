@@ -9,8 +9,8 @@ use Rattle.arena_symbols.specs.Named.{AreNames, all_blocks}
 use Rattle.arena_symbols.specs.Names.{names_in, names_credit}
 use Rattle.arena_symbols.specs.Scoping.{value_in}
 use Rattle.arena_symbols.specs.Tables.{entry_item, scopes_in, table_credit}
-use Rattle.arena_symbols.specs.declared.uses.Names.{Names as Known}
-use Rattle.tree_rules.specs.Report.{Names, has_name, finding}
+use Rattle.arena_symbols.specs.declared.names.Names.{Names as Known}
+use Rattle.tree_rules.specs.Report.{NameSet, has_name, finding}
 use Rattle.tree_rules.specs.declared.finding.Finding.{Finding}
 use Rattle.tree_rules.specs.declared.finding.FindKind.{FindKind}
 
@@ -20,16 +20,16 @@ has_number scope None = false
 has_number scope (Some id) = is_some (value_in scope id)
 
 -- The scope has the numbers of just these names, and no number that no text has.
-pub record IsScope (texts : List (List ℕ)) (names : Names) (scope : List (ℕ × ℕ)) : Type 0 where
+pub record IsScope (texts : List (List ℕ)) (names : NameSet) (scope : List (ℕ × ℕ)) : Type 0 where
   pub same : (name : List ℕ) → has_name names name ≡ has_number scope (number_of texts name)
   pub within : (id : ℕ) → length texts ≤ id → value_in scope id ≡ None
 
 -- the sets of names are these scopes, one by one
-abbrev pub AreScopes : List (List ℕ) → List Names → List (List (ℕ × ℕ)) → Type 0
+abbrev pub AreScopes : List (List ℕ) → List NameSet → List (List (ℕ × ℕ)) → Type 0
 AreScopes texts known scopes = AllZip (IsScope texts) known scopes
 
 -- the handles' scopes are these sets of names
-abbrev pub Knows : Memory → Known → List Names → Type 0
+abbrev pub Knows : Memory → Known → List NameSet → Type 0
 Knows m k known = AreScopes (names_in m k.symbols) known (scopes_in entry_item m k.scopes)
 
 -- what is found where a definition is found to be one of these, or none

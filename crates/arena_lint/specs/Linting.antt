@@ -3,10 +3,8 @@ use Rattle.std.specs.Prelude.{◌≡◌, ℕ, ◌+◌, ◌*◌, ◌≤◌, Bool,
 use Rattle.arena_chunks.specs.Source.{View}
 use Rattle.arena_chunks.specs.Asking.{AsksWithin, IsFull}
 use Rattle.arena_items.specs.Costs.{used}
-use Rattle.arena_items.specs.declared.room.AllocError.{AllocError}
-use Rattle.arena_items.specs.declared.room.AllocError.TheVariants as alloc
 use Rattle.script_rules.specs.Starved.{IsStarvedWithin}
-use Rattle.arena_tree.specs.Parsing.{IsProgram}
+use Rattle.arena_tree.specs.Parsing.{IsProgramText}
 use Rattle.arena_tree.specs.Spending.{KeepsKind}
 use Rattle.arena_tree.specs.declared.tree.TreeErr.{TreeErr}
 use Rattle.arena_tree.specs.declared.tree.TreeErr.TheVariants as tree
@@ -22,7 +20,7 @@ lint_bytes length = 4096 * (length + 1)
 -- and has fewer bytes than that may take, where it grows and was starved, or where memory is wanting.
 pub record Lints (bytes : List ℕ) (old new : View) (report : FileReport) : Type 0 where
   pub reports : Reports bytes report
-  pub stopped : IfNone (said report) (IsProgram bytes)
+  pub stopped : IfNone (said report) (IsProgramText bytes)
   pub most : used new ≤ lint_bytes (length bytes)
   pub asks : AsksWithin (used old + lint_bytes (length bytes)) old new
   pub full : report ≡ Full → IsFull (lint_bytes (length bytes)) old
@@ -30,16 +28,12 @@ pub record Lints (bytes : List ℕ) (old new : View) (report : FileReport) : Typ
       → IsStarvedWithin (lint_bytes (length bytes)) old.memory.state new.memory.state old.source new.source
   pub kind : KeepsKind old.memory new.memory
 
--- what is said where a block had no place, by whether the arena grows, and where memory is wanting
+-- what is said where a block had no place, by whether the arena grows
 abbrev pub no_place : Bool → FileReport
 no_place true = Refused
 no_place false = Full
 
-abbrev pub stopped_by : Bool → AllocError → FileReport
-stopped_by growing (alloc.AllocErr refused) = no_place growing
-stopped_by growing alloc.CapacityOverflow = OutOfMemory
-stopped_by growing alloc.OutOfMemory = OutOfMemory
-
+-- what is said where a text has no tree
 abbrev pub unparsed_by : Bool → TreeErr → FileReport
 unparsed_by growing (tree.Syntax at) = Syntax at
 unparsed_by growing (tree.TooDeep at) = TooDeep at

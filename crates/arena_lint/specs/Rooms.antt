@@ -8,7 +8,7 @@ use Rattle.arena_vec.specs.declared.vec.Vec.{Vec}
 use Rattle.tree_rules.specs.Trees.{Expr, Exprs, IsExpr, AreExprs, Stmt, Let, Show, Stmts, IsStmt, AreStmts}
 use Rattle.tree_rules.specs.Trees as tree
 use Rattle.tree_rules.specs.Weights.{weight, weights}
-use Rattle.tree_rules.specs.Report.{Names, names_of, all_names}
+use Rattle.tree_rules.specs.Report.{names_of, all_names}
 use Rattle.arena_tree.specs.Counts.{below, nodes, below_stmt, stmt_nodes}
 use Rattle.arena_tree.specs.Given.{IsTreeIn}
 use Rattle.arena_tree.specs.TreesAt.{node_item, ExprAt, ExprsAt}
@@ -34,7 +34,7 @@ pub record ListHasExprs (m : Memory) (v : Vec Node) (room : ℕ) : Type 0 where
   pub have : HaveExprs m (vec_list node_item m v) room
 
 -- the nodes stand for expressions that have these names
-pub record AreNamed (m : Memory) (ns : List Node) (names : Names) : Type 0 where
+pub record AreNamed (m : Memory) (ns : List Node) (names : List (List ℕ)) : Type 0 where
   pub exprs : Exprs
   pub stand : ExprsAt exprs m ns
   pub names_are : names ≡ all_names exprs
@@ -65,7 +65,7 @@ pub record ListHasStmts (m : Memory) (v : Vec Node) (room : ℕ) (others : List 
   pub have : HaveStmts m (vec_list node_item m v) room others
 
 -- the names of a statement that is no block
-abbrev pub stmt_names : Stmt → Names
+abbrev pub stmt_names : Stmt → List (List ℕ)
 stmt_names (Let name e) = names_of e
 stmt_names (Show e) = names_of e
 stmt_names (tree.Block body) = []

@@ -1,31 +1,22 @@
 -- What the calls of a walk bring into use, and why one is refused.
-use Rattle.std.specs.Prelude.{◌≡◌, ◌≢◌, ℕ, ◌+◌, ◌*◌, ◌≤◌, ◌^◌, ◌<◌, ◌⊎◌, true, false, length, Option, Some, None, IfSome}
-use Rattle.placement.specs.State.{top_of, allocated_bytes}
+use Rattle.std.specs.Prelude.{◌≡◌, ◌≢◌, ℕ, ◌+◌, ◌*◌, ◌≤◌, true, false, length, Option, Some, None, IfSome}
 use Rattle.arena_chunks.specs.Memory.{Memory}
 use Rattle.arena_chunks.specs.Source.{View}
-use Rattle.arena_chunks.specs.Asking.{AsksWithin, IsRefusedBySource, IsFull}
+use Rattle.arena_chunks.specs.Asking.{AsksWithin, IsFull}
 use Rattle.arena_items.specs.Costs.{used}
 use Rattle.arena_items.specs.declared.room.AllocError.{AllocError}
 use Rattle.arena_items.specs.declared.room.AllocError.TheVariants.{AllocErr, CapacityOverflow, OutOfMemory}
 use Rattle.arena_symbols.specs.Interner.{most_texts}
 use Rattle.arena_symbols.specs.Names.{names_in}
-use Rattle.arena_symbols.specs.Paying.{far_up}
 use Rattle.arena_symbols.specs.Scoping.{pair_count}
 use Rattle.arena_symbols.specs.Tables.{entry_item, scopes_in}
-use Rattle.arena_symbols.specs.declared.uses.Names.{Names as Known}
-use Rattle.arena_tree.specs.Spending.{KeepsKind}
+use Rattle.arena_symbols.specs.declared.names.Names.{Names as Known}
+use Rattle.arena_tree.specs.Spending.{KeepsKind, IsStarvedBehind}
 use Rattle.arena_lint.specs.Knowing.{credit}
 
 -- the bytes of the arena that a walk over statements of this weight takes at most
 abbrev pub walk_bytes : ℕ → ℕ
 walk_bytes weight = 1536 * weight
-
--- An arena that grows had no place for a block: the newest data end lay far up, or much is held, or the source refused. Chunks that were
--- made since the start put the end up by at most twice their bytes.
-abbrev pub IsStarvedSince : View → View → Type 0
-IsStarvedSince old new =
-    (far_up + 2 * allocated_bytes old.memory.state < top_of old.memory.state.chunks + 2 * allocated_bytes new.memory.state)
-    ⊎ (2 ^ 60 ≤ allocated_bytes new.memory.state) ⊎ IsRefusedBySource old new
 
 -- Calls that may bring so many bytes into use, less what is saved afterwards, and more by what was saved before. They ask for no more than
 -- that takes. A block is refused over an arena that grows where it was starved, and over another where it has fewer bytes. They are never
@@ -35,7 +26,7 @@ pub record Spends (bytes before after : ℕ) (old new : View) (error : Option Al
   pub asks : AsksWithin (used old + (bytes + before)) old new
   pub kind : KeepsKind old.memory new.memory
   pub fits : error ≢ Some CapacityOverflow
-  pub starved : old.memory.state.is_growing ≡ true → (k : ℕ) → error ≡ Some (AllocErr k) → IsStarvedSince old new
+  pub starved : old.memory.state.is_growing ≡ true → (k : ℕ) → error ≡ Some (AllocErr k) → IsStarvedBehind old new
   pub full : old.memory.state.is_growing ≡ false → (k : ℕ) → error ≡ Some (AllocErr k) → IsFull (used old + (bytes + before)) old
 
 -- the texts that have numbers, the pairs of all scopes, and the scopes, in one count

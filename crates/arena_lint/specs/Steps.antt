@@ -6,11 +6,11 @@ use Rattle.arena_vec.specs.Vecs.{vec_list}
 use Rattle.arena_vec.specs.declared.vec.Vec.{Vec}
 use Rattle.arena_items.specs.declared.room.AllocError.{AllocError}
 use Rattle.arena_symbols.specs.Named.{Moves}
-use Rattle.arena_symbols.specs.declared.uses.Names.{Names as Known}
+use Rattle.arena_symbols.specs.declared.names.Names.{Names as Known}
 use Rattle.tree_rules.specs.Trees.{Exprs, Stmt, Stmts}
 use Rattle.tree_rules.specs.Trees as tree
 use Rattle.tree_rules.specs.Weights.{weights}
-use Rattle.tree_rules.specs.Report.{Names, all_names, undefined, Walk, found_first, walk}
+use Rattle.tree_rules.specs.Report.{NameSet, all_names, undefined, Walk, found_first, walk}
 use Rattle.tree_rules.specs.declared.finding.Finding.{Finding}
 use Rattle.arena_tree.specs.TreesAt.{node_item, ExprsAt}
 use Rattle.arena_tree.specs.StmtsAt.{StmtAt, StmtsAt}
@@ -19,20 +19,20 @@ use Rattle.arena_lint.specs.Knowing.{Knows}
 use Rattle.arena_lint.specs.Spending.{Takes}
 
 -- Some expressions are behind: what these nodes stand for is left, and what is found with what is found of them is all.
-pub record Left (m : Memory) (ns : List Node) (sets : List Names) (found all : List Finding) : Type 0 where
+pub record Left (m : Memory) (ns : List Node) (sets : List NameSet) (found all : List Finding) : Type 0 where
   pub exprs : Exprs
   pub stand : ExprsAt exprs m ns
   pub all_is : found ++ undefined sets (all_names exprs) ≡ all
 
 -- What is found is a walk's, and so is what is known behind it.
-abbrev pub Finds : Memory → Memory → Known → Known → List Finding → List Finding → Result (Unit {0}) AllocError → (List Names
+abbrev pub Finds : Memory → Memory → Known → Known → List Finding → List Finding → Result (Unit {0}) AllocError → (List NameSet
     → Walk) → Type 0
 Finds old new k l first found result walked =
-    (sets : List Names) → Knows old k sets → OnOk result (Knows new l (walked sets).known × (found ≡ first ++ (walked sets).findings))
+    (sets : List NameSet) → Knows old k sets → OnOk result (Knows new l (walked sets).known × (found ≡ first ++ (walked sets).findings))
 
 -- Some statements are behind: what is known there, from which a walk over those that are left ends as one over all.
-pub record Halfway (new : Memory) (l : Known) (first found : List Finding) (ss left : Stmts) (sets : List Names) : Type 0 where
-  pub between : List Names
+pub record Halfway (new : Memory) (l : Known) (first found : List Finding) (ss left : Stmts) (sets : List NameSet) : Type 0 where
+  pub between : List NameSet
   pub knows : Knows new l between
   pub all : found_first found (walk left between) ≡ found_first first (walk ss sets)
 
@@ -43,18 +43,18 @@ pub record Behind (old new : View) (k l : Known) (first found : List Finding) (n
   pub spent : ℕ
   pub all : spent + weights left ≡ weights ss
   pub takes : Takes spent old new k l None
-  pub halfway : (sets : List Names) → Knows old.memory k sets → Halfway new.memory l first found ss left sets
+  pub halfway : (sets : List NameSet) → Knows old.memory k sets → Halfway new.memory l first found ss left sets
 
 pub record Walking (old new : View) (k l : Known) (first found : List Finding) (ns : List Node) (i : ℕ) : Type 0 where
   pub moves : Moves old.memory new.memory k l
   pub behind : (ss : Stmts) → StmtsAt ss old.memory ns → Behind old new k l first found (drop i ns) ss
 
 -- there is a set
-abbrev pub IsNotEmpty : List Names → Type 0
+abbrev pub IsNotEmpty : List NameSet → Type 0
 IsNotEmpty [] = ⊥
 IsNotEmpty (names ∷ sets) = Unit {0}
 
 -- A block begins: the list stands for its statements, and an empty set of names is known.
 pub record Enters (old new : Memory) (k l : Known) (n : Node) (list : Vec Node) : Type 0 where
   pub body : (s : Stmt) → StmtAt s old n → (ss : Stmts) × (s ≡ tree.Block ss) × StmtsAt ss new (vec_list node_item new list)
-  pub knows : (sets : List Names) → Knows old k sets → Knows new l ([] ∷ sets) × IsNotEmpty sets
+  pub knows : (sets : List NameSet) → Knows old k sets → Knows new l ([] ∷ sets) × IsNotEmpty sets

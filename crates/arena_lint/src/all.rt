@@ -4,36 +4,37 @@ ghost use Rattle.std.specs.List.{AllZip};
 ghost use Rattle.arena_lint.specs.All.{IsLintedAlone};
 
 use crate::parts::{LintErr, Linted, lint_parts};
-use arena_pool::{AllocatorPool, ChunkMaker, PoolName};
+use arena_pool::{AllocatorPool, ChunkMaker, OutOfMemory, PoolName};
 use arena_workers::Gate;
 use lint_reports::Source;
 use placement::Bytes;
-use std::alloc::{AllocError, Global};
+use std::alloc::Global;
 use std::sync::Wait;
 use std::thread::Threads;
 
 // The sources as parts, of which no byte is copied.
-fn parts_of<'a>(alloc: Global, sources: &'a [Bytes]) -> Result<Vec<Source<'a>>, AllocError>
+fn parts_of<'a>(alloc: Global, sources: &'a [Bytes]) -> Result<Vec<Source<'a>>, OutOfMemory>
     ensures { IfOk result (λ parts. parts.items ≡ sources.now) }
 {
-    let mut parts = Vec::with_capacity(alloc, sources.len())?;
+    let mut parts = Vec::with_capacity(alloc, sources.len()).map_err(|_| OutOfMemory)?;
     for bytes in sources {
-        parts.push(Source::new(bytes.as_slice()))?;
+        let part = Source::new(bytes.as_slice());
+        parts.push(part).map_err(|_| OutOfMemory)?;
     }
     Ok(parts)
 }
 
-/// The report of each source, in order, by so many workers at most, each a thread, and never more than there are sources. Each
-/// source has an arena of the pool to itself, of which nothing is used, and its report is its own alone: whatever was linted
-/// before or beside it, by however many workers.
+/// The report of each text, in order, by so many workers at most, each a thread, and never more than there are texts. Each text
+/// has an arena of the pool to itself, of which nothing is used, and its report is its own alone: whatever was linted before or
+/// beside it, by however many workers.
 ///
-/// - It is `Full` only over a fixed pool, where the arenas have fewer than 4096 bytes for each byte of the source and 4096 more.
-/// - It is `Refused` only over a standard pool, and then `starved` has what shows that the arena's source refused, or that the
-///   arena grew large. Such an arena doesn't go back to the pool.
+/// - It is `Full` only over a fixed pool, where the arenas have fewer than 4096 bytes for each byte of the text and 4096 more.
+/// - It is `Refused` only over a standard pool, and then `starved` has what shows that the arena's source of chunks refused, or
+///   that the arena grew large. Such an arena doesn't go back to the pool.
 /// - It is `OutOfMemory` where there is no memory for it, be it for an arena or for what was found.
 ///
-/// The gate is told of each source's begin and end, by the worker that lints it. The call waits at the pool's lock, and without
-/// end over a fixed pool that has no arena, where there are sources.
+/// The gate is told of each text's begin and end, by the worker that lints it. The call waits at the pool's lock, and without
+/// end over a fixed pool that has no arena, where there are texts.
 ///
 /// # Errors
 ///
@@ -56,6 +57,6 @@ pub fn lint_all<
     requires short { All (λ bytes. length bytes ≤ 2 ^ 24) sources.now }
     ensures { IfOk result (λ all. AllZip (IsLintedAlone K.Chunks.source L.kind) sources.now all.items) }
 {
-    let parts = parts_of(alloc, sources).map_err(|_| LintErr::OutOfMemory)?;
+    let parts = parts_of(alloc, sources)?;
     lint_parts(rt, alloc, pool, workers, gate, parts.as_slice())
 }

@@ -7,7 +7,7 @@ ghost use Rattle.tree_rules.specs.Report.{findings_of};
 ghost use Rattle.tree_rules.specs.Trees.{Stmts};
 ghost use Rattle.tree_rules.specs.Weights.{weights};
 ghost use Rattle.arena_lint.specs.Knowing.{IsNothing};
-ghost use Rattle.arena_lint.specs.Linting.{Lints, no_place, stopped_by, unparsed_by};
+ghost use Rattle.arena_lint.specs.Linting.{Lints, no_place, unparsed_by};
 ghost use Rattle.arena_lint.specs.Rooms.{IsLight};
 ghost use Rattle.arena_lint.specs.Spending.{Spends, walk_bytes};
 
@@ -28,16 +28,6 @@ fn no_place<C: ChunkSource>(a: &Allocator<C>) -> FileReport
         FileReport::Refused
     } else {
         FileReport::Full
-    }
-}
-
-// A walk was stopped. It never passes what may have numbers.
-fn stopped<C: ChunkSource>(a: &Allocator<C>, why: AllocError) -> FileReport
-    ensures { result ≡ stopped_by a.now.memory.state.is_growing why }
-{
-    match why {
-        AllocError::AllocErr { .. } => no_place(a),
-        AllocError::CapacityOverflow | AllocError::OutOfMemory => FileReport::OutOfMemory,
     }
 }
 
@@ -92,11 +82,15 @@ pub fn lint_one<C: ChunkSource>(alloc: Global, a: &mut Allocator<C>, src: &[u8])
     ensures { Lints src.now a.old a.new result }
 {
     tree_weight();
-    match Tree::parse(a, src) {
-        Ok(tree) => match findings(alloc, a, tree) {
-            Ok(found) => FileReport::Checked(found),
-            Err(why) => stopped(a, why),
-        },
-        Err(why) => unparsed(a, why),
+    let tree = match Tree::parse(a, src) {
+        Ok(tree) => tree,
+        Err(why) => return unparsed(a, why),
+    };
+    match findings(alloc, a, tree) {
+        Ok(found) => FileReport::Checked(found),
+        Err(AllocError::AllocErr { .. }) => no_place(a),
+        Err(AllocError::OutOfMemory) => FileReport::OutOfMemory,
+        // A walk never passes what may have numbers.
+        Err(AllocError::CapacityOverflow) => unreachable!(),
     }
 }

@@ -5,7 +5,7 @@ ghost use Rattle.arena_items.specs.Values.{IsTextIn, text_bytes};
 ghost use Rattle.arena_vec.specs.Vecs.{IsVecIn, vec_list};
 ghost use Rattle.arena_symbols.specs.Named.{AreNames};
 ghost use Rattle.arena_tree.specs.TreesAt.{node_item, kids_of, ExprAt, ExprsAt};
-ghost use Rattle.tree_rules.specs.Report.{Names, have_name, names_of, all_names, undefined};
+ghost use Rattle.tree_rules.specs.Report.{NameSet, have_name, names_of, all_names, undefined};
 ghost use Rattle.tree_rules.specs.Trees.{Expr, Exprs};
 ghost use Rattle.arena_lint.specs.Knowing.{Knows};
 ghost use Rattle.arena_lint.specs.Rooms.{HasExpr, ListHasExprs, AreNamed};
@@ -25,7 +25,7 @@ pub(crate) type Known = arena_symbols::Names;
 #[tactic(auto, using(crate::proofs::KnowLemmas::known_has))]
 fn is_defined<C: ChunkSource>(a: &Allocator<C>, known: &Known, name: &str) -> bool
     requires { AreNames a.now.memory known.now }
-    ensures { (sets : List Names) → Knows a.now.memory known.now sets → result ≡ have_name sets name.now }
+    ensures { (sets : List NameSet) → Knows a.now.memory known.now sets → result ≡ have_name sets name.now }
 {
     known.resolve(a, name).is_some()
 }
@@ -41,7 +41,7 @@ fn use_name<C: ChunkSource>(
     requires held { AreNames a.now.memory known.now }
     requires text { IsTextIn a.now.memory text }
     requires utf8 { IsUtf8 (text_bytes a.now.memory text) }
-    ensures { (sets : List Names) → Knows a.now.memory known.now sets
+    ensures { (sets : List NameSet) → Knows a.now.memory known.now sets
         → OnOk result (found.new ≡ found.old ++ undefined sets (text_bytes a.now.memory text ∷ [])) }
 {
     let name = unsafe { str::from_utf8_unchecked(a.read(text.block)) };
@@ -94,7 +94,7 @@ fn names_in<C: ChunkSource>(
 ) -> Result<(), OutOfMemory>
     requires held { AreNames a.now.memory known.now }
     requires tree { HasExpr a.now.memory node room }
-    ensures { (e : Expr) (sets : List Names) → ExprAt e a.now.memory node → Knows a.now.memory known.now sets
+    ensures { (e : Expr) (sets : List NameSet) → ExprAt e a.now.memory node → Knows a.now.memory known.now sets
         → OnOk result (found.new ≡ found.old ++ undefined sets (names_of e)) }
 {
     match node.kind {
@@ -118,7 +118,7 @@ pub(crate) fn all_names<C: ChunkSource>(
 ) -> Result<(), OutOfMemory>
     requires held { AreNames a.now.memory known.now }
     requires trees { ListHasExprs a.now.memory list room }
-    ensures { (es : Exprs) (sets : List Names) → ExprsAt es a.now.memory (vec_list node_item a.now.memory list)
+    ensures { (es : Exprs) (sets : List NameSet) → ExprsAt es a.now.memory (vec_list node_item a.now.memory list)
         → Knows a.now.memory known.now sets → OnOk result (found.new ≡ found.old ++ undefined sets (all_names es)) }
 {
     'kids: for i in 0..list.len() {

@@ -7,7 +7,7 @@ ghost use Rattle.arena_symbols.specs.Named.{AreNames, Moves, all_blocks};
 ghost use Rattle.arena_tree.specs.TreesAt.{node_item};
 ghost use Rattle.arena_tree.specs.Spending.{error_of};
 ghost use Rattle.arena_tree.specs.StmtsAt.{StmtAt, StmtsAt};
-ghost use Rattle.tree_rules.specs.Report.{Names, undefined, defined, walk_stmt, walk};
+ghost use Rattle.tree_rules.specs.Report.{NameSet, undefined, defined, walk_stmt, walk};
 ghost use Rattle.tree_rules.specs.Trees.{Stmt, Stmts};
 ghost use Rattle.tree_rules.specs.Weights.{weight, weights};
 ghost use Rattle.arena_lint.specs.Knowing.{Knows, found_of};
@@ -45,7 +45,7 @@ fn define_name<C: ChunkSource>(
     requires known { AreNames a.old.memory known.old }
     requires length { length name.now < 2 ^ 32 }
     ensures moves { Moves a.old.memory a.new.memory known.old known.new }
-    ensures means { (sets : List Names) → Knows a.old.memory known.old sets
+    ensures means { (sets : List NameSet) → Knows a.old.memory known.old sets
         → IfOk result (λ found. Knows a.new.memory known.new (defined name.now sets).known
         × ((defined name.now sets).findings ≡ found_of found name.now)) }
     ensures takes { Takes (1 + length name.now) a.old a.new known.old known.new (error_of result) }
@@ -119,7 +119,7 @@ fn use_names<C: ChunkSource>(
     requires known { AreNames a.now.memory known.now }
     requires tree { HasStmt a.now.memory node room (all_blocks a.now.memory known.now) }
     requires kind { node.kind ≢ Kind.Block }
-    ensures finds { (s : Stmt) (sets : List Names) → StmtAt s a.now.memory node → Knows a.now.memory known.now sets
+    ensures finds { (s : Stmt) (sets : List NameSet) → StmtAt s a.now.memory node → Knows a.now.memory known.now sets
         → OnOk result (found.new ≡ found.old ++ undefined sets (stmt_names s)) }
     ensures wanting { IsWanting (error_of result) }
 {
@@ -182,7 +182,7 @@ fn enter_block<C: ChunkSource>(
 fn leave_block<C: ChunkSource>(a: &mut Allocator<C>, known: &mut Known)
     requires { AreNames a.old.memory known.old }
     ensures moves { Moves a.old.memory a.new.memory known.old known.new }
-    ensures leaves { (names : Names) (sets : List Names) → Knows a.old.memory known.old (names ∷ sets)
+    ensures leaves { (names : NameSet) (sets : List NameSet) → Knows a.old.memory known.old (names ∷ sets)
         → IsNotEmpty sets → Knows a.new.memory known.new sets }
     ensures takes { Takes 0 a.old a.new known.old known.new None }
 {

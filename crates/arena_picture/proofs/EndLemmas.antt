@@ -1,5 +1,5 @@
 -- A run whose picture was drawn, and one behind which memory is wanting.
-use Rattle.std.proofs.Common.{◌≡◌, ℕ, ◌∙◌, ◌<◌, List, length, take, take_all, Option, Some, None, subst, sym, arith}
+use Rattle.std.proofs.Common.{◌≡◌, ℕ, ◌∙◌, ◌<◌, List, length, take, take_all, Some, None, subst, sym, arith}
 use Rattle.std.specs.FinMap as finite
 use Rattle.std.proofs.lemmas.Option.{slice_get_past}
 use Rattle.placement.specs.State.{State, IsValid}
@@ -10,7 +10,7 @@ use Rattle.placement.specs.declared.calls.Reply.{Reply}
 use Rattle.arena_chunks.specs.Source.{View}
 use Rattle.arena_chunks.specs.Runs.{Runs, RunsFirst, RunLeaves, block_at}
 use Rattle.arena_chunks.specs.declared.block.Block.{Block}
-use Rattle.arena_calls.specs.Ends.{Outside}
+use Rattle.arena_calls.specs.Ends.{Outside, IsWritten}
 use Rattle.arena_picture.specs.Ends.{picture_of, HasPlace, RunsToPicture}
 use Rattle.arena_picture.proofs.PlaceLemmas.{stands_in, range_used}
 
@@ -27,13 +27,13 @@ placed entry exit calls replies held runs name p at some =
 
 -- a run, and its picture
 pub drawn : (old new : Outside) (calls : List Call) (replies : List Reply) (held : List (ℕ × Block))
-    (IsWritten : Option (List ℕ) → Option (List ℕ) → List ℕ → Type 0) (text : List ℕ) → Runs old.arena new.arena calls replies held
-    → IsWritten old.written new.written text → text ≡ picture_of new.arena.memory.state held → RunsToPicture old new calls IsWritten
-drawn old new calls replies held IsWritten text runs wrote is = record {
+    (Is : IsWritten) (text : List ℕ) → Runs old.arena new.arena calls replies held
+    → Is old.written new.written text → text ≡ picture_of new.arena.memory.state held → RunsToPicture old new calls Is
+drawn old new calls replies held Is text runs wrote is = record {
   replies = replies;
   held = held;
   runs = runs;
-  written = subst (λ (t : List ℕ). IsWritten old.written new.written t) is wrote;
+  written = subst (λ (t : List ℕ). Is old.written new.written t) is wrote;
   placed = placed old.arena new.arena calls replies held runs;
 }
 

@@ -1,5 +1,5 @@
 -- What each status says of the picture.
-use Rattle.std.specs.Prelude.{◌≡◌, ℕ, ◌<◌, List, map, Option, Some}
+use Rattle.std.specs.Prelude.{◌≡◌, ℕ, ◌<◌, List, map, Some}
 use Rattle.std.specs.FinMap as finite
 use Rattle.placement.specs.State.{State}
 use Rattle.placement.specs.declared.place.Place.{Place}
@@ -8,10 +8,8 @@ use Rattle.placement.specs.declared.calls.Reply.{Reply}
 use Rattle.arena_chunks.specs.Runs.{Runs, block_at}
 use Rattle.arena_chunks.specs.Walks.{told_chunk}
 use Rattle.arena_chunks.specs.declared.block.Block.{Block}
-use Rattle.arena_calls.specs.Streams.{Writes, WritesPart}
-use Rattle.arena_calls.specs.Ends.{Outside, HasNoFault, HasWriteFault, ReadsCalls, Ends}
+use Rattle.arena_calls.specs.Ends.{Outside, IsWritten, EndsWith}
 use Rattle.arena_calls.specs.declared.status.Status.{Status}
-use Rattle.arena_calls.specs.declared.status.Status.TheVariants.{Done, WriteFault}
 use Rattle.arena_picture.specs.Shapes.{shapes_of, place_from, StandsIn}
 use Rattle.arena_picture.specs.Text.{svg_text}
 
@@ -27,18 +25,14 @@ HasPlace state block =
 
 -- The calls were run, and the picture of the arena and of the blocks that names hold then was written, as this says. Each of
 -- those that has bytes has its place in a chunk.
-pub record RunsToPicture (old new : Outside) (calls : List Call)
-    (IsWritten : Option (List ℕ) → Option (List ℕ) → List ℕ → Type 0) : Type 0 where
+pub record RunsToPicture (old new : Outside) (calls : List Call) (Is : IsWritten) : Type 0 where
   pub replies : List Reply
   pub held : List (ℕ × Block)
   pub runs : Runs old.arena new.arena calls replies held
-  pub written : IsWritten old.written new.written (picture_of new.arena.memory.state held)
+  pub written : Is old.written new.written (picture_of new.arena.memory.state held)
   pub placed : (name : ℕ) (p : Place) → finite.get runs.last.held name ≡ Some p → 0 < p.size
       → HasPlace new.arena.memory.state (block_at runs.last.state.generation p)
 
 -- A run ends as one of `arena_calls` does, but that what was written of it is the picture.
 abbrev pub Draws : Status → Outside → Outside → Type 0
-Draws Done old new = HasNoFault old new × ((calls : List Call) × ReadsCalls old new calls × RunsToPicture old new calls Writes)
-Draws WriteFault old new =
-    HasWriteFault old new × ((calls : List Call) × ReadsCalls old new calls × RunsToPicture old new calls WritesPart)
-Draws status old new = Ends status old new
+Draws = EndsWith RunsToPicture

@@ -6,10 +6,8 @@ ghost use Rattle.arena_picture.specs.Ends.{Draws, picture_of};
 
 use crate::shapes::shapes_of;
 use crate::text::svg_of;
-use arena_calls::{
-    Input, LinesErr, Output, ReadErr, Status, Text, parse_calls, read_all, write_all,
-};
-use arena_chunks::{Arena, Block, ChunkSource, run_calls_into};
+use arena_calls::{Input, Output, Status, Text, print, run_input};
+use arena_chunks::{Arena, Block, ChunkSource};
 use std::alloc::{AllocError, Global};
 
 // The picture of the arena and these blocks.
@@ -39,29 +37,13 @@ pub fn draw_lines<C: ChunkSource, I: Input, O: Output>(
         (outside (I.left input.new) (I.faults input.new) (O.written output.new) (O.faults output.new)
         (view arena.new (C.source chunks.new))) }
 {
-    let bytes = match read_all(alloc, input) {
-        Ok(bytes) => bytes,
-        Err(ReadErr::Failed) => return Status::ReadFault,
-        Err(ReadErr::TooLong) => return Status::InputTooLong,
-        Err(ReadErr::OutOfMemory) => return Status::OutOfMemory,
-    };
-    let calls = match parse_calls(alloc, bytes.as_slice()) {
-        Ok(calls) => calls,
-        Err(LinesErr::BadLine(n)) => return Status::BadLine(n),
-        Err(LinesErr::OutOfMemory) => return Status::OutOfMemory,
-    };
-    drop(bytes);
-    let mut replies = Text {
-        bytes: Vec::new(alloc),
-    };
-    let Ok(held) = run_calls_into(alloc, arena, chunks, calls.as_slice(), &mut replies) else {
-        return Status::OutOfMemory;
+    let mut replies = Text::new(alloc);
+    let held = match run_input(alloc, arena, chunks, input, &mut replies) {
+        Ok(held) => held,
+        Err(status) => return status,
     };
     let Ok(text) = picture_of(alloc, arena, held.as_slice()) else {
         return Status::OutOfMemory;
     };
-    match write_all(output, text.as_slice()) {
-        Ok(()) => Status::Done,
-        Err(_) => Status::WriteFault,
-    }
+    print(output, text.as_slice())
 }

@@ -36,7 +36,7 @@ usage: arena_run calls              reads a call from each line of standard inpu
        arena_run scripts WORKERS fixed BYTES ARENAS
                                     each on one of so many arenas over so many bytes
        arena_run scripts WORKERS keep BYTES
-                                    keeps of the arenas those of at most so many bytes
+                                    keeps an arena for reuse only if it has at most so many bytes
        arena_run lint WORKERS       reads sources, and reports what 1 to 64 threads find in them
        arena_run --help             prints this text
        arena_run --version          prints the version
@@ -62,7 +62,7 @@ a script: script, and then its commands
        load N, store N X
        len N, show N, copy N M, drop N
 
-sources: each ends before a line %%, and has a report
+sources: separated by lines %%, each gets a report
        let NAME = EXPR;  EXPR;  { .. }                            what stands in one
 ";
 

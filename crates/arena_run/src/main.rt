@@ -1,4 +1,4 @@
-//! Reads calls on a bump arena, or scripts, from standard input, and prints a line for each reply.
+//! Runs calls or scripts on bump arenas, or lints sources, and prints what came of them.
 #![tactic(auto)]
 
 use arena_calls::{StdInput, StdOutput, program_chunks};

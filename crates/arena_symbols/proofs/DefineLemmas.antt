@@ -108,8 +108,11 @@ module _ {item : Ghosts Entry} (old : View) (s : Scopes) (id value : ℕ) (held 
           → value_of (map_in id_kind new.memory n (to_le_bytes w32 q)) ≡ newest (recent_in item old.memory s) q =
           λ q low. (rw lists.kept.0 (ap (λ (f : Finite ℕ ℕ). value_of (f (to_le_bytes w32 q))) lists.kept.2)) ∙ held.places q low in
           let table : IsTableOf item new.memory now (recent_in item old.memory s) (starts_in old.memory s) =
-          grind (arith, lists.map, lists.list, lists.kept.0, (starts lists).held, apart lists, places, held) in
-          (table_of (ap reverse lists.kept.1) (starts_are lists) table, tt, (λ i. scopes_of (pairs_of (lists.kept.1 i)) (starts_are lists i)))
+          grind (arith, lists.map, lists.list, lists.kept.0, (starts lists).held, apart lists, places, held) in (
+            table_of (ap reverse lists.kept.1) (starts_are lists) table,
+            tt,
+            (λ i. scopes_of (pairs_of (lists.kept.1 i)) (starts_are lists i)),
+          )
 
       -- The pair is put, or refused.
       pub defines : (result : Result ℕ AllocError) → Puts result → Defines item old new s now id value (told (λ _. true) result)

@@ -100,7 +100,8 @@ module _ {K T : Type 0} (paid : Paid) {item : Ghosts T} (plain : IsItemLayout it
         let content = ap (k.key.content key) (text can grows.frame).bytes in
         let map_is = puts.map_is ∙ (λ i. with_pair (same.means i) (content i) key v.raw.len) in
         let len = puts.len ∙ (λ i. if has (same.means i) (content i) then m.len else m.len + 1) in
-        let pays = pays_told (λ _. v.raw.len) (Ok before) (both {after = saved w + credit_of k n} (Ok before) costs puts (omega arith) tt) in
+        let pays =
+        pays_told (λ _. v.raw.len) (Ok before) (both {after = saved w + credit_of k n} (Ok before) costs puts (omega arith) tt) in
         let frame = frame_both _ _ _ _ _ _ _ grows.frame puts.frame in
         let apart = blocks_turned w.raw.block n.table.block vec.apart.0 in
         grind (arith, puts.held, vec.held, apart, vec.list_is ∙ grows.list_is, map_is, len, pays, frame)

@@ -1,27 +1,30 @@
 -- An interner and a scoped table side by side.
-use Rattle.std.proofs.Common.{◌≡◌, ℕ, List, [], ◌∷◌, ◌++◌, refl, ap, ◌∙◌, inr, Some, Ok, Err, Bool, true, false, ◌<◌, ◌≤◌, length, arith, None, ◌+◌, ◌-◌, ◌^◌}
+use Rattle.std.proofs.Common.{◌≡◌, ℕ, List, [], ◌∷◌, ◌++◌, refl, sym, ap, ◌∙◌, inl, inr, Some, Ok, Err, Bool, true, false, ◌<◌, ◌≤◌, length, arith, None, ◌+◌, ◌-◌, ◌^◌}
 use Rattle.std.specs.Prelude.{if◌then◌else◌, not, Result, IfOk, ◌↔◌}
 use Rattle.std.proofs.lemmas.Result.{IfOk-weaker}
+use Rattle.placement.proofs.AskingLemmas.{asks_more}
 use Rattle.arena_chunks.specs.Memory.{Memory}
 use Rattle.arena_chunks.specs.Source.{View}
 use Rattle.arena_chunks.specs.Frame.{Frame, AreAllApart}
 use Rattle.arena_chunks.specs.declared.block.Block.{Block}
 use Rattle.arena_chunks.proofs.Layers.{all_apart, all_from_none, all_from_both, apart_both, frame_then, frame_weaken, frame_beside, frame_behind, frame_keeps_all}
 use Rattle.arena_items.specs.Costs.{Costs}
+use Rattle.arena_items.specs.Room.{SamePlaces}
 use Rattle.arena_items.specs.declared.room.AllocError.{AllocError}
-use Rattle.arena_items.proofs.Layers.{stays_readable, stays_agree, stays_apart, costs_weaken, costs_then}
+use Rattle.arena_items.specs.declared.room.AllocError.TheVariants.{CapacityOverflow}
+use Rattle.arena_items.proofs.Layers.{stays_readable, stays_agree, stays_apart, costs_weaken, costs_ok, costs_then}
 use Rattle.arena_symbols.specs.Interner.{number_of, most_texts}
 use Rattle.arena_symbols.specs.Interning.{Interns}
-use Rattle.arena_symbols.specs.Named.{AreNames, Moves, Declares, DeclaresWithin, IsFullFor, all_credit, meant, meaning}
+use Rattle.arena_symbols.specs.Named.{AreNames, Moves, Declares, Spends, DeclaresWithin, OwnScopeWithin, IsFullFor, all_credit, meant, meaning}
 use Rattle.arena_symbols.specs.Names.{names_in, own_blocks, names_footprint, names_credit}
-use Rattle.arena_symbols.specs.Scoping.{innermost, is_in_last, outer_of, with_pair, pair_count, most_pairs}
+use Rattle.arena_symbols.specs.Scoping.{innermost, is_in_last, outer_of, with_pair, pair_count, most_scopes, most_pairs}
 use Rattle.arena_symbols.specs.Paying.{Pays, far_up}
 use Rattle.arena_symbols.specs.TableCalls.{Defines}
 use Rattle.arena_symbols.specs.TableLaws.{table_readable, table_same, table_held_again}
 use Rattle.arena_symbols.specs.Tables.{entry_item, IsTableIn, scopes_in, table_blocks, table_credit}
 use Rattle.arena_symbols.specs.declared.scopes.Scopes.{Scopes}
 use Rattle.arena_symbols.specs.declared.symbols.Symbols.{Symbols}
-use Rattle.arena_symbols.specs.declared.uses.Names.{Names}
+use Rattle.arena_symbols.specs.declared.names.Names.{Names}
 use Rattle.arena_symbols.proofs.InternLemmas.{interner_beside}
 use Rattle.arena_symbols.proofs.PayLemmas.{pays_as, pays_more}
 use Rattle.arena_symbols.proofs.ScopeLemmas.{lookup_put}
@@ -69,14 +72,18 @@ moves_then first last = record { held = last.held; frame = frame_then _ _ _ _ _ 
 
 -- ---- A declaration
 
+spent : {X : Type 0} {far bytes : ℕ} {old new : View} {n m : Names} {result : Result X AllocError}
+    → Pays far bytes (all_credit n) (all_credit m) old new result → Spends far bytes old new n m result
+spent pays = record { costs = pays.costs; told = pays.told }
+
 pub unnamed : {old mid : View} {n : Names} {t : Symbols} {name : List ℕ} {value : ℕ} {e : AllocError} → AreNames old.memory n
     → Interns old mid n.symbols t name (Err e) → Declares old.memory mid.memory n (record n { symbols = t }) name value (Err e)
-    × DeclaresWithin old mid n (record n { symbols = t }) name (Err e)
+    × DeclaresWithin {X = Bool} old mid n (record n { symbols = t }) name (Err e)
 unnamed {old = old} {mid = mid} {n = n} {t = t} {name = name} {e = e} held interns =
     let moved = texts_moved held interns in
     let pays : Pays {X = Bool} (far_up - 2 ^ 61) (1536 + length name) (all_credit n) (all_credit (record n { symbols = t })) old mid
     (Err e) = pays_as (table_credit n.scopes) (λ d is. cc) (omega arith) (omega arith) (omega arith) (omega arith) interns.pays in
-    grind (arith, moved, interns.overflows, interns.kept, interns.fresh, pays.costs, pays.told)
+    grind (arith, moved, interns.overflows, interns.kept, interns.fresh, spent {n = n} {m = record n { symbols = t }} pays)
 
 -- One that overflows at the pairs, as the name has its number.
 overflows_at : {P : Type 0} {maps scopes : List (List (ℕ × ℕ))} {id : ℕ} (texts now : List (List ℕ)) (name : List ℕ) → maps ≡ scopes
@@ -112,7 +119,9 @@ bound {old = old} {mid = mid} {new = new} {n = n} {t = t} {u = u} {name = name} 
     × (scopes_in entry_item new.memory u ≡ (if b then with_pair scopes id value else scopes))) _ (λ b is. (id, number, is.0, is.1))
     (grind (arith, one.1, defines.says, defines.scopes)) in
     let moves = moves_then one.0 two.0 in
-    grind (arith, moves, two.1, interns.names, put, one.1, defines.kept, overflows, costs, second.told, first.costs.asks.refusals)
+    let spends : Spends (far_up - 2 ^ 61) (1536 + length name) old new n (record { symbols = t; scopes = u }) result =
+    record { costs = costs; told = grind (arith, second.told, first.costs.asks.refusals) } in
+    grind (arith, moves, two.1, interns.names, put, one.1, defines.kept, overflows, spends)
 
 -- the outer maps where a pair was put
 outer_put : (scopes : List (List (ℕ × ℕ))) (id value : ℕ) → outer_of (with_pair scopes id value) ≡ outer_of scopes
@@ -144,3 +153,85 @@ pub ruleset declarations = (means_value, not_there, outer_kept)
 pub outer_long : (scopes : List (List (ℕ × ℕ))) → 0 < length (outer_of scopes) → 2 ≤ length scopes
 outer_long [] some = absurd (omega (arith, some))
 outer_long (scope ∷ outer) some = omega (arith, some)
+
+-- ---- A scope of its own
+
+module _ {X Y : Type 0} {old new : View} {n m : Names} {name : List ℕ} where
+  -- It doesn't matter what is answered beside a refusal.
+  pub within_ok : {x : X} (y : Y) → DeclaresWithin old new n m name (Ok x) → DeclaresWithin old new n m name (Ok y)
+  within_ok y within =
+      record {
+        overflows = (λ no. absurd (cc), λ full. let no = within.overflows.1 full in absurd (cc));
+        spends = record {
+          costs = record {
+            takes = within.spends.costs.takes;
+            asks = within.spends.costs.asks;
+            starved = λ growing k no. absurd (cc);
+            full = λ still k no. absurd (cc);
+          };
+          told = λ k no. absurd (cc);
+        };
+      }
+
+  pub within_err : {e : AllocError} → DeclaresWithin {X = X} old new n m name (Err e) → DeclaresWithin {X = Y} old new n m name (Err e)
+  within_err within = record {
+    overflows = (λ is. within.overflows.0 (cc), λ full. let is = within.overflows.1 full in cc);
+    spends = record {
+      costs = record {
+        takes = within.spends.costs.takes;
+        asks = within.spends.costs.asks;
+        starved = λ growing k is. within.spends.costs.starved growing k (cc);
+        full = λ still k is. within.spends.costs.full still k (cc);
+      };
+      told = λ k is. within.spends.told k (cc);
+    };
+  }
+
+full_as : (name : List ℕ) {texts others now later : List (List ℕ)} {scopes maps : List (List (ℕ × ℕ))} → others ≡ texts → later ≡ now
+    → maps ≡ scopes → IsFullFor texts now scopes name → IsFullFor others later maps name
+full_as name texts now scopes full = rw (texts, now, scopes) full
+
+module _ {X : Type 0} {old new : View} {n m : Names} (name : List ℕ) where
+  -- The scope is refused,
+  pub unscoped : (e : AllocError)
+      → (◌≡◌ {A = Result (Unit {0}) AllocError} (Err e) (Err CapacityOverflow))
+      ↔ (most_scopes ≤ length (scopes_in entry_item old.memory n.scopes))
+      → Pays {X = Unit {0}} far_up 64 (all_credit n) (all_credit m) old new (Err e) → OwnScopeWithin {X = X} old new n m name (Err e)
+  unscoped e overflows pays =
+      let same : Pays {X = X} far_up 64 (all_credit n) (all_credit m) old new (Err e) =
+      pays_as 0 (λ d is. cc) (omega arith) (omega arith) (omega arith) (omega arith) pays in
+      record {
+        deepest = λ deep. let is = overflows.1 deep in cc;
+        overflows = λ is. inl (overflows.0 (cc));
+        full = λ is. inr (refl, spent same);
+        spends = spent (pays_more 0 (omega arith) (omega arith) (omega arith) (omega arith) same);
+      }
+
+  -- or the name is declared in it, and it ends.
+  pub scoped : {mid last : View} {k o : Names} (result : Result X AllocError) → Moves old.memory mid.memory n k
+      → (most_scopes ≤ length (scopes_in entry_item old.memory n.scopes) → ⊥)
+      → names_in mid.memory k.symbols ≡ names_in old.memory n.symbols
+      → scopes_in entry_item mid.memory k.scopes ≡ [] ∷ scopes_in entry_item old.memory n.scopes
+      → Pays {X = Unit {0}} far_up 64 (all_credit n) (all_credit k) old mid (Ok tt) → DeclaresWithin mid last k o name result
+      → names_in new.memory m.symbols ≡ names_in last.memory o.symbols → SamePlaces last new → all_credit m ≤ all_credit o
+      → OwnScopeWithin old new n m name result
+  scoped {mid = mid} {last = last} {k = k} {o = o} result begun few texts scopes pays declares same places less =
+      let all : Costs (far_up - 2 ^ 62) (64 + (1536 + length name)) (all_credit n) (all_credit o) old last result =
+      costs_then (far_up - 2 ^ 62) 64 (1536 + length name) _ _ _ old mid last (Ok (tt {0})) result begun.frame.is_growing
+      begun.frame.allocated refl
+      (costs_ok far_up (far_up - 2 ^ 62) 64 _ _ old mid (Ok (tt {0})) refl pays.costs) declares.spends.costs in
+      record {
+        deepest = λ deep. absurd (few deep);
+        overflows = λ is. inr (full_as name (sym texts) same (sym scopes) (declares.overflows.0 is));
+        full = λ is. inl (declares.overflows.1 (full_as name texts (sym same) scopes is));
+        spends = record {
+          costs = record {
+            takes = rw places.state (omega (arith, all.takes, less));
+            asks = rw (places.state, places.source)
+                (asks_more _ _ old.memory.state last.memory.state old.source last.source (omega arith) all.asks);
+            starved = rw (places.state, places.source) all.starved;
+            full = λ still j is. let short = all.full still j is in record { still = still; short = omega (arith, short.short) };
+          };
+          told = rw places.source (grind (arith, declares.spends.told, pays.costs.asks.refusals));
+        };
+      }

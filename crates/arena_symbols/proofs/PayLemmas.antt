@@ -14,7 +14,7 @@ use Rattle.arena_chunks.proofs.Layers.{asks_same}
 use Rattle.arena_items.specs.Costs.{used, Costs, Covers, farthest}
 use Rattle.arena_items.specs.Layout.{IsItemLayout}
 use Rattle.arena_items.specs.LayoutLaws.{plain_1}
-use Rattle.arena_items.specs.Room.{capacity_after, MakesRoom, TakesRoom, RoomAnswer}
+use Rattle.arena_items.specs.Room.{capacity_after, MakesRoom, SamePlaces, TakesRoom, RoomAnswer}
 use Rattle.arena_items.specs.Values.{IsHeld}
 use Rattle.arena_items.specs.declared.item.Item.{Ghosts}
 use Rattle.arena_items.specs.declared.room.AllocError.{AllocError}
@@ -48,6 +48,13 @@ pub pays_nothing : {X : Type 0} (far bytes credit : ℕ) (old : View) (result : 
 pays_nothing far bytes credit old result none =
     let asks = asks_same (used old + (bytes + credit)) old old refl refl in
     grind (arith, none, asks)
+
+-- No memory is taken, and the credit doesn't rise.
+pub pays_places : {X : Type 0} {far bytes before after : ℕ} (old new : View) (x : X) → SamePlaces old new → after ≤ before
+    → Pays far bytes before after old new (Ok x)
+pays_places {far = far} {bytes = bytes} {before = before} {after = after} old new x places less =
+    let costs = costs_nothing far bytes before after old new x places (omega (arith, less)) in
+    grind (arith, costs)
 
 -- ---- More, and together
 

@@ -1,5 +1,7 @@
 -- Calls on the names of a program, with no arena: what each answers, and what it leaves, of a list of texts and a list of maps.
-use Rattle.std.specs.Prelude.{◌≡◌, ℕ, ◌^◌, ◌≤◌, ◌⊎◌, List, [], ◌∷◌, None, Bool, true, false, not, length, slice_get, if◌then◌else◌}
+use Rattle.std.specs.Prelude.{◌≡◌, ℕ, ◌+◌, ◌^◌, ◌<◌, ◌≤◌, ◌⊎◌, List, [], ◌∷◌, None, Bool, true, false, not, length, slice_get, if◌then◌else◌}
+use Rattle.arena_items.specs.declared.room.AllocError.{AllocError}
+use Rattle.arena_items.specs.declared.room.AllocError.TheVariants.{AllocErr, CapacityOverflow, OutOfMemory}
 use Rattle.arena_symbols.specs.Interner.{number_of, with_text, most_texts}
 use Rattle.arena_symbols.specs.Scoping.{lookup, is_in_last, with_pair, outer_of, pair_count, most_scopes, most_pairs}
 use Rattle.arena_symbols.specs.declared.calls.Call.{Call}
@@ -53,3 +55,44 @@ IsFull s (Intern text) = (2 ^ 32 ≤ length text.now) ⊎ ((number_of s.texts te
 IsFull s Enter = most_scopes ≤ length s.scopes
 IsFull s (Define id value) = (is_in_last s.scopes id ≡ false) × (most_pairs ≤ pair_count s.scopes)
 IsFull s call = ⊥
+
+-- Calls that come one after another, none of which is full.
+abbrev pub HaveRoom : State → List Call → Type 0
+HaveRoom s [] = Unit {0}
+HaveRoom s (call ∷ calls) = (IsFull s call → ⊥) × HaveRoom (after s call) calls
+
+-- ---- Why a call is refused
+
+-- a call that adds something: a text that has no number, a map, or a pair whose id the innermost map doesn't have
+abbrev pub Adds : State → Call → Type 0
+Adds s (Intern text) = number_of s.texts text.now ≡ None
+Adds s Enter = Unit {0}
+Adds s (Define id value) = is_in_last s.scopes id ≡ false
+Adds s call = ⊥
+
+-- a call that changes something: one that adds, or ends the innermost map
+abbrev pub Changes : State → Call → Type 0
+Changes s Leave = has_outer s.scopes ≡ true
+Changes s call = Adds s call
+
+-- a call that has a text copied
+abbrev pub Copies : State → Call → Type 0
+Copies s (Text id) = id < length s.texts
+Copies s call = ⊥
+
+-- What a call may be refused with: it is full, the arena has no place for what it adds, or there is no memory for that or for a copy.
+abbrev pub MayAnswer : State → Call → AllocError → Type 0
+MayAnswer s call CapacityOverflow = IsFull s call
+MayAnswer s call (AllocErr k) = Adds s call
+MayAnswer s call OutOfMemory = Adds s call ⊎ Copies s call
+
+-- the bytes that a call may bring into use, and many
+abbrev pub bytes_for : Call → ℕ
+bytes_for (Intern text) = 1024 + length text.now
+bytes_for Enter = 64
+bytes_for (Define id value) = 512
+bytes_for call = 0
+
+abbrev pub bytes_for_all : List Call → ℕ
+bytes_for_all [] = 0
+bytes_for_all (call ∷ calls) = bytes_for call + bytes_for_all calls

@@ -1,5 +1,5 @@
 -- The names of a program: an interner and a scoped table side by side in an arena.
-use Rattle.std.specs.Prelude.{◌≡◌, ℕ, ◌+◌, ◌-◌, ◌^◌, ◌≤◌, ◌⊎◌, ◌↔◌, List, ◌++◌, length, Bool, false, not, Option, Some, None, Result, Err, IfOk, OnOk, OnErr, if◌then◌else◌}
+use Rattle.std.specs.Prelude.{◌≡◌, ℕ, ◌+◌, ◌-◌, ◌^◌, ◌≤◌, ◌⊎◌, ◌↔◌, List, [], ◌∷◌, ◌++◌, length, Bool, false, not, Option, Some, None, Result, Err, IfOk, OnOk, OnErr, IsErr, if◌then◌else◌}
 use Rattle.arena_chunks.specs.Memory.{Memory}
 use Rattle.arena_chunks.specs.Source.{View}
 use Rattle.arena_chunks.specs.Frame.{AreAllApart, Frame}
@@ -10,9 +10,9 @@ use Rattle.arena_items.specs.declared.room.AllocError.TheVariants.{AllocErr, Cap
 use Rattle.arena_symbols.specs.Interner.{number_of, with_text, most_texts}
 use Rattle.arena_symbols.specs.Names.{IsInternerIn, names_in, names_footprint, names_credit}
 use Rattle.arena_symbols.specs.Paying.{HasRefused, far_up}
-use Rattle.arena_symbols.specs.Scoping.{lookup, is_in_last, with_pair, pair_count, most_pairs}
+use Rattle.arena_symbols.specs.Scoping.{lookup, is_in_last, with_pair, pair_count, most_scopes, most_pairs}
 use Rattle.arena_symbols.specs.Tables.{entry_item, IsTableIn, scopes_in, table_blocks, table_credit}
-use Rattle.arena_symbols.specs.declared.uses.Names.{Names}
+use Rattle.arena_symbols.specs.declared.names.Names.{Names}
 
 -- Both stand there, and their blocks lie apart.
 pub record AreNames (memory : Memory) (n : Names) : Type 0 where
@@ -64,9 +64,23 @@ abbrev pub IsFullFor : List (List ℕ) → List (List ℕ) → List (List (ℕ �
 IsFullFor texts texts_now scopes name = ((number_of texts name ≡ None) × (most_texts ≤ length texts))
     ⊎ (((id : ℕ) × (number_of texts_now name ≡ Some id) × (is_in_last scopes id ≡ false)) × (most_pairs ≤ pair_count scopes))
 
--- When a declaration overflows, what it costs, and what it tells where the arena refuses.
-pub record DeclaresWithin (old new : View) (n m : Names) (name : List ℕ) (result : Result Bool AllocError) : Type 0 where
+-- What a call costs by both credits together, and what it tells where the arena refuses.
+pub record Spends {X : Type 0} (far bytes : ℕ) (old new : View) (n m : Names) (result : Result X AllocError) : Type 0 where
+  pub costs : Costs far bytes (all_credit n) (all_credit m) old new result
+  pub told : (k : ℕ) → result ≡ Err (AllocErr k) → HasRefused old new k
+
+-- When a declaration overflows, and what it costs.
+pub record DeclaresWithin {X : Type 0} (old new : View) (n m : Names) (name : List ℕ) (result : Result X AllocError) : Type 0 where
   pub overflows : (result ≡ Err CapacityOverflow) ↔ IsFullFor (names_in old.memory n.symbols) (names_in new.memory m.symbols)
       (scopes_in entry_item old.memory n.scopes) name
-  pub costs : Costs (far_up - 2 ^ 61) (1536 + length name) (all_credit n) (all_credit m) old new result
-  pub told : (k : ℕ) → result ≡ Err (AllocErr k) → HasRefused old new k
+  pub spends : Spends (far_up - 2 ^ 61) (1536 + length name) old new n m result
+
+-- When a declaration in a scope of its own overflows, and what it costs: where there are as many scopes as there may be; and where there is
+-- no room for the name, unless the arena refuses the scope first.
+pub record OwnScopeWithin {X : Type 0} (old new : View) (n m : Names) (name : List ℕ) (result : Result X AllocError) : Type 0 where
+  pub deepest : most_scopes ≤ length (scopes_in entry_item old.memory n.scopes) → result ≡ Err CapacityOverflow
+  pub overflows : result ≡ Err CapacityOverflow → (most_scopes ≤ length (scopes_in entry_item old.memory n.scopes))
+      ⊎ IsFullFor (names_in old.memory n.symbols) (names_in new.memory m.symbols) ([] ∷ scopes_in entry_item old.memory n.scopes) name
+  pub full : IsFullFor (names_in old.memory n.symbols) (names_in new.memory m.symbols) ([] ∷ scopes_in entry_item old.memory n.scopes) name
+      → (result ≡ Err CapacityOverflow) ⊎ (IsErr result × Spends far_up 64 old new n m result)
+  pub spends : Spends (far_up - 2 ^ 62) (1600 + length name) old new n m result

@@ -1,34 +1,54 @@
 -- What calls do to the names of a program that stand in an arena.
-use Rattle.std.specs.Prelude.{◌≡◌, List, ◌++◌, ◌↔◌, Result, Err, IfOk, OnOk, OnErr}
+use Rattle.std.specs.Prelude.{◌≡◌, ℕ, ◌+◌, ◌-◌, ◌^◌, ◌⊎◌, List, ◌++◌, take, slice_get, ◌↔◌, Some, Result, Ok, Err, IfOk, IfErr, OnOk, OnErr}
 use Rattle.arena_chunks.specs.Memory.{Memory}
-use Rattle.arena_chunks.specs.Frame.{Frame}
+use Rattle.arena_chunks.specs.Source.{View}
+use Rattle.arena_items.specs.Costs.{Costs}
 use Rattle.arena_items.specs.declared.room.AllocError.{AllocError}
-use Rattle.arena_items.specs.declared.room.AllocError.TheVariants.{CapacityOverflow}
-use Rattle.arena_symbols.specs.Calls.{State, answer, after, answers, after_all, IsFull}
-use Rattle.arena_symbols.specs.Named.{AreNames, all_blocks}
+use Rattle.arena_items.specs.declared.room.AllocError.TheVariants.{CapacityOverflow, OutOfMemory}
+use Rattle.arena_symbols.specs.Calls.{State, answer, after, answers, after_all, IsFull, HaveRoom, Changes, MayAnswer, bytes_for, bytes_for_all}
+use Rattle.arena_symbols.specs.Named.{Moves, all_credit}
 use Rattle.arena_symbols.specs.Names.{names_in}
+use Rattle.arena_symbols.specs.Paying.{Pays, far_up}
 use Rattle.arena_symbols.specs.Tables.{entry_item, scopes_in}
 use Rattle.arena_symbols.specs.declared.calls.Call.{Call}
 use Rattle.arena_symbols.specs.declared.calls.Reply.{Reply}
-use Rattle.arena_symbols.specs.declared.uses.Names.{Names}
+use Rattle.arena_symbols.specs.declared.names.Names.{Names}
 
 -- the texts and the maps that stand there
 abbrev pub state_in : Memory → Names → State
 state_in memory n = record { texts = names_in memory n.symbols; scopes = scopes_in entry_item memory n.scopes }
 
--- A call is answered as the texts and the maps say, and leaves what they say. Refused, they are as they were. Nothing else in the arena
--- was written.
-pub record Serves (old new : Memory) (n m : Names) (call : Call) (result : Result Reply AllocError) : Type 0 where
-  pub held : AreNames new m
-  pub answer : IfOk result (λ reply. reply ≡ answer (state_in old n) call)
-  pub after : OnOk result (state_in new m ≡ after (state_in old n) call)
-  pub kept : OnErr result (state_in new m ≡ state_in old n)
-  pub overflows : (result ≡ Err CapacityOverflow) ↔ IsFull (state_in old n) call
-  pub frame : Frame old new (all_blocks old n) (all_blocks new m)
+-- A call is answered as the texts and the maps say, and leaves what they say. Refused, for one of its causes, they are as they were. One
+-- that changes nothing of them changes nothing at all. The arena refuses it only where it was starved of the call's bytes, or is short of
+-- them.
+pub record Serves (old new : View) (n m : Names) (call : Call) (result : Result Reply AllocError) : Type 0 where
+  pub moves : Moves old.memory new.memory n m
+  pub answer : IfOk result (λ reply. reply ≡ answer (state_in old.memory n) call)
+  pub after : OnOk result (state_in new.memory m ≡ after (state_in old.memory n) call)
+  pub kept : OnErr result (state_in new.memory m ≡ state_in old.memory n)
+  pub cause : IfErr result (MayAnswer (state_in old.memory n) call)
+  pub overflows : (result ≡ Err CapacityOverflow) ↔ IsFull (state_in old.memory n) call
+  pub still : (Changes (state_in old.memory n) call → ⊥) → (new ≡ old) × (m ≡ n)
+  pub pays : Pays far_up (bytes_for call) (all_credit n) (all_credit m) old new result
 
 -- So do calls one after another, whose replies stand behind the earlier ones.
-pub record Ran (old new : Memory) (n m : Names) (calls : List Call) (earlier replies : List Reply) : Type 0 where
-  pub held : AreNames new m
-  pub told : replies ≡ earlier ++ answers (state_in old n) calls
-  pub after : state_in new m ≡ after_all (state_in old n) calls
-  pub frame : Frame old new (all_blocks old n) (all_blocks new m)
+pub record Ran (old new : View) (n m : Names) (calls : List Call) (earlier replies : List Reply) : Type 0 where
+  pub moves : Moves old.memory new.memory n m
+  pub told : replies ≡ earlier ++ answers (state_in old.memory n) calls
+  pub after : state_in new.memory m ≡ after_all (state_in old.memory n) calls
+  pub room : HaveRoom (state_in old.memory n) calls
+  pub costs : Costs {X = Unit {0}} (far_up - 2 ^ 61) (bytes_for_all calls) (all_credit n) (all_credit m) old new (Ok tt)
+
+-- So do the calls before one that is refused, from `mid` on: by `serve`, or as there is no memory for its reply. What is left is what
+-- those before it leave.
+pub record Stops (old new : View) (n m : Names) (calls : List Call) (earlier replies : List Reply) (e : AllocError) : Type 0 where
+  pub at : ℕ
+  pub call : Call
+  pub is : slice_get calls at ≡ Some call
+  pub mid : View
+  pub between : Names
+  pub ran : Ran old mid n between (take at calls) earlier replies
+  pub refused : Serves mid new between m call (Err e) ⊎ ((e ≡ OutOfMemory) × (new ≡ mid) × (m ≡ between))
+  pub moves : Moves old.memory new.memory n m
+  pub left : state_in new.memory m ≡ after_all (state_in old.memory n) (take at calls)
+  pub costs : Costs {X = Unit {0}} (far_up - 2 ^ 61) (bytes_for_all (take (at + 1) calls)) (all_credit n) (all_credit m) old new (Err e)

@@ -1,9 +1,9 @@
 // Any list of calls on an interner and a scoped table that stand side by side.
-ghost use Rattle.std.specs.Prelude.{◌≡◌, ℕ, ◌<◌, [], ◌∷◌, ◌++◌, take, length, OnOk, OnErr, vec_len, vec_capacity};
+ghost use Rattle.std.specs.Prelude.{◌≡◌, ◌<◌, [], ◌∷◌, ◌++◌, OnOk, IfErr, vec_len, vec_capacity};
 ghost use Rattle.arena_symbols.specs.Named.{AreNames};
-ghost use Rattle.arena_symbols.specs.Serving.{Serves, Ran};
+ghost use Rattle.arena_symbols.specs.Serving.{Serves, Ran, Stops};
 
-use crate::uses::Names;
+use crate::names::Names;
 use arena_chunks::{Allocator, ChunkSource};
 use arena_items::{AllocError, Grown};
 use placement::Bytes;
@@ -53,7 +53,7 @@ impl Names {
     // The text with a number, if there is one.
     fn name<C: ChunkSource>(&self, alloc: Global, a: &Allocator<C>, id: u32) -> Grown<Reply>
         requires { AreNames a.now.memory self.now }
-        ensures { Serves a.now.memory a.now.memory self.now self.now (Call.Text id) result }
+        ensures { Serves a.now a.now self.now self.now (Call.Text id) result }
     {
         if id >= self.symbols.len() {
             return Ok(Reply::Name(None));
@@ -70,7 +70,7 @@ impl Names {
     /// # Errors
     ///
     /// As of `intern`, `enter` and `define`; `CapacityOverflow` for a text of more than 4,294,967,295 bytes; `OutOfMemory` where
-    /// there is none for the text that is asked for. All is as it was.
+    /// there is none for the text that is asked for. Texts and maps are as they were. No other call is refused.
     pub fn serve<C: ChunkSource>(
         &mut self,
         alloc: Global,
@@ -78,7 +78,7 @@ impl Names {
         call: &Call<'_>,
     ) -> Grown<Reply>
         requires { AreNames a.old.memory self.old }
-        ensures { Serves a.old.memory a.new.memory self.old self.new call.now result }
+        ensures { Serves a.old a.new self.old self.new call.now result }
     {
         match *call {
             Call::Intern(text) => {
@@ -111,7 +111,8 @@ impl Names {
     ///
     /// # Errors
     ///
-    /// As of `serve`, and `OutOfMemory` where there is none for the replies. The names are as after the calls before.
+    /// As of `serve` for the first call that it refuses, and `OutOfMemory` where there is none for the replies. The names are as
+    /// after the calls before.
     pub fn run<C: ChunkSource>(
         &mut self,
         alloc: Global,
@@ -120,9 +121,9 @@ impl Names {
         replies: &mut Vec<Reply>,
     ) -> Grown<()>
         requires { AreNames a.old.memory self.old }
-        ensures ok { OnOk result (Ran a.old.memory a.new.memory self.old self.new calls.now replies.old.items replies.new.items) }
-        ensures err { OnErr result ((k : ℕ) × (k < length calls.now)
-            × Ran a.old.memory a.new.memory self.old self.new (take k calls.now) replies.old.items replies.new.items) }
+        ensures held { AreNames a.new.memory self.new }
+        ensures ok { OnOk result (Ran a.old a.new self.old self.new calls.now replies.old.items replies.new.items) }
+        ensures err { IfErr result (Stops a.old a.new self.old self.new calls.now replies.old.items replies.new.items) }
     {
         for call in calls {
             if replies.reserve(1).is_err() {

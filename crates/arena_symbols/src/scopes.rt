@@ -139,6 +139,40 @@ impl Scopes {
         requires { IsTableIn entry_item a.old.memory self.old }
         ensures { Defines entry_item a.old a.new self.old self.new id value result }
     {
+        if self.pairs.len() < self.pairs.capacity() {
+            self.define_pair(a, id, value)
+        } else {
+            self.define_growing(a, id, value)
+        }
+    }
+
+    // The same where the list of pairs is full. It stands apart, so that a pair that there is room for writes no more of the
+    // list's handle than its length.
+    #[cold]
+    #[inline(never)]
+    fn define_growing<C: ChunkSource>(
+        &mut self,
+        a: &mut Allocator<C>,
+        id: u32,
+        value: u32,
+    ) -> Grown<bool>
+        requires { IsTableIn entry_item a.old.memory self.old }
+        ensures { Defines entry_item a.old a.new self.old self.new id value result }
+    {
+        self.define_pair(a, id, value)
+    }
+
+    // The same, inlined into both.
+    #[inline(always)]
+    fn define_pair<C: ChunkSource>(
+        &mut self,
+        a: &mut Allocator<C>,
+        id: u32,
+        value: u32,
+    ) -> Grown<bool>
+        requires { IsTableIn entry_item a.old.memory self.old }
+        ensures { Defines entry_item a.old a.new self.old self.new id value result }
+    {
         // So the least alignment is known to be 1.
         let _ = a.min_align();
         let content = id.to_le_bytes();

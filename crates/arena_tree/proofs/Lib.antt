@@ -19,6 +19,7 @@ pub mod CloneCostLemmas
 pub mod CloneListLemmas
 pub mod CloneLemmas
 pub mod OneTreeLemmas
+pub mod WholeTreeLemmas
 pub mod FoldBlockLemmas
 pub mod KidsLemmas
 pub mod KeptLemmas

@@ -13,9 +13,9 @@ use Rattle.tree_rules.specs.Refusals.{TreeOf}
 use Rattle.tree_rules.specs.declared.refused.Refused.{Refused}
 use Rattle.tree_rules.specs.declared.refused.Refused.TheVariants.{Syntax, TooDeep, NumberTooBig}
 use Rattle.arena_tree.specs.Spending.{Spends, IsStarvedBehind}
-use Rattle.arena_tree.specs.Parsing.{Parses, TakesAtMost, IsShortOf, refusal_of}
+use Rattle.arena_tree.specs.Parsing.{Parses, TakesAtMost, IsShortOf, error_for}
 
-pub refused_parses : (bytes : List ℕ) (a : View) (why : Refused) → TreeOf bytes (Err why) → Parses bytes a a (Err (refusal_of why))
+pub refused_parses : (bytes : List ℕ) (a : View) (why : Refused) → TreeOf bytes (Err why) → Parses bytes a a (Err (error_for why))
 refused_parses bytes a (Syntax at) h = (h, refl)
 refused_parses bytes a (TooDeep at) h = (h, refl)
 refused_parses bytes a (NumberTooBig at) h = (h, refl)

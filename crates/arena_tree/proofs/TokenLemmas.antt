@@ -1,7 +1,7 @@
 -- What comes next in a text that isn't refused.
-use Rattle.std.proofs.Common.{◌≡◌, ℕ, zero, Bool, true, false, cond, Option, Some, None, Ok, Err, List, [], ◌∷◌, length, refl, sym, ap, ◌∙◌, subst, arith}
-use Rattle.std.specs.Prelude.{Result, nat_lt, slice_range}
-use Rattle.tree_rules.specs.Tokens.{Token, RightBrace, Placed}
+use Rattle.std.proofs.Common.{◌≡◌, ◌==◌, ◌+◌, codes, ℕ, zero, Bool, true, false, cond, Option, Some, None, Ok, Err, List, [], ◌∷◌, length, refl, sym, ap, ◌∙◌, subst, arith}
+use Rattle.std.specs.Prelude.{Result, nat_lt, slice_index, slice_range, bytes_eq}
+use Rattle.tree_rules.specs.Tokens.{Token, LetKey, Word, Plus, Star, RightParen, LeftBrace, RightBrace, Equals, Semicolon, Other, Placed, is_digit, is_name_start, word, sign}
 use Rattle.tree_rules.specs.Refusals.{most_nest}
 use Rattle.tree_rules.specs.Reading.{State, state, step, is_too_big, or_refused, judged, ended, refusal_from}
 use Rattle.tree_rules.specs.declared.machine.Open.{Open}
@@ -9,12 +9,13 @@ use Rattle.tree_rules.specs.declared.machine.Open.TheVariants.{Paren}
 use Rattle.tree_rules.specs.declared.machine.Mode.TheVariants.{AtLine, AtName, AtEquals, AtFactor, BehindFactor}
 use Rattle.tree_rules.specs.declared.refused.Refused.{Refused}
 use Rattle.tree_rules.specs.declared.refused.Refused.TheVariants.{TooDeep, NumberTooBig}
-use Rattle.tree_reader.specs.Seen.{IsSeen, IsNext, tokens_at}
+use Rattle.tree_reader.specs.Seen.{IsSeen, IsNumeral, IsBegin, IsNext, tokens_at}
 use Rattle.tree_reader.specs.Steps.{like}
 use Rattle.tree_reader.specs.declared.token.Lexeme.{Lexeme}
 use Rattle.tree_reader.specs.declared.token.Seen.{Seen}
 use Rattle.tree_reader.specs.declared.token.Seen.TheVariants as seen
 use Rattle.tree_reader.proofs.JudgeLemmas.{judged_next, ended_next}
+use Rattle.tree_reader.proofs.ByteLemmas.{first_sign}
 use Rattle.arena_tree.specs.Parts.{IsPassed, behind_factor, IsTokenAt, TermsStop, MustClose}
 use Rattle.arena_tree.specs.LineParts.{braces, LinesStop, MustEnd, MustCloseBlock}
 
@@ -60,12 +61,17 @@ passed_from size s t ts h = by (step s t.token) refl h
     by None is h = absurd (some_none _ h)
     by (Some next) is h = sized next is (nat_lt most_nest (length next.opens)) (is_too_big t.token) refl h
 
+passed_token : {bytes : List ℕ} {at end : ℕ} {token : Token} (s : State) → IsTokenAt bytes at token end → IsPassed bytes s at
+    → Passed (length bytes) s token (tokens_at bytes end)
+passed_token {bytes} {at} {end} {token} s t p =
+    passed_from (length bytes) s (record { at = t.place; token = token }) (tokens_at bytes end)
+    (subst (λ ts. refusal_from (length bytes) s ts ≡ None) t.tokens_are p)
+
 -- the step that a token makes
 pub passed_to : {bytes : List ℕ} {at end : ℕ} {token : Token} (s next : State) → IsTokenAt bytes at token end → step s token ≡ Some next
     → IsPassed bytes s at → IsPassed bytes next end
 passed_to {bytes} {at} {end} {token} s next t is p =
-    let q = passed_from (length bytes) s (record { at = t.place; token = token }) (tokens_at bytes end)
-    (subst (λ ts. refusal_from (length bytes) s ts ≡ None) t.tokens_are p) in
+    let q = passed_token s t p in
     subst (λ (n : State). IsPassed bytes n end) (same_state q.next next (sym q.step_is ∙ is)) q.rest
   where
     same_state : (s t : State) → Some s ≡ Some t → s ≡ t
@@ -101,22 +107,20 @@ module _ {bytes : List ℕ} {at : ℕ} {l : Lexeme} (n : IsNext bytes at l) wher
       by seen.Equals q other = other refl
       by s q other = not_some q.next q.step_is
 
-  -- in a factor's place a factor comes
-  pub only_factor : (opens : List Open) → IsPassed bytes (state AtFactor opens) at → ((n : ℕ) → l.seen ≡ seen.Number n → ⊥)
-      → (l.seen ≡ seen.Word → ⊥) → (l.seen ≡ seen.Minus → ⊥) → (l.seen ≡ seen.LeftParen → ⊥) → ⊥
-  only_factor opens p = by l.seen (passed_next n (state AtFactor opens) p)
+  -- in a factor's place digits are a number
+  pub only_number : (opens : List Open) → IsPassed bytes (state AtFactor opens) at → IsNumeral l.seen
+      → ((n : ℕ) → l.seen ≡ seen.Number n → ⊥) → ⊥
+  only_number opens p = by l.seen (passed_next n (state AtFactor opens) p)
     where
       true_false : true ≡ false → ⊥
       true_false e = cc
 
-      by : (s : Seen) → Passed (length bytes) (state AtFactor opens) (like s) (tokens_at bytes l.end) → ((n : ℕ) → s ≡ seen.Number n → ⊥)
-          → (s ≡ seen.Word → ⊥) → (s ≡ seen.Minus → ⊥) → (s ≡ seen.LeftParen → ⊥) → ⊥
-      by (seen.Number k) q number word minus paren = number k refl
-      by seen.TooBig q number word minus paren = true_false q.small
-      by seen.Word q number word minus paren = word refl
-      by seen.Minus q number word minus paren = minus refl
-      by seen.LeftParen q number word minus paren = paren refl
-      by s q number word minus paren = not_some q.next q.step_is
+      by : (s : Seen) → Passed (length bytes) (state AtFactor opens) (like s) (tokens_at bytes l.end) → IsNumeral s
+          → ((n : ℕ) → s ≡ seen.Number n → ⊥) → ⊥
+      by (seen.Number k) q is other = other k refl
+      by seen.TooBig q is other = true_false q.small
+      by seen.Other q is other = not_some q.next q.step_is
+      by s q is other = absurd is
 
   -- behind an expression in parentheses they close
   pub only_close : MustClose bytes at → (l.seen ≡ seen.RightParen → ⊥) → ⊥
@@ -170,3 +174,55 @@ module _ {bytes : List ℕ} {at : ℕ} {l : Lexeme} (n : IsNext bytes at l) wher
       same seen.LeftBrace right left key = absurd (left refl)
       same seen.LetKey right left key = absurd (key refl)
       same s right left key = refl
+
+-- ---- What a factor begins with
+
+-- a sign, at a byte that begins neither a number nor a name
+pub sign_token : {bytes : List ℕ} {at here : ℕ} → IsBegin bytes at here → is_digit (slice_index bytes here) ≡ false
+    → is_name_start (slice_index bytes here) ≡ false → IsTokenAt bytes at (sign (slice_index bytes here)) (here + 1)
+sign_token {bytes} {at} {here} begin digit name = record {
+  place = here;
+  tokens_are = first_sign bytes at here begin digit name;
+  later = omega (arith, begin.behind);
+  within = omega (arith, begin.within);
+}
+
+-- no other sign than a minus and a parenthesis
+no_factor : (opens : List Open) (b : ℕ) → (b == 45) ≡ false → (b == 40) ≡ false → step (state AtFactor opens) (sign b) ≡ None
+no_factor opens b minus paren = rw (minus, paren) (by (b == 43) (b == 42) (b == 41) (b == 123) (b == 125) (b == 61) (b == 59))
+  where
+    by : (c d e f g h i : Bool)
+        → step (state AtFactor opens) (cond c Plus (cond d Star (cond e RightParen (cond f LeftBrace (cond g RightBrace (cond h Equals
+        (cond i Semicolon Other))))))) ≡ None
+    by true d e f g h i = refl
+    by false true e f g h i = refl
+    by false false true f g h i = refl
+    by false false false true g h i = refl
+    by false false false false true h i = refl
+    by false false false false false true i = refl
+    by false false false false false false true = refl
+    by false false false false false false false = refl
+
+-- and else a name
+pub starts_name : {bytes : List ℕ} {at here : ℕ} → IsBegin bytes at here → (opens : List Open) → IsPassed bytes (state AtFactor opens) at
+    → (slice_index bytes here == 45) ≡ false → (slice_index bytes here == 40) ≡ false → is_digit (slice_index bytes here) ≡ false
+    → is_name_start (slice_index bytes here) ≡ true
+starts_name {bytes} {at} {here} begin opens p minus paren digit = by (is_name_start (slice_index bytes here)) refl
+  where
+    by : (s : Bool) → is_name_start (slice_index bytes here) ≡ s → is_name_start (slice_index bytes here) ≡ true
+    by true is = is
+    by false is =
+        let q = passed_token (state AtFactor opens) (sign_token begin digit is) p in
+        absurd (not_some q.next (sym (no_factor opens (slice_index bytes here) minus paren) ∙ q.step_is))
+
+-- which is not the key word
+pub only_word : {bytes : List ℕ} {at end : ℕ} (name : List ℕ) (opens : List Open) → IsTokenAt bytes at (word name) end
+    → IsPassed bytes (state AtFactor opens) at → IsTokenAt bytes at (Word name) end
+only_word {bytes} {at} {end} name opens t p =
+    let q = passed_token (state AtFactor opens) t p in
+    subst (λ token. IsTokenAt bytes at token end) (by (bytes_eq name (codes "let")) q.next q.step_is) t
+  where
+    by : (b : Bool) (next : State) → step (state AtFactor opens) (cond b LetKey (Word name)) ≡ Some next
+        → cond b LetKey (Word name) ≡ Word name
+    by true next is = absurd (not_some next is)
+    by false next is = refl

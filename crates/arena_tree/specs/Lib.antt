@@ -15,3 +15,4 @@ pub mod Subtrees
 pub mod Cloning
 pub mod Folding
 pub mod FoldingParts
+pub mod Staying

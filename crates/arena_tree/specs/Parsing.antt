@@ -33,14 +33,14 @@ pub record IsShortOf (bytes refused : ℕ) (old new : View) : Type 0 where
   pub full : old.memory.state.is_growing ≡ false → IsFull (used old + bytes) old
 
 -- a refusal of the text, told so
-abbrev pub refusal_of : Refused → TreeErr
-refusal_of (refused.Syntax at) = Syntax at
-refusal_of (refused.TooDeep at) = TooDeep at
-refusal_of (refused.NumberTooBig at) = NumberTooBig at
+abbrev pub error_for : Refused → TreeErr
+error_for (refused.Syntax at) = Syntax at
+error_for (refused.TooDeep at) = TooDeep at
+error_for (refused.NumberTooBig at) = NumberTooBig at
 
 -- the text is a program
-abbrev pub IsProgram : List ℕ → Type 0
-IsProgram bytes = (trees : Stmts) × TreeOf bytes (Ok trees)
+abbrev pub IsProgramText : List ℕ → Type 0
+IsProgramText bytes = (trees : Stmts) × TreeOf bytes (Ok trees)
 
 -- the text is refused so, before anything is placed
 abbrev pub IsRefusedText : List ℕ → View → View → Refused → Type 0
@@ -53,5 +53,5 @@ Parses bytes old new (Err (Syntax at)) = IsRefusedText bytes old new (refused.Sy
 Parses bytes old new (Err (TooDeep at)) = IsRefusedText bytes old new (refused.TooDeep at)
 Parses bytes old new (Err (NumberTooBig at)) = IsRefusedText bytes old new (refused.NumberTooBig at)
 Parses bytes old new (Err (AllocErr k)) =
-    IsProgram bytes × IsShortOf (parse_bytes (length bytes)) k old new × Frame old.memory new.memory [] []
-Parses bytes old new (Err OutOfMemory) = IsProgram bytes × Frame old.memory new.memory [] []
+    IsProgramText bytes × IsShortOf (parse_bytes (length bytes)) k old new × Frame old.memory new.memory [] []
+Parses bytes old new (Err OutOfMemory) = IsProgramText bytes × Frame old.memory new.memory [] []

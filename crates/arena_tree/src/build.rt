@@ -89,39 +89,38 @@ pub(crate) fn push_node<C: ChunkSource>(
     list.push(a, node)
 }
 
-// The negation of a node.
-pub(crate) fn negated<C: ChunkSource>(a: &mut Allocator<C>, node: Node) -> Grown<Node>
-    ensures tree { (e : Expr) (old : Memory) → IsPlaced e old a.old.memory node
-        → IfOk result (IsPlaced (Neg e) old a.new.memory) }
+// Puts a node under one of a kind, as its only kid.
+pub(crate) fn wrap<C: ChunkSource>(a: &mut Allocator<C>, kind: Kind, node: &mut Node) -> Grown<()>
+    ensures tree { (e : Expr) (old : Memory) → IsPlaced e old a.old.memory node.old
+        → OnOk result ((node.new.kind ≡ kind) × IsRowBuilt (OfExpr e ∷ []) old a.new.memory (kids_of node.new)) }
     ensures spends { Spends node_cost 0 0 a.old a.new (error_of result) }
 {
     let mut list = Vec::new_in();
-    push_node(a, &mut list, node)?;
-    Ok(with_kids(Kind::Neg, list))
+    push_node(a, &mut list, *node)?;
+    *node = with_kids(kind, list);
+    Ok(())
 }
 
-// The node as it is, or its negation.
+// Negates the expression that a node stands for.
+pub(crate) fn negate<C: ChunkSource>(a: &mut Allocator<C>, node: &mut Node) -> Grown<()>
+    ensures tree { (e : Expr) (old : Memory) → IsPlaced e old a.old.memory node.old
+        → OnOk result (IsPlaced (Neg e) old a.new.memory node.new) }
+    ensures spends { Spends node_cost 0 0 a.old a.new (error_of result) }
+{
+    wrap(a, Kind::Neg, node)
+}
+
+// Negates it if a minus stands before it.
 #[inline(always)]
-pub(crate) fn signed<C: ChunkSource>(a: &mut Allocator<C>, minus: bool, node: Node) -> Grown<Node>
-    ensures tree { (e : Expr) (old : Memory) → IsPlaced e old a.old.memory node
-        → IfOk result (IsPlaced (signed_tree minus e) old a.new.memory) }
+pub(crate) fn sign<C: ChunkSource>(a: &mut Allocator<C>, minus: bool, node: &mut Node) -> Grown<()>
+    ensures tree { (e : Expr) (old : Memory) → IsPlaced e old a.old.memory node.old
+        → OnOk result (IsPlaced (signed_tree minus e) old a.new.memory node.new) }
     ensures spends { Spends node_cost 0 0 a.old a.new (error_of result) }
 {
     if minus {
-        return negated(a, node);
+        return negate(a, node);
     }
-    Ok(node)
-}
-
-// A list of this node alone.
-pub(crate) fn only<C: ChunkSource>(a: &mut Allocator<C>, node: Node) -> Grown<Vec<Node>>
-    ensures tree { (e : Expr) (old : Memory) → IsPlaced e old a.old.memory node
-        → IfOk result (IsRowBuilt (OfExpr e ∷ []) old a.new.memory) }
-    ensures spends { Spends node_cost 0 0 a.old a.new (error_of result) }
-{
-    let mut list = Vec::new_in();
-    push_node(a, &mut list, node)?;
-    Ok(list)
+    Ok(())
 }
 
 // A list of this node, with room for one more.

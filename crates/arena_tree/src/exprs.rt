@@ -1,17 +1,19 @@
 // Texts that are known to be programs are read, and their trees placed.
 ghost use Rattle.std.specs.Prelude.{◌^◌, ◌≤◌, length, IfOk};
-ghost use Rattle.arena_tree.specs.Parts.{IsFactorPlace, IsFactor, IsTerm, IsTerms};
+ghost use Rattle.arena_tree.specs.Parts.{IsFactorPlace, IsStart, IsFactor, IsTerm, IsTerms};
 ghost use Rattle.arena_tree.specs.Spending.{SpendsUpTo};
 
-use crate::build::{first_of, named, negated, number, push_node, signed, with_kids};
+use crate::build::{first_of, negate, number, push_node, sign, with_kids};
 use crate::look::{Start, close_at, sign_at, star_at, start_at};
-use crate::name::place_name;
+use crate::name::name_node;
 use crate::node::{Kind, Node};
 use arena_chunks::{Allocator, ChunkSource};
 use arena_items::Grown;
 
-// This and what follows read a part each, write its node, and answer where it ends.
+// This and what follows read a part each, write its node, and answer where it ends. Factors are read within what asks for them; what
+// is rarer, and clears memory for its answer, isn't.
 #[cycle(parse)]
+#[inline(always)]
 fn factor<C: ChunkSource>(
     a: &mut Allocator<C>,
     src: &[u8],
@@ -29,24 +31,58 @@ fn factor<C: ChunkSource>(
             *node = number(n);
             Ok(end)
         }
-        Start::Minus(behind) => {
-            let end = factor(a, src, behind, node)?;
-            *node = negated(a, *node)?;
-            Ok(end)
-        }
-        Start::Paren(behind) => {
-            let end = expr(a, src, behind, node)?;
-            Ok(close_at(src, end))
-        }
+        Start::Minus(behind) => minus(a, src, at, behind, node),
+        Start::Paren(behind) => paren(a, src, at, behind, node),
         Start::Word { begin, end } => {
-            let text = place_name(a, &src[begin..end])?;
-            *node = named(text);
+            name_node(a, &src[begin..end], node)?;
             Ok(end)
         }
     }
 }
 
+// A factor behind a sign. The sign was read, up to this byte behind it.
 #[cycle(parse)]
+#[inline(never)]
+fn minus<C: ChunkSource>(
+    a: &mut Allocator<C>,
+    src: &[u8],
+    at: usize,
+    behind: usize,
+    node: &mut Node,
+) -> Grown<usize>
+    requires small { length src.now ≤ 2 ^ 24 }
+    requires start { IsStart src.now at (Start.Minus behind) }
+    requires place { IsFactorPlace src.now at }
+    ensures tree { IfOk result (λ end. IsFactor src.now at end a.old.memory a.new.memory node.new) }
+    ensures spends { SpendsUpTo at (length src.now) a.old a.new result }
+{
+    let end = factor(a, src, behind, node)?;
+    negate(a, node)?;
+    Ok(end)
+}
+
+// An expression in parentheses, of which the first was read.
+#[cycle(parse)]
+#[inline(never)]
+fn paren<C: ChunkSource>(
+    a: &mut Allocator<C>,
+    src: &[u8],
+    at: usize,
+    behind: usize,
+    node: &mut Node,
+) -> Grown<usize>
+    requires small { length src.now ≤ 2 ^ 24 }
+    requires start { IsStart src.now at (Start.Paren behind) }
+    requires place { IsFactorPlace src.now at }
+    ensures tree { IfOk result (λ end. IsFactor src.now at end a.old.memory a.new.memory node.new) }
+    ensures spends { SpendsUpTo at (length src.now) a.old a.new result }
+{
+    let end = expr(a, src, behind, node)?;
+    Ok(close_at(src, end))
+}
+
+#[cycle(parse)]
+#[inline(always)]
 fn term<C: ChunkSource>(
     a: &mut Allocator<C>,
     src: &[u8],
@@ -79,7 +115,7 @@ fn term<C: ChunkSource>(
 }
 
 #[cycle(parse)]
-pub fn expr<C: ChunkSource>(
+pub(crate) fn expr<C: ChunkSource>(
     a: &mut Allocator<C>,
     src: &[u8],
     at: usize,
@@ -92,15 +128,14 @@ pub fn expr<C: ChunkSource>(
     ensures spends { SpendsUpTo at (length src.now) a.old a.new result }
 {
     let end = term(a, src, at, node)?;
-    let Some(sign) = sign_at(src, end) else {
+    let Some((mut minus, mut here)) = sign_at(src, end) else {
         return Ok(end);
     };
     let mut list = first_of(a, *node)?;
-    let (mut minus, mut here) = sign;
     loop {
         let stop = term(a, src, here, node)?;
-        let kid = signed(a, minus, *node)?;
-        push_node(a, &mut list, kid)?;
+        sign(a, minus, node)?;
+        push_node(a, &mut list, *node)?;
         match sign_at(src, stop) {
             Some((less, more)) => {
                 minus = less;

@@ -9,6 +9,7 @@ mod clone_list;
 mod dummy;
 mod exprs;
 mod fold;
+mod laws;
 mod look;
 mod name;
 mod node;
@@ -17,5 +18,6 @@ mod program;
 mod tree;
 mod walk;
 
+pub use laws::tree_law;
 pub use node::{Kind, Node};
 pub use tree::{Tree, TreeErr};

@@ -1,10 +1,14 @@
 // Names in an arena.
-ghost use Rattle.std.specs.Prelude.{◌≡◌, ◌+◌, ◌^◌, ◌≤◌, [], ◌∷◌, length, IfOk};
+ghost use Rattle.std.specs.Prelude.{◌≡◌, ◌+◌, ◌^◌, ◌≤◌, [], ◌∷◌, length, IfOk, OnOk};
 ghost use Rattle.arena_chunks.specs.Frame.{Frame};
 ghost use Rattle.arena_items.specs.Values.{IsTextIn, text_bytes};
+ghost use Rattle.tree_rules.specs.Trees.{Name};
+ghost use Rattle.arena_tree.specs.TreesAt.{IsPlaced};
 ghost use Rattle.arena_tree.specs.Spending.{Spends, error_of};
 
 use crate::block::place_block;
+use crate::build::named;
+use crate::node::Node;
 use arena_chunks::{Allocator, ChunkSource, Str};
 use arena_items::Grown;
 use arena_place::Layout;
@@ -35,6 +39,21 @@ pub(crate) fn place_name<C: ChunkSource>(a: &mut Allocator<C>, name: &[u8]) -> G
     ensures spends { Spends (length name.now) 0 0 a.old a.new (error_of result) }
 {
     place_text(a, name)
+}
+
+// Places a name, and writes its node.
+pub(crate) fn name_node<C: ChunkSource>(
+    a: &mut Allocator<C>,
+    name: &[u8],
+    node: &mut Node,
+) -> Grown<()>
+    requires { length name.now ≤ 2 ^ 24 }
+    ensures tree { OnOk result (IsPlaced (Name name.now) a.old.memory a.new.memory node.new) }
+    ensures spends { Spends (length name.now) 0 0 a.old a.new (error_of result) }
+{
+    let text = place_text(a, name)?;
+    *node = named(text);
+    Ok(())
 }
 
 // A copy of a text in another arena.

@@ -6,7 +6,7 @@ ghost use Rattle.arena_tree.specs.LineParts.{IsLinesPlace, IsLet, IsLine, AreLin
 ghost use Rattle.arena_tree.specs.Spending.{SpendsUpTo, SpendsAll, SpendsOrNot};
 
 use crate::begin::{LineStart, brace_at, line_at, semicolon_at};
-use crate::build::{let_node, number, only, push_node, with_kids};
+use crate::build::{number, push_node, with_kids, wrap};
 use crate::exprs::expr;
 use crate::name::place_name;
 use crate::node::{Kind, Node};
@@ -39,8 +39,8 @@ fn let_line<C: ChunkSource>(
     let name = place_name(a, &src[begin..end])?;
     let stop = expr(a, src, behind, node)?;
     let last = semicolon_at(src, stop);
-    let list = only(a, *node)?;
-    *node = let_node(name, list);
+    wrap(a, Kind::Let, node)?;
+    node.text = name;
     Ok(last)
 }
 
@@ -60,8 +60,7 @@ fn show_line<C: ChunkSource>(
 {
     let stop = expr(a, src, at, node)?;
     let last = semicolon_at(src, stop);
-    let list = only(a, *node)?;
-    *node = with_kids(Kind::Show, list);
+    wrap(a, Kind::Show, node)?;
     Ok(last)
 }
 

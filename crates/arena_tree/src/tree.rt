@@ -1,10 +1,10 @@
 // Trees.
-ghost use Rattle.std.specs.Prelude.{◌≡◌, ℕ, ℤ, List, ◌^◌, ◌≤◌, length, IfOk};
-ghost use Rattle.tree_rules.specs.Trees.{Expr, Stmts, folded, text, value_of};
+ghost use Rattle.std.specs.Prelude.{◌≡◌, ◌^◌, ◌≤◌, length, IfOk};
+ghost use Rattle.tree_rules.specs.Trees.{Stmts, text};
 ghost use Rattle.arena_tree.specs.Cloning.{Clones, clone_bytes};
 ghost use Rattle.arena_tree.specs.Given.{IsTreeIn, Means};
 ghost use Rattle.arena_tree.specs.Folding.{Folds};
-ghost use Rattle.arena_tree.specs.Parsing.{Parses, TakesAtMost, parse_bytes, refusal_of};
+ghost use Rattle.arena_tree.specs.Parsing.{Parses, TakesAtMost, parse_bytes, error_for};
 
 use crate::clone::clone_row;
 use crate::fold::fold_row;
@@ -35,7 +35,7 @@ pub enum TreeErr {
     TooDeep { at: u64 },
     /// The number at this byte passes 64 bits.
     NumberTooBig { at: u64 },
-    /// There is no place for a block: all requests for a chunk, so many, were refused.
+    /// There is no place for a block. At most so many requests for a chunk were refused in the call.
     AllocErr { refused: u32 },
     /// Memory for the arena's table of chunks is wanting.
     OutOfMemory,
@@ -43,7 +43,7 @@ pub enum TreeErr {
 
 // Why a text is refused, told so.
 fn refused_as(refused: Refused) -> TreeErr
-    ensures { result ≡ refusal_of refused }
+    ensures { result ≡ error_for refused }
 {
     match refused {
         Refused::Syntax { at } => TreeErr::Syntax { at },
@@ -60,7 +60,7 @@ impl Tree {
     ///
     /// `Syntax`, `TooDeep` or `NumberTooBig` at the first token for which the text is no program: then the arena is as it was.
     /// `AllocErr` where the arena has no place for a block: it grows and was starved, or it doesn't and has fewer bytes than
-    /// those. `OutOfMemory` where memory is wanting beside. What was placed is dead then.
+    /// those. `OutOfMemory` where memory outside the chunks is wanting. Blocks placed until then stay in the arena, unused.
     pub fn parse<C: ChunkSource>(a: &mut Allocator<C>, src: &[u8]) -> Result<Tree, TreeErr>
         requires { length src.now ≤ 2 ^ 24 }
         ensures parses { Parses src.now a.old a.new result }
@@ -107,7 +107,7 @@ impl Tree {
     /// # Errors
     ///
     /// `AllocErr` where the other arena has no place for a block: it grows and was starved, or it doesn't and has fewer bytes
-    /// than those. `OutOfMemory` where memory is wanting beside. What was placed is dead then.
+    /// than those. `OutOfMemory` where memory outside the chunks is wanting. Blocks placed until then stay in the arena, unused.
     pub fn clone_in<C: ChunkSource, D: ChunkSource>(
         &self,
         from: &Allocator<C>,
@@ -135,7 +135,6 @@ impl Tree {
         requires { IsTreeIn a.old.memory self.old }
         ensures folded { (trees : Stmts) → Means a.old.memory self.old trees → Folds trees a.old a.new self.old self.new result }
         ensures tree { IsTreeIn a.new.memory self.new }
-        ensures values { (e : Expr) (env : List ℕ → ℤ) → value_of (folded e) env ≡ value_of e env }
     {
         folding();
         let room = a.used_bytes() / 88 + 1;

@@ -6,8 +6,8 @@ use crate::loops::{
     bitset_set, bitset_set_ascending, bitset_union, box_new, claim, grow_at_cursor, intern_known,
     intern_new, map_clone, map_get, map_insert, map_iter, map_remove, map_small, map_walked,
     reset_chunks, scope_define, scope_enter, scope_lookup, slice_copy, str_copy, string_push_byte,
-    string_push_start, string_push_str, vec_clone, vec_extend, vec_insert_front, vec_iter,
-    vec_push, vec_push_reserved, vec_retain, vec_small, vec_sum,
+    string_push_start, string_push_str, tree_parse, vec_clone, vec_extend, vec_insert_front,
+    vec_iter, vec_push, vec_push_reserved, vec_retain, vec_small, vec_sum,
 };
 
 /// A loop that needs to know only how many calls it makes.
@@ -51,6 +51,7 @@ pub enum Alone {
     ScopeDefine,
     ScopeLookup,
     ScopeEnter,
+    TreeParse,
 }
 
 impl Alone {
@@ -95,6 +96,7 @@ impl Alone {
             Alone::ScopeDefine => "scope_define",
             Alone::ScopeLookup => "scope_lookup",
             Alone::ScopeEnter => "scope_enter",
+            Alone::TreeParse => "tree_parse",
         }
     }
 
@@ -104,6 +106,7 @@ impl Alone {
     {
         match self {
             Alone::ResetChunks => 100_000,
+            Alone::TreeParse => 20_000_000,
             Alone::SliceCopy | Alone::VecExtend => 50_000_000,
             Alone::BitsetUnion => 400_000_000,
             Alone::MapInsert
@@ -161,6 +164,7 @@ impl Alone {
             Alone::ScopeDefine => scope_define(rt, calls),
             Alone::ScopeLookup => scope_lookup(rt, calls),
             Alone::ScopeEnter => scope_enter(rt, calls),
+            Alone::TreeParse => tree_parse(rt, calls),
         }
     }
 }

@@ -9,11 +9,13 @@ mod older;
 mod pool;
 mod symbols;
 mod texts;
+mod trees;
 mod vec;
 
 pub use arena::{alloc_and_reset, alloc_warm, grow_at_cursor, reset_chunks};
 use arena_chunks::ArenaErr;
 use arena_items::ItemErr;
+use arena_tree::TreeErr;
 use arena_vec::AllocError;
 pub use bits::{bitset_contains, bitset_ones, bitset_set, bitset_set_ascending, bitset_union};
 pub use clones::{map_clone, vec_clone};
@@ -25,6 +27,7 @@ use std::io;
 use std::time::Duration;
 pub use symbols::{intern_known, intern_new, scope_define, scope_enter, scope_lookup};
 pub use texts::{string_push_byte, string_push_start, string_push_str};
+pub use trees::tree_parse;
 pub use vec::{
     vec_extend, vec_insert_front, vec_iter, vec_push, vec_push_reserved, vec_retain, vec_small,
     vec_sum,
@@ -54,6 +57,12 @@ impl From<ItemErr> for Failed {
 
 impl From<AllocError> for Failed {
     fn from(_: AllocError) -> Failed {
+        Failed::NoPlace
+    }
+}
+
+impl From<TreeErr> for Failed {
+    fn from(_: TreeErr) -> Failed {
         Failed::NoPlace
     }
 }

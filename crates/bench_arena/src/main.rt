@@ -35,7 +35,7 @@ enum Loop {
 }
 
 impl Loop {
-    const ALL: [Loop; 43] = [
+    const ALL: [Loop; 44] = [
         Loop::Alone(Alone::AllocWarm),
         Loop::Alone(Alone::GrowAtCursor),
         Loop::Alone(Alone::AllocAndReset),
@@ -79,6 +79,7 @@ impl Loop {
         Loop::Alone(Alone::ScopeDefine),
         Loop::Alone(Alone::ScopeLookup),
         Loop::Alone(Alone::ScopeEnter),
+        Loop::Alone(Alone::TreeParse),
     ];
 
     fn name(self) -> &'static str {

@@ -2,3 +2,4 @@ pub mod ReadingLemmas
 pub mod HexLemmas
 pub mod PrintingLemmas
 pub mod LineLemmas
+pub mod RoomLemmas

@@ -1,10 +1,5 @@
 // What is said of one source.
-ghost use Rattle.lint_reports.specs.Reports.{Reports};
-ghost use Rattle.tree_rules.specs.Refusals.{TreeOf};
-ghost use Rattle.std.specs.Prelude.{ℕ, List, Err};
-
 use crate::findings::Findings;
-use tree_rules::Refused;
 
 /// What is said of one source.
 #[derive(Drop, Debug)]
@@ -23,17 +18,4 @@ pub enum FileReport {
     Refused,
     /// Memory is wanting.
     OutOfMemory,
-}
-
-impl FileReport {
-    /// The report of a text that is refused.
-    pub fn refused(refused: Refused) -> FileReport
-        ensures { (bytes : List ℕ) → TreeOf bytes (Err refused) → Reports bytes result }
-    {
-        match refused {
-            Refused::Syntax { at } => FileReport::Syntax { at },
-            Refused::TooDeep { at } => FileReport::TooDeep { at },
-            Refused::NumberTooBig { at } => FileReport::NumberTooBig { at },
-        }
-    }
 }

@@ -7,6 +7,7 @@ mod over;
 mod pools;
 mod sizes;
 mod starved;
+mod two;
 
 use lint_reports::{FileReport, FindKind, Findings, put_report, sources_of};
 use placement::{Bytes, OutOfMemory};

@@ -1,18 +1,13 @@
 -- Lines of outcomes, one after another.
-use Rattle.std.proofs.Common.{◌≡◌, ℕ, zero, suc, ◌+◌, ◌<◌, ◌≤◌, List, [], ◌∷◌, ◌++◌, length, map, take, get_or, refl, sym, ap, ◌∙◌, arith, append_assoc, codes, add-one}
+use Rattle.std.proofs.Common.{◌≡◌, ℕ, zero, suc, ◌+◌, ◌<◌, List, [], ◌∷◌, ◌++◌, length, map, take, get_or, refl, sym, ap, ◌∙◌, arith, append_assoc, codes}
 use Rattle.std.specs.List.{flat_map}
-use Rattle.std.proofs.Math.Seq.{take-suc}
 use Rattle.std.proofs.lemmas.List.{append-nil, map-append}
 use Rattle.std.proofs.lemmas.Grind.{flat_map-append}
 use Rattle.std.proofs.lemmas.List.Folds.{flat_map-map}
 use Rattle.placement.specs.Grammar.{number, fields}
+use Rattle.line_parts.proofs.RoomLemmas.{take_next}
 use Rattle.script_rules.specs.Outcomes.{Told, reply_line, ended_line, outcome_lines, lines_from, with_feed}
-use Rattle.script_rules.specs.declared.commands.ScriptReply.{ScriptReply}
-use Rattle.script_lines.specs.Room.{held_room, rooms, fed_reply, outcome_text}
-
--- one more from the front
-take_next : {A : Type 0} (xs : List A) (i : ℕ) (d x : A) → i < length xs → x ≡ get_or xs i d → take (i + 1) xs ≡ take i xs ++ x ∷ []
-take_next xs i d x h is = ap (λ k. take k xs) (add-one i) ∙ take-suc xs i d h ∙ ap (λ y. take i xs ++ y ∷ []) (sym is)
+use Rattle.script_lines.specs.Room.{fed_reply, outcome_text}
 
 -- ---- Numbers
 
@@ -26,37 +21,6 @@ pub field_more : (old mid new ns : List ℕ) (i : ℕ) → i < length ns → mid
 field_more old mid new ns i h before put =
     put ∙ ap (λ xs. xs ++ fields (get_or ns i 0 ∷ [])) before ∙ append_assoc old (fields (take i ns)) (fields (get_or ns i 0 ∷ []))
     ∙ ap (λ xs. old ++ xs) (sym (fields_more (take i ns) (get_or ns i 0)) ∙ ap fields (sym (take_next ns i 0 (get_or ns i 0) h refl)))
-
--- ---- Replies
-
-rooms_last : (replies : List ScriptReply) (reply : ScriptReply) → rooms (replies ++ reply ∷ []) ≡ rooms replies + (held_room reply + 28)
-rooms_last [] reply = omega arith
-rooms_last (r ∷ replies) reply = omega (arith, rooms_last replies reply)
-
-pub rooms_more : (replies : List ScriptReply) (i : ℕ) (reply : ScriptReply) → i < length replies → reply ≡ get_or replies i reply
-    → rooms (take (i + 1) replies) ≡ rooms (take i replies) + (held_room reply + 28)
-rooms_more replies i reply h is = ap rooms (take_next replies i reply reply h is) ∙ rooms_last (take i replies) reply
-
-rooms_front : (replies : List ScriptReply) (i : ℕ) → rooms (take i replies) ≤ rooms replies
-rooms_front [] zero = omega arith
-rooms_front [] (suc i) = omega arith
-rooms_front (r ∷ replies) zero = omega arith
-rooms_front (r ∷ replies) (suc i) = omega (arith, rooms_front replies i)
-
-pub rooms_within : (replies : List ScriptReply) (i : ℕ) (reply : ScriptReply) → i < length replies → reply ≡ get_or replies i reply
-    → rooms (take i replies) + (held_room reply + 28) ≤ rooms replies
-rooms_within replies i reply h is = omega (arith, rooms_more replies i reply h is, rooms_front replies (i + 1))
-
-pub reply_more : (old mid new : List ℕ) (replies : List ScriptReply) (i : ℕ) (reply : ScriptReply) → i < length replies
-    → reply ≡ get_or replies i reply
-    → mid ≡ old ++ flat_map fed_reply (take i replies) → new ≡ mid ++ fed_reply reply
-    → new ≡ old ++ flat_map fed_reply (take (i + 1) replies)
-reply_more old mid new replies i reply h is before put =
-    let more : flat_map fed_reply (take (i + 1) replies) ≡ flat_map fed_reply (take i replies) ++ fed_reply reply
-    = ap (flat_map fed_reply) (take_next replies i reply reply h is) ∙ flat_map-append fed_reply (take i replies) (reply ∷ [])
-    ∙ ap (λ xs. flat_map fed_reply (take i replies) ++ xs) (append-nil (fed_reply reply)) in
-    put ∙ ap (λ xs. xs ++ fed_reply reply) before ∙ append_assoc old (flat_map fed_reply (take i replies)) (fed_reply reply)
-    ∙ ap (λ xs. old ++ xs) (sym more)
 
 -- ---- Outcomes
 

@@ -12,7 +12,7 @@ use Rattle.line_parts.proofs.LineLemmas.{has_feed, plain, plain_number, plain_he
 use Rattle.script_rules.specs.Grammar.{Part, Bits, Hex, part_text, written, command_line, Fits, script_lines, is_some_line, AreScripts, IsRefused, IsFirstRefused}
 use Rattle.script_rules.specs.declared.commands.Command.{Command}
 use Rattle.script_rules.specs.declared.commands.Command.TheVariants.{MakeList, MakeText, MakeBits, MakeMap, MakeValue, Push, Insert, Pop, Remove, At, Put, Truncate, Byte, Front, Append, SetBit, UnsetBit, HasBit, Union, Ones, Bind, Find, Unbind, Load, Store, Len, Show, CopyTo, DropName}
-use Rattle.script_lines.specs.Causes.{AddsLast}
+use Rattle.script_lines.specs.Adding.{AddsLast}
 
 -- ---- A command's line has no line feed and isn't empty
 

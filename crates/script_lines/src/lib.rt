@@ -12,5 +12,6 @@ mod replies;
 mod tests;
 
 pub use commands::read_command;
+pub use line_parts::LinesErr;
 pub use outcomes::{put_outcome, put_outcomes};
-pub use parse::{LinesErr, parse_scripts};
+pub use parse::parse_scripts;

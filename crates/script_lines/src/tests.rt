@@ -2,7 +2,8 @@
 mod commands;
 mod outcomes;
 
-use crate::parse::{LinesErr, parse_scripts};
+use crate::parse::parse_scripts;
+use line_parts::LinesErr;
 use script_rules::Script;
 use std::alloc::{AllocError, Global};
 use std::test::Fail;

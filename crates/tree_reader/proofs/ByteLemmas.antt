@@ -2,8 +2,8 @@
 use Rattle.std.proofs.Common.{◌≡◌, ◌≢◌, ℕ, zero, suc, ◌+◌, ◌-◌, ◌*◌, ◌^◌, ◌<◌, ◌≤◌, Bool, true, false, ◌&&◌, ◌==◌, List, [], ◌∷◌, length, take, drop, get_or, cond, refl, sym, ap, ◌∙◌, subst, arith, codes, add-one, drop-drop, inl, inr}
 use Rattle.std.proofs.Math.Seq.{drop-cons}
 use Rattle.std.proofs.Math.ListN.{drop_of_length-le}
-use Rattle.std.specs.Prelude.{slice_range}
-use Rattle.tree_rules.specs.Tokens.{Token, is_space, is_digit, is_name_start, is_name_byte, run, are_same, value, has_needless_zero, number_token, sign, Number, Word, LetKey, Other, Front, word_front, number_front, sign_front, front, Placed, placed, tokens_from}
+use Rattle.std.specs.Prelude.{slice_range, bytes_eq}
+use Rattle.tree_rules.specs.Tokens.{Token, is_space, is_digit, is_name_start, is_name_byte, run, word, value, has_needless_zero, number_token, sign, Number, Word, LetKey, Other, Front, word_front, number_front, sign_front, front, Placed, placed, tokens_from}
 use Rattle.tree_reader.specs.declared.token.Seen.{Seen}
 use Rattle.tree_reader.specs.Seen.{IsSeen, IsBegin, IsNext, IsFront, IsUnsigned, BeginsUnsigned, tokens_at}
 use Rattle.tree_reader.specs.declared.token.Lexeme.{Lexeme}
@@ -19,7 +19,7 @@ and_false : (a : Bool) → (a && false) ≡ false
 and_false true = refl
 and_false false = refl
 
-pub not_three : (xs : List ℕ) → length xs ≢ 3 → are_same xs (codes "let") ≡ false
+pub not_three : (xs : List ℕ) → length xs ≢ 3 → bytes_eq xs (codes "let") ≡ false
 not_three [] h = refl
 not_three (a ∷ []) h = and_false (a == 108)
 not_three (a ∷ b ∷ []) h = ap (λ t. (a == 108) && t) (and_false (b == 101)) ∙ and_false (a == 108)
@@ -90,32 +90,39 @@ pub none_behind : (bytes : List ℕ) (at : ℕ) → length bytes ≤ at → toke
 unfolding tokens_from
 none_behind bytes at h = ap (tokens_from at 0) (drop_of_length-le bytes h)
 
--- a token, and those behind its end
-pub front_next : (bytes : List ℕ) (from at : ℕ) (l : Lexeme) → IsBegin bytes from at
-    → IsFront bytes at (front (get_or bytes at 0) (drop (suc at) bytes)) l → 0 < (front (get_or bytes at 0) (drop (suc at) bytes)).length
-    → l.end ≤ length bytes → IsNext bytes from l
-front_next bytes from at l begin f some within =
+abbrev pub front_of : List ℕ → ℕ → Front
+front_of src at = front (get_or src at 0) (drop (suc at) src)
+
+-- the first token is the front of the text there, and the others stand behind its end
+front_tokens : (bytes : List ℕ) (from at end : ℕ) → IsBegin bytes from at → end ≡ at + (front_of bytes at).length
+    → 0 < (front_of bytes at).length → tokens_at bytes from ≡ placed at (front_of bytes at) ∷ tokens_at bytes end
+front_tokens bytes from at end begin is some =
     let b = get_or bytes at 0 in
     let rest = drop (suc at) bytes in
     let n = (front b rest).length in
-    let one : suc at + (n - 1) ≡ l.end = omega (arith, f.end_is, some) in
-    let at_is : placed at (front b rest) ≡ record { at = l.at; token = (front b rest).token } = ap (λ k. placed k (front b rest)) (sym
-    f.at_is) in
+    let one : suc at + (n - 1) ≡ end = omega (arith, is, some) in
+    begin.same
+    ∙ ap (tokens_from at 0) (drop-cons bytes at 0 begin.within)
+    ∙ tokens_front at b rest begin.unspaced
+    ∙ ap (λ ts. placed at (front b rest) ∷ ts)
+    (tokens_skip (suc at) (n - 1) rest
+    ∙ ap (λ xs. tokens_from (suc at + (n - 1)) 0 xs) (drop-drop (n - 1) (suc at) bytes)
+    ∙ ap (λ k. tokens_from k 0 (drop k bytes)) one)
+
+pub front_next : (bytes : List ℕ) (from at : ℕ) (l : Lexeme) → IsBegin bytes from at → IsFront bytes at (front_of bytes at) l
+    → 0 < (front_of bytes at).length → l.end ≤ length bytes → IsNext bytes from l
+front_next bytes from at l begin f some within =
+    let token = (front_of bytes at).token in
+    let at_is : placed at (front_of bytes at) ≡ record { at = l.at; token = token }
+    = ap (λ k. placed k (front_of bytes at)) (sym f.at_is) in
     record {
       behind = omega (arith, f.at_is, begin.behind);
       some = omega (arith, f.at_is, f.end_is, some);
       within = within;
-      token = (front b rest).token;
-      seen = subst (λ k. IsSeen l.seen (slice_range bytes k l.end) (front b rest).token) (sym f.at_is) f.seen;
+      token = token;
+      seen = subst (λ k. IsSeen l.seen (slice_range bytes k l.end) token) (sym f.at_is) f.seen;
       tokens_are =
-          begin.same
-          ∙ ap (tokens_from at 0) (drop-cons bytes at 0 begin.within)
-          ∙ tokens_front at b rest begin.unspaced
-          ∙ ap (λ ts. placed at (front b rest) ∷ ts)
-          (tokens_skip (suc at) (n - 1) rest
-          ∙ ap (λ xs. tokens_from (suc at + (n - 1)) 0 xs) (drop-drop (n - 1) (suc at) bytes)
-          ∙ ap (λ k. tokens_from k 0 (drop k bytes)) one)
-          ∙ ap (λ (t : Placed). t ∷ tokens_at bytes l.end) at_is;
+          front_tokens bytes from at l.end begin f.end_is some ∙ ap (λ (t : Placed). t ∷ tokens_at bytes l.end) at_is;
     }
 
 -- ---- The front of a text
@@ -132,9 +139,6 @@ front_word b bytes h g = rw (h, g) refl
 front_sign : (b : ℕ) (bytes : List ℕ) → is_digit b ≡ false → is_name_start b ≡ false → front b bytes ≡ sign_front b
 unfolding front
 front_sign b bytes h g = rw (h, g) refl
-
-abbrev pub front_of : List ℕ → ℕ → Front
-front_of src at = front (get_or src at 0) (drop (suc at) src)
 
 pub digits_at : (src : List ℕ) (at : ℕ) → at < length src → is_digit (get_or src at 0) ≡ true
     → front_of src at ≡ number_front (run is_digit (drop at src))
@@ -170,6 +174,31 @@ front_some src at h = by (is_digit b) refl (is_name_start b) refl
     by false d true start = subst (λ (f : Front). 0 < f.length) (sym (word_at src at h d start)) (run_begins is_name_byte src at h
         (name_byte start))
     by false d false start = subst (λ (f : Front). 0 < f.length) (sym (sign_at src at d start)) (omega arith)
+
+-- a first token that begins neither a number nor a name, and one that begins a name
+pub first_sign : (bytes : List ℕ) (from at : ℕ) → IsBegin bytes from at → is_digit (get_or bytes at 0) ≡ false
+    → is_name_start (get_or bytes at 0) ≡ false
+    → tokens_at bytes from ≡ record { at = at; token = sign (get_or bytes at 0) } ∷ tokens_at bytes (at + 1)
+first_sign bytes from at begin d s =
+    let is = sign_at bytes at d s in
+    let one : (front_of bytes at).length ≡ 1 = ap (λ (f : Front). f.length) is in
+    front_tokens bytes from at (at + 1) begin (omega (arith, one)) (omega (arith, one))
+    ∙ ap (λ (f : Front). placed at f ∷ tokens_at bytes (at + 1)) is
+
+pub first_word : (bytes : List ℕ) (from at end : ℕ) → IsBegin bytes from at → is_digit (get_or bytes at 0) ≡ false
+    → is_name_start (get_or bytes at 0) ≡ true → end ≡ at + length (run is_name_byte (drop at bytes))
+    → (tokens_at bytes from ≡ record { at = at; token = word (slice_range bytes at end) } ∷ tokens_at bytes end) × (at < end)
+first_word bytes from at end begin d s is =
+    let f = word_at bytes at begin.within d s in
+    let some = front_some bytes at begin.within in
+    let long : (front_of bytes at).length ≡ length (run is_name_byte (drop at bytes)) = ap (λ (f : Front). f.length) f in
+    let part : slice_range bytes at end ≡ run is_name_byte (drop at bytes)
+    = ap (slice_range bytes at) is ∙ run_part is_name_byte bytes at in (
+      front_tokens bytes from at end begin (omega (arith, is, long)) some
+          ∙ ap (λ (f : Front). placed at f ∷ tokens_at bytes end) f
+          ∙ ap (λ xs. record { at = at; token = word xs } ∷ tokens_at bytes end) (sym part),
+      omega (arith, is, long, some),
+    )
 
 -- what is seen of a run from a byte on
 pub run_front : (src : List ℕ) (at end : ℕ) (passes : ℕ → Bool) (seen : Seen) (token : List ℕ → Token)
@@ -218,7 +247,7 @@ unsigned_front b bytes other = by (is_digit b) (is_name_start b)
     by : (d s : Bool) → IsUnsigned (cond d (number_front (run is_digit (b ∷ bytes))) (cond s (word_front (run is_name_byte (b ∷ bytes)))
         (sign_front b))).token
     by true s = number (has_needless_zero (run is_digit (b ∷ bytes))) (value 0 (run is_digit (b ∷ bytes)))
-    by false true = name (are_same (run is_name_byte (b ∷ bytes)) (codes "let")) (run is_name_byte (b ∷ bytes))
+    by false true = name (bytes_eq (run is_name_byte (b ∷ bytes)) (codes "let")) (run is_name_byte (b ∷ bytes))
     by false false = inr (inr (inr other))
 
 pub begins_unsigned : (bytes : List ℕ) (at here : ℕ) → IsBegin bytes at here → sign (get_or bytes here 0) ≡ Other

@@ -2,7 +2,7 @@
 ghost use Rattle.std.specs.Prelude.{◌≡◌, ◌≤◌, [], ◌∷◌, List, false, length, slice_index};
 ghost use Rattle.tree_rules.specs.declared.machine.Open.{Open};
 ghost use Rattle.tree_rules.specs.Reading.{state, signs_ended, factor_step, line_step, name_step, equals_step, behind_step, close_paren, close_brace, end_line, step_in, within_limits, ended_in, judged, refusal_of};
-ghost use Rattle.tree_rules.specs.Refusals.{IsReading};
+ghost use Rattle.tree_rules.specs.Refusals.{IsReading, most_nest};
 ghost use Rattle.tree_rules.specs.Tokens.{is_digit, is_name_start, sign};
 ghost use Rattle.tree_reader.specs.Seen.{IsSeen, IsBegin, IsNext};
 ghost use Rattle.tree_reader.specs.Steps.{like, Stepped, answer, GoesOn};
@@ -72,6 +72,7 @@ fn factor_step(seen: Seen, opens: &mut Stack) -> Step
     ensures { Stepped (factor_step (like seen) opens.old) result opens.new }
 {
     match seen {
+        // One arm each: in one for all, a number's size would be tested a second time.
         Seen::Word => end_factor(opens),
         Seen::Number(_) => end_factor(opens),
         Seen::TooBig => end_factor(opens),
@@ -112,8 +113,7 @@ fn end_line(opens: &Stack) -> Step
     ensures { Stepped (end_line opens.now) result opens.now }
 {
     match opens.top() {
-        None => to(opens, Mode::AtLine),
-        Some(Open::Brace) => to(opens, Mode::AtLine),
+        None | Some(Open::Brace) => to(opens, Mode::AtLine),
         _ => Step::Wrong,
     }
 }
@@ -126,12 +126,7 @@ fn line_step(seen: Seen, opens: &mut Stack) -> Step
         Seen::LetKey => to(opens, Mode::AtName),
         Seen::LeftBrace => open(opens, Open::Brace, Mode::AtLine),
         Seen::RightBrace => close_brace(opens),
-        Seen::Word => end_factor(opens),
-        Seen::Number(_) => end_factor(opens),
-        Seen::TooBig => end_factor(opens),
-        Seen::LeftParen => open(opens, Open::Paren, Mode::AtFactor),
-        Seen::Minus => open(opens, Open::Sign, Mode::AtFactor),
-        _ => Step::Wrong,
+        _ => factor_step(seen, opens),
     }
 }
 
@@ -140,9 +135,7 @@ fn behind_step(seen: Seen, opens: &mut Stack) -> Step
     ensures { Stepped (behind_step (like seen) opens.old) result opens.new }
 {
     match seen {
-        Seen::Plus => to(opens, Mode::AtFactor),
-        Seen::Minus => to(opens, Mode::AtFactor),
-        Seen::Star => to(opens, Mode::AtFactor),
+        Seen::Plus | Seen::Minus | Seen::Star => to(opens, Mode::AtFactor),
         Seen::RightParen => close_paren(opens),
         Seen::Semicolon => end_line(opens),
         _ => Step::Wrong,
@@ -184,7 +177,7 @@ fn any_step(mode: Mode, seen: Seen, opens: &mut Stack) -> Step
 
 #[inline(always)]
 fn within_limits(l: Lexeme, mode: Mode) -> Judged
-    ensures { (opens : List Open) → length opens ≤ 64 → within_limits (record { at = l.at; token = like l.seen }) (state mode opens)
+    ensures { (opens : List Open) → length opens ≤ most_nest → within_limits (record { at = l.at; token = like l.seen }) (state mode opens)
         ≡ answer result opens }
 {
     if let Seen::TooBig = l.seen {
@@ -210,12 +203,7 @@ fn ended(end: u64, mode: Mode, opens: &Stack) -> Option<Refused>
     ensures { result ≡ ended_in end mode opens.now }
 {
     match mode {
-        Mode::AtLine => {
-            if opens.is_empty() {
-                return None;
-            }
-            Some(Refused::Syntax { at: end })
-        }
+        Mode::AtLine if opens.is_empty() => None,
         _ => Some(Refused::Syntax { at: end }),
     }
 }

@@ -2,12 +2,12 @@
 use Rattle.std.proofs.Common.{◌≡◌, ℕ, List, [], ◌∷◌, ◌++◌, refl, ap, ◌∙◌, inl, inr}
 use Rattle.std.proofs.lemmas.Bool.{cases_Bool}
 use Rattle.tree_rules.specs.Trees.{Stmt, Let, Show, Block, Stmts, NoStmts, Then}
-use Rattle.tree_rules.specs.Report.{Names, has_name, have_name, undefined, finding, defined, Walk, walk_stmt, walk}
+use Rattle.tree_rules.specs.Report.{NameSet, has_name, have_name, undefined, finding, defined, Walk, walk_stmt, walk}
 use Rattle.tree_rules.specs.declared.finding.Finding.{Finding}
 use Rattle.tree_rules.specs.declared.finding.FindKind.TheVariants.{Undefined}
 
 -- Of names one after another, those are found that are of each.
-pub undefined_both : (sets : List Names) (a b : Names) → undefined sets (a ++ b) ≡ undefined sets a ++ undefined sets b
+pub undefined_both : (sets : List NameSet) (a b : List (List ℕ)) → undefined sets (a ++ b) ≡ undefined sets a ++ undefined sets b
 undefined_both sets [] b = refl
 undefined_both sets (n ∷ a) b = elim (cases_Bool (have_name sets n)) [
   | inl is ↦ rw is (undefined_both sets a b)
@@ -15,11 +15,11 @@ undefined_both sets (n ∷ a) b = elim (cases_Bool (have_name sets n)) [
 ]
 
 -- A walk changes the innermost set alone.
-pub record OneChanged (walked : Walk) (outer : List Names) : Type 0 where
-  pub names : Names
+pub record OneChanged (walked : Walk) (outer : List NameSet) : Type 0 where
+  pub names : NameSet
   pub known : walked.known ≡ names ∷ outer
 
-defined_outer : (name : List ℕ) (names : Names) (outer : List Names) → OneChanged (defined name (names ∷ outer)) outer
+defined_outer : (name : List ℕ) (names : NameSet) (outer : List NameSet) → OneChanged (defined name (names ∷ outer)) outer
 defined_outer name names outer = elim (cases_Bool (has_name names name)) [
   | inl has ↦ record { names = names; known = rw has refl }
   | inr new ↦ elim (cases_Bool (have_name outer name)) [
@@ -31,14 +31,14 @@ defined_outer name names outer = elim (cases_Bool (has_name names name)) [
 mutual
   unfolding walk_stmt walk
 
-  stmt_outer : (s : Stmt) (names : Names) (outer : List Names) → OneChanged (walk_stmt s (names ∷ outer)) outer
+  stmt_outer : (s : Stmt) (names : NameSet) (outer : List NameSet) → OneChanged (walk_stmt s (names ∷ outer)) outer
   stmt_outer (Let name e) names outer = let d = defined_outer name names outer in record { names = d.names; known = d.known }
   stmt_outer (Show e) names outer = record { names = names; known = refl }
   stmt_outer (Block body) names outer = record { names = names; known = refl }
 
-  pub walk_outer : (ss : Stmts) (names : Names) (outer : List Names) → OneChanged (walk ss (names ∷ outer)) outer
+  pub walk_outer : (ss : Stmts) (names : NameSet) (outer : List NameSet) → OneChanged (walk ss (names ∷ outer)) outer
   walk_outer NoStmts names outer = record { names = names; known = refl }
   walk_outer (Then s rest) names outer =
       let one = stmt_outer s names outer in
       let two = walk_outer rest one.names outer in
-      record { names = two.names; known = ap (λ (sets : List Names). (walk rest sets).known) one.known ∙ two.known }
+      record { names = two.names; known = ap (λ (sets : List NameSet). (walk rest sets).known) one.known ∙ two.known }

@@ -138,38 +138,27 @@ step_begins_some most front t s next is step_is =
 
 -- ---- Numbers
 
-pub big_not_fit : (t : Token) → is_too_big t ≡ true → Fits t → ⊥
-big_not_fit (Number n) e h = let b : nat_le (2 ^ 64) n ≡ true = e in absurd (above n b h)
+-- a token fits exactly where it isn't too big
+pub size_fits : (t : Token) → (Fits t → is_too_big t ≡ false) × (is_too_big t ≡ false → Fits t)
+size_fits (Number n) = (small n, below n)
   where
-    above : (n : ℕ) → nat_le (2 ^ 64) n ≡ true → n < 2 ^ 64 → ⊥
-    above n e h = grind (arith, nat_tests)
-big_not_fit LetKey e h = cc
-big_not_fit (Word bytes) e h = cc
-big_not_fit Plus e h = cc
-big_not_fit Minus e h = cc
-big_not_fit Star e h = cc
-big_not_fit LeftParen e h = cc
-big_not_fit RightParen e h = cc
-big_not_fit LeftBrace e h = cc
-big_not_fit RightBrace e h = cc
-big_not_fit Equals e h = cc
-big_not_fit Semicolon e h = cc
-big_not_fit Other e h = cc
+    small : (n : ℕ) → n < 2 ^ 64 → nat_le (2 ^ 64) n ≡ false
+    small n h = grind (arith, nat_tests)
 
-pub small_fits : (t : Token) → is_too_big t ≡ false → Fits t
-small_fits (Number n) e = below n e
-  where
     below : (n : ℕ) → nat_le (2 ^ 64) n ≡ false → n < 2 ^ 64
     below n e = grind (arith, nat_tests)
-small_fits LetKey e = tt
-small_fits (Word bytes) e = tt
-small_fits Plus e = tt
-small_fits Minus e = tt
-small_fits Star e = tt
-small_fits LeftParen e = tt
-small_fits RightParen e = tt
-small_fits LeftBrace e = tt
-small_fits RightBrace e = tt
-small_fits Equals e = tt
-small_fits Semicolon e = tt
-small_fits Other e = tt
+size_fits LetKey = (λ h. refl, λ e. tt)
+size_fits (Word bytes) = (λ h. refl, λ e. tt)
+size_fits Plus = (λ h. refl, λ e. tt)
+size_fits Minus = (λ h. refl, λ e. tt)
+size_fits Star = (λ h. refl, λ e. tt)
+size_fits LeftParen = (λ h. refl, λ e. tt)
+size_fits RightParen = (λ h. refl, λ e. tt)
+size_fits LeftBrace = (λ h. refl, λ e. tt)
+size_fits RightBrace = (λ h. refl, λ e. tt)
+size_fits Equals = (λ h. refl, λ e. tt)
+size_fits Semicolon = (λ h. refl, λ e. tt)
+size_fits Other = (λ h. refl, λ e. tt)
+
+pub big_not_fit : (t : Token) → is_too_big t ≡ true → Fits t → ⊥
+big_not_fit t big h = let small = (size_fits t).0 h in absurd (cc)

@@ -1,9 +1,9 @@
 -- What the machine says of a text is what it is, and nothing else is.
-use Rattle.std.proofs.Common.{◌≡◌, ℕ, ◌^◌, ◌≤◌, ◌<◌, ◌⊎◌, inl, inr, Bool, true, false, cond, Option, Some, None, Ok, Err, List, [], ◌∷◌, ◌++◌, length, refl, sym, ap, ◌∙◌, subst, arith, append_assoc, append-nil}
-use Rattle.std.specs.Prelude.{Result, nat_le, nat_lt}
+use Rattle.std.proofs.Common.{◌≡◌, ℕ, ◌≤◌, ◌<◌, ◌⊎◌, inl, inr, Bool, true, false, cond, Option, Some, None, Ok, Err, List, [], ◌∷◌, ◌++◌, length, refl, sym, ap, ◌∙◌, subst, arith, append_assoc, append-nil}
+use Rattle.std.specs.Prelude.{Result, nat_lt}
 use Rattle.std.specs.List.{AllByRecursion}
 use Rattle.std.proofs.lemmas.Bool.Decides.{nat_tests}
-use Rattle.tree_rules.specs.Tokens.{Token, LetKey, Word, Number, Plus, Minus, Star, LeftParen, RightParen, LeftBrace, RightBrace, Equals, Semicolon, Other, Placed, tokens, without_places}
+use Rattle.tree_rules.specs.Tokens.{Token, Placed, tokens, without_places}
 use Rattle.tree_rules.specs.Trees.{Stmts}
 use Rattle.tree_rules.specs.Grammar.{Program, spell, nest, trees_of, IsProgram, Begins, BeginsWithin}
 use Rattle.tree_rules.specs.Refusals.{most_nest, Fits, ArePassed, IsCause, IsFirstRefused, EndsEarly, IsGood, TreeOf, IsReading}
@@ -18,7 +18,7 @@ use Rattle.tree_rules.proofs.Holes.{InProgram, InBlock}
 use Rattle.tree_rules.proofs.Places.{Place, LinePlace, NamePlace, EqualsPlace, FactorPlace, BehindPlace, state_at, before, PlaceFits}
 use Rattle.tree_rules.proofs.ProgramPlaces.{leads_begin}
 use Rattle.tree_rules.proofs.Readings.{one_program}
-use Rattle.tree_rules.proofs.FirstTokens.{not_some, goes_first, goes_step, one_state, leads, program_over, begun, begun_step, begins_within, begins, step_begins, step_begins_some, big_not_fit, small_fits}
+use Rattle.tree_rules.proofs.FirstTokens.{not_some, goes_first, goes_step, one_state, leads, program_over, begun, begun_step, begins_within, begins, step_begins, step_begins_some, size_fits, big_not_fit}
 
 -- ---- What the machine says is so
 
@@ -62,10 +62,7 @@ not_start_open mode o opens is = let e : o ∷ opens ≡ [] = ap (λ (s : State)
 
 abbrev NotAtLine : Mode → Type 0
 NotAtLine AtLine = ⊥
-NotAtLine AtName = Unit {0}
-NotAtLine AtEquals = Unit {0}
-NotAtLine AtFactor = Unit {0}
-NotAtLine BehindFactor = Unit {0}
+NotAtLine mode = Unit {0}
 
 not_start_mode : (mode : Mode) (opens : List Open) → state mode opens ≡ start → NotAtLine mode → ⊥
 not_start_mode mode opens is other = subst NotAtLine (ap (λ (s : State). s.mode) is) other
@@ -159,7 +156,7 @@ judges_size : (front : List Placed) (t : Placed) (s next : State) → IsAt front
     → (b : Bool) → is_too_big t.token ≡ b → Judges front t (cond b (Err (NumberTooBig t.at)) (Ok next))
 judges_size front t s next a is low true big =
     (refl, step_begins most_nest (without_places front) t.token s next a.goes_is is low, big_not_fit t.token big)
-judges_size front t s next a is low false small = further front t s next a is low (small_fits t.token small)
+judges_size front t s next a is low false small = further front t s next a is low ((size_fits t.token).1 small)
 
 judges_depth : (front : List Placed) (t : Placed) (s next : State) → IsAt front s → step s t.token ≡ Some next
     → (b : Bool) → nat_lt most_nest (length next.opens) ≡ b
@@ -221,28 +218,10 @@ reading bytes = read_says bytes (refusal_of bytes) (says_from (length bytes) (to
 
 -- ---- And nothing else is so
 
-fits_small : (t : Token) → Fits t → is_too_big t ≡ false
-fits_small (Number n) h = above n h
-  where
-    above : (n : ℕ) → n < 2 ^ 64 → nat_le (2 ^ 64) n ≡ false
-    above n h = grind (arith, nat_tests)
-fits_small LetKey h = refl
-fits_small (Word bytes) h = refl
-fits_small Plus h = refl
-fits_small Minus h = refl
-fits_small Star h = refl
-fits_small LeftParen h = refl
-fits_small RightParen h = refl
-fits_small LeftBrace h = refl
-fits_small RightBrace h = refl
-fits_small Equals h = refl
-fits_small Semicolon h = refl
-fits_small Other h = refl
-
 judged_ok : (s next : State) (t : Placed) → step s t.token ≡ Some next → length next.opens ≤ most_nest → Fits t.token → judged s t ≡ Ok next
 judged_ok s next t is low fits =
     let shallow : nat_lt most_nest (length next.opens) ≡ false = grind (arith, nat_tests) in
-    rw is (rw (shallow, fits_small t.token fits) refl)
+    rw is (rw (shallow, (size_fits t.token).0 fits) refl)
 
 over : (end : ℕ) (s last : State) (ts rest : List Placed) → goes most_nest s (without_places ts) ≡ Some last
     → AllByRecursion Fits (without_places ts)

@@ -242,8 +242,7 @@ joined_none (And e es) = ap (λ rest. And e rest) (joined_none es)
 -- terms of which there are several are a sum of them, and so with factors
 abbrev IsLongSum : Terms → Type 0
 IsLongSum (OneTerm t) = ⊥
-IsLongSum (Added s t) = Unit {0}
-IsLongSum (Taken s t) = Unit {0}
+IsLongSum s = Unit {0}
 
 long_sum : (s : Terms) → IsLongSum s → terms_tree s ≡ Sum (term_trees s)
 long_sum (OneTerm t) h = absurd h

@@ -114,8 +114,7 @@ mutual
 abbrev pub AreBraces : List Open → Type 0
 AreBraces [] = Unit {0}
 AreBraces (Brace ∷ opens) = AreBraces opens
-AreBraces (Paren ∷ opens) = ⊥
-AreBraces (Sign ∷ opens) = ⊥
+AreBraces opens = ⊥
 
 line_ends : (most : ℕ) (opens : List Open) (more : List Token) → AreBraces opens → length opens ≤ most
     → goes most (state BehindFactor (signs_ended opens)) (Semicolon ∷ more) ≡ goes most (state AtLine opens) more

@@ -1,11 +1,11 @@
 -- The tokens of pieces of text, one after another.
 use Rattle.std.proofs.Common.{◌≡◌, ℕ, zero, suc, ◌+◌, ◌-◌, ◌*◌, ◌%◌, ◌<◌, Bool, true, false, cond, List, [], ◌∷◌, ◌++◌, length, get_or, length-append, refl, ap, ◌∙◌, arith, codes}
-use Rattle.std.specs.Prelude.{◌&&◌, ◌||◌}
+use Rattle.std.specs.Prelude.{◌&&◌, ◌||◌, bytes_eq}
 use Rattle.std.specs.List.{list_all}
 use Rattle.std.proofs.lemmas.Bool.Decides.{nat_tests}
 use Rattle.placement.specs.Grammar.{number}
 use Rattle.placement.proofs.NumberLemmas.{number_by_steps}
-use Rattle.tree_rules.specs.Tokens.{Token, LetKey, Word, Number, Plus, Minus, Star, LeftParen, RightParen, LeftBrace, RightBrace, Equals, Semicolon, Other, is_space, is_digit, is_name_start, is_name_byte, run, are_same, word, value, has_needless_zero, number_token, Front, word_front, number_front, other_front, front, placed, tokens_from, without_places}
+use Rattle.tree_rules.specs.Tokens.{Token, LetKey, Word, Number, Plus, Minus, Star, LeftParen, RightParen, LeftBrace, RightBrace, Equals, Semicolon, Other, is_space, is_digit, is_name_start, is_name_byte, run, word, value, has_needless_zero, number_token, Front, word_front, number_front, other_front, front, placed, tokens_from, without_places}
 use Rattle.tree_rules.specs.Trees.{IsName}
 
 -- the tokens behind so many bytes
@@ -113,7 +113,7 @@ pub lex_name : (bytes rest : List ℕ) → IsName bytes → Stops rest → lex 0
 lex_name [] rest h stop = absurd h
 lex_name (b ∷ bytes) rest h stop =
     let start : is_name_start b ≡ true = h.0 in
-    let is_word : word (b ∷ bytes) ≡ Word (b ∷ bytes) = chosen_false (are_same (b ∷ bytes) (codes "let")) LetKey (Word (b ∷ bytes)) h.2 in
+    let is_word : word (b ∷ bytes) ≡ Word (b ∷ bytes) = chosen_false (bytes_eq (b ∷ bytes) (codes "let")) LetKey (Word (b ∷ bytes)) h.2 in
     let one_less : suc (length bytes) - 1 ≡ length bytes = omega arith in
     lex_front b (bytes ++ rest) (word_front (b ∷ bytes)) (start_no_space b start) (name_front b bytes rest h stop)
     ∙ ap (λ t. t ∷ lex (suc (length bytes) - 1) (bytes ++ rest)) is_word

@@ -1,8 +1,8 @@
 -- The tree of a text is well formed: its names are names, its sums and products have several kids, its numbers fit.
 use Rattle.std.proofs.Common.{◌≡◌, ℕ, zero, suc, ◌-◌, Bool, true, false, cond, List, [], ◌∷◌, refl, subst, sym, codes}
-use Rattle.std.specs.Prelude.{◌||◌, IsFalse}
+use Rattle.std.specs.Prelude.{◌||◌, IsFalse, bytes_eq}
 use Rattle.std.specs.List.{list_all, AllByRecursion}
-use Rattle.tree_rules.specs.Tokens.{Token, LetKey, Word, Number, Plus, Minus, Star, LeftParen, RightParen, LeftBrace, RightBrace, Equals, Semicolon, Other, is_space, is_digit, is_name_start, is_name_byte, run, are_same, word, look_up, signs, sign, has_needless_zero, number_token, word_front, number_front, sign_front, front, tokens, without_places}
+use Rattle.tree_rules.specs.Tokens.{Token, LetKey, Word, Plus, Minus, Star, RightParen, RightBrace, Semicolon, Other, is_space, is_digit, is_name_start, is_name_byte, run, word, look_up, signs, sign, has_needless_zero, number_token, word_front, number_front, sign_front, front, tokens, without_places}
 use Rattle.tree_rules.specs.Trees.{Expr, Neg, Exprs, NoExprs, And, with_expr, Stmt, Stmts, NoStmts, Then, with_stmt, IsName, AreSeveral, IsExpr, AreExprs, IsStmt, AreStmts, HasSmall, HaveSmall, StmtFits, StmtsFit}
 use Rattle.tree_rules.specs.Grammar.{Factor, ANumber, AName, InParens, Negated, Factors, OneFactor, Times, Terms, OneTerm, Added, Taken, Line, LetLine, ShowLine, BlockLine, Program, Empty, Next, spell_factor, spell_factors, spell_terms, spell_line, spell, factor_tree, factors_tree, factor_trees, terms_tree, term_trees, line_tree, trees_of}
 use Rattle.tree_rules.specs.Refusals.{Fits, IsGood}
@@ -12,25 +12,14 @@ use Rattle.tree_rules.proofs.TokenLemmas.{lex, lex_is}
 
 abbrev IsNamed : Token → Type 0
 IsNamed (Word bytes) = IsName bytes
-IsNamed LetKey = Unit {0}
-IsNamed (Number n) = Unit {0}
-IsNamed Plus = Unit {0}
-IsNamed Minus = Unit {0}
-IsNamed Star = Unit {0}
-IsNamed LeftParen = Unit {0}
-IsNamed RightParen = Unit {0}
-IsNamed LeftBrace = Unit {0}
-IsNamed RightBrace = Unit {0}
-IsNamed Equals = Unit {0}
-IsNamed Semicolon = Unit {0}
-IsNamed Other = Unit {0}
+IsNamed t = Unit {0}
 
 chosen_named : (b c : Bool) (t u : Token) → b ≡ c → (c ≡ true → IsNamed t) → (c ≡ false → IsNamed u) → IsNamed (cond b t u)
 chosen_named b true t u is first other = subst (λ c. IsNamed (cond c t u)) (sym is) (first refl)
 chosen_named b false t u is first other = subst (λ c. IsNamed (cond c t u)) (sym is) (other refl)
 
-word_named : (bytes : List ℕ) → (IsFalse (are_same bytes (codes "let")) → IsName bytes) → IsNamed (word bytes)
-word_named bytes name = chosen_named (are_same bytes (codes "let")) (are_same bytes (codes "let")) LetKey (Word bytes) refl (λ h. tt) name
+word_named : (bytes : List ℕ) → (IsFalse (bytes_eq bytes (codes "let")) → IsName bytes) → IsNamed (word bytes)
+word_named bytes name = chosen_named (bytes_eq bytes (codes "let")) (bytes_eq bytes (codes "let")) LetKey (Word bytes) refl (λ h. tt) name
 
 number_named : (digits : List ℕ) → IsNamed (number_token digits)
 number_named digits =

@@ -1,7 +1,7 @@
 -- What a text is: a program within limits, or refused at its first token that is.
 use Rattle.std.specs.Prelude.{◌≡◌, ℕ, ◌^◌, ◌<◌, ◌≤◌, ◌⊎◌, List, [], ◌∷◌, ◌++◌, length, Option, Some, None, Result, Ok, Err}
 use Rattle.std.specs.List.{AllByRecursion}
-use Rattle.tree_rules.specs.Tokens.{Token, LetKey, Word, Number, Plus, Minus, Star, LeftParen, RightParen, LeftBrace, RightBrace, Equals, Semicolon, Other, Placed, tokens, without_places}
+use Rattle.tree_rules.specs.Tokens.{Token, Number, Placed, tokens, without_places}
 use Rattle.tree_rules.specs.Trees.{Stmts}
 use Rattle.tree_rules.specs.Grammar.{IsProgram, Begins, BeginsWithin}
 use Rattle.tree_rules.specs.declared.refused.Refused.{Refused}
@@ -14,18 +14,7 @@ most_nest = 64
 -- a number that fits 64 bits, or no number
 abbrev pub Fits : Token → Type 0
 Fits (Number n) = n < 2 ^ 64
-Fits LetKey = Unit {0}
-Fits (Word bytes) = Unit {0}
-Fits Plus = Unit {0}
-Fits Minus = Unit {0}
-Fits Star = Unit {0}
-Fits LeftParen = Unit {0}
-Fits RightParen = Unit {0}
-Fits LeftBrace = Unit {0}
-Fits RightBrace = Unit {0}
-Fits Equals = Unit {0}
-Fits Semicolon = Unit {0}
-Fits Other = Unit {0}
+Fits t = Unit {0}
 
 -- No token is refused: they begin a program within limits.
 pub record ArePassed (ts : List Token) : Type 0 where

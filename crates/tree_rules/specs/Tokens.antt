@@ -1,5 +1,5 @@
 -- The tokens of a text.
-use Rattle.std.specs.Prelude.{ℕ, zero, suc, ◌+◌, ◌-◌, ◌*◌, ◌==◌, nat_le, ◌&&◌, ◌||◌, Bool, true, false, if◌then◌else◌, List, [], ◌∷◌, length, map, codes}
+use Rattle.std.specs.Prelude.{ℕ, zero, suc, ◌+◌, ◌-◌, ◌*◌, ◌==◌, nat_le, ◌&&◌, ◌||◌, Bool, true, false, if◌then◌else◌, List, [], ◌∷◌, length, map, codes, bytes_eq}
 
 pub data Token : Type 0 where
   LetKey : Token
@@ -39,14 +39,9 @@ abbrev pub run : (ℕ → Bool) → List ℕ → List ℕ
 run passes [] = []
 run passes (b ∷ bytes) = if passes b then b ∷ run passes bytes else []
 
-abbrev pub are_same : List ℕ → List ℕ → Bool
-are_same [] [] = true
-are_same [] (b ∷ bs) = false
-are_same (a ∷ as') [] = false
-are_same (a ∷ as') (b ∷ bs) = a == b && are_same as' bs
-
+-- the key word, or a name
 abbrev pub word : List ℕ → Token
-word bytes = if are_same bytes (codes "let") then LetKey else Word bytes
+word bytes = if bytes_eq bytes (codes "let") then LetKey else Word bytes
 
 -- the number that digits spell, behind those of n
 abbrev pub value : ℕ → List ℕ → ℕ
@@ -55,9 +50,8 @@ value n (d ∷ digits) = value (n * 10 + (d - 48)) digits
 
 -- several digits, the first of which is 0
 abbrev pub has_needless_zero : List ℕ → Bool
-has_needless_zero [] = false
-has_needless_zero (d ∷ []) = false
 has_needless_zero (d ∷ e ∷ digits) = d == 48
+has_needless_zero digits = false
 
 abbrev pub number_token : List ℕ → Token
 number_token digits = if has_needless_zero digits then Other else Number (value 0 digits)

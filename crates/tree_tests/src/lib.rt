@@ -6,4 +6,4 @@
 mod tests;
 mod uses;
 
-pub use uses::{is_program, set_out, set_out_copy, set_out_folded};
+pub use uses::{is_program, set_out, set_out_beside, set_out_copy, set_out_folded};

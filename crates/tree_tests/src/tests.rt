@@ -1,6 +1,7 @@
 // Which texts are programs, and where and why the others are refused. The answers follow from the grammar.
 mod changes;
 mod copied_trees;
+mod deep;
 mod folds;
 mod plain;
 mod trees;

@@ -1,11 +1,15 @@
 // A caller of the judge, and one of trees.
-ghost use Rattle.std.specs.Prelude.{◌≡◌, ◌^◌, ◌≤◌, length, Ok, Err, IfOk, IsTrue, IsFalse};
+ghost use Rattle.std.specs.Prelude.{◌≡◌, ◌^◌, ◌≤◌, [], ◌∷◌, length, Ok, Err, IfOk, IsTrue, IsFalse};
+ghost use Rattle.arena_vec.specs.Vecs.{IsVecIn, vec_list};
 ghost use Rattle.tree_rules.specs.Refusals.{TreeOf};
 ghost use Rattle.tree_rules.specs.Trees.{Stmts, AreStmts, folded_stmts, folds_of_stmts, text};
 ghost use Rattle.tree_rules.specs.declared.refused.Refused.{Refused};
 
 use arena_chunks::{Allocator, ChunkSource};
-use arena_tree::{Tree, TreeErr};
+use arena_items::laws::frame_law;
+use arena_items::{AllocError, Item};
+use arena_tree::{Tree, TreeErr, tree_law};
+use arena_vec::Vec;
 use placement::Bytes;
 use std::alloc::Global;
 use tree_reader::refusal;
@@ -86,6 +90,46 @@ pub fn set_out_folded<C: ChunkSource>(
     let folds = tree.fold(a);
     match tree.print(alloc, a) {
         Ok(out) => Ok((out, folds)),
+        Err(_) => Err(TreeErr::OutOfMemory),
+    }
+}
+
+// Why no list was placed, told as of a tree.
+fn not_placed(e: AllocError) -> TreeErr {
+    match e {
+        AllocError::AllocErr { refused } => TreeErr::AllocErr { refused },
+        AllocError::CapacityOverflow | AllocError::OutOfMemory => TreeErr::OutOfMemory,
+    }
+}
+
+/// Places the tree of a text, and a list of one value beside it, and folds the tree. Gives its text then, and the list, which
+/// is as it was placed.
+///
+/// # Errors
+///
+/// As of `set_out`, and where the list has no place.
+pub fn set_out_beside<T: Item, C: ChunkSource>(
+    alloc: Global,
+    a: &mut Allocator<C>,
+    src: &[u8],
+    value: T,
+) -> Result<(Bytes, Vec<T>), TreeErr>
+    requires short { length src.now ≤ 2 ^ 24 }
+    requires small { T.SIZE ≤ 2 ^ 24 }
+    ensures tree { (trees : Stmts) → TreeOf src.now (Ok trees) → IfOk result (λ r. r.0 ≡ text (folded_stmts trees)) }
+    ensures list { IfOk result (λ r. IsVecIn T.Item a.new.memory r.1 × (vec_list T.Item a.new.memory r.1 ≡ value ∷ [])) }
+{
+    one_reading();
+    tree_law();
+    frame_law::<Vec<T>>();
+    let mut tree = Tree::parse(a, src)?;
+    let list = match Vec::from_value_in(value, a) {
+        Ok(list) => list,
+        Err(e) => return Err(not_placed(e)),
+    };
+    tree.fold(a);
+    match tree.print(alloc, a) {
+        Ok(out) => Ok((out, list)),
         Err(_) => Err(TreeErr::OutOfMemory),
     }
 }

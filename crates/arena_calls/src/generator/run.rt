@@ -11,8 +11,9 @@ ghost use Rattle.arena_calls.specs.Ends.{outside, GenEnds};
 use super::calls::Draws;
 use super::summary::{Summary, room_for_text};
 use super::tally::Tally;
+use crate::printing::print;
 use crate::status::Status;
-use crate::streams::{Output, write_all};
+use crate::streams::Output;
 use arena_chunks::{Arena, ChunkSource, OutOfMemory, Replies, Run};
 use std::alloc::Global;
 use std::mem;
@@ -82,8 +83,5 @@ pub fn run_generated<C: ChunkSource, O: Output>(
         allocated: arena.allocated_bytes(),
     };
     summary.put_text(&mut text);
-    match write_all(output, text.as_slice()) {
-        Ok(()) => Status::Done,
-        Err(_) => Status::WriteFault,
-    }
+    print(output, text.as_slice())
 }

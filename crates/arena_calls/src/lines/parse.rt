@@ -1,21 +1,12 @@
 // Reads the lines of calls.
-ghost use Rattle.std.specs.Prelude.{◌≡◌, IfOk, IfErr, MatchOption, Ok};
+ghost use Rattle.std.specs.Prelude.{◌≡◌, IfOk, IfErr, MatchOption, Ok, Err};
 ghost use Rattle.placement.specs.Grammar.{CallsOf, AreCalls, IsRefused};
-ghost use Rattle.line_parts.specs.Lines.{TakesLine, RefusesLine};
-ghost use Rattle.arena_calls.specs.Lines.{IsCauseIn};
+ghost use Rattle.line_parts.specs.Lines.{TakesLine, RefusesLine, IsCause};
 
 use super::call::read_call;
-use line_parts::at_line_end;
+use line_parts::{LinesErr, at_line_end};
 use placement::Call;
 use std::alloc::{AllocError, Global};
-
-/// Why bytes are no list of calls.
-#[derive(Drop, Debug)]
-pub enum LinesErr {
-    /// The first line that is refused, by its number from 1.
-    BadLine(u64),
-    OutOfMemory,
-}
 
 // Adds the call of the first line, unless the line is empty. Gives what comes behind the line, from its line feed on.
 fn take_line<'a>(
@@ -48,7 +39,7 @@ pub fn parse_calls(alloc: Global, bytes: &[u8]) -> Result<Vec<Call>, LinesErr>
     // Each line is empty or a call, and these are all of the calls.
     ensures calls { IfOk result (λ calls. CallsOf bytes.now (Ok calls.items)) }
     // The first line that is refused, or memory is wanting.
-    ensures refused { IfErr result (IsCauseIn bytes.now) }
+    ensures refused { IfErr result (IsCause (λ n. CallsOf bytes.now (Err n))) }
 {
     let mut calls = Vec::new(alloc);
     let mut rest = bytes;

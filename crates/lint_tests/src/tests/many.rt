@@ -5,11 +5,11 @@ use arena_pool::{MemoryMaker, PoolKind};
 use std::alloc::Global;
 use std::test::*;
 
-// A thousand sources, of which each third is no program, and the lines of their reports.
-fn thousand(alloc: Global) -> Result<(Vec<u8>, Vec<u8>), Fail> {
+// Ten thousand sources, of which each third is no program, and the lines of their reports.
+fn ten_thousand(alloc: Global) -> Result<(Vec<u8>, Vec<u8>), Fail> {
     let mut input = Vec::new(alloc);
     let mut lines = Vec::new(alloc);
-    for i in 0..1000u32 {
+    for i in 0..10_000u32 {
         if i > 0 {
             input.extend_from_slice(b"%%\n")?;
         }
@@ -26,9 +26,9 @@ fn thousand(alloc: Global) -> Result<(Vec<u8>, Vec<u8>), Fail> {
 }
 
 #[test]
-fn a_thousand_sources_by_64_workers(rt: HostRuntime) -> Result<(), Fail> {
+fn ten_thousand_sources_by_64_workers(rt: HostRuntime) -> Result<(), Fail> {
     let alloc = rt.alloc();
-    let (input, lines) = thousand(alloc)?;
+    let (input, lines) = ten_thousand(alloc)?;
     for linter in LINTERS {
         for (kind, arenas) in [
             (PoolKind::Standard, 64),

@@ -20,7 +20,7 @@ const SMALLEST: PoolKind = PoolKind::FixedSize { bytes: 48 };
 const ENOUGH: PoolKind = PoolKind::FixedSize { bytes: 110_640 };
 
 // The pool's kind, its arenas, the workers, the input, and the lines.
-const ROWS: [(PoolKind, u32, u32, &str, &str); 10] = [
+const ROWS: [(PoolKind, u32, u32, &str, &str); 12] = [
     (STANDARD, 1, 1, PAIR, PAIR_LINES),
     (STANDARD, 2, 2, PAIR, PAIR_LINES),
     (STANDARD, 64, 64, PAIR, PAIR_LINES),
@@ -28,6 +28,15 @@ const ROWS: [(PoolKind, u32, u32, &str, &str); 10] = [
     (ENOUGH, 1, 64, PAIR, PAIR_LINES),
     (SMALLEST, 1, 1, PAIR, PAIR_FULL),
     (SMALLEST, 2, 64, PAIR, PAIR_FULL),
+    // A statement and its number stand in two lists of one node, of 88 bytes each, and the ends take 48.
+    (
+        PoolKind::FixedSize { bytes: 208 },
+        1,
+        1,
+        "1;",
+        "source 0\nfull\n",
+    ),
+    (PoolKind::FixedSize { bytes: 224 }, 1, 1, "1;", "source 0\n"),
     (
         STANDARD,
         1,

@@ -37,14 +37,22 @@ source 0\nrefused\nsource 1\nsyntax error at 4\nsource 2\nsource 3\nundefined a\
 const BOTH_REFUSED: &str =
     "source 0\nrefused\nsource 1\nsyntax error at 4\nsource 2\nsource 3\nrefused\n";
 
-// The budget of each arena's source, the workers, the lines, and how many sources are starved. A first chunk takes less
-// than 16384 bytes, in which the small program has its place; no chunk is made of 100 bytes.
-const BUDGETS: [(u64, u32, &str, u64); 6] = [
+// Source 0 asks for six chunks: the list of its statements, of 88 bytes each, doubles, and that of 128, 256, 512, 1,024 and 2,048 has no
+// place in the newest chunk beside what stands there. A first chunk has one tried size, 16,320. Each other has two: twice the newest
+// chunk's size, to whole pages, and the half, in which the list has its place too. So where all is granted the six have 16,320 bytes,
+// 32,704, 65,472, 131,008, 262,080 and 524,224. Source 3 asks for one.
+
+// The budget of each arena's source, the workers, the lines, and how many sources are starved. No chunk is made of 100 bytes, one of
+// 16,384, three of 114,496; and six, of which the last has 262,080, of no fewer than 769,664.
+const BUDGETS: [(u64, u32, &str, u64); 9] = [
     (0, 1, BOTH_REFUSED, 2),
     (0, 64, BOTH_REFUSED, 2),
     (100, 2, BOTH_REFUSED, 2),
     (16384, 1, FIRST_REFUSED, 1),
     (16384, 4, FIRST_REFUSED, 1),
+    (114_496, 1, FIRST_REFUSED, 1),
+    (769_663, 1, FIRST_REFUSED, 1),
+    (769_664, 1, REPORTS, 0),
     (1 << 24, 1, REPORTS, 0),
 ];
 
@@ -108,52 +116,41 @@ fn refusing<R: Threads + Wait + Abort + Sync>(
     lint_over(rt, alloc, over, maker, &NoGate, &input)
 }
 
-// Smaller chunks are asked for where one is refused, and so a source that refuses one request may starve nobody.
+// Where one request is refused its half is granted, but the first, which has none.
 #[test]
 fn each_request_is_refused_in_turn(rt: HostRuntime) -> Result<(), Fail> {
     for linter in LINTERS {
         for first in 1..=20 {
+            let (lines, starved) = match first {
+                1 => (BOTH_REFUSED, 2),
+                _ => (REPORTS, 0),
+            };
             let told = refusing(&rt, rt.alloc(), linter, first, 1)?;
-            let starved = told.starved;
             assert!(rt;
-                told.is(REPORTS.as_bytes(), 0)
-                    || told.is(FIRST_REFUSED.as_bytes(), 1)
-                    || told.is(BOTH_REFUSED.as_bytes(), 2),
-                "{linter:?}, request {first}, {starved} starved"
+                told.is(lines.as_bytes(), starved),
+                "{linter:?}, request {first}"
             );
         }
     }
     Ok(())
 }
 
-// From the first request on both programs are starved, from a later one on the large program alone, and at last none. How many are
-// at last.
-fn fewer_and_fewer<R: Threads + Wait + Abort + Sync>(
-    rt: &R,
-    alloc: Global,
-    linter: Linter,
-) -> Result<u64, Fail> {
-    let mut before = 2;
-    for first in 1..=20 {
-        let told = refusing(rt, alloc, linter, first, 100)?;
-        let starved = told.starved;
-        let lines = match starved {
-            0 => REPORTS,
-            1 => FIRST_REFUSED,
-            _ => BOTH_REFUSED,
-        };
-        assert!(rt; told.is(lines.as_bytes(), starved) && starved <= before);
-        assert!(rt; first > 1 || starved == 2);
-        assert!(rt; first != 2 || starved == 1);
-        before = starved;
-    }
-    Ok(before)
-}
-
+// The large program has its six chunks before the seventh request.
 #[test]
 fn all_requests_from_one_on_are_refused(rt: HostRuntime) -> Result<(), Fail> {
     for linter in LINTERS {
-        assert_eq!(rt; fewer_and_fewer(&rt, rt.alloc(), linter)?, 0);
+        for first in 1..=20 {
+            let (lines, starved) = match first {
+                1 => (BOTH_REFUSED, 2),
+                2..=6 => (FIRST_REFUSED, 1),
+                _ => (REPORTS, 0),
+            };
+            let told = refusing(&rt, rt.alloc(), linter, first, 100)?;
+            assert!(rt;
+                told.is(lines.as_bytes(), starved),
+                "{linter:?}, from {first}"
+            );
+        }
     }
     Ok(())
 }

@@ -18,10 +18,10 @@ fn fixed(rt: &impl Abort, alloc: Global, bytes: usize) -> Allocator<MemoryChunks
 }
 
 // An allocator whose source refuses thirty requests from this one on: all sizes that a call may try.
-fn refusing(alloc: Global, first: u64) -> Result<Allocator<RefusingChunks>, Fail> {
+fn refusing(alloc: Global, first: u32) -> Result<Allocator<RefusingChunks>, Fail> {
     let mut refuse = Vec::new(alloc);
     for n in 0..30u64 {
-        refuse.push(first.saturating_add(n))?;
+        refuse.push(u64::from(first) + n)?;
     }
     Ok(Allocator::new(alloc, RefusingChunks::new(alloc, refuse)))
 }
@@ -30,52 +30,80 @@ const NAMES: [&str; 12] = [
     "", "a", "b", "ab", "ba", "abc", "abcd", "abcde", "x", "y", "z", "xyz",
 ];
 
+fn short_names(alloc: Global) -> Result<Vec<String>, Fail> {
+    let mut names = Vec::new(alloc);
+    for name in NAMES {
+        names.push(format!(in alloc; "{name}")?)?;
+    }
+    Ok(names)
+}
+
+// A hundred texts of a thousand bytes.
+fn long_names(alloc: Global) -> Result<Vec<String>, Fail> {
+    let mut names = Vec::new(alloc);
+    for n in 0..100u32 {
+        names.push(format!(in alloc; "{n:>1000}")?)?;
+    }
+    Ok(names)
+}
+
 // The first texts have their places as numbers, and no other text has one.
-fn has_first<C: ChunkSource>(rt: &impl Abort, texts: &Texts<C>, many: u32) {
+fn has_first<C: ChunkSource>(rt: &impl Abort, texts: &Texts<C>, names: &[String], many: u32) {
     same_at(rt, many, texts.len(), many);
-    for (n, name) in (0..12u32).zip(NAMES) {
+    for (n, name) in (0..1000u32).zip(names.iter()) {
+        let name = name.as_str();
         let wanted = if n < many { Some(n) } else { None };
-        same_at(rt, name, texts.find(name), wanted);
+        same_at(rt, n, texts.find(name), wanted);
         if n < many {
-            same_at(rt, name, texts.text(n), Some(name));
+            same_at(rt, n, texts.text(n), Some(name));
         }
     }
 }
 
 const FULL: AllocError = AllocError::AllocErr { refused: 0 };
 
-// Each text takes at most 1,024 bytes and its own, so an arena with these for each takes them all.
+// Each text takes at most 1,024 bytes and its own, which are 24 together: so an arena with these takes them all. The first has
+// no bytes, its handle has 32, and the first table of 16 slots has 37 for each.
 #[test]
-fn texts_in_a_full_arena(rt: HostRuntime) {
-    for sixteens in 0..160usize {
+fn texts_in_a_full_arena(rt: HostRuntime) -> Result<(), Fail> {
+    let names = short_names(rt.alloc())?;
+    for sixteens in 0..=770usize {
         let bytes = sixteens * 16;
         let mut texts = Texts::new(fixed(&rt, rt.alloc(), bytes));
         let mut many = 0u32;
-        for name in NAMES {
-            if texts.intern(name) != Ok(many) {
+        for name in names.iter() {
+            if texts.intern(name.as_str()) != Ok(many) {
                 break;
             }
             many = many.saturating_add(1);
         }
-        has_first(&rt, &texts, many);
-        assert!(rt; bytes < (many as usize + 1) * 1032 || many == 12);
-        for (n, name) in (0..12u32).zip(NAMES) {
+        has_first(&rt, &texts, &names, many);
+        assert!(rt; bytes < (many as usize + 1) * 1024 + 24 || many == 12);
+        assert!(rt; (many > 0) == (bytes >= 32 + 16 * 37));
+        for (n, name) in (0..12u32).zip(names.iter()) {
             if n == many {
-                same_at(&rt, bytes, texts.intern(name), Err(FULL));
+                same_at(&rt, bytes, texts.intern(name.as_str()), Err(FULL));
             }
             if n < many {
-                same_at(&rt, bytes, texts.intern(name), Ok(n));
+                same_at(&rt, bytes, texts.intern(name.as_str()), Ok(n));
             }
         }
-        has_first(&rt, &texts, many);
+        has_first(&rt, &texts, &names, many);
     }
+    Ok(())
 }
 
-// In scope n stand the ids below 3 with n, and the id 10 + n. Refused calls change nothing.
-fn fill<C: ChunkSource>(rt: &impl Abort, nest: &mut Nest<C>, tries: u32) -> u32 {
+// In scope n stand the ids below 3 with n, and the id 10 + n. Calls are refused so, and change nothing then. How many were refused.
+fn fill<C: ChunkSource>(
+    rt: &impl Abort,
+    nest: &mut Nest<C>,
+    scopes: u32,
+    refusal: AllocError,
+    tries: u32,
+) -> u32 {
     let mut refusals = 0u32;
-    for n in 0..8u32 {
-        for id in [0, 1, 2, 10 + n] {
+    for n in 0..scopes {
+        for id in [0, 1, 2, n.saturating_add(10)] {
             for _ in 0..tries {
                 match nest.define(id, n) {
                     Ok(new) => {
@@ -83,7 +111,7 @@ fn fill<C: ChunkSource>(rt: &impl Abort, nest: &mut Nest<C>, tries: u32) -> u32 
                         break;
                     }
                     Err(e) => {
-                        assert!(rt; matches!(e, AllocError::AllocErr { .. }));
+                        same_at(rt, id, e, refusal);
                         same_at(rt, id, nest.in_last(id), false);
                         let outer = if id < 3 { n.checked_sub(1) } else { None };
                         same_at(rt, id, nest.lookup(id), outer);
@@ -96,13 +124,16 @@ fn fill<C: ChunkSource>(rt: &impl Abort, nest: &mut Nest<C>, tries: u32) -> u32 
             }
         }
         for _ in 0..tries {
-            if nest.enter() == Ok(()) {
-                break;
+            match nest.enter() {
+                Ok(()) => break,
+                Err(e) => {
+                    same_at(rt, n, e, refusal);
+                    same_at(rt, n, nest.depth(), n.saturating_add(1));
+                    refusals = refusals.saturating_add(1);
+                }
             }
-            same_at(rt, n, nest.depth(), n + 1);
-            refusals = refusals.saturating_add(1);
         }
-        if nest.depth() != n + 2 {
+        if nest.depth() != n.saturating_add(2) {
             return refusals;
         }
     }
@@ -122,50 +153,68 @@ fn empty<C: ChunkSource>(rt: &impl Abort, nest: &mut Nest<C>) {
     same_at(rt, depth, nest.leave(), false);
 }
 
+// The 32 pairs take at most 512 bytes each, the 8 scopes 64. Afterwards there is room for 32 pairs of 16 bytes and for 8 numbers of 4,
+// and the table for 11 ids has 32 slots of 9 bytes.
 #[test]
 fn scopes_in_a_full_arena(rt: HostRuntime) {
-    for sixteens in 0..160usize {
-        let mut nest = Nest::new(fixed(&rt, rt.alloc(), sixteens * 16));
-        let refusals = fill(&rt, &mut nest, 2);
-        assert!(rt; refusals > 0 || sixteens > 40);
+    for sixteens in 0..=1056usize {
+        let bytes = sixteens * 16;
+        let mut nest = Nest::new(fixed(&rt, rt.alloc(), bytes));
+        let refusals = fill(&rt, &mut nest, 8, FULL, 2);
+        assert!(rt; refusals > 0 || bytes >= 32 * 16 + 8 * 4 + 32 * 9);
+        assert!(rt; refusals == 0 || bytes < 32 * 512 + 8 * 64);
         empty(&rt, &mut nest);
     }
+    // Where scopes begin takes 4 bytes, then 8 and 16 in the same place. With the fifth it would take 32.
+    let mut nest = Nest::new(fixed(&rt, rt.alloc(), 16));
+    for wanted in [Ok(()), Ok(()), Ok(()), Ok(()), Err(FULL)] {
+        same_at(&rt, 16, nest.enter(), wanted);
+    }
+    same_at(&rt, 16, nest.depth(), 5);
 }
 
-// The source refuses each request in turn, and those behind it. What was refused succeeds when it is tried again.
+// The source refuses thirty requests, from the first, the second or the third on, and then grants. A first chunk has one tried
+// size, 16,320. A second has two, 32,640 and its half, and has 32,704 bytes, to whole pages; a third has 65,408 and its halves down
+// to 16,352. So each refused call tells one request, two or three, and thirty together; tried again, it succeeds.
+fn are_told(rt: &impl Abort, first: u32, refusals: u32) {
+    same_at(rt, first, first.saturating_mul(refusals), 30);
+}
+
+// The list of 512 pairs has 8,192 bytes and no place in a first chunk beside those of 256, 128 and so on and the tables. The table for
+// the 257th id has 9,216 and none in a second, beside one of 4,608 and lists of 512 and 1,024 pairs.
 #[test]
 fn scopes_refused_chunks(rt: HostRuntime) -> Result<(), Fail> {
-    for first in 1..8u64 {
+    for first in 1..=3 {
         let mut nest = Nest::new(refusing(rt.alloc(), first)?);
-        let refusals = fill(&rt, &mut nest, 40);
-        assert!(rt; nest.depth() == 9 && (refusals > 0 || first > 1));
+        let refusal = AllocError::AllocErr { refused: first };
+        let refusals = fill(&rt, &mut nest, 800, refusal, 40);
+        same_at(&rt, first, nest.depth(), 801);
+        are_told(&rt, first, refusals);
         empty(&rt, &mut nest);
     }
     Ok(())
 }
 
+// The texts have 100,000 bytes, more than the first two chunks, and no block of the interner has more than 16,320.
 #[test]
 fn texts_refused_chunks(rt: HostRuntime) -> Result<(), Fail> {
-    for first in 1..8u64 {
+    let names = long_names(rt.alloc())?;
+    for first in 1..=3 {
         let mut texts = Texts::new(refusing(rt.alloc(), first)?);
         let mut refusals = 0u32;
-        for (n, name) in (0..12u32).zip(NAMES) {
+        for (n, name) in (0..100u32).zip(names.iter()) {
             for _ in 0..40u32 {
-                match texts.intern(name) {
-                    Ok(number) => {
-                        same_at(&rt, name, number, n);
-                        break;
-                    }
-                    Err(e) => {
-                        assert!(rt; matches!(e, AllocError::AllocErr { .. }));
-                        has_first(&rt, &texts, n);
-                        refusals = refusals.saturating_add(1);
-                    }
+                let answer = texts.intern(name.as_str());
+                if answer == Ok(n) {
+                    break;
                 }
+                same_at(&rt, n, answer, Err(AllocError::AllocErr { refused: first }));
+                has_first(&rt, &texts, &names, n);
+                refusals = refusals.saturating_add(1);
             }
         }
-        has_first(&rt, &texts, 12);
-        assert!(rt; refusals > 0 || first > 1);
+        has_first(&rt, &texts, &names, 100);
+        are_told(&rt, first, refusals);
     }
     Ok(())
 }

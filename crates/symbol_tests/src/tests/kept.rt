@@ -134,4 +134,24 @@ impl<C: ChunkSource> Both<C> {
     ) -> Grown<()> {
         self.names.run(alloc, &mut self.a, calls, replies)
     }
+
+    // Declares a name that isn't too long.
+    pub(super) fn declare(&mut self, name: &str, value: u32) -> Grown<bool> {
+        if name.len() >= 1 << 32 {
+            return Err(AllocError::CapacityOverflow);
+        }
+        self.names.declare(&mut self.a, name, value)
+    }
+
+    // What a name that isn't too long means in a scope of its own.
+    pub(super) fn in_own_scope(&mut self, name: &str, value: u32) -> Grown<Option<u32>> {
+        if name.len() >= 1 << 32 {
+            return Err(AllocError::CapacityOverflow);
+        }
+        self.names.in_own_scope(&mut self.a, name, value)
+    }
+
+    pub(super) fn resolve(&self, name: &str) -> Option<u32> {
+        self.names.resolve(&self.a, name)
+    }
 }

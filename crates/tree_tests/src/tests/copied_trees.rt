@@ -9,38 +9,46 @@ use std::alloc::Global;
 use std::process::Abort;
 use std::vec::Vec;
 
-/// A text, that of its tree, the tree's nodes, and the bytes of its names.
-type Row = (&'static [u8], &'static [u8], u64, u64);
+/// A text, that of its tree, the tree's nodes, its names, and the bytes of these.
+type Row = (&'static [u8], &'static [u8], u64, u64, u64);
 
 const SAMPLE: &[u8] = b"let x = 1+2*3 - -y;";
 
 const COPIED: [Row; 6] = [
-    (b"", b"", 0, 0),
-    (b"{}", b"{\n}\n", 1, 0),
-    (b"let x = 1 + 6 + y;", b"let x = 1 + 6 + y;\n", 5, 2),
-    (SAMPLE, b"let x = 1 + 2 * 3 - -y;\n", 9, 2),
+    (b"", b"", 0, 0, 0),
+    (b"{}", b"{\n}\n", 1, 0, 0),
+    (b"let x = 1 + 6 + y;", b"let x = 1 + 6 + y;\n", 5, 2, 2),
+    (SAMPLE, b"let x = 1 + 2 * 3 - -y;\n", 9, 2, 2),
     (
         b"{{long_name;}a-(b-c);}",
         b"{\n{\nlong_name;\n}\na - (b - c);\n}\n",
-        11,
+        12,
+        4,
         12,
     ),
-    (b"-(2*3)*--4*(5*6);", b"-(2 * 3) * --4 * (5 * 6);\n", 12, 0),
+    (
+        b"-(2*3)*--4*(5*6);",
+        b"-(2 * 3) * --4 * (5 * 6);\n",
+        12,
+        0,
+        0,
+    ),
 ];
 
 fn memory(alloc: Global) -> Allocator<MemoryChunks> {
     Allocator::new(alloc, MemoryChunks::new(alloc, 1 << 30))
 }
 
+// A list has room for its nodes alone, which have 88 bytes. At most 7 are lost between a name and the list behind it.
 #[test]
 fn copied(rt: HostRuntime) {
-    for (src, wanted, nodes, names) in COPIED {
-        assert!(rt; src.len() <= 1 << 24 && nodes < 100 && names < 100);
+    for (src, wanted, nodes, names, bytes) in COPIED {
+        assert!(rt; src.len() <= 1 << 24 && nodes < 100 && names < 10 && bytes < 100);
         let (mut a, mut b) = (memory(rt.alloc()), memory(rt.alloc()));
         let out = set_out_copy(rt.alloc(), &mut a, &mut b, src);
         assert!(rt; out.ok().expect(&rt, "a program").as_slice() == wanted);
-        assert!(rt; b.used_bytes() >= 88 * nodes + names);
-        assert!(rt; b.used_bytes() <= 128 * nodes + names);
+        assert!(rt; b.used_bytes() >= 88 * nodes + bytes);
+        assert!(rt; b.used_bytes() <= 88 * nodes + bytes + 7 * names);
     }
 }
 

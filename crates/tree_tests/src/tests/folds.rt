@@ -81,13 +81,14 @@ fn a_great_tree(rt: HostRuntime) {
     assert!(rt; none == 0 && again.as_slice() == wanted.as_slice());
 }
 
+// A million ones: one node is folded.
 #[test]
 fn a_great_sum(rt: HostRuntime) {
     let mut src = Vec::new(rt.alloc());
-    copies(&rt, &mut src, b"1+", 99_999);
+    copies(&rt, &mut src, b"1+", 999_999);
     copies(&rt, &mut src, b"1;", 1);
     let (out, folds) = folded(&rt, rt.alloc(), src.as_slice());
-    assert!(rt; folds == 1 && out.as_slice() == b"100000;\n".as_slice());
+    assert!(rt; folds == 1 && out.as_slice() == b"1000000;\n".as_slice());
 }
 
 #[test]

@@ -9,18 +9,18 @@ use Rattle.tree_rules.specs.declared.machine.Open.TheVariants.{Paren, Sign}
 use Rattle.tree_rules.specs.declared.machine.Mode.TheVariants.{AtFactor, BehindFactor}
 use Rattle.arena_tree.specs.Subtrees.{OfExpr}
 use Rattle.arena_tree.specs.Parts.{behind_factor}
-use Rattle.arena_tree.proofs.BuildLemmas.{prod_placed, number_placed, name_placed}
+use Rattle.arena_tree.proofs.BuildLemmas.{prod_placed, number_placed}
 use Rattle.arena_tree.proofs.RowLemmas.{row_held, exprs_built, exprs_more}
 use Rattle.arena_tree.proofs.PartLemmas.{reads_token, reads_then, reads_in, reads_next, opens_paren, opens_sign, reads_star, reads_sign, joined, reads_terms, terms_more, terms_placed}
 use Rattle.arena_tree.proofs.exprs.+parse.Goals as goal
 
-pub factor-close_at-requires-clause-must : goal.factor-close_at-requires-clause-must
-factor-close_at-requires-clause-must g t c =
-    let k = c.in_ok-end-in-Paren.ensures.tree in
+pub paren-close_at-requires-clause-must : goal.paren-close_at-requires-clause-must
+paren-close_at-requires-clause-must g t c =
+    let k = c.in_ok-end.ensures.tree in
     let place = c.requires.place in
     record {
       opens = place.0;
-      passed = k.passes (Paren ∷ place.0) ((opens_paren c.in-Paren.ensures.0).passes place.0 place.1);
+      passed = k.passes (Paren ∷ place.0) ((opens_paren c.requires.start.0).passes place.0 place.1);
       stop = k.stopped;
     }
 
@@ -32,32 +32,30 @@ factor-returns-in-Number-clause-tree g t c = record {
   placed = number_placed _ _ _ c.number.ensures.kind c.number.ensures.number;
 }
 
-pub factor-returns-in_ok-text-in-Word-clause-tree : goal.factor-returns-in_ok-text-in-Word-clause-tree
-factor-returns-in_ok-text-in-Word-clause-tree g t c =
-    let text = c.in_ok-text-in-Word.ensures in
-    record {
-      part = AName (slice_range c.args.src.now c.in-Word.begin c.in-Word.end);
-      read = reads_token (state AtFactor) behind_factor c.in-Word.ensures.0 (λ opens. refl);
-      stopped = tt;
-      placed = name_placed _ _ _ _ _ text.held text.text text.frame c.named.ensures.kind c.named.ensures.text;
-    }
+pub factor-returns-in_ok-name_node-in-Word-clause-tree : goal.factor-returns-in_ok-name_node-in-Word-clause-tree
+factor-returns-in_ok-name_node-in-Word-clause-tree g t c = record {
+  part = AName (slice_range c.args.src.now c.in-Word.begin c.in-Word.end);
+  read = reads_token (state AtFactor) behind_factor c.in-Word.ensures.0 (λ opens. refl);
+  stopped = tt;
+  placed = c.in_ok-name_node-in-Word.ensures.tree;
+}
 
-pub factor-returns-in_ok-node-in-Minus-clause-tree : goal.factor-returns-in_ok-node-in-Minus-clause-tree
-factor-returns-in_ok-node-in-Minus-clause-tree g t c =
-    let k = c.in_ok-end-in-Minus.ensures.tree in
+pub minus-returns-clause-tree : goal.minus-returns-clause-tree
+minus-returns-clause-tree g t c =
+    let k = c.in_ok-end.ensures.tree in
     record {
       part = Negated k.part;
-      read = reads_then (opens_sign c.in-Minus.ensures.0) (reads_in (λ (opens : List Open). Sign ∷ opens) k.read);
+      read = reads_then (opens_sign c.requires.start.0) (reads_in (λ (opens : List Open). Sign ∷ opens) k.read);
       stopped = tt;
-      placed = c.in_ok-node-in-Minus.ensures.tree (factor_tree k.part) _ k.placed;
+      placed = c.in_ok-negate.ensures.tree (factor_tree k.part) _ k.placed;
     }
 
-pub factor-returns-in_ok-end-in-Paren-clause-tree : goal.factor-returns-in_ok-end-in-Paren-clause-tree
-factor-returns-in_ok-end-in-Paren-clause-tree g t c =
-    let k = c.in_ok-end-in-Paren.ensures.tree in
+pub paren-returns-clause-tree : goal.paren-returns-clause-tree
+paren-returns-clause-tree g t c =
+    let k = c.in_ok-end.ensures.tree in
     record {
       part = InParens k.part;
-      read = reads_then (opens_paren c.in-Paren.ensures.0) (reads_then (reads_in (λ (opens : List Open). Paren ∷ opens) k.read)
+      read = reads_then (opens_paren c.requires.start.0) (reads_then (reads_in (λ (opens : List Open). Paren ∷ opens) k.read)
           (reads_token (λ (opens : List Open). state BehindFactor (Paren ∷ opens)) behind_factor c.close_at.ensures (λ opens. refl)));
       stopped = tt;
       placed = k.placed;
@@ -137,14 +135,14 @@ expr-loop-stop-init g t c =
       spends = spends_then k.spends l.spends (frees k.tree.placed.frame) (omega arith) (omega arith) (omega arith);
       read = record {
         part = OneTerm k.tree.part;
-        read = reads_then k.tree.read (reads_sign c.in-Some.sign.0 sign);
+        read = reads_then k.tree.read (reads_sign c.in-Some.minus sign);
         built = l.tree (factors_tree k.tree.part) _ k.tree.placed;
       };
     }
 
 pub expr-push_node-requires-clause-held : goal.expr-push_node-requires-clause-held
 expr-push_node-requires-clause-held g t c =
-    row_held _ (OfExpr _) _ _ _ _ _ c.loop-stop.invariant.read.built (c.in_ok-kid.ensures.tree _ _ c.in_ok-stop.ensures.tree.placed)
+    row_held _ (OfExpr _) _ _ _ _ _ c.loop-stop.invariant.read.built (c.in_ok-sign.ensures.tree _ _ c.in_ok-stop.ensures.tree.placed)
 
 pub expr-loop-stop-preserved : goal.expr-loop-stop-preserved
 expr-loop-stop-preserved g t c =
@@ -154,8 +152,8 @@ expr-loop-stop-preserved g t c =
     let sign = c.in-Some-sign_at.ensures.some in
     let minus = c.loop-stop.minus in
     let read = kid_read _ i.read.later k.tree.later i.spends k.spends (frees i.read.built.frame) in
-    let placed = c.in_ok-kid.ensures.tree (factors_tree k.tree.part) c.loop-stop.a.memory k.tree.placed in
-    let negated = kid_negated _ read c.in_ok-kid.ensures.spends (frees_then i.read.built.frame k.tree.placed.frame) in
+    let placed = c.in_ok-sign.ensures.tree (factors_tree k.tree.part) c.loop-stop.a.memory k.tree.placed in
+    let negated = kid_negated _ read c.in_ok-sign.ensures.spends (frees_then i.read.built.frame k.tree.placed.frame) in
     record {
       few = omega arith;
       spends = spends_then negated put.spends (frees_then i.read.built.frame placed.frame) (omega arith) (omega arith) (omega arith);
@@ -171,7 +169,7 @@ expr-returns-in-None-clause-tree g t c =
     let ks = c.loop-stop.invariant.read in
     let k = c.in_ok-stop.ensures.tree in
     let minus = c.loop-stop.minus in
-    let placed = c.in_ok-kid.ensures.tree (factors_tree k.part) c.loop-stop.a.memory k.placed in
+    let placed = c.in_ok-sign.ensures.tree (factors_tree k.part) c.loop-stop.a.memory k.placed in
     record {
       part = joined minus ks.part k.part;
       read = reads_terms minus ks.part k.part ks.read k.read;
@@ -186,48 +184,48 @@ pub factor-returns-in-Number-clause-spends : goal.factor-returns-in-Number-claus
 factor-returns-in-Number-clause-spends g t c =
     spends_nothing _ 0 512 c.args.a.now (omega (arith, c.in-Number.ensures.later))
 
-pub factor-returns-in_ok-text-in-Word-clause-spends : goal.factor-returns-in_ok-text-in-Word-clause-spends
-factor-returns-in_ok-text-in-Word-clause-spends g t c =
+pub factor-returns-in_ok-name_node-in-Word-clause-spends : goal.factor-returns-in_ok-name_node-in-Word-clause-spends
+factor-returns-in_ok-name_node-in-Word-clause-spends g t c =
     let word = c.in-Word.ensures in
     let few = range_length c.args.src.now c.in-Word.begin c.in-Word.end in
-    spends_more c.in_ok-text-in-Word.ensures.spends (omega arith) (omega arith)
+    spends_more c.in_ok-name_node-in-Word.ensures.spends (omega arith) (omega arith)
 
-pub factor-returns-in_err-text-in-Word-clause-spends : goal.factor-returns-in_err-text-in-Word-clause-spends
-factor-returns-in_err-text-in-Word-clause-spends g t c =
+pub factor-returns-in_err-name_node-in-Word-clause-spends : goal.factor-returns-in_err-name_node-in-Word-clause-spends
+factor-returns-in_err-name_node-in-Word-clause-spends g t c =
     let word = c.in-Word.ensures in
     let few = range_length c.args.src.now c.in-Word.begin c.in-Word.end in
-    err_up_to _ _ _ _ c.from_residual-in_err-text-in-Word.ensures
-    (spends_more c.in_err-text-in-Word.ensures.spends (omega arith) (omega arith))
-
-pub factor-returns-in_ok-node-in-Minus-clause-spends : goal.factor-returns-in_ok-node-in-Minus-clause-spends
-factor-returns-in_ok-node-in-Minus-clause-spends g t c =
-    let minus = c.in-Minus.ensures in
-    let k = c.in_ok-end-in-Minus.ensures in
-    spends_then k.spends c.in_ok-node-in-Minus.ensures.spends (frees k.tree.placed.frame) (omega arith) (omega arith) (omega arith)
-
-pub factor-returns-in_err-end-in-Minus-clause-spends : goal.factor-returns-in_err-end-in-Minus-clause-spends
-factor-returns-in_err-end-in-Minus-clause-spends g t c =
-    let minus = c.in-Minus.ensures in
     err_up_to _ _ _ _ c.from_residual.ensures
-    (spends_more c.in_err-end-in-Minus.ensures.spends (omega arith) (omega arith))
+    (spends_more c.in_err-name_node-in-Word.ensures.spends (omega arith) (omega arith))
 
-pub factor-returns-in_err-node-in-Minus-clause-spends : goal.factor-returns-in_err-node-in-Minus-clause-spends
-factor-returns-in_err-node-in-Minus-clause-spends g t c =
-    let minus = c.in-Minus.ensures in
-    let k = c.in_ok-end-in-Minus.ensures in
-    err_up_to _ _ _ _ c.from_residual-in_err-node-in-Minus.ensures
-    (spends_then k.spends c.in_err-node-in-Minus.ensures.spends (frees k.tree.placed.frame) (omega arith) (omega arith) (omega arith))
+pub minus-returns-clause-spends : goal.minus-returns-clause-spends
+minus-returns-clause-spends g t c =
+    let minus = c.requires.start in
+    let k = c.in_ok-end.ensures in
+    spends_then k.spends c.in_ok-negate.ensures.spends (frees k.tree.placed.frame) (omega arith) (omega arith) (omega arith)
 
-pub factor-returns-in_ok-end-in-Paren-clause-spends : goal.factor-returns-in_ok-end-in-Paren-clause-spends
-factor-returns-in_ok-end-in-Paren-clause-spends g t c =
-    let paren = c.in-Paren.ensures in
-    spends_more c.in_ok-end-in-Paren.ensures.spends (omega arith) (omega arith)
+pub minus-returns-in_err-end-clause-spends : goal.minus-returns-in_err-end-clause-spends
+minus-returns-in_err-end-clause-spends g t c =
+    let minus = c.requires.start in
+    err_up_to _ _ _ _ c.from_residual.ensures
+    (spends_more c.in_err-end.ensures.spends (omega arith) (omega arith))
 
-pub factor-returns-in_err-end-in-Paren-clause-spends : goal.factor-returns-in_err-end-in-Paren-clause-spends
-factor-returns-in_err-end-in-Paren-clause-spends g t c =
-    let paren = c.in-Paren.ensures in
-    err_up_to _ _ _ _ c.from_residual-in_err-end-in-Paren.ensures
-    (spends_more c.in_err-end-in-Paren.ensures.spends (omega arith) (omega arith))
+pub minus-returns-in_err-negate-clause-spends : goal.minus-returns-in_err-negate-clause-spends
+minus-returns-in_err-negate-clause-spends g t c =
+    let minus = c.requires.start in
+    let k = c.in_ok-end.ensures in
+    err_up_to _ _ _ _ c.from_residual-in_err-negate.ensures
+    (spends_then k.spends c.in_err-negate.ensures.spends (frees k.tree.placed.frame) (omega arith) (omega arith) (omega arith))
+
+pub paren-returns-clause-spends : goal.paren-returns-clause-spends
+paren-returns-clause-spends g t c =
+    let paren = c.requires.start in
+    spends_more c.in_ok-end.ensures.spends (omega arith) (omega arith)
+
+pub paren-returns-in_err-end-clause-spends : goal.paren-returns-in_err-end-clause-spends
+paren-returns-in_err-end-clause-spends g t c =
+    let paren = c.requires.start in
+    err_up_to _ _ _ _ c.from_residual.ensures
+    (spends_more c.in_err-end.ensures.spends (omega arith) (omega arith))
 
 pub term-returns-in_err-list-clause-spends : goal.term-returns-in_err-list-clause-spends
 term-returns-in_err-list-clause-spends g t c =
@@ -270,22 +268,22 @@ expr-returns-in_err-stop-clause-spends g t c =
     err_up_to _ _ _ _ c.from_residual-in_err-stop.ensures
     (spends_then i.spends c.in_err-stop.ensures.spends (frees i.read.built.frame) (omega arith) (omega arith) (omega arith))
 
-pub expr-returns-in_err-kid-clause-spends : goal.expr-returns-in_err-kid-clause-spends
-expr-returns-in_err-kid-clause-spends g t c =
+pub expr-returns-in_err-sign-clause-spends : goal.expr-returns-in_err-sign-clause-spends
+expr-returns-in_err-sign-clause-spends g t c =
     let i = c.loop-stop.invariant in
     let k = c.in_ok-stop.ensures in
     let read = kid_read _ i.read.later k.tree.later i.spends k.spends (frees i.read.built.frame) in
-    err_up_to _ _ _ _ c.from_residual-in_err-kid.ensures
-    (spends_then read c.in_err-kid.ensures.spends (frees_then i.read.built.frame k.tree.placed.frame) (omega arith) (omega arith)
+    err_up_to _ _ _ _ c.from_residual-in_err-sign.ensures
+    (spends_then read c.in_err-sign.ensures.spends (frees_then i.read.built.frame k.tree.placed.frame) (omega arith) (omega arith)
     (omega arith))
 
 pub expr-returns-in_err-push_node-clause-spends : goal.expr-returns-in_err-push_node-clause-spends
 expr-returns-in_err-push_node-clause-spends g t c =
     let i = c.loop-stop.invariant in
     let k = c.in_ok-stop.ensures in
-    let placed = c.in_ok-kid.ensures.tree (factors_tree k.tree.part) c.loop-stop.a.memory k.tree.placed in
+    let placed = c.in_ok-sign.ensures.tree (factors_tree k.tree.part) c.loop-stop.a.memory k.tree.placed in
     let read = kid_read _ i.read.later k.tree.later i.spends k.spends (frees i.read.built.frame) in
-    let negated = kid_negated _ read c.in_ok-kid.ensures.spends (frees_then i.read.built.frame k.tree.placed.frame) in
+    let negated = kid_negated _ read c.in_ok-sign.ensures.spends (frees_then i.read.built.frame k.tree.placed.frame) in
     err_up_to _ _ _ _ c.from_residual-in_err-push_node.ensures
     (spends_then negated c.in_err-push_node.ensures.spends (frees_then i.read.built.frame placed.frame) (omega arith) (omega arith)
     (omega arith))
@@ -294,8 +292,8 @@ pub expr-returns-in-None-clause-spends : goal.expr-returns-in-None-clause-spends
 expr-returns-in-None-clause-spends g t c =
     let i = c.loop-stop.invariant in
     let k = c.in_ok-stop.ensures in
-    let placed = c.in_ok-kid.ensures.tree (factors_tree k.tree.part) c.loop-stop.a.memory k.tree.placed in
+    let placed = c.in_ok-sign.ensures.tree (factors_tree k.tree.part) c.loop-stop.a.memory k.tree.placed in
     let read = kid_read _ i.read.later k.tree.later i.spends k.spends (frees i.read.built.frame) in
-    let negated = kid_negated _ read c.in_ok-kid.ensures.spends (frees_then i.read.built.frame k.tree.placed.frame) in
+    let negated = kid_negated _ read c.in_ok-sign.ensures.spends (frees_then i.read.built.frame k.tree.placed.frame) in
     spends_then negated c.in_ok-push_node.ensures.spends (frees_then i.read.built.frame placed.frame) (omega arith) (omega arith)
     (omega arith)

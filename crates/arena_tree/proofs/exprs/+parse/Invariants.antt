@@ -4,13 +4,19 @@ use Rattle.arena_tree.specs.Spending.{SpendsOnList}
 use Rattle.arena_tree.proofs.exprs.+parse.Given as goal
 
 abbrev pub decreases-expr : goal.decreases-expr
-decreases-expr g l = 3 * (length l.src.now - l.at) + 2
+decreases-expr g l = 4 * (length l.src.now - l.at) + 2
 
 abbrev pub decreases-factor : goal.decreases-factor
-decreases-factor g l = 3 * (length l.src.now - l.at)
+decreases-factor g l = 4 * (length l.src.now - l.at)
+
+abbrev pub decreases-minus : goal.decreases-minus
+decreases-minus g l = 4 * (length l.src.now - l.behind) + 3
+
+abbrev pub decreases-paren : goal.decreases-paren
+decreases-paren g l = 4 * (length l.src.now - l.behind) + 3
 
 abbrev pub decreases-term : goal.decreases-term
-decreases-term g l = 3 * (length l.src.now - l.at) + 1
+decreases-term g l = 4 * (length l.src.now - l.at) + 1
 
 abbrev pub invariant-expr-loop-stop : goal.invariant-expr-loop-stop
 invariant-expr-loop-stop g l = record {

@@ -1,10 +1,12 @@
-use Rattle.std.proofs.Common.{◌≤◌, ◌∷◌, refl, arith}
-use Rattle.std.specs.Prelude.{slice_range}
-use Rattle.tree_rules.specs.Tokens.{Word, Minus, LeftParen}
+use Rattle.std.proofs.Common.{◌≡◌, ◌==◌, ◌+◌, false, ◌∷◌, refl, arith}
+use Rattle.std.proofs.lemmas.Bool.Decides.{nat_tests}
+use Rattle.std.specs.Prelude.{slice_index, slice_range}
+use Rattle.tree_rules.specs.Tokens.{Minus, LeftParen, is_digit}
 use Rattle.tree_rules.specs.Reading.{state}
 use Rattle.tree_rules.specs.declared.machine.Open.TheVariants.{Paren, Sign}
 use Rattle.tree_rules.specs.declared.machine.Mode.TheVariants.{AtFactor}
-use Rattle.arena_tree.proofs.TokenLemmas.{token_seen, some_token, only_factor}
+use Rattle.arena_tree.specs.Parts.{IsTokenAt}
+use Rattle.arena_tree.proofs.TokenLemmas.{some_token, only_number, sign_token, starts_name, only_word}
 use Rattle.arena_tree.proofs.PartLemmas.{opens_sign, opens_paren}
 use Rattle.arena_tree.proofs.look.start_at.Goals as goal
 
@@ -14,23 +16,40 @@ unreachable-requires c =
 
 pub unreachable-requires-in_default-seen : goal.unreachable-requires-in_default-seen
 unreachable-requires-in_default-seen c =
-    only_factor c.in-Some.ensures.some c.requires.place.0 c.requires.place.1 c.in_default-seen.not-Number c.in_default-seen.not-Word
-    c.in_default-seen.not-Minus c.in_default-seen.not-LeftParen
+    let l = c.number_next-l.ensures in
+    only_number l.next c.requires.place.0 c.requires.place.1 l.number c.in_default-seen.not-Number
 
-pub returns-in-Minus : goal.returns-in-Minus
-returns-in-Minus c =
-    let t = token_seen Minus c.in-Some.ensures.some c.in-Minus.is (λ h. h) in
+pub returns-in-45 : goal.returns-in-45
+returns-in-45 c =
+    let t : IsTokenAt c.args.src.now c.args.at Minus (c.in-Some.here + 1)
+    = rw c.in-45.is at (sign_token c.in-Some.ensures.some (rw c.in-45.is refl) (rw c.in-45.is refl)) in
     let place = c.requires.place in
     (t, (Sign ∷ place.0, (opens_sign t).passes place.0 place.1), t.later, t.within)
 
-pub returns-in-LeftParen : goal.returns-in-LeftParen
-returns-in-LeftParen c =
-    let t = token_seen LeftParen c.in-Some.ensures.some c.in-LeftParen.is (λ h. h) in
+pub returns-in-40 : goal.returns-in-40
+returns-in-40 c =
+    let t : IsTokenAt c.args.src.now c.args.at LeftParen (c.in-Some.here + 1)
+    = rw c.in-40.is at (sign_token c.in-Some.ensures.some (rw c.in-40.is refl) (rw c.in-40.is refl)) in
     let place = c.requires.place in
     (t, (Paren ∷ place.0, (opens_paren t).passes place.0 place.1), t.later, t.within)
 
-pub returns-in-Word : goal.returns-in-Word
-returns-in-Word c =
-    let n = c.in-Some.ensures.some in
-    let later : c.in-Some.l.at ≤ c.in-Some.l.end = omega (arith, n.some) in
-    (token_seen (Word (slice_range c.args.src.now c.in-Some.l.at c.in-Some.l.end)) n c.in-Word.is (λ h. h), later, n.within, n.behind)
+pub word_end-requires-clause-name : goal.word_end-requires-clause-name
+word_end-requires-clause-name c =
+    let b = slice_index c.args.src.now c.in-Some.here in
+    let minus : (b == 45) ≡ false = grind (arith, nat_tests) in
+    let paren : (b == 40) ≡ false = grind (arith, nat_tests) in
+    let digit : is_digit b ≡ false = grind (arith, nat_tests) in
+    starts_name c.in-Some.ensures.some c.requires.place.0 c.requires.place.1 minus paren digit
+
+pub returns-in_default-2 : goal.returns-in_default-2
+returns-in_default-2 c =
+    let begin = c.in-Some.ensures.some in
+    let end = c.word_end.ensures in
+    let place = c.requires.place in
+    let t = only_word (slice_range c.args.src.now c.in-Some.here c.word_end.result) place.0 (record {
+      place = c.in-Some.here;
+      tokens_are = end.tokens;
+      later = omega (arith, begin.behind, end.some);
+      within = end.within;
+    }) place.1 in
+    (t, omega (arith, end.some), end.within, begin.behind)

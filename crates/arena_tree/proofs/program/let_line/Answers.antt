@@ -1,4 +1,4 @@
-use Rattle.std.proofs.Common.{arith, ◌-◌}
+use Rattle.std.proofs.Common.{arith, refl, ◌-◌}
 use Rattle.arena_tree.specs.Spending.{most_for}
 use Rattle.arena_tree.proofs.SpendingLemmas.{spends_then, spends_more, frees, frees_then, range_length, err_up_to}
 use Rattle.std.specs.Prelude.{slice_range}
@@ -20,12 +20,12 @@ pub returns-clause-tree : goal.returns-clause-tree
 returns-clause-tree g c =
     let e = c.in_ok-stop.ensures.tree in
     let text = c.in_ok-name.ensures in
-    let node = c.let_node.ensures in
+    let node = c.in_ok-wrap.ensures.tree _ _ e.placed in
     record {
       part = LetLine (slice_range c.args.src.now c.args.begin c.args.end) e.part;
       read = reads_then c.requires.first (reads_value e.read c.semicolon_at-last.ensures);
       placed = let_node_placed _ _ _ _ _ _ _ _ text.held text.text text.frame (exprs_built (And (terms_tree e.part) NoExprs) _ _ _
-          (c.in_ok-list.ensures.tree _ _ e.placed)) node.kind node.text node.kids;
+          node.1) node.0 refl refl;
     }
 
 pub returns-in_err-name-clause-spends : goal.returns-in_err-name-clause-spends
@@ -41,15 +41,15 @@ returns-in_err-stop-clause-spends g c =
     err_up_to _ _ _ _ c.from_residual-in_err-stop.ensures
     (spends_then text.spends c.in_err-stop.ensures.spends (frees text.frame) (omega arith) (omega arith) (omega arith))
 
-pub returns-in_err-list-clause-spends : goal.returns-in_err-list-clause-spends
-returns-in_err-list-clause-spends g c =
+pub returns-in_err-wrap-clause-spends : goal.returns-in_err-wrap-clause-spends
+returns-in_err-wrap-clause-spends g c =
     let few = range_length c.args.src.now c.args.begin c.args.end in
     let text = c.in_ok-name.ensures in
     let e = c.in_ok-stop.ensures in
     let read = spends_then {all = most_for (c.in_ok-stop.stop - c.args.at)} {rest = 512} text.spends e.spends (frees text.frame)
     (omega arith) (omega arith) (omega arith) in
-    err_up_to _ _ _ _ c.from_residual-in_err-list.ensures
-    (spends_then read c.in_err-list.ensures.spends (frees_then text.frame e.tree.placed.frame) (omega arith) (omega arith) (omega arith))
+    err_up_to _ _ _ _ c.from_residual-in_err-wrap.ensures
+    (spends_then read c.in_err-wrap.ensures.spends (frees_then text.frame e.tree.placed.frame) (omega arith) (omega arith) (omega arith))
 
 pub returns-clause-spends : goal.returns-clause-spends
 returns-clause-spends g c =
@@ -58,4 +58,4 @@ returns-clause-spends g c =
     let e = c.in_ok-stop.ensures in
     let read = spends_then {all = most_for (c.in_ok-stop.stop - c.args.at)} {rest = 512} text.spends e.spends (frees text.frame)
     (omega arith) (omega arith) (omega arith) in
-    spends_then read c.in_ok-list.ensures.spends (frees_then text.frame e.tree.placed.frame) (omega arith) (omega arith) (omega arith)
+    spends_then read c.in_ok-wrap.ensures.spends (frees_then text.frame e.tree.placed.frame) (omega arith) (omega arith) (omega arith)

@@ -1,4 +1,4 @@
-use Rattle.std.proofs.Common.{arith}
+use Rattle.std.proofs.Common.{arith, refl}
 use Rattle.arena_tree.proofs.SpendingLemmas.{spends_then, frees, err_up_to}
 use Rattle.tree_rules.specs.Trees.{NoExprs, And}
 use Rattle.tree_rules.specs.Grammar.{ShowLine, terms_tree}
@@ -18,7 +18,7 @@ pub returns-clause-tree : goal.returns-clause-tree
 returns-clause-tree g c =
     let e = c.in_ok-stop.ensures.tree in
     let r = reads_value e.read c.semicolon_at-last.ensures in
-    let node = c.with_kids.ensures in
+    let node = c.in_ok-wrap.ensures.tree _ _ e.placed in
     record {
       part = ShowLine e.part;
       read = record {
@@ -27,15 +27,14 @@ returns-clause-tree g c =
         later = r.later;
         within = r.within;
       };
-      placed = show_placed _ _ _ c.in_ok-list.list c.with_kids.result (exprs_built (And (terms_tree e.part) NoExprs) _ _ _
-          (c.in_ok-list.ensures.tree _ _ e.placed)) node.kind node.kids;
+      placed = show_placed _ _ _ _ _ (exprs_built (And (terms_tree e.part) NoExprs) _ _ _ node.1) node.0 refl;
     }
 
-pub returns-in_err-list-clause-spends : goal.returns-in_err-list-clause-spends
-returns-in_err-list-clause-spends g c =
+pub returns-in_err-wrap-clause-spends : goal.returns-in_err-wrap-clause-spends
+returns-in_err-wrap-clause-spends g c =
     let e = c.in_ok-stop.ensures in
-    err_up_to _ _ _ _ c.from_residual-in_err-list.ensures
-    (spends_then e.spends c.in_err-list.ensures.spends (frees e.tree.placed.frame) (omega arith) (omega arith) (omega arith))
+    err_up_to _ _ _ _ c.from_residual-in_err-wrap.ensures
+    (spends_then e.spends c.in_err-wrap.ensures.spends (frees e.tree.placed.frame) (omega arith) (omega arith) (omega arith))
 
 pub returns-in_err-stop-clause-spends : goal.returns-in_err-stop-clause-spends
 returns-in_err-stop-clause-spends g c =
@@ -44,4 +43,4 @@ returns-in_err-stop-clause-spends g c =
 pub returns-clause-spends : goal.returns-clause-spends
 returns-clause-spends g c =
     let e = c.in_ok-stop.ensures in
-    spends_then e.spends c.in_ok-list.ensures.spends (frees e.tree.placed.frame) (omega arith) (omega arith) (omega arith)
+    spends_then e.spends c.in_ok-wrap.ensures.spends (frees e.tree.placed.frame) (omega arith) (omega arith) (omega arith)

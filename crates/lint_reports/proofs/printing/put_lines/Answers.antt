@@ -7,7 +7,7 @@ use Rattle.lint_reports.proofs.printing.put_lines.Goals as goal
 
 pub returns-in-Checked : goal.returns-in-Checked
 returns-in-Checked c = rw c.in-Checked.is (
-    c.put_findings.ensures.items
+    c.put_all.ensures.items
     ∙ ap (λ xs. c.args.out.now.items ++ xs) (ap (flat_map fed_finding) c.as_slice.ensures ∙ finding_lines c.in-Checked.findings)
     )
 

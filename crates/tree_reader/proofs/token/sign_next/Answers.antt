@@ -6,4 +6,5 @@ pub returns : goal.returns
 returns c =
     let begin = c.requires.begin in
     let front = sign_seen c.args.src.now c.args.here c.args.seen begin.within c.requires.digit c.requires.name c.requires.seen in
-    front_next c.args.src.now c.args.at c.args.here _ begin front (front_some c.args.src.now c.args.here begin.within) (omega (arith, begin.within))
+    let some = front_some c.args.src.now c.args.here begin.within in
+    front_next c.args.src.now c.args.at c.args.here _ begin front some (omega (arith, begin.within))

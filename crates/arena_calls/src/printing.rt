@@ -1,0 +1,15 @@
+// Writes what a run gave.
+ghost use Rattle.arena_calls.specs.Ends.{Prints};
+
+use crate::status::Status;
+use crate::streams::{Output, write_all};
+
+/// Writes a text: `Done`, or a first part of it was written and then a fault came.
+pub fn print<O: Output>(output: &mut O, text: &[u8]) -> Status
+    ensures { Prints text.now result (O.written output.old) (O.faults output.old) (O.written output.new) (O.faults output.new) }
+{
+    match write_all(output, text) {
+        Ok(()) => Status::Done,
+        Err(_) => Status::WriteFault,
+    }
+}

@@ -1,0 +1,19 @@
+use Rattle.std.proofs.Common.{ap, None, [], sym, subst, ◌∷◌}
+use Rattle.arena_chunks.specs.declared.block.Block.{Block}
+use Rattle.arena_tree.specs.Subtrees.{OfExpr, IsRowBuilt}
+use Rattle.arena_tree.proofs.RowLemmas.{row_none}
+use Rattle.arena_tree.proofs.NodeCostLemmas.{first_node}
+use Rattle.arena_tree.proofs.build.wrap.Goals as goal
+
+pub returns-clause-tree : goal.returns-clause-tree
+returns-clause-tree g c = λ e old placed.
+    let list = c.new_in-list.ensures in
+    let none = row_none old c.new_in-list.result (list.held old) (list.list old) (ap (λ (b : Block). b.size) list.block) in (
+      c.with_kids.ensures.kind,
+      subst (IsRowBuilt (OfExpr e ∷ []) old _) (sym c.with_kids.ensures.kids)
+          (c.in_ok-push_node.ensures.row [] (OfExpr e) old old none placed),
+    )
+
+pub returns-clause-spends : goal.returns-clause-spends
+returns-clause-spends g c =
+    first_node c.args.a.now c.push_node.new.a c.new_in-list.result _ None c.new_in-list.ensures.len c.in_ok-push_node.ensures.spends

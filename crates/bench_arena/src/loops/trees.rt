@@ -1,0 +1,145 @@
+// A loop over trees.
+ghost use Rattle.std.specs.Prelude.{◌^◌, ◌<◌, ◌≤◌, length};
+
+use super::{BUDGET, Failed, Timed};
+use arena_chunks::{Allocator, MemoryChunks};
+use arena_tree::Tree;
+use std::alloc::{self, Global};
+use std::time::Instant;
+
+// A chunk that holds the tree of the text has so many bytes.
+const CAPACITY: u64 = 1 << 22;
+
+// How many lines the text has, and how many blocks stand in one another at most.
+const COUNT: u32 = 700;
+
+const DEEPEST: u64 = 20;
+
+// Statements as `bench/lint.sh` makes them: a name stands for each `v`, and a number for each `#`.
+const STATEMENTS: [&str; 32] = [
+    "(((v * (v) * # - (# * # + v + v - v) * v * #)) * (v - (#) * #));",
+    "let v = v * (v * # + -# * (v * v + v + v * v * #)) * (v) * -#;",
+    "(v * (v * v * -v) * # - v);",
+    "-v * # - v * v;",
+    "let v = v * (((# + v)) + v * v * (v - # - # - # - v - # * #) * (v));",
+    "let v = (v) + # * (# + (v - v * v) + #) * (v - (# * v));",
+    "let v = (((v)) * (v) * (v) * # * --(v * v - #) - v);",
+    "let v = v * v - v - (v) + (# * # * (v + v) - (#)) - (v) + (v) * ((v));",
+    "let v = (((v + (v + v) * v) + v + (v) * (v * v + v)));",
+    "let v = #;",
+    "#;",
+    "let v = v - (v + # * (# - v * v - v) * v) * (v);",
+    "let v = (((# * -# * v + #)));",
+    "# + # * v + -(v) - (# * ((v + #) * v * # * v * v));",
+    "let v = v;",
+    "v;",
+    "v;",
+    "--#;",
+    "let v = # * ((((v)) + # - v * v)) - -(-v) + ((v + v * v) - (# * # + #));",
+    "v;",
+    "# - ((v)) + -(((v - v * # + v) * v * v * v) * # * v) * (v);",
+    "let v = v * -v * -v - v;",
+    "let v = -((v) + v * v);",
+    "let v = (v * v) * (#) + (-v * -#);",
+    "-((((# + v * v + v + #) + v) + v)) * (v * (# - v - v + v) - v);",
+    "let v = v - ((v * (# * #) * v) * (v + # * v));",
+    "let v = (# * (-v));",
+    "# * v;",
+    "(((v * (#))));",
+    "(# - v + v - v + -(-v * # * v) - #) + -# * v * v * v;",
+    "let v = v;",
+    "v - (((v + v) * v * # - #) * v * # * #);",
+];
+
+// A number below this one, by the generator of `bench/lint.sh`.
+fn draw(seed: &mut u64, below: u64) -> u64
+    requires { 0 < below }
+    ensures { result < below }
+{
+    *seed = seed.wrapping_mul(16_807) % 2_147_483_647;
+    *seed / 7 % below
+}
+
+// Puts a statement with names and numbers.
+fn put_statement(
+    alloc: Global,
+    text: &mut Vec<u8>,
+    seed: &mut u64,
+    statement: &str,
+) -> Result<(), alloc::AllocError> {
+    for b in statement.as_bytes() {
+        match *b {
+            b'v' => {
+                let name = draw(seed, 400);
+                text.extend_from_slice(format!(in alloc; "v{name}")?.as_bytes())?;
+            }
+            b'#' => {
+                let number = draw(seed, 100_000);
+                text.extend_from_slice(format!(in alloc; "{number}")?.as_bytes())?;
+            }
+            other => text.push(other)?,
+        }
+    }
+    text.push(b'\n')?;
+    Ok(())
+}
+
+// The text: statements, and blocks of them.
+fn source(alloc: Global) -> Result<Vec<u8>, alloc::AllocError> {
+    let mut text = Vec::new(alloc);
+    let mut seed: u64 = 1;
+    let mut depth: u64 = 0;
+    for _ in 0..COUNT {
+        match draw(&mut seed, 12) {
+            0 if depth < DEEPEST => {
+                text.extend_from_slice(b"{\n")?;
+                depth += 1;
+            }
+            1 if depth > 0 => {
+                text.extend_from_slice(b"}\n")?;
+                depth -= 1;
+            }
+            _ => {
+                let statement = STATEMENTS[draw(&mut seed, 32) as usize];
+                put_statement(alloc, &mut text, &mut seed, statement)?;
+            }
+        }
+    }
+    for _ in 0..depth {
+        text.extend_from_slice(b"}\n")?;
+    }
+    Ok(text)
+}
+
+// Parses the text so many times, each after a reset, and adds up its bytes and its statements.
+fn parsed(a: &mut Allocator<MemoryChunks>, src: &[u8], times: u64) -> Result<u64, Failed>
+    requires { length src.now ≤ 2 ^ 24 }
+{
+    let mut number: u64 = 0;
+    for _ in 0..times {
+        a.reset();
+        let tree = Tree::parse(a, src)?;
+        number = number
+            .wrapping_add(src.len() as u64)
+            .wrapping_add(tree.stmts.len() as u64);
+    }
+    Ok(number)
+}
+
+/// A text placed as a tree again and again, in a chunk that is reset before. A call is a byte of the text.
+pub fn tree_parse(rt: &HostRuntime, calls: u64) -> Result<Timed, Failed> {
+    let src = source(rt.alloc()).map_err(|_| Failed::NoPlace)?;
+    let bytes = src.len() as u64;
+    if bytes == 0 || bytes > 1 << 24 {
+        return Err(Failed::NoPlace);
+    }
+    let chunks = MemoryChunks::new(rt.alloc(), BUDGET);
+    let Ok(mut a) = Allocator::with_capacity(rt.alloc(), chunks, CAPACITY) else {
+        return Err(Failed::NoPlace);
+    };
+    parsed(&mut a, src.as_slice(), 1)?;
+    let began = Instant::now(rt)?;
+    let number = parsed(&mut a, src.as_slice(), (calls / bytes).max(1))?;
+    let time = began.elapsed(rt)?;
+    Ok(Timed { time, number })
+}

@@ -1,0 +1,63 @@
+// Room for a text, and texts one after another.
+ghost use Rattle.std.specs.Prelude.{◌≡◌, ◌+◌, ◌++◌, ◌≤◌, IfSome, OnOk, vec_len, vec_capacity};
+ghost use Rattle.std.specs.List.{flat_map};
+ghost use Rattle.line_parts.specs.Room.{rooms};
+
+use placement::OutOfMemory;
+
+/// Makes room for so many bytes more. Where memory is wanting the text stays.
+pub fn make_room(out: &mut Vec<u8>, more: usize) -> Result<(), OutOfMemory>
+    ensures same { out.new.items ≡ out.old.items }
+    ensures room { OnOk result (vec_len out.new + more ≤ vec_capacity out.new) }
+{
+    // Room may grow by doubling: what lies past the text's end isn't touched, and so takes no memory.
+    match out.reserve(more) {
+        Ok(()) => Ok(()),
+        Err(_) => Err(OutOfMemory),
+    }
+}
+
+/// How things are printed one after another.
+pub trait Printer<T> {
+    ghost use Rattle.std.specs.Prelude.{ℕ, List};
+
+    // How many bytes are enough for a thing's text.
+    ghost room: { T → ℕ };
+
+    // A thing's text.
+    ghost text: { T → List ℕ };
+
+    /// How many bytes are enough for its text; none where that is past the largest number.
+    fn room(&self, thing: &T) -> Option<usize>
+        ensures { IfSome result (λ n. n ≡ room thing.now) };
+
+    /// Puts its text, for which there is room.
+    fn put(&self, out: &mut Vec<u8>, thing: &T)
+        requires { vec_len out.old + room thing.now ≤ vec_capacity out.old }
+        ensures items { out.new.items ≡ out.old.items ++ text thing.now }
+        ensures len { vec_len out.new ≤ vec_len out.old + room thing.now }
+        ensures capacity { vec_capacity out.old ≤ vec_capacity out.new };
+}
+
+/// How many bytes are enough for the texts of all of these; none where that is past the largest number.
+pub fn room_of<T, P: Printer<T>>(printer: &P, all: &[T]) -> Option<usize>
+    ensures { IfSome result (λ n. n ≡ rooms P.room all.now) }
+{
+    let mut room: usize = 0;
+    for i in 0..all.len() {
+        room = printer.room(&all[i])?.checked_add(room)?;
+    }
+    Some(room)
+}
+
+/// Puts the texts of all of these, for which there is room.
+pub fn put_all<T, P: Printer<T>>(printer: &P, out: &mut Vec<u8>, all: &[T])
+    requires { vec_len out.old + rooms P.room all.now ≤ vec_capacity out.old }
+    ensures items { out.new.items ≡ out.old.items ++ flat_map P.text all.now }
+    ensures len { vec_len out.new ≤ vec_len out.old + rooms P.room all.now }
+    ensures capacity { vec_capacity out.old ≤ vec_capacity out.new }
+{
+    for i in 0..all.len() {
+        printer.put(out, &all[i]);
+    }
+}
