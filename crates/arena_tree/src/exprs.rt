@@ -82,7 +82,6 @@ fn paren<C: ChunkSource>(
 }
 
 #[cycle(parse)]
-#[inline(always)]
 fn term<C: ChunkSource>(
     a: &mut Allocator<C>,
     src: &[u8],

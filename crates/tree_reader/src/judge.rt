@@ -1,7 +1,8 @@
 // Whether a text is refused, judged token by token.
 ghost use Rattle.std.specs.Prelude.{◌≡◌, ◌≤◌, [], ◌∷◌, List, false, length, slice_index};
 ghost use Rattle.tree_rules.specs.declared.machine.Open.{Open};
-ghost use Rattle.tree_rules.specs.Reading.{state, signs_ended, factor_step, line_step, name_step, equals_step, behind_step, close_paren, close_brace, end_line, step_in, within_limits, ended_in, judged, refusal_of};
+ghost use Rattle.tree_rules.specs.declared.machine.Mode.{Mode};
+ghost use Rattle.tree_rules.specs.Reading.{state, signs_ended, close_paren, close_brace, end_line, step_in, within_limits, ended_in, judged, refusal_of};
 ghost use Rattle.tree_rules.specs.Refusals.{IsReading, most_nest};
 ghost use Rattle.tree_rules.specs.Tokens.{is_digit, is_name_start, sign};
 ghost use Rattle.tree_reader.specs.Seen.{IsSeen, IsBegin, IsNext};
@@ -68,21 +69,6 @@ fn to(opens: &Stack, mode: Mode) -> Step
 }
 
 #[inline(always)]
-fn factor_step(seen: Seen, opens: &mut Stack) -> Step
-    ensures { Stepped (factor_step (like seen) opens.old) result opens.new }
-{
-    match seen {
-        // One arm each: in one for all, a number's size would be tested a second time.
-        Seen::Word => end_factor(opens),
-        Seen::Number(_) => end_factor(opens),
-        Seen::TooBig => end_factor(opens),
-        Seen::LeftParen => open(opens, Open::Paren, Mode::AtFactor),
-        Seen::Minus => open(opens, Open::Sign, Mode::AtFactor),
-        _ => Step::Wrong,
-    }
-}
-
-#[inline(always)]
 fn close_paren(opens: &mut Stack) -> Step
     ensures { Stepped (close_paren opens.old) result opens.new }
 {
@@ -118,60 +104,91 @@ fn end_line(opens: &Stack) -> Step
     }
 }
 
-#[inline(always)]
-fn line_step(seen: Seen, opens: &mut Stack) -> Step
-    ensures { Stepped (line_step (like seen) opens.old) result opens.new }
-{
-    match seen {
-        Seen::LetKey => to(opens, Mode::AtName),
-        Seen::LeftBrace => open(opens, Open::Brace, Mode::AtLine),
-        Seen::RightBrace => close_brace(opens),
-        _ => factor_step(seen, opens),
+// A mode that is known where it stands, so that what steps in it holds the steps of no other.
+trait InMode {
+    ghost mode: { Mode };
+
+    // What a token comes to.
+    fn step(seen: Seen, opens: &mut Stack) -> Step
+        ensures { Stepped (step_in mode opens.old (like seen)) result opens.new };
+}
+
+struct LineMode;
+
+struct NameMode;
+
+struct EqualsMode;
+
+struct FactorMode;
+
+struct BehindMode;
+
+impl InMode for LineMode {
+    ghost mode = { Mode.AtLine };
+
+    #[inline(always)]
+    fn step(seen: Seen, opens: &mut Stack) -> Step {
+        match seen {
+            Seen::LetKey => to(opens, Mode::AtName),
+            Seen::LeftBrace => open(opens, Open::Brace, Mode::AtLine),
+            Seen::RightBrace => close_brace(opens),
+            _ => FactorMode::step(seen, opens),
+        }
     }
 }
 
-#[inline(always)]
-fn behind_step(seen: Seen, opens: &mut Stack) -> Step
-    ensures { Stepped (behind_step (like seen) opens.old) result opens.new }
-{
-    match seen {
-        Seen::Plus | Seen::Minus | Seen::Star => to(opens, Mode::AtFactor),
-        Seen::RightParen => close_paren(opens),
-        Seen::Semicolon => end_line(opens),
-        _ => Step::Wrong,
+impl InMode for NameMode {
+    ghost mode = { Mode.AtName };
+
+    #[inline(always)]
+    fn step(seen: Seen, opens: &mut Stack) -> Step {
+        match seen {
+            Seen::Word => to(opens, Mode::AtEquals),
+            _ => Step::Wrong,
+        }
     }
 }
 
-#[inline(always)]
-fn name_step(seen: Seen, opens: &Stack) -> Step
-    ensures { Stepped (name_step (like seen) opens.now) result opens.now }
-{
-    match seen {
-        Seen::Word => to(opens, Mode::AtEquals),
-        _ => Step::Wrong,
+impl InMode for EqualsMode {
+    ghost mode = { Mode.AtEquals };
+
+    #[inline(always)]
+    fn step(seen: Seen, opens: &mut Stack) -> Step {
+        match seen {
+            Seen::Equals => to(opens, Mode::AtFactor),
+            _ => Step::Wrong,
+        }
     }
 }
 
-#[inline(always)]
-fn equals_step(seen: Seen, opens: &Stack) -> Step
-    ensures { Stepped (equals_step (like seen) opens.now) result opens.now }
-{
-    match seen {
-        Seen::Equals => to(opens, Mode::AtFactor),
-        _ => Step::Wrong,
+impl InMode for FactorMode {
+    ghost mode = { Mode.AtFactor };
+
+    #[inline(always)]
+    fn step(seen: Seen, opens: &mut Stack) -> Step {
+        match seen {
+            // One arm each: in one for all, a number's size would be tested a second time.
+            Seen::Word => end_factor(opens),
+            Seen::Number(_) => end_factor(opens),
+            Seen::TooBig => end_factor(opens),
+            Seen::LeftParen => open(opens, Open::Paren, Mode::AtFactor),
+            Seen::Minus => open(opens, Open::Sign, Mode::AtFactor),
+            _ => Step::Wrong,
+        }
     }
 }
 
-#[inline(always)]
-fn any_step(mode: Mode, seen: Seen, opens: &mut Stack) -> Step
-    ensures { Stepped (step_in mode opens.old (like seen)) result opens.new }
-{
-    match mode {
-        Mode::AtLine => line_step(seen, opens),
-        Mode::AtName => name_step(seen, opens),
-        Mode::AtEquals => equals_step(seen, opens),
-        Mode::AtFactor => factor_step(seen, opens),
-        Mode::BehindFactor => behind_step(seen, opens),
+impl InMode for BehindMode {
+    ghost mode = { Mode.BehindFactor };
+
+    #[inline(always)]
+    fn step(seen: Seen, opens: &mut Stack) -> Step {
+        match seen {
+            Seen::Plus | Seen::Minus | Seen::Star => to(opens, Mode::AtFactor),
+            Seen::RightParen => close_paren(opens),
+            Seen::Semicolon => end_line(opens),
+            _ => Step::Wrong,
+        }
     }
 }
 
@@ -188,10 +205,10 @@ fn within_limits(l: Lexeme, mode: Mode) -> Judged
 
 // What a token comes to.
 #[inline(always)]
-fn judge(mode: Mode, l: Lexeme, opens: &mut Stack) -> Judged
-    ensures { judged (state mode opens.old) (record { at = l.at; token = like l.seen }) ≡ answer result opens.new }
+fn judge<M: InMode>(l: Lexeme, opens: &mut Stack) -> Judged
+    ensures { judged (state M.mode opens.old) (record { at = l.at; token = like l.seen }) ≡ answer result opens.new }
 {
-    match any_step(mode, l.seen, opens) {
+    match M::step(l.seen, opens) {
         Step::To(next) => within_limits(l, next),
         Step::Deep => Judged::Refused(Refused::TooDeep { at: l.at as u64 }),
         Step::Wrong => Judged::Refused(Refused::Syntax { at: l.at as u64 }),
@@ -210,11 +227,11 @@ fn ended(end: u64, mode: Mode, opens: &Stack) -> Option<Refused>
 
 // What comes next where this is the next token.
 #[inline(always)]
-fn goes_on(mode: Mode, src: &[u8], at: usize, l: Lexeme, opens: &mut Stack) -> Next
+fn goes_on<M: InMode>(src: &[u8], at: usize, l: Lexeme, opens: &mut Stack) -> Next
     requires { IsNext src.now at l }
-    ensures { GoesOn src.now at (state mode opens.old) result opens.new }
+    ensures { GoesOn src.now at (state M.mode opens.old) result opens.new }
 {
-    match judge(mode, l, opens) {
+    match judge::<M>(l, opens) {
         Judged::To(to) => Next::To {
             mode: to,
             end: l.end,
@@ -224,37 +241,36 @@ fn goes_on(mode: Mode, src: &[u8], at: usize, l: Lexeme, opens: &mut Stack) -> N
 }
 
 #[inline(always)]
-fn sign_on(mode: Mode, src: &[u8], at: usize, here: usize, seen: Seen, opens: &mut Stack) -> Next
+fn sign_on<M: InMode>(src: &[u8], at: usize, here: usize, seen: Seen, opens: &mut Stack) -> Next
     requires begin { IsBegin src.now at here }
     requires seen { IsSeen seen (slice_index src.now here ∷ []) (sign (slice_index src.now here)) }
     requires digit { is_digit (slice_index src.now here) ≡ false }
     requires name { is_name_start (slice_index src.now here) ≡ false }
-    ensures { GoesOn src.now at (state mode opens.old) result opens.new }
+    ensures { GoesOn src.now at (state M.mode opens.old) result opens.new }
 {
-    goes_on(mode, src, at, token::sign_next(src, at, here, seen), opens)
+    goes_on::<M>(src, at, token::sign_next(src, at, here, seen), opens)
 }
 
-// What the next token comes to, in a mode that the caller knows. So each mode has a lexer of its own, in which a sign is told apart
-// and judged by one jump.
+// What the next token comes to. So each mode has a lexer of its own, in which a sign is told apart and judged by one jump.
 #[inline(always)]
-fn next_in(mode: Mode, src: &[u8], at: usize, opens: &mut Stack) -> Next
+fn next_in<M: InMode>(src: &[u8], at: usize, opens: &mut Stack) -> Next
     requires { at ≤ length src.now }
-    ensures { GoesOn src.now at (state mode opens.old) result opens.new }
+    ensures { GoesOn src.now at (state M.mode opens.old) result opens.new }
 {
     let Some(here) = token::begin_at(src, at) else {
         return Next::Ended;
     };
     match src[here] {
-        b'+' => sign_on(mode, src, at, here, Seen::Plus, opens),
-        b'-' => sign_on(mode, src, at, here, Seen::Minus, opens),
-        b'*' => sign_on(mode, src, at, here, Seen::Star, opens),
-        b'(' => sign_on(mode, src, at, here, Seen::LeftParen, opens),
-        b')' => sign_on(mode, src, at, here, Seen::RightParen, opens),
-        b'{' => sign_on(mode, src, at, here, Seen::LeftBrace, opens),
-        b'}' => sign_on(mode, src, at, here, Seen::RightBrace, opens),
-        b'=' => sign_on(mode, src, at, here, Seen::Equals, opens),
-        b';' => sign_on(mode, src, at, here, Seen::Semicolon, opens),
-        _ => goes_on(mode, src, at, token::any_next(src, at, here), opens),
+        b'+' => sign_on::<M>(src, at, here, Seen::Plus, opens),
+        b'-' => sign_on::<M>(src, at, here, Seen::Minus, opens),
+        b'*' => sign_on::<M>(src, at, here, Seen::Star, opens),
+        b'(' => sign_on::<M>(src, at, here, Seen::LeftParen, opens),
+        b')' => sign_on::<M>(src, at, here, Seen::RightParen, opens),
+        b'{' => sign_on::<M>(src, at, here, Seen::LeftBrace, opens),
+        b'}' => sign_on::<M>(src, at, here, Seen::RightBrace, opens),
+        b'=' => sign_on::<M>(src, at, here, Seen::Equals, opens),
+        b';' => sign_on::<M>(src, at, here, Seen::Semicolon, opens),
+        _ => goes_on::<M>(src, at, token::any_next(src, at, here), opens),
     }
 }
 
@@ -264,11 +280,11 @@ fn any_next(mode: Mode, src: &[u8], at: usize, opens: &mut Stack) -> Next
     ensures { GoesOn src.now at (state mode opens.old) result opens.new }
 {
     match mode {
-        Mode::AtLine => next_in(Mode::AtLine, src, at, opens),
-        Mode::AtName => next_in(Mode::AtName, src, at, opens),
-        Mode::AtEquals => next_in(Mode::AtEquals, src, at, opens),
-        Mode::AtFactor => next_in(Mode::AtFactor, src, at, opens),
-        Mode::BehindFactor => next_in(Mode::BehindFactor, src, at, opens),
+        Mode::AtLine => next_in::<LineMode>(src, at, opens),
+        Mode::AtName => next_in::<NameMode>(src, at, opens),
+        Mode::AtEquals => next_in::<EqualsMode>(src, at, opens),
+        Mode::AtFactor => next_in::<FactorMode>(src, at, opens),
+        Mode::BehindFactor => next_in::<BehindMode>(src, at, opens),
     }
 }
 
