@@ -1,6 +1,6 @@
 -- What calls on an arena ask its source for, and why they are refused: the rules on states and sources, at an arena with its source.
 use Rattle.std.specs.Prelude.{ℕ}
-use Rattle.placement.specs.Asking.{HasGrown as HasStateGrown, AsksWithin as SourceIsAskedWithin, IsRefusedBySource as HasSourceRefused, IsStarved as IsStateStarved, IsFull as IsStateFull}
+use Rattle.placement.specs.Asking.{HasGrown as HasStateGrown, AsksWithin as SourceIsAskedWithin, IsRefusedBySource as HasSourceRefused, IsCounted as IsSourceCounted, IsStarved as IsStateStarved, IsFull as IsStateFull}
 use Rattle.arena_chunks.specs.Source.{View}
 
 abbrev pub HasGrown : View → View → Type 0
@@ -11,6 +11,9 @@ AsksWithin bytes old new = SourceIsAskedWithin bytes old.memory.state new.memory
 
 abbrev pub IsRefusedBySource : View → View → Type 0
 IsRefusedBySource old new = HasSourceRefused old.source new.source
+
+abbrev pub IsCounted : ℕ → View → View → Type 0
+IsCounted told old new = IsSourceCounted told old.source new.source
 
 abbrev pub IsStarved : ℕ → View → View → Type 0
 IsStarved far old new = IsStateStarved far old.memory.state new.memory.state old.source new.source

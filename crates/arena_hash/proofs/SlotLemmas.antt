@@ -263,7 +263,8 @@ module _ {K V : Type 0} (keys : Ghosts K) (values : Ghosts V) (n : ℕ) (bytes :
       let same : set (take n bytes) i (get_or bytes i 0) ++ splice (drop n bytes) (i * (keys.SIZE + values.SIZE)) (key ++ ys)
       ≡ splice bytes (at + keys.SIZE) ys =
       ap (λ marks. marks ++ splice (drop n bytes) (i * (keys.SIZE + values.SIZE)) (key ++ ys)) kept
-      ∙ sym (splice-behind at keys.SIZE bytes ys (omega (arith, fits)) ∙ splice-split n (i * (keys.SIZE + values.SIZE)) bytes (key ++ ys)) in
+      ∙ sym (splice-behind at keys.SIZE bytes ys (omega (arith, fits))
+      ∙ splice-split n (i * (keys.SIZE + values.SIZE)) bytes (key ++ ys)) in
       let whole : length (key ++ ys) ≡ keys.SIZE + values.SIZE = omega (arith, length-append key ys, size, long) in
       subst (λ b. SetsSlot keys values n bytes b i (get_or bytes i 0) (Some (x.0, v))) same
       (slot-set i (get_or bytes i 0) (key ++ ys) (x.0, v) h (slot-marked i x there) whole pair)

@@ -5,18 +5,18 @@ use Rattle.placement.specs.State.{used_bytes}
 use Rattle.placement.proofs.AskingLemmas.{asks_more}
 use Rattle.arena_chunks.specs.Memory.{Memory}
 use Rattle.arena_chunks.specs.Source.{View}
+use Rattle.arena_chunks.specs.Frame.{AreAllApart}
+use Rattle.arena_chunks.specs.declared.block.Block.{Block}
 use Rattle.arena_chunks.specs.Asking.{AsksWithin, IsStarved, IsFull}
 use Rattle.arena_chunks.proofs.Layers.{all_of_both}
 use Rattle.arena_items.specs.Costs.{used}
 use Rattle.arena_items.specs.declared.room.AllocError.{AllocError}
 use Rattle.arena_items.specs.declared.room.AllocError.TheVariants as alloc
 use Rattle.arena_vec.specs.Vecs.{vec_list}
-use Rattle.arena_symbols.specs.Interning.{IsNewInterner}
-use Rattle.arena_symbols.specs.Named.{all_blocks}
-use Rattle.arena_symbols.specs.Names.{names_footprint}
+use Rattle.arena_symbols.specs.Named.{AreNames, AreNewNames, all_blocks, all_credit}
+use Rattle.arena_symbols.specs.Names.{names_in, names_footprint}
 use Rattle.arena_symbols.specs.Scoping.{pair_count}
-use Rattle.arena_symbols.specs.TableCalls.{IsNewTable}
-use Rattle.arena_symbols.specs.Tables.{entry_item, table_blocks}
+use Rattle.arena_symbols.specs.Tables.{entry_item, scopes_in, table_blocks}
 use Rattle.arena_symbols.specs.declared.names.Names.{Names as Known}
 use Rattle.arena_symbols.proofs.Layers.{all_turned}
 use Rattle.tree_rules.specs.Report.{findings_of}
@@ -36,7 +36,7 @@ use Rattle.arena_tree.proofs.Layers.{nodes_used, one_stmts}
 use Rattle.lint_reports.specs.Reports.{Reports, said}
 use Rattle.lint_reports.specs.declared.report.FileReport.{FileReport}
 use Rattle.lint_reports.specs.declared.report.FileReport.TheVariants.{Checked, Syntax, TooDeep, NumberTooBig, Full, Refused, OutOfMemory}
-use Rattle.arena_lint.specs.Knowing.{IsNothing}
+use Rattle.arena_lint.specs.Knowing.{Knows}
 use Rattle.arena_lint.specs.Linting.{Lints, lint_bytes, no_place, unparsed_by}
 use Rattle.arena_lint.specs.Rooms.{ListHasStmts, IsLight}
 use Rattle.arena_lint.specs.Spending.{Spends, Takes, walk_bytes}
@@ -45,19 +45,25 @@ use Rattle.arena_lint.proofs.SpendingLemmas.{spends_then, spends_nothing}
 
 -- ---- Nothing
 
-pub nothing_known : (k : Known) → IsNewInterner k.symbols → IsNewTable entry_item k.scopes → IsNothing k
-nothing_known k names scopes = record {
-  known = λ m. record {
-    symbols = names.held m;
-    scopes = scopes.held m;
-    apart = scopes.apart (names_footprint m k.symbols);
-  };
-  knows = λ m. rw (names.names m, scopes.scopes m) (no_names [], tt);
-  names = names.names;
-  scopes = scopes.scopes;
-  credit = omega (arith, names.credit, scopes.credit);
+-- Handles that place nothing: they know no name, in every arena, and lie apart from all.
+pub record IsNothing (k : Known) : Type 0 where
+  pub known : (m : Memory) → AreNames m k
+  pub knows : (m : Memory) → Knows m k ([] ∷ [])
+  pub names : (m : Memory) → names_in m k.symbols ≡ []
+  pub scopes : (m : Memory) → scopes_in entry_item m k.scopes ≡ [] ∷ []
+  pub credit : all_credit k ≡ 0
+  pub apart : (m : Memory) (blocks : List Block) → AreAllApart blocks (all_blocks m k)
+
+pub nothing_known : {k : Known} → AreNewNames k → IsNothing k
+nothing_known {k} new = record {
+  known = new.held;
+  knows = λ m. rw (new.symbols.names m, new.scopes.scopes m) (no_names [], tt);
+  names = new.symbols.names;
+  scopes = new.scopes.scopes;
+  credit = omega (arith, new.symbols.credit, new.scopes.credit);
   apart = λ m blocks. all_turned (all_blocks m k) blocks
-      ((all_of_both (table_blocks k.scopes) (names_footprint m k.symbols) blocks).1 (scopes.apart blocks, names.apart m blocks));
+      ((all_of_both (table_blocks k.scopes) (names_footprint m k.symbols) blocks).1
+      (new.scopes.apart blocks, new.symbols.apart m blocks));
 }
 
 -- ---- A tree

@@ -10,7 +10,7 @@ use Rattle.arena_items.specs.declared.room.AllocError.TheVariants.{CapacityOverf
 use Rattle.arena_items.proofs.Layers.{costs_nothing}
 use Rattle.arena_symbols.specs.Interner.{with_text, most_texts}
 use Rattle.arena_symbols.specs.Interning.{Interns}
-use Rattle.arena_symbols.specs.Named.{AreNames}
+use Rattle.arena_symbols.specs.Named.{AreNames, all_credit}
 use Rattle.arena_symbols.specs.Names.{names_in}
 use Rattle.arena_symbols.specs.Paying.{far_up}
 use Rattle.arena_symbols.specs.Scoping.{with_pair, outer_of, pair_count, most_scopes}
@@ -21,7 +21,6 @@ use Rattle.arena_symbols.specs.declared.symbols.Symbols.{Symbols}
 use Rattle.arena_symbols.specs.declared.names.Names.{Names as Known}
 use Rattle.arena_symbols.proofs.Layers.{texts_moved, scopes_moved}
 use Rattle.arena_tree.specs.Spending.{error_of}
-use Rattle.arena_lint.specs.Knowing.{credit}
 use Rattle.arena_lint.specs.Spending.{Spends, Takes, numbers_in, walk_bytes}
 use Rattle.arena_lint.proofs.SpendingLemmas.{frame_kind, spends_costs, spends_then, spends_nothing}
 
@@ -52,7 +51,7 @@ size_outer (scope ∷ outer) = omega (arith, size_cons scope outer)
 
 name_spends : {old mid : View} (k : Known) {t : Symbols} {name : List ℕ} {result : Result ℕ AllocError}
     → numbers_in old.memory k + 2 * (1 + length name) ≤ most_texts → Interns old mid k.symbols t name result
-    → Spends (1024 + length name) (credit k) (credit (record k { symbols = t })) old mid (error_of result)
+    → Spends (1024 + length name) (all_credit k) (all_credit (record k { symbols = t })) old mid (error_of result)
 name_spends k few interns = spends_costs interns.pays.costs (frame_kind interns.texts.1.frame)
     (λ is. omega (arith, (interns.overflows.0 is).1, few)) (omega arith) (omega arith)
 
@@ -78,7 +77,7 @@ define_takes {old} {mid} {new} {k} {t} {d} {name} {id} {result} held interns put
             more,
             ap size one.1,
           );
-      spends = λ few. spends_then {after = credit (record { symbols = t; scopes = d })} (name_spends k few interns)
+      spends = λ few. spends_then {after = all_credit (record { symbols = t; scopes = d })} (name_spends k few interns)
           (spends_costs {many = 512} puts.pays.costs (frame_kind puts.frame)
           (λ is. omega (arith, (puts.overflows.0 is).1, ap pair_count one.1, few)) (omega arith) (omega arith)) (omega arith) (omega arith);
     }

@@ -1,14 +1,11 @@
 -- Which names a walk knows: its sets of names, as scopes over the numbers of texts.
-use Rattle.std.specs.Prelude.{◌≡◌, ℕ, ◌+◌, ◌≤◌, Bool, false, List, [], ◌∷◌, length, Option, Some, None, is_some}
+use Rattle.std.specs.Prelude.{◌≡◌, ℕ, ◌≤◌, Bool, false, List, [], ◌∷◌, length, Option, Some, None, is_some}
 use Rattle.std.specs.List.{AllZip}
 use Rattle.arena_chunks.specs.Memory.{Memory}
-use Rattle.arena_chunks.specs.Frame.{AreAllApart}
-use Rattle.arena_chunks.specs.declared.block.Block.{Block}
 use Rattle.arena_symbols.specs.Interner.{number_of}
-use Rattle.arena_symbols.specs.Named.{AreNames, all_blocks}
-use Rattle.arena_symbols.specs.Names.{names_in, names_credit}
+use Rattle.arena_symbols.specs.Names.{names_in}
 use Rattle.arena_symbols.specs.Scoping.{value_in}
-use Rattle.arena_symbols.specs.Tables.{entry_item, scopes_in, table_credit}
+use Rattle.arena_symbols.specs.Tables.{entry_item, scopes_in}
 use Rattle.arena_symbols.specs.declared.names.Names.{Names as Known}
 use Rattle.tree_rules.specs.Report.{NameSet, has_name, finding}
 use Rattle.tree_rules.specs.declared.finding.Finding.{Finding}
@@ -36,16 +33,3 @@ Knows m k known = AreScopes (names_in m k.symbols) known (scopes_in entry_item m
 abbrev pub found_of : Option FindKind → List ℕ → List Finding
 found_of None name = []
 found_of (Some kind) name = finding kind name ∷ []
-
--- the bytes that the handles saved up for their next blocks
-abbrev pub credit : Known → ℕ
-credit k = names_credit k.symbols + table_credit k.scopes
-
--- Handles that place nothing: they know no name, in every arena, and lie apart from all.
-pub record IsNothing (k : Known) : Type 0 where
-  pub known : (m : Memory) → AreNames m k
-  pub knows : (m : Memory) → Knows m k ([] ∷ [])
-  pub names : (m : Memory) → names_in m k.symbols ≡ []
-  pub scopes : (m : Memory) → scopes_in entry_item m k.scopes ≡ [] ∷ []
-  pub credit : credit k ≡ 0
-  pub apart : (m : Memory) (blocks : List Block) → AreAllApart blocks (all_blocks m k)

@@ -12,7 +12,7 @@ use Rattle.arena_symbols.specs.Scoping.{pair_count}
 use Rattle.arena_symbols.specs.Tables.{entry_item, scopes_in}
 use Rattle.arena_symbols.specs.declared.names.Names.{Names as Known}
 use Rattle.arena_tree.specs.Spending.{KeepsKind, IsStarvedBehind}
-use Rattle.arena_lint.specs.Knowing.{credit}
+use Rattle.arena_symbols.specs.Named.{all_credit}
 
 -- the bytes of the arena that a walk over statements of this weight takes at most
 abbrev pub walk_bytes : ℕ → ℕ
@@ -38,7 +38,7 @@ numbers_in m k =
 pub record Takes (weight : ℕ) (old new : View) (k l : Known) (error : Option AllocError) : Type 0 where
   pub numbers : error ≡ None → numbers_in new.memory l ≤ numbers_in old.memory k + 2 * weight
   pub spends : numbers_in old.memory k + 2 * weight ≤ most_texts
-      → Spends (walk_bytes weight) (credit k) (credit l) old new error
+      → Spends (walk_bytes weight) (all_credit k) (all_credit l) old new error
 
 -- an error, if there is one, is want of memory alone
 abbrev pub IsWanting : Option AllocError → Type 0

@@ -6,7 +6,6 @@ ghost use Rattle.arena_tree.specs.Spending.{error_of};
 ghost use Rattle.tree_rules.specs.Report.{findings_of};
 ghost use Rattle.tree_rules.specs.Trees.{Stmts};
 ghost use Rattle.tree_rules.specs.Weights.{weights};
-ghost use Rattle.arena_lint.specs.Knowing.{IsNothing};
 ghost use Rattle.arena_lint.specs.Linting.{Lints, no_place, unparsed_by};
 ghost use Rattle.arena_lint.specs.Rooms.{IsLight};
 ghost use Rattle.arena_lint.specs.Spending.{Spends, walk_bytes};
@@ -14,7 +13,7 @@ ghost use Rattle.arena_lint.specs.Spending.{Spends, walk_bytes};
 use crate::walk::walk;
 use arena_chunks::{Allocator, ChunkSource};
 use arena_items::{AllocError, Grown};
-use arena_symbols::{Names, Scopes, Symbols};
+use arena_symbols::Names;
 use arena_tree::{Tree, TreeErr};
 use lint_reports::{FileReport, Findings};
 use std::alloc::Global;
@@ -44,16 +43,6 @@ fn unparsed<C: ChunkSource>(a: &Allocator<C>, why: TreeErr) -> FileReport
     }
 }
 
-// No names, in one scope.
-fn nothing() -> Names
-    ensures { IsNothing result }
-{
-    Names {
-        symbols: Symbols::new_in(),
-        scopes: Scopes::new_in(),
-    }
-}
-
 // The findings in a tree.
 fn findings<C: ChunkSource>(alloc: Global, a: &mut Allocator<C>, tree: Tree) -> Grown<Findings>
     requires { IsLight a.old.memory tree }
@@ -62,7 +51,7 @@ fn findings<C: ChunkSource>(alloc: Global, a: &mut Allocator<C>, tree: Tree) -> 
         → Spends (walk_bytes (weights trees)) 0 0 a.old a.new (error_of result) }
 {
     let room = a.used_bytes();
-    let mut known = nothing();
+    let mut known = Names::new_in();
     let mut found = Findings::new(alloc);
     walk(alloc, a, &mut known, tree.stmts, room, &mut found)?;
     Ok(found)

@@ -2,16 +2,16 @@
 ghost use Rattle.std.specs.Prelude.{◌≡◌, ◌≢◌, ◌-◌, ◌<◌, ◌≤◌, [], ◌∷◌, ◌++◌, List, OnOk, Some, slice_get};
 ghost use Rattle.std.specs.Str.{IsUtf8};
 ghost use Rattle.arena_items.specs.Values.{IsTextIn, text_bytes};
-ghost use Rattle.arena_vec.specs.Vecs.{IsVecIn, vec_list};
+ghost use Rattle.arena_vec.specs.Vecs.{vec_list};
 ghost use Rattle.arena_symbols.specs.Named.{AreNames};
-ghost use Rattle.arena_tree.specs.TreesAt.{node_item, kids_of, ExprAt, ExprsAt};
+ghost use Rattle.arena_tree.specs.TreesAt.{node_item, ExprAt, ExprsAt};
 ghost use Rattle.tree_rules.specs.Report.{NameSet, have_name, names_of, all_names, undefined};
 ghost use Rattle.tree_rules.specs.Trees.{Expr, Exprs};
 ghost use Rattle.arena_lint.specs.Knowing.{Knows};
 ghost use Rattle.arena_lint.specs.Rooms.{HasExpr, ListHasExprs, AreNamed};
 
 use arena_chunks::{Allocator, ChunkSource, Str};
-use arena_tree::{Kind, Node};
+use arena_tree::{Kind, Node, kids};
 use arena_vec::Vec;
 use lint_reports::{FindKind, Findings};
 use placement::{Bytes, OutOfMemory};
@@ -50,14 +50,6 @@ fn use_name<C: ChunkSource>(
     }
     let copy = Bytes::of(alloc, name.as_bytes())?;
     found.push(FindKind::Undefined, copy)
-}
-
-// The list of a node's kids. The allocator is there for what is known of it.
-pub(crate) fn kids<C: ChunkSource>(_a: &Allocator<C>, node: Node) -> Vec<Node>
-    requires { IsVecIn node_item _a.now.memory (kids_of node) }
-    ensures { result ≡ kids_of node }
-{
-    Vec::from_raw_parts_in(node.kids, node.len, node.cap)
 }
 
 // The list of the kids of an expression that isn't a number nor a name. The count is there for what is known of it.

@@ -15,10 +15,10 @@ ghost use Rattle.arena_lint.specs.Rooms.{ListHasExprs, AreNamed, HasStmt, ListHa
 ghost use Rattle.arena_lint.specs.Spending.{Takes, IsWanting};
 ghost use Rattle.arena_lint.specs.Steps.{Finds, Enters, IsNotEmpty};
 
-use crate::names::{Known, all_names, kids};
+use crate::names::{Known, all_names};
 use arena_chunks::{Allocator, ChunkSource, Str};
 use arena_items::{AllocError, Grown};
-use arena_tree::{Kind, Node};
+use arena_tree::{Kind, Node, kids};
 use arena_vec::Vec;
 use lint_reports::{FindKind, Findings};
 use placement::{Bytes, OutOfMemory};

@@ -9,7 +9,7 @@ use Rattle.arena_calls.specs.ReadAll.{limit}
 use Rattle.arena_calls.specs.declared.status.Status.{Status}
 use Rattle.arena_calls.specs.declared.status.Status.TheVariants.{Done, Usage, BadLine, OutOfMemory, ReadFault, WriteFault, InputTooLong}
 use Rattle.arena_calls.proofs.StatusLemmas.{same_bytes, too_many}
-use Rattle.arena_program.specs.ScriptEnds.{Promise, ScriptsEnd, status_of}
+use Rattle.arena_program.specs.ScriptEnds.{Promise, EndsAsPromised, status_of}
 
 -- what a status that no fault brings says of the bytes
 abbrev Says : Status → List ℕ → Type 0
@@ -26,7 +26,7 @@ abbrev pub OneReading : Type 0
 OneReading = (bytes : List ℕ) (r s : Result (List (List Command)) ℕ) → ScriptsOf bytes r → ScriptsOf bytes s → r ≡ s
 
 module _ {C : Type 0} (promise : Promise C) (old new : Outside) (before after : List (ℕ × Starved C)) where
-  says : (status : Status) (bytes : List ℕ) → ScriptsEnd promise status old new before after → IsFaultless old new
+  says : (status : Status) (bytes : List ℕ) → EndsAsPromised promise status old new before after → IsFaultless old new
       → old.left ≡ Some bytes → Says status bytes
   says Done bytes ends whole is =
       let run = ends.1.1 in
@@ -40,7 +40,7 @@ module _ {C : Type 0} (promise : Promise C) (old new : Outside) (before after : 
   says WriteFault bytes ends whole is = whole.writes ends.0.writes
   says InputTooLong bytes ends whole is = too_many old.left new.left bytes ends.2 is
 
-  pub told_reads : (status : Status) → ScriptsEnd promise status old new before after → new.read_faults ≢ old.read_faults
+  pub told_reads : (status : Status) → EndsAsPromised promise status old new before after → new.read_faults ≢ old.read_faults
       → status ≡ ReadFault
   told_reads ReadFault ends rose = refl
   told_reads Usage ends rose = absurd ends
@@ -50,7 +50,7 @@ module _ {C : Type 0} (promise : Promise C) (old new : Outside) (before after : 
   told_reads WriteFault ends rose = absurd (rose ends.0.reads)
   told_reads InputTooLong ends rose = absurd (rose ends.0.reads)
 
-  pub told_writes : (status : Status) → ScriptsEnd promise status old new before after → new.write_faults ≢ old.write_faults
+  pub told_writes : (status : Status) → EndsAsPromised promise status old new before after → new.write_faults ≢ old.write_faults
       → status ≡ WriteFault
   told_writes WriteFault ends rose = refl
   told_writes Usage ends rose = absurd ends
@@ -81,13 +81,13 @@ over_status ReadFault bytes s long = absurd s
 over_status WriteFault bytes s long = absurd s
 
 pub within : OneReading → {C : Type 0} (promise : Promise C) (status : Status) (old new : Outside) (before after : List (ℕ × Starved C))
-    (bytes : List ℕ) (read : Result (List (List Command)) ℕ) → ScriptsEnd promise status old new before after → IsFaultless old new
+    (bytes : List ℕ) (read : Result (List (List Command)) ℕ) → EndsAsPromised promise status old new before after → IsFaultless old new
     → old.left ≡ Some bytes → length bytes ≤ limit → ScriptsOf bytes read → (status ≡ status_of read) ⊎ (status ≡ OutOfMemory)
 within one promise status old new before after bytes read ends whole is small lines =
     within_status one status bytes read (says promise old new before after status bytes ends whole is) small lines
 
 pub over : {C : Type 0} (promise : Promise C) (status : Status) (old new : Outside) (before after : List (ℕ × Starved C)) (bytes : List ℕ)
-    → ScriptsEnd promise status old new before after → IsFaultless old new → old.left ≡ Some bytes → limit < length bytes
+    → EndsAsPromised promise status old new before after → IsFaultless old new → old.left ≡ Some bytes → limit < length bytes
     → (status ≡ InputTooLong) ⊎ (status ≡ OutOfMemory)
 over promise status old new before after bytes ends whole is long =
     over_status status bytes (says promise old new before after status bytes ends whole is) long

@@ -2,7 +2,8 @@
 use Rattle.std.proofs.Common.{◌≡◌, ℕ, ◌+◌, List, [], ◌∷◌, ◌++◌, map, refl, sym, ap, ◌∙◌, append_assoc}
 use Rattle.std.specs.List.{flat_map}
 use Rattle.std.proofs.lemmas.Grind.{flat_map-append}
-use Rattle.script_rules.specs.Outcomes.{told, outcome_lines, lines_from, with_feed}
+use Rattle.placement.specs.Grammar.{with_feed}
+use Rattle.script_rules.specs.Outcomes.{told, outcome_lines, lines_from}
 use Rattle.arena_workers.specs.declared.served.Served.{Served}
 use Rattle.arena_workers.specs.declared.served.Starved.{Starved}
 use Rattle.script_lines.specs.Room.{outcome_text}
@@ -25,7 +26,7 @@ pub scripts_whole : {C : Type 0} (all : All C) → text_from (λ j outcome. outc
 scripts_whole all = scripts_from 0 all
 
 reports_from : {C : Type 0} (i : ℕ) (all : Reported C) → text_from report_text i all
-    ≡ flat_map reports.with_feed (reports.lines_from i (map (λ linted. linted.outcome) all))
+    ≡ flat_map with_feed (reports.lines_from i (map (λ linted. linted.outcome) all))
 reports_from i [] = refl
 reports_from i (linted ∷ all) = ap (λ xs. report_text i linted.outcome ++ xs) (reports_from (i + 1) all)
     ∙ sym (reports_more i linted.outcome (map (λ l. l.outcome) all))

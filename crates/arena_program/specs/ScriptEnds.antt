@@ -63,27 +63,27 @@ pub record IsUnrun {C : Type 0} (old new : Outside) (before after : List (ℕ ×
   pub gained : after ≡ before
 
 -- The arena at hand is never touched. `before` and `after` are what was held, and is held then, of what shows that scripts were starved.
-abbrev pub ScriptsEnd : {C : Type 0} → Promise C → Status → Outside → Outside → List (ℕ × Starved C) → List (ℕ × Starved C) → Type 0
-ScriptsEnd promise Done old new before after =
+abbrev pub EndsAsPromised : {C : Type 0} → Promise C → Status → Outside → Outside → List (ℕ × Starved C) → List (ℕ × Starved C) → Type 0
+EndsAsPromised promise Done old new before after =
     HasNoFault old new
     × ((all : All _) × RunsScripts promise old new before after all × Writes old.written new.written (text_of_served all))
-ScriptsEnd promise Usage old new before after = ⊥
-ScriptsEnd promise (BadLine n) old new before after =
+EndsAsPromised promise Usage old new before after = ⊥
+EndsAsPromised promise (BadLine n) old new before after =
     HasNoFault old new × IsUnrun old new before after × ((bytes : List ℕ) × ReadsWhole old new bytes × ScriptsOf bytes (Err n))
-ScriptsEnd promise OutOfMemory old new before after =
+EndsAsPromised promise OutOfMemory old new before after =
     HasNoFault old new × IsUnrun old new before after × TakesFront old.left new.left (λ n. n ≤ limit)
-ScriptsEnd promise ReadFault old new before after =
+EndsAsPromised promise ReadFault old new before after =
     HasReadFault old new × IsUnrun old new before after × TakesFront old.left new.left (λ n. n ≤ limit)
-ScriptsEnd promise WriteFault old new before after =
+EndsAsPromised promise WriteFault old new before after =
     HasWriteFault old new
     × ((all : All _) × RunsScripts promise old new before after all × WritesPart old.written new.written (text_of_served all))
-ScriptsEnd promise InputTooLong old new before after =
+EndsAsPromised promise InputTooLong old new before after =
     HasNoFault old new × IsUnrun old new before after × TakesFront old.left new.left (λ n. n ≡ limit + 1)
 
 -- the same where each script is served as it is alone, over a pool of the kind that the words name
 abbrev pub ScriptEnds : {C : Type 0} → (C → Source) → (List Command → Outcome → Type 0) → Lender → Status → Outside → Outside
     → List (ℕ × Starved C) → List (ℕ × Starved C) → Type 0
-ScriptEnds source worked lender = ScriptsEnd (IsServedAlone source (kind_of lender) worked)
+ScriptEnds source worked lender = EndsAsPromised (IsServedAlone source (kind_of lender) worked)
 
 -- the status for bytes that have this reading
 abbrev pub status_of : Result (List (List Command)) ℕ → Status

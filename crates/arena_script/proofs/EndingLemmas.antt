@@ -15,7 +15,7 @@ use Rattle.arena_items.specs.declared.room.AllocError.{AllocError}
 use Rattle.arena_items.specs.declared.room.AllocError.TheVariants.{AllocErr}
 use Rattle.script_rules.specs.Objects.{need}
 use Rattle.script_rules.specs.Machine.{run, run_from, cost_of, cost_of_first}
-use Rattle.script_rules.specs.Starved.{IsStarvedWithin}
+use Rattle.placement.specs.Asking.{IsStarvedWithin}
 use Rattle.script_rules.specs.declared.commands.Command.{Command}
 use Rattle.script_rules.specs.declared.commands.Ended.{Ended}
 use Rattle.script_rules.specs.declared.commands.Ended.TheVariants.{Done, Full, Refused, OutOfMemory}

@@ -5,7 +5,7 @@ use Rattle.arena_chunks.specs.Source.{View}
 use Rattle.arena_chunks.specs.Asking.{AsksWithin, IsFull}
 use Rattle.script_rules.specs.Objects.{Objects, need}
 use Rattle.script_rules.specs.Machine.{run, cost_of_first}
-use Rattle.script_rules.specs.Starved.{IsStarvedWithin}
+use Rattle.placement.specs.Asking.{IsStarvedWithin}
 use Rattle.script_rules.specs.declared.commands.Command.{Command}
 use Rattle.script_rules.specs.declared.commands.Ended.TheVariants as ended
 use Rattle.script_rules.specs.declared.outcome.Outcome.{Outcome}

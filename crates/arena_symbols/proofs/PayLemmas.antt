@@ -33,7 +33,8 @@ use Rattle.arena_hash.specs.Contents.{Kind, content_in}
 use Rattle.arena_hash.specs.Finite.{has}
 use Rattle.arena_hash.specs.Maps.{map_in}
 use Rattle.arena_hash.specs.declared.map.HashMap.{HashMap}
-use Rattle.arena_symbols.specs.Paying.{HasRefused, Pays}
+use Rattle.arena_chunks.specs.Asking.{IsCounted}
+use Rattle.arena_symbols.specs.Paying.{Pays}
 
 -- A call's answer, told as another's.
 abbrev pub told : {X Y : Type 0} → (X → Y) → Result X AllocError → Result Y AllocError
@@ -92,7 +93,7 @@ pays_then x growing still err first more =
 
 -- A refusal of room is the arena's, and tells how many requests were refused.
 room_told : {X : Type 0} (size align : ℕ) (old new : View) (block : Block) (cap : ℕ) (f : X → Block) (k : ℕ) (growth : Growth)
-    → MakesRoom size align old new block cap growth f (Err (AllocErr k)) → HasRefused old new k
+    → MakesRoom size align old new block cap growth f (Err (AllocErr k)) → IsCounted k old new
 room_told size align old new block cap f k Stays made = absurd made.0
 room_told size align old new block cap f k Overflows made = absurd (let no = made.0 in cc)
 room_told size align old new block cap f k (GrowsTo more) made = rw made.places.source (elim (zero_or_more cap) [
@@ -185,7 +186,7 @@ module _ {X K V S : Type 0} (k : Kind K V S) (tells : Option V → X → Type 0)
         → Costs farthest bytes (credit_of k m) (credit_of k w) old new result → Puts k old new m key value tells w result
         → Pays farthest bytes (credit_of k m) (credit_of k w) old new result
     pays_insert bytes result costs puts =
-        let told : (j : ℕ) → result ≡ Err (AllocErr j) → HasRefused old new j = λ j is.
+        let told : (j : ℕ) → result ≡ Err (AllocErr j) → IsCounted j old new = λ j is.
         room_told _ _ old new m.table.block 0 (λ (x : X). w.table.block) j _ (rw is at puts.made) in
         grind (arith, costs, puts.costs.refused, told)
 

@@ -8,9 +8,12 @@ use Rattle.arena_items.specs.Costs.{Costs}
 use Rattle.arena_items.specs.declared.room.AllocError.{AllocError}
 use Rattle.arena_items.specs.declared.room.AllocError.TheVariants.{AllocErr, CapacityOverflow}
 use Rattle.arena_symbols.specs.Interner.{number_of, with_text, most_texts}
+use Rattle.arena_symbols.specs.Interning.{IsNewInterner}
 use Rattle.arena_symbols.specs.Names.{IsInternerIn, names_in, names_footprint, names_credit}
-use Rattle.arena_symbols.specs.Paying.{HasRefused, far_up}
+use Rattle.arena_chunks.specs.Asking.{IsCounted}
+use Rattle.arena_symbols.specs.Paying.{far_up}
 use Rattle.arena_symbols.specs.Scoping.{lookup, is_in_last, with_pair, pair_count, most_scopes, most_pairs}
+use Rattle.arena_symbols.specs.TableCalls.{IsNewTable}
 use Rattle.arena_symbols.specs.Tables.{entry_item, IsTableIn, scopes_in, table_blocks, table_credit}
 use Rattle.arena_symbols.specs.declared.names.Names.{Names}
 
@@ -19,6 +22,12 @@ pub record AreNames (memory : Memory) (n : Names) : Type 0 where
   pub symbols : IsInternerIn memory n.symbols
   pub scopes : IsTableIn entry_item memory n.scopes
   pub apart : AreAllApart (table_blocks n.scopes) (names_footprint memory n.symbols)
+
+-- No name, in one scope: both are new, and stand in every arena.
+pub record AreNewNames (n : Names) : Type 0 where
+  pub held : (memory : Memory) → AreNames memory n
+  pub symbols : IsNewInterner n.symbols
+  pub scopes : IsNewTable entry_item n.scopes
 
 -- the blocks of both
 abbrev pub all_blocks : Memory → Names → List Block
@@ -67,7 +76,7 @@ IsFullFor texts texts_now scopes name = ((number_of texts name ≡ None) × (mos
 -- What a call costs by both credits together, and what it tells where the arena refuses.
 pub record Spends {X : Type 0} (far bytes : ℕ) (old new : View) (n m : Names) (result : Result X AllocError) : Type 0 where
   pub costs : Costs far bytes (all_credit n) (all_credit m) old new result
-  pub told : (k : ℕ) → result ≡ Err (AllocErr k) → HasRefused old new k
+  pub told : (k : ℕ) → result ≡ Err (AllocErr k) → IsCounted k old new
 
 -- When a declaration overflows, and what it costs.
 pub record DeclaresWithin {X : Type 0} (old new : View) (n m : Names) (name : List ℕ) (result : Result X AllocError) : Type 0 where

@@ -1,20 +1,17 @@
 -- What calls of interners and scoped tables pay.
 use Rattle.std.specs.Prelude.{◌≡◌, ℕ, ◌+◌, ◌-◌, ◌^◌, ◌≤◌, ◌⊎◌, Result, Err, OnErr}
 use Rattle.arena_chunks.specs.Source.{View}
+use Rattle.arena_chunks.specs.Asking.{IsCounted}
 use Rattle.arena_items.specs.Costs.{Costs}
 use Rattle.arena_items.specs.declared.room.AllocError.{AllocError}
 use Rattle.arena_items.specs.declared.room.AllocError.TheVariants.{AllocErr}
-
--- So many requests were refused: the source's count rose by no less, or stands at its last value.
-abbrev pub HasRefused : View → View → ℕ → Type 0
-HasRefused old new k = (old.source.refusals + k ≤ new.source.refusals) ⊎ (new.source.refusals ≡ 2 ^ 64 - 1)
 
 -- A call costs at most so many bytes, by its credits before and after. A refusal doesn't raise the credit, and the requests that it tells
 -- were refused.
 pub record Pays {X : Type 0} (far bytes before after : ℕ) (old new : View) (result : Result X AllocError) : Type 0 where
   pub costs : Costs far bytes before after old new result
   pub refused : OnErr result (after ≤ before)
-  pub told : (k : ℕ) → result ≡ Err (AllocErr k) → HasRefused old new k
+  pub told : (k : ℕ) → result ≡ Err (AllocErr k) → IsCounted k old new
 
 -- the newest data end up to which a call is refused for its source alone
 abbrev pub far_up : ℕ

@@ -1,10 +1,9 @@
 // The names of a program: they are declared in scopes, and resolved.
 ghost use Rattle.std.specs.Prelude.{◌≡◌, ◌≢◌, ◌^◌, ◌<◌, ◌≤◌, ◌↔◌, [], ◌∷◌, Some, Ok, Err, length, true, false, IfOk, OnOk, OnErr};
-ghost use Rattle.arena_chunks.specs.Memory.{Memory};
 ghost use Rattle.arena_chunks.specs.Frame.{Frame};
 ghost use Rattle.arena_items.specs.Room.{SamePlaces};
 ghost use Rattle.arena_symbols.specs.Interner.{with_text};
-ghost use Rattle.arena_symbols.specs.Named.{AreNames, Moves, Declares, DeclaresWithin, OwnScopeWithin, MayHave, all_blocks, all_credit, meaning};
+ghost use Rattle.arena_symbols.specs.Named.{AreNames, AreNewNames, Moves, Declares, DeclaresWithin, OwnScopeWithin, MayHave, all_blocks, all_credit, meaning};
 ghost use Rattle.arena_symbols.specs.Names.{names_in};
 ghost use Rattle.arena_symbols.specs.Paying.{Pays, far_up};
 ghost use Rattle.arena_symbols.specs.Scoping.{innermost, outer_of, most_scopes};
@@ -27,8 +26,7 @@ pub struct Names {
 impl Names {
     /// No name, in one scope. It places nothing.
     pub fn new_in() -> Names
-        ensures held { (memory : Memory) → AreNames memory result }
-        ensures scopes { (memory : Memory) → scopes_in entry_item memory result.scopes ≡ [] ∷ [] }
+        ensures { AreNewNames result }
     {
         Names {
             symbols: Symbols::new_in(),

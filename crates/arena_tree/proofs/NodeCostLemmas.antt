@@ -7,7 +7,7 @@ use Rattle.placement.specs.State.{allocated_bytes, top_of}
 use Rattle.arena_chunks.specs.Memory.{Memory}
 use Rattle.arena_chunks.specs.Source.{View}
 use Rattle.arena_chunks.specs.Answers.Answer.{Refused}
-use Rattle.arena_chunks.specs.Asking.{IsRefusedBySource}
+use Rattle.arena_chunks.specs.Asking.{IsRefusedBySource, IsCounted}
 use Rattle.arena_chunks.specs.BlockCalls.{PlacesBlock}
 use Rattle.arena_chunks.specs.Frame.{Frame}
 use Rattle.arena_chunks.proofs.Layers.{frame_reflexive}
@@ -25,7 +25,7 @@ use Rattle.arena_vec.specs.Vecs.{IsVecIn}
 use Rattle.arena_vec.specs.declared.vec.Vec.{Vec}
 use Rattle.arena_tree.specs.NodeForms.{plain_88_8}
 use Rattle.arena_tree.specs.TreesAt.{node_item}
-use Rattle.arena_tree.specs.Spending.{IsCounted, IsStarvedBehind, Stops, Spends, error_of}
+use Rattle.arena_tree.specs.Spending.{IsStarvedBehind, Stops, Spends, error_of}
 use Rattle.arena_tree.specs.declared.node.Node.{Node}
 use Rattle.arena_tree.proofs.SpendingLemmas.{frame_kind, spends_more}
 

@@ -10,7 +10,8 @@ use Rattle.arena_chunks.proofs.Layers.{asks_same, frame_reflexive, frame_then, f
 use Rattle.arena_items.specs.Costs.{used}
 use Rattle.arena_items.specs.declared.room.AllocError.{AllocError}
 use Rattle.arena_items.specs.declared.room.AllocError.TheVariants.{AllocErr, CapacityOverflow, OutOfMemory}
-use Rattle.arena_tree.specs.Spending.{KeepsKind, IsCounted, IsStarvedBehind, Stops, Spends, error_of, most_for, SpendsUpTo, SpendsAll, SpendsOrNot}
+use Rattle.arena_chunks.specs.Asking.{IsCounted}
+use Rattle.arena_tree.specs.Spending.{KeepsKind, IsStarvedBehind, Stops, Spends, error_of, most_for, SpendsUpTo, SpendsAll, SpendsOrNot}
 
 pub frame_kind : {old new : Memory} {before after : List Block} → Frame old new before after → KeepsKind old new
 frame_kind frame = record { is_growing = frame.is_growing; allocated = frame.allocated }

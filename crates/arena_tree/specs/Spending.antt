@@ -4,7 +4,7 @@ use Rattle.placement.specs.State.{top_of, allocated_bytes}
 use Rattle.arena_chunks.specs.Memory.{Memory}
 use Rattle.arena_chunks.specs.Source.{View}
 use Rattle.arena_chunks.specs.Frame.{Frame}
-use Rattle.arena_chunks.specs.Asking.{AsksWithin, IsRefusedBySource, IsFull}
+use Rattle.arena_chunks.specs.Asking.{AsksWithin, IsRefusedBySource, IsCounted, IsFull}
 use Rattle.arena_items.specs.Costs.{used}
 use Rattle.arena_vec.specs.Credit.{credit_of}
 use Rattle.arena_vec.specs.declared.vec.Vec.{Vec}
@@ -16,10 +16,6 @@ use Rattle.arena_items.specs.declared.room.AllocError.TheVariants.{AllocErr, Cap
 pub record KeepsKind (old new : Memory) : Type 0 where
   pub is_growing : new.state.is_growing ≡ old.state.is_growing
   pub allocated : old.state.is_growing ≡ false → allocated_bytes new.state ≡ allocated_bytes old.state
-
--- The number of refusals that is told is at most what the source's count rose by, or this stands at its last value.
-abbrev pub IsCounted : ℕ → View → View → Type 0
-IsCounted refused old new = (old.source.refusals + refused ≤ new.source.refusals) ⊎ (new.source.refusals ≡ 2 ^ 64 - 1)
 
 -- the newest data end up to which there is a place for a block of any size that an arena may hold
 abbrev pub far_end : ℕ

@@ -21,3 +21,4 @@ mod walk;
 pub use laws::tree_law;
 pub use node::{Kind, Node};
 pub use tree::{Tree, TreeErr};
+pub use walk::kids;

@@ -1,7 +1,7 @@
 -- What a report says of its source, and the lines of reports.
 use Rattle.std.specs.Prelude.{ℕ, ◌+◌, List, [], ◌∷◌, ◌++◌, map, codes, Option, None, Some, IfSome, Result, Ok, Err}
 use Rattle.std.specs.List.{flat_map}
-use Rattle.placement.specs.Grammar.{fields}
+use Rattle.placement.specs.Grammar.{fields, with_feed}
 use Rattle.tree_rules.specs.Report.{IsReport}
 use Rattle.tree_rules.specs.declared.refused.Refused.{Refused as Reason}
 use Rattle.tree_rules.specs.declared.refused.Refused.TheVariants as reason
@@ -26,10 +26,6 @@ abbrev pub Reports : List ℕ → FileReport → Type 0
 Reports bytes report = IfSome (said report) (IsReport bytes)
 
 -- ---- Lines
-
--- a line with the line feed that ends it
-abbrev pub with_feed : List ℕ → List ℕ
-with_feed line = line ++ 10 ∷ []
 
 abbrev pub kind_word : FindKind → List ℕ
 kind_word Undefined = codes "undefined "

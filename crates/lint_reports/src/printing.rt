@@ -1,8 +1,8 @@
 // Puts the text of reports.
 ghost use Rattle.std.specs.Prelude.{◌≡◌, ◌+◌, ◌++◌, ◌∷◌, [], ◌≤◌, IfSome, OnOk, OnErr, length, vec_len, vec_capacity};
 ghost use Rattle.std.specs.List.{flat_map};
-ghost use Rattle.placement.specs.Grammar.{fields};
-ghost use Rattle.lint_reports.specs.Reports.{report_lines, report_text, with_feed, kind_word};
+ghost use Rattle.placement.specs.Grammar.{fields, with_feed};
+ghost use Rattle.lint_reports.specs.Reports.{report_lines, report_text, kind_word};
 ghost use Rattle.lint_reports.specs.Room.{finding_room, findings_room, fed_finding};
 
 use crate::report::FileReport;

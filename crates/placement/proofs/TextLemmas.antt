@@ -1,8 +1,8 @@
 -- A text is that of one list of replies.
 use Rattle.std.proofs.Common.{◌≡◌, ℕ, List, [], ◌∷◌, ◌++◌, length, length-append, drop, refl, sym, ap, ◌∙◌, arith, append_assoc, codes}
 use Rattle.std.specs.List.{AllByRecursion}
-use Rattle.placement.specs.Grammar.{fields}
-use Rattle.placement.specs.Replies.{reply_line, with_feed, text_of, HasBytes}
+use Rattle.placement.specs.Grammar.{with_feed, fields}
+use Rattle.placement.specs.Replies.{reply_line, text_of, HasBytes}
 use Rattle.placement.specs.declared.calls.Reply.{Reply}
 use Rattle.placement.specs.declared.calls.Reply.TheVariants.{Placed, Done, Bytes, Number, AllocErr, NoSuchName, NameTaken, BadLayout, OutOfRange}
 use Rattle.placement.proofs.LineLemmas.{read_by, read_field, read_field_back, read_hex, read_hex_back}
@@ -45,13 +45,13 @@ read_line NameTaken rest h = refl
 read_line BadLayout rest h = refl
 read_line OutOfRange rest h = refl
 
-read_reply_back : (r : Reply) (rest : List ℕ) → HasBytes r → read_reply (with_feed r ++ rest) ≡ (r, 10 ∷ rest)
+read_reply_back : (r : Reply) (rest : List ℕ) → HasBytes r → read_reply (with_feed (reply_line r) ++ rest) ≡ (r, 10 ∷ rest)
 read_reply_back r rest h = ap read_reply (append_assoc (reply_line r) (10 ∷ []) rest) ∙ read_line r rest h
 
-not_empty : (r : Reply) (rest : List ℕ) → [] ≡ with_feed r ++ rest → ⊥
+not_empty : (r : Reply) (rest : List ℕ) → [] ≡ with_feed (reply_line r) ++ rest → ⊥
 not_empty r rest e =
-    let same : 0 ≡ length (with_feed r ++ rest) = ap length e in
-    omega (arith, same, length-append (with_feed r) rest, length-append (reply_line r) (10 ∷ []))
+    let same : 0 ≡ length (with_feed (reply_line r) ++ rest) = ap length e in
+    omega (arith, same, length-append (with_feed (reply_line r)) rest, length-append (reply_line r) (10 ∷ []))
 
 pub same_replies : (a b : List Reply) → AllByRecursion HasBytes a → AllByRecursion HasBytes b → text_of a ≡ text_of b → a ≡ b
 same_replies [] [] h g e = refl

@@ -1,7 +1,7 @@
 -- What an arena that grows asks its source for, in calls that need few bytes in use; and why it may have no place for a block.
 use Rattle.std.specs.Prelude.{◌≡◌, ℕ, ◌+◌, ◌-◌, ◌*◌, ◌^◌, ◌<◌, ◌≤◌, ◌⊎◌, true, false, List, ◌++◌, length, IfSome, IsSomeAnd}
 use Rattle.std.specs.List.{AllByRecursion}
-use Rattle.placement.specs.State.{State, top_of, allocated_bytes}
+use Rattle.placement.specs.State.{State, top_of, allocated_bytes, used_bytes}
 use Rattle.placement.specs.Source.{Source}
 
 -- ---- What is asked for
@@ -38,11 +38,21 @@ pub record IsRefusedBySource (before after : Source) : Type 0 where
   pub refused : (before.refusals < after.refusals) ⊎ (after.refusals ≡ 2 ^ 64 - 1)
   pub asked : IfSome after.asked (λ all. IsSomeAnd before.asked (λ some. length some < length all))
 
+-- Refusals that are told are the source's: its count rose by as many at least, or stands at its last value.
+abbrev pub IsCounted : ℕ → Source → Source → Type 0
+IsCounted told before after = (before.refusals + told ≤ after.refusals) ⊎ (after.refusals ≡ 2 ^ 64 - 1)
+
 -- Calls on an arena that grows were starved: its newest data end lay past so many at the start, or it holds much at the end, or
 -- the source refused.
 pub record IsStarved (far : ℕ) (old new : State) (before after : Source) : Type 0 where
   pub growing : old.is_growing ≡ true
   pub cause : (far < top_of old.chunks) ⊎ (2 ^ 60 ≤ allocated_bytes new) ⊎ IsRefusedBySource before after
+
+-- Calls that need at most so many bytes asked for chunks within what was in use and these bytes, whatever came of it, and were starved:
+-- the source refused, or the arena has grown far past 2 ^ 62.
+pub record IsStarvedWithin (bytes : ℕ) (old new : State) (before after : Source) : Type 0 where
+  pub asks : AsksWithin (used_bytes old + bytes) old new before after
+  pub starved : IsStarved (2 ^ 62) old new before after
 
 -- An arena that doesn't grow has fewer bytes than are needed.
 pub record IsFull (bytes : ℕ) (state : State) : Type 0 where

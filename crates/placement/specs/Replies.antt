@@ -1,7 +1,7 @@
 -- The lines of replies.
 use Rattle.std.specs.Prelude.{ℕ, List, [], ◌∷◌, ◌++◌, codes}
 use Rattle.std.specs.List.{flat_map, AllByRecursion}
-use Rattle.placement.specs.Grammar.{fields, hex, IsByte}
+use Rattle.placement.specs.Grammar.{fields, hex, with_feed, IsByte}
 use Rattle.placement.specs.declared.calls.Reply.{Reply}
 use Rattle.placement.specs.declared.calls.Reply.TheVariants.{Placed, Done, Bytes, Number, AllocErr, NoSuchName, NameTaken, BadLayout, OutOfRange}
 
@@ -17,13 +17,9 @@ reply_line NameTaken = codes "name taken"
 reply_line BadLayout = codes "bad layout"
 reply_line OutOfRange = codes "out of range"
 
--- a line with the line feed that ends it
-abbrev pub with_feed : Reply → List ℕ
-with_feed reply = reply_line reply ++ 10 ∷ []
-
 -- the text of replies, a line for each
 abbrev pub text_of : List Reply → List ℕ
-text_of replies = flat_map with_feed replies
+text_of replies = flat_map (λ reply. with_feed (reply_line reply)) replies
 
 -- a reply's bytes are from 0 to 255
 abbrev pub HasBytes : Reply → Type 0

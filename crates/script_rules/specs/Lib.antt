@@ -3,4 +3,3 @@ pub mod Effects
 pub mod Machine
 pub mod Grammar
 pub mod Outcomes
-pub mod Starved

@@ -1,7 +1,7 @@
 -- The lines of what scripts answered.
 use Rattle.std.specs.Prelude.{◌≢◌, ℕ, ◌+◌, true, false, List, [], ◌∷◌, ◌++◌, map, codes}
 use Rattle.std.specs.List.{flat_map, AllByRecursion}
-use Rattle.placement.specs.Grammar.{fields, hex, IsByte}
+use Rattle.placement.specs.Grammar.{fields, hex, IsByte, with_feed}
 use Rattle.script_rules.specs.declared.commands.Ended.{Ended}
 use Rattle.script_rules.specs.declared.commands.Ended.TheVariants as ended
 use Rattle.script_rules.specs.declared.commands.ScriptReply.{ScriptReply}
@@ -56,10 +56,6 @@ outcome_lines i outcome = (codes "script" ++ fields (i ∷ [])) ∷ map reply_li
 abbrev pub lines_from : ℕ → List Told → List (List ℕ)
 lines_from i [] = []
 lines_from i (outcome ∷ outcomes) = outcome_lines i outcome ++ lines_from (i + 1) outcomes
-
--- a line with the line feed that ends it
-abbrev pub with_feed : List ℕ → List ℕ
-with_feed line = line ++ 10 ∷ []
 
 abbrev pub text_of_outcomes : List Outcome → List ℕ
 text_of_outcomes outcomes = flat_map with_feed (lines_from 0 (map told outcomes))

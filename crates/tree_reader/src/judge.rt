@@ -274,6 +274,27 @@ fn next_in<M: InMode>(src: &[u8], at: usize, opens: &mut Stack) -> Next
     }
 }
 
+// What comes behind a factor is looked at at once, for most factors end with their first token.
+#[inline(always)]
+fn next_factor(src: &[u8], at: usize, opens: &mut Stack) -> Next
+    requires { at ≤ length src.now }
+    ensures { GoesOn src.now at (state Mode.AtFactor opens.old) result opens.new }
+{
+    match next_in::<FactorMode>(src, at, opens) {
+        Next::To {
+            mode: Mode::BehindFactor,
+            end,
+        } => match next_in::<BehindMode>(src, end, opens) {
+            Next::Ended => Next::To {
+                mode: Mode::BehindFactor,
+                end,
+            },
+            next => next,
+        },
+        next => next,
+    }
+}
+
 #[inline(always)]
 fn any_next(mode: Mode, src: &[u8], at: usize, opens: &mut Stack) -> Next
     requires { at ≤ length src.now }
@@ -283,7 +304,7 @@ fn any_next(mode: Mode, src: &[u8], at: usize, opens: &mut Stack) -> Next
         Mode::AtLine => next_in::<LineMode>(src, at, opens),
         Mode::AtName => next_in::<NameMode>(src, at, opens),
         Mode::AtEquals => next_in::<EqualsMode>(src, at, opens),
-        Mode::AtFactor => next_in::<FactorMode>(src, at, opens),
+        Mode::AtFactor => next_factor(src, at, opens),
         Mode::BehindFactor => next_in::<BehindMode>(src, at, opens),
     }
 }

@@ -1,7 +1,7 @@
 // Runs of calls with the replies that the rules give, and the blocks that are held afterwards.
 use super::runs::{Row, Run, Says, all_reply, calls};
 use super::same;
-use arena_chunks::{Arena, Block, MemoryChunks, Ran, run_calls};
+use arena_chunks::{Arena, MemoryChunks, Ran, run_calls};
 use std::test::Fail;
 
 const FAR: u64 = 1 << 62;
@@ -391,13 +391,8 @@ fn held_blocks(rt: HostRuntime) -> Result<(), Fail> {
     same(&rt, held.len(), HELD.len());
     for (held, wanted) in held.iter().zip(HELD) {
         let (name, block) = *held;
-        let Block {
-            generation,
-            addr,
-            size,
-            align,
-        } = block;
-        same(&rt, (name, generation, addr, size, align), *wanted);
+        let shown = (name, block.generation, block.addr, block.size, block.align);
+        same(&rt, shown, *wanted);
     }
     Ok(())
 }

@@ -2,7 +2,7 @@
 ghost use Rattle.std.specs.Prelude.{ℕ, ◌≤◌};
 ghost use Rattle.placement.specs.State.{State};
 ghost use Rattle.placement.specs.Source.{Source};
-ghost use Rattle.script_rules.specs.Starved.{IsStarvedWithin};
+ghost use Rattle.placement.specs.Asking.{IsStarvedWithin};
 
 /// Calls that are starved within some bytes are so within more.
 pub fn starved()

@@ -36,4 +36,5 @@ returns-clause-spends g c =
 pub returns-in_err-block-clause-spends : goal.returns-in_err-block-clause-spends
 returns-in_err-block-clause-spends g c =
     let is = c.in-Some.ensures.value in
-    err_spends _ _ c.from_residual.ensures (spends_more c.in_err-block.ensures.spends (omega (arith, is.0, is.1)) (omega (arith, is.0, is.1)))
+    err_spends _ _ c.from_residual.ensures
+    (spends_more c.in_err-block.ensures.spends (omega (arith, is.0, is.1)) (omega (arith, is.0, is.1)))

@@ -7,4 +7,5 @@ loop-i-preserved g c =
     let before = c.loop-i.invariant in
     let one = c.in_ok-room.ensures in
     let sum = c.in_ok-room-2.ensures in
-    omega (arith, before, one, sum, rooms_more g.P.Printer.room c.args.all.now c.loop-i.i c.index-all-i.result c.loop-i-test.true c.index-all-i.is)
+    let more = rooms_more g.P.Printer.room c.args.all.now c.loop-i.i c.index-all-i.result c.loop-i-test.true c.index-all-i.is in
+    omega (arith, before, one, sum, more)

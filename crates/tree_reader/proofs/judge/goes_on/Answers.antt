@@ -5,8 +5,8 @@ use Rattle.tree_reader.proofs.judge.goes_on.Goals as goal
 
 pub returns-in-To : goal.returns-in-To
 returns-in-To g c = (
-  judged_next c.args.src.now c.args.at c.args.l (state g.M.InMode.mode c.args.opens.now) (Ok (state c.in-To.to c.judge.new.opens)) c.requires
-      c.in-To.ensures,
+  judged_next c.args.src.now c.args.at c.args.l (state g.M.InMode.mode c.args.opens.now) (Ok (state c.in-To.to c.judge.new.opens))
+      c.requires c.in-To.ensures,
   omega (arith, c.requires.behind, c.requires.some),
   c.requires.within,
 )

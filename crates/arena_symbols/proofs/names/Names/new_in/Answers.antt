@@ -1,8 +1,13 @@
-use Rattle.std.proofs.Common.{arith}
 use Rattle.arena_symbols.specs.Names.{names_footprint}
 use Rattle.arena_symbols.proofs.names.Names.new_in.Goals as goal
 
-pub returns-clause-held : goal.returns-clause-held
-returns-clause-held c = λ memory.
-    let apart = c.new_in-2.ensures.apart (names_footprint memory c.new_in.result) in
-    grind (arith, c.new_in.ensures.held memory, c.new_in-2.ensures.held memory, apart)
+pub returns : goal.returns
+returns c = record {
+  held = λ memory. record {
+    symbols = c.new_in.ensures.held memory;
+    scopes = c.new_in-2.ensures.held memory;
+    apart = c.new_in-2.ensures.apart (names_footprint memory c.new_in.result);
+  };
+  symbols = c.new_in.ensures;
+  scopes = c.new_in-2.ensures;
+}
