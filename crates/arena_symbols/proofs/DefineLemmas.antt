@@ -17,7 +17,7 @@ use Rattle.arena_vec.specs.Credit.{credit_of as list_credit}
 use Rattle.arena_vec.specs.declared.vec.Vec.{Vec}
 use Rattle.arena_symbols.specs.Listing.{CanList, Lists, place_item}
 use Rattle.arena_symbols.specs.Paying.{Pays, far_up}
-use Rattle.arena_symbols.specs.Scoping.{is_in_last, with_pair, scopes_of, start_in, stands_from, most_pairs}
+use Rattle.arena_symbols.specs.Scoping.{is_in_last, with_pair, scopes_of, stands_from, most_pairs}
 use Rattle.arena_symbols.specs.TableCalls.{Defines}
 use Rattle.arena_symbols.specs.TableLaws.{table_of}
 use Rattle.arena_symbols.specs.Tables.{Entry, id_kind, pairs_of, newest, first_count, entries_in, recent_in, starts_in, scopes_in, table_blocks, IsTableOf, IsTableIn, table_credit}
@@ -46,11 +46,11 @@ module _ {item : Ghosts Entry} (old : View) (s : Scopes) (id value : ℕ) (held 
     hides : hid ≡ newest (recent_in item old.memory s) id
     hides = newest_is held id hid fits (rw bytes at found)
 
-    in_last : {there : Bool} → stands_from hid (start_in (starts_in old.memory s)) ≡ there → is_in_last scopes id ≡ there
+    in_last : {there : Bool} → stands_from hid s.start ≡ there → is_in_last scopes id ≡ there
     in_last stands = in_last_is held id hid fits (rw bytes at found) ∙ stands
 
     -- Nothing is put: the id is there, or there are as many pairs as there may be.
-    pub define_not : (there : Bool) → stands_from hid (start_in (starts_in old.memory s)) ≡ there
+    pub define_not : (there : Bool) → stands_from hid s.start ≡ there
         → (there ≡ false → most_pairs ≤ s.pairs.raw.len)
         → Defines item old old s s id value (if there then Ok false else Err CapacityOverflow)
     define_not there stands full =
@@ -58,7 +58,7 @@ module _ {item : Ghosts Entry} (old : View) (s : Scopes) (id value : ℕ) (held 
         let pays = pays_nothing far_up 512 (table_credit s) old result (λ k no. grind (arith, no)) in
         grind (arith, in_last stands, full, counted_pairs item old.memory s, pays, frame_reflexive old.memory (table_blocks s))
 
-    module _ (stands : stands_from hid (start_in (starts_in old.memory s)) ≡ false) (size : (item.SIZE ≡ 16) × (item.ALIGN ≡ 4))
+    module _ (stands : stands_from hid s.start ≡ false) (size : (item.SIZE ≡ 16) × (item.ALIGN ≡ 4))
         (few : s.pairs.raw.len < most_pairs) (new : View) (n : HashMap ℕ ℕ FxHasher) (v : Vec Entry) where
       abbrev now : Scopes
       now = record s { newest = n; pairs = v }
@@ -96,7 +96,7 @@ module _ {item : Ghosts Entry} (old : View) (s : Scopes) (id value : ℕ) (held 
           let begins = less_starts (length recent) (length (e ∷ recent)) (starts_in old.memory s) (omega (arith, inner)) held.begins in
           let count : n.len ≡ first_count (e ∷ recent) = grind (arith, lists.len, held.count, hides, held.places id fits) in
           let table : IsTableOf item new.memory now (e ∷ recent) (starts_in old.memory s) =
-          grind (arith, lists.map, lists.list, (starts lists).held, apart lists, places, hides, held.hidden, begins, held.depth, count) in (
+          grind (arith, lists.map, lists.list, (starts lists).held, apart lists, places, hides, held.hidden, begins, held.start, held.depth, count) in (
             table_of (ap reverse lists.list_is ∙ reverse_push entries e) (starts_are lists) table,
             (λ i. scopes_of (pairs_of (lists.list_is i)) (starts_are lists i))
                 ∙ rw (pairs_push entries e) (scopes_push (pairs_of entries) (starts_in old.memory s) id value

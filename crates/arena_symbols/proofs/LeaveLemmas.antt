@@ -24,11 +24,11 @@ pub left_alone : {item : Ghosts Entry} (old : View) (s : Scopes) → IsTableIn i
     → Leaves item old old s s false
 left_alone {item} old s held none = grind (arith, frame_reflexive old.memory (table_blocks s), depth_is item old.memory s)
 
-module _ {item : Ghosts Entry} (old : View) (s : Scopes) (v : Vec ℕ) (start : ℕ) (held : IsTableIn item old.memory s)
-    (some : (s.starts.raw.len == 0) ≡ false) (is : start ≡ start_in (starts_in old.memory s))
+module _ {item : Ghosts Entry} (old : View) (s : Scopes) (v : Vec ℕ) (k : ℕ) (held : IsTableIn item old.memory s)
+    (some : (s.starts.raw.len == 0) ≡ false) (is : k ≡ start_in (starts_in old.memory (record s { starts = v })))
     (cut : Becomes place_item old old s.starts (take (s.starts.raw.len - 1) (vec_list place_item old.memory s.starts)) v) where
   abbrev outer : Scopes
-  outer = record s { starts = v }
+  outer = record s { starts = v; start = k }
 
   positive : 0 < s.starts.raw.len
   positive = omega (arith, eqb-false s.starts.raw.len 0 some)
@@ -36,30 +36,30 @@ module _ {item : Ghosts Entry} (old : View) (s : Scopes) (v : Vec ℕ) (start : 
   fewer : v.raw.len ≤ s.starts.raw.len
   fewer = rw cut.len (simp (length-take, length-elements) (omega arith))
 
-  starts_are : starts_in old.memory s ≡ start ∷ starts_in old.memory outer
+  starts_are : starts_in old.memory s ≡ s.start ∷ starts_in old.memory outer
   starts_are =
       let front = reverse_front (vec_list place_item old.memory s.starts) (s.starts.raw.len - 1) in
-      grind (arith, is, cut.list_is, front, length-elements, positive)
+      grind (arith, held.start, cut.list_is, front, length-elements, positive)
 
-  begin : AreStarts (length (recent_in item old.memory s)) (start ∷ starts_in old.memory outer)
+  begin : AreStarts (length (recent_in item old.memory s)) (s.start ∷ starts_in old.memory outer)
   begin = subst (AreStarts (length (recent_in item old.memory s))) starts_are held.begins
 
   -- Without the innermost map's start it is a table still, whose pairs from there on are one map's.
   pub outer_held : IsTableIn item old.memory outer
   outer_held =
-      let begins = less_starts start (length (recent_in item old.memory s)) (starts_in old.memory outer)
-      (omega (arith, begin.0, start_within start (starts_in old.memory outer) begin.1)) begin.1 in
-      grind (arith, held, begins, cut.held, cut.block, fewer)
+      let begins = less_starts s.start (length (recent_in item old.memory s)) (starts_in old.memory outer)
+      (omega (arith, begin.0, start_within s.start (starts_in old.memory outer) begin.1)) begin.1 in
+      grind (arith, held, begins, is, cut.held, cut.block, fewer)
 
-  pub inner_start : start_in (starts_in old.memory outer) ≤ start
-  inner_start = start_within start (starts_in old.memory outer) begin.1
+  pub inner_start : k ≤ s.start
+  inner_start = omega (arith, is, start_within s.start (starts_in old.memory outer) begin.1)
 
-  pub start_low : start ≤ s.pairs.raw.len
+  pub start_low : s.start ≤ s.pairs.raw.len
   start_low = omega (arith, begin.0, length_recent item old.memory s)
 
   -- They go too.
-  pub left : (new : View) (t : Scopes) → Cuts item old new outer t start → Leaves item old new s t true
+  pub left : (new : View) (t : Scopes) → Cuts item old new outer t s.start → Leaves item old new s t true
   left new t cuts =
       let less = credit_less 4 v.raw.len s.starts.raw.len s.starts.raw.cap v.raw.cap fewer (omega (arith, cut.cap)) in
-      let front = take-map {Y = ℕ × ℕ} (λ (e : Entry). (e.0, e.1.0)) start (entries_in item old.memory s) in
+      let front = take-map {Y = ℕ × ℕ} (λ (e : Entry). (e.0, e.1.0)) s.start (entries_in item old.memory s) in
       grind (arith, cuts, front, starts_are, depth_is item old.memory s, positive, less, cut.block)

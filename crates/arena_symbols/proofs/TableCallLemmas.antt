@@ -36,11 +36,16 @@ enter_full {item} old s held full =
     let pays = pays_nothing {X = Unit {0}} far_up 64 (table_credit s) old (Err CapacityOverflow) (λ k no. cc) in
     grind (arith, pays, frame_reflexive old.memory (table_blocks s), depth_is item old.memory s)
 
-module _ (paid : Paid) {item : Ghosts Entry} (old new : View) {s : Scopes} (v : Vec ℕ) (held : IsTableIn item old.memory s)
-    (few : s.starts.raw.len < 2 ^ 29 - 1) (one : old.memory.state.min_align ≡ 1) where
+module _ (paid : Paid) {item : Ghosts Entry} (old new : View) {s : Scopes} (v : Vec ℕ) {n : ℕ} (held : IsTableIn item old.memory s)
+    (few : s.starts.raw.len < 2 ^ 29 - 1) (one : old.memory.state.min_align ≡ 1) (is : n ≡ s.pairs.raw.len) where
   abbrev Pushes : Result (Unit {0}) AllocError → Type 0
   Pushes result = Grows place_item old new s.starts (amortised_growth 4 s.starts.raw.cap (s.starts.raw.len + 1))
       (vec_list place_item old.memory s.starts ++ s.pairs.raw.len ∷ []) v result
+
+  -- the handle then
+  abbrev entered : Result (Unit {0}) AllocError → Scopes
+  entered (Ok x) = record s { starts = v; start = n }
+  entered (Err e) = record s { starts = v }
 
   longer : length (vec_list place_item old.memory s.starts ++ s.pairs.raw.len ∷ []) ≡ s.starts.raw.len + 1
   longer = simp (length-append, length-elements) (omega arith)
@@ -54,14 +59,15 @@ module _ (paid : Paid) {item : Ghosts Entry} (old new : View) {s : Scopes} (v : 
       (vec_list place_item old.memory s.starts ++ s.pairs.raw.len ∷ []) one held.starts (omega (arith, few)) longer result fits grows)
 
   pub enters : (result : Result (Unit {0}) AllocError) → (result ≡ Err CapacityOverflow → ⊥) → Pushes result
-      → Enters item old new s (record s { starts = v }) result
+      → Enters item old new s (entered result) result
   enters (Ok x) fits grows =
       let map = plain_beside grows.frame s.newest held.ids (held.apart.0.1.0, tt) in
       let vec = vec_beside grows.frame item s.pairs held.pairs (held.apart.1.0.0, tt) in
       let entries = entries_in item old.memory s in
-      let places : starts_in new.memory (record s { starts = v }) ≡ s.pairs.raw.len ∷ starts_in old.memory s =
+      let after = record s { starts = v; start = n } in
+      let places : starts_in new.memory after ≡ s.pairs.raw.len ∷ starts_in old.memory s =
       ap reverse grows.list_is ∙ reverse_push (vec_list place_item old.memory s.starts) s.pairs.raw.len in
-      let still : IsTableIn item new.memory (record s { starts = v }) =
+      let still : IsTableIn item new.memory after =
       table_of (ap reverse vec.list_is) places (record {
         ids = map.held;
         pairs = vec.held;
@@ -70,11 +76,12 @@ module _ (paid : Paid) {item : Ghosts Entry} (old new : View) {s : Scopes} (v : 
         places = λ id fits. ap (λ (f : Finite ℕ ℕ). value_of (f (to_le_bytes w32 id))) map.means ∙ held.places id fits;
         hidden = held.hidden;
         begins = (omega (arith, length_recent item old.memory s), rw (length_recent item old.memory s) at held.begins);
+        start = is;
         depth = omega (arith, grows.len, few, longer);
         count = held.count;
       }) in
       let pairs = length-map entries (λ (e : Entry). (e.0, e.1.0)) ∙ length-elements _ _ _ _ in
-      let scopes : scopes_in item new.memory (record s { starts = v }) ≡ [] ∷ scopes_in item old.memory s =
+      let scopes : scopes_in item new.memory after ≡ [] ∷ scopes_in item old.memory s =
       (λ i. scopes_of (pairs_of (vec.list_is i)) (places i))
       ∙ scopes_enter (pairs_of entries) (starts_in old.memory s) s.pairs.raw.len (sym pairs) in
       let frame = frame_behind _ _ _ _ (s.newest.table.block ∷ s.pairs.raw.block ∷ []) grows.frame in

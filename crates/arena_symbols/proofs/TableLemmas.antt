@@ -45,7 +45,7 @@ module _ {item : Ghosts Entry} {memory : Memory} {s : Scopes} (held : IsTableIn 
       ∙ (rw (reverse-reverse (entries_in item memory s), ← newest_is) at (value_told (recent_in item memory s) id))
 
   -- and is of the innermost map where it stands from that one's start on.
-  pub in_last_is : is_in_last (scopes_in item memory s) id ≡ stands_from o (start_in (starts_in memory s))
-  in_last_is = rw (innermost_is (pairs_of (entries_in item memory s)) (starts_in memory s))
+  pub in_last_is : is_in_last (scopes_in item memory s) id ≡ stands_from o s.start
+  in_last_is = rw (held.start, innermost_is (pairs_of (entries_in item memory s)) (starts_in memory s))
       (rw (reverse-reverse (entries_in item memory s), ← newest_is)
       at (stands_there (recent_in item memory s) (start_in (starts_in memory s)) id))

@@ -12,7 +12,6 @@ use Rattle.arena_items.specs.declared.item.Item.{Ghosts}
 use Rattle.arena_items.specs.declared.room.AllocError.{AllocError}
 use Rattle.arena_items.proofs.Layers.{length-elements, same_then}
 use Rattle.arena_vec.specs.Changes.{Becomes}
-use Rattle.arena_vec.specs.Vecs.{IsVecIn, vec_list}
 use Rattle.arena_vec.specs.declared.vec.Vec.{Vec}
 use Rattle.arena_hash.specs.Changes.{Puts, TakesOut, is_value}
 use Rattle.arena_hash.specs.Finite.{Finite, has, value_of}
@@ -20,7 +19,6 @@ use Rattle.arena_hash.specs.Maps.{map_in}
 use Rattle.arena_hash.specs.declared.hasher.FxHasher.{FxHasher}
 use Rattle.arena_hash.specs.declared.map.HashMap.{HashMap}
 use Rattle.arena_symbols.specs.Listing.{place_item}
-use Rattle.arena_symbols.specs.Scoping.{start_in}
 use Rattle.arena_symbols.specs.TableCalls.{Cuts, Unhides}
 use Rattle.arena_symbols.specs.TableLaws.{table_of}
 use Rattle.arena_symbols.specs.Tables.{Entry, id_kind, entries_in, recent_in, starts_in, table_blocks, IsTableOf, IsTableIn}
@@ -78,34 +76,34 @@ module _ {item : Ghosts Entry} (old : View) {s : Scopes} (n : ℕ) {e : Entry} (
   pub is_there : has (map_in id_kind old.memory s.newest) (to_le_bytes w32 e.0) ≡ true
   is_there = grind (arith, nat_tests, was.places e.0 fits)
 
-  -- Then the list's end is cut off.
-  pub undone : (new : View) (w : HashMap ℕ ℕ FxHasher) (u : Vec Entry) → start_in (starts_in old.memory s) < s.pairs.raw.len
-      → Unhides old new s.newest e.0 e.1.1 w
-      → (IsVecIn item new.memory s.pairs → Becomes item new new s.pairs (take n (vec_list item new.memory s.pairs)) u)
+  -- The list's end is cut off, and its id tells what was hidden.
+  pub undone : (new : View) (w : HashMap ℕ ℕ FxHasher) (u : Vec Entry) → s.start < s.pairs.raw.len
+      → Becomes item old old s.pairs (take n entries) u → Unhides old new s.newest e.0 e.1.1 w
       → Cuts item old new s (record s { newest = w; pairs = u }) n
-  undone new w u inner shown cut =
-      let vec = vec_beside shown.frame item s.pairs held.pairs (blocks_turned s.newest.table.block s.pairs.raw.block held.apart.0.0, tt) in
+  undone new w u inner is shown =
+      let vec = vec_beside shown.frame item u is.held
+      (rw is.block (blocks_turned s.newest.table.block s.pairs.raw.block held.apart.0.0, tt)) in
       let starts = vec_beside shown.frame place_item s.starts held.starts
       (blocks_turned s.newest.table.block s.starts.raw.block held.apart.0.1.0, tt) in
-      let is = cut vec.held in
-      let same : entries_in item new.memory (record s { newest = w; pairs = u }) ≡ take n entries = is.list_is ∙ ap (take n) vec.list_is in
+      let after = record s { newest = w; pairs = u } in
+      let same : entries_in item new.memory after ≡ take n entries = vec.list_is ∙ is.list_is in
       let starts_are : starts_in new.memory s ≡ starts_in old.memory s = ap reverse starts.list_is in
       let len : u.raw.len ≡ n = is.len ∙ simp (length-take, length-elements) (omega (arith, last)) in
       let less = credit_less 16 u.raw.len s.pairs.raw.len s.pairs.raw.cap u.raw.cap (omega (arith, len, last)) (omega (arith, is.cap)) in
-      let after = record s { newest = w; pairs = u } in
       let table : IsTableOf item new.memory after older (starts_in old.memory s) = record {
         ids = shown.held;
-        pairs = is.held;
+        pairs = vec.held;
         starts = starts.held;
-        apart = rw is.block (
-          (all_turned (s.pairs.raw.block ∷ s.starts.raw.block ∷ []) (w.table.block ∷ []) (vec.apart, (starts.apart, tt))).0,
-          held.apart.1,
+        apart = (
+          (all_turned (u.raw.block ∷ s.starts.raw.block ∷ []) (w.table.block ∷ []) (vec.apart, (starts.apart, tt))).0,
+          rw is.block held.apart.1,
         );
         places = λ q low. shown.values q low ∙ (λ i. cond (ids_equal q e.0 low fits i) e.1.1 (was.places q low i))
             ∙ grind (arith, nat_tests, was.hidden.0);
         hidden = was.hidden.1;
-        begins = less_starts (length (e ∷ older)) (length older) (starts_in old.memory s) (omega (arith, inner, last, length_older))
-            was.begins;
+        begins = less_starts (length (e ∷ older)) (length older) (starts_in old.memory s)
+            (omega (arith, inner, held.start, last, length_older)) was.begins;
+        start = held.start;
         depth = held.depth;
         count = omega (arith, shown.len, was.count);
       } in

@@ -68,6 +68,7 @@ module _ (item : Ghosts Entry) where
               (sym (meaning-agree id_kind a c s.newest map_agree)) ∙ held.places id fits;
           hidden = held.hidden;
           begins = held.begins;
+          start = held.start;
           depth = held.depth;
           count = held.count;
         })

@@ -14,7 +14,7 @@ use Rattle.arena_hash.specs.Finite.{value_of}
 use Rattle.arena_hash.specs.Maps.{IsMapIn, map_in}
 use Rattle.arena_hash.specs.declared.hasher.FxHasher.{FxHasher}
 use Rattle.arena_symbols.specs.Listing.{place_item, place_kind}
-use Rattle.arena_symbols.specs.Scoping.{scopes_of, AreStarts}
+use Rattle.arena_symbols.specs.Scoping.{scopes_of, AreStarts, start_in}
 use Rattle.arena_symbols.specs.declared.scopes.Scopes.{Scopes}
 
 -- A pair with what it hid: the id, the value, and the place of the newest pair before it with that id.
@@ -78,6 +78,7 @@ pub record IsTableOf (item : Ghosts Entry) (memory : Memory) (s : Scopes) (es : 
   pub places : (id : ℕ) → id < 2 ^ 32 → value_of (map_in id_kind memory s.newest (to_le_bytes w32 id)) ≡ newest es id
   pub hidden : TellHidden es
   pub begins : AreStarts (length es) ks
+  pub start : s.start ≡ start_in ks
   pub depth : s.starts.raw.len < 2 ^ 29
   pub count : s.newest.len ≡ first_count es
 

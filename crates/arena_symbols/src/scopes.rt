@@ -4,6 +4,8 @@ ghost use Rattle.arena_chunks.specs.Memory.{Memory};
 ghost use Rattle.std.specs.Int.{w32, to_le_bytes};
 ghost use Rattle.arena_hash.specs.Finite.{has};
 ghost use Rattle.arena_hash.specs.Maps.{IsMapIn, map_in};
+ghost use Rattle.arena_vec.specs.Vecs.{IsVecIn};
+ghost use Rattle.arena_symbols.specs.Listing.{place_item};
 ghost use Rattle.arena_symbols.specs.Scoping.{lookup, is_in_last, start_in, stands_from};
 ghost use Rattle.arena_symbols.specs.Tables.{IsTableIn, scopes_in, starts_in, id_kind, entry_item};
 ghost use Rattle.arena_symbols.specs.TableCalls.{IsNewTable, Enters, Leaves, Defines, Cuts, Unhides};
@@ -33,6 +35,8 @@ pub struct Scopes {
     pub pairs: Vec<Entry>,
     /// Where the pairs of each map begin, but for the outermost.
     pub starts: Vec<u32>,
+    /// Where the pairs of the innermost map begin: the last of those places, or 0.
+    pub start: u32,
 }
 
 impl Scopes {
@@ -44,6 +48,7 @@ impl Scopes {
             newest: HashMap::new_in(),
             pairs: Vec::new_in(),
             starts: Vec::new_in(),
+            start: 0,
         }
     }
 
@@ -53,17 +58,6 @@ impl Scopes {
             → result ≡ length (scopes_in entry_item memory self.now) }
     {
         self.starts.len().saturating_add(1)
-    }
-
-    // Where the innermost map begins.
-    #[inline(always)]
-    #[tactic(auto, using(crate::proofs::ScopeLemmas::start_laws))]
-    fn start<C: ChunkSource>(&self, a: &Allocator<C>) -> u32
-        requires { IsTableIn entry_item a.now.memory self.now }
-        ensures { result ≡ start_in (starts_in a.now.memory self.now) }
-    {
-        let n = self.starts.len();
-        if n == 0 { 0 } else { self.starts.get(a, n - 1) }
     }
 
     /// The value of an id in the innermost map that has it.
@@ -87,17 +81,16 @@ impl Scopes {
         requires { IsTableIn entry_item a.now.memory self.now }
         ensures { result ≡ is_in_last (scopes_in entry_item a.now.memory self.now) id }
     {
-        self.is_inner(a, self.newest.get(a, id))
+        self.is_inner(self.newest.get(a, id))
     }
 
     // Whether a pair that was found is one of the innermost map's.
     #[inline(always)]
-    fn is_inner<C: ChunkSource>(&self, a: &Allocator<C>, found: Option<u32>) -> bool
-        requires { IsTableIn entry_item a.now.memory self.now }
-        ensures { result ≡ stands_from found (start_in (starts_in a.now.memory self.now)) }
+    fn is_inner(&self, found: Option<u32>) -> bool
+        ensures { result ≡ stands_from found self.now.start }
     {
         match found {
-            Some(at) => at >= self.start(a),
+            Some(at) => at >= self.start,
             None => false,
         }
     }
@@ -120,7 +113,9 @@ impl Scopes {
             return Err(AllocError::CapacityOverflow);
         }
         let n = self.pairs.len();
-        self.starts.push(a, n)
+        self.starts.push(a, n)?;
+        self.start = n;
+        Ok(())
     }
 
     /// Puts a pair into the innermost map, unless that has the id.
@@ -177,7 +172,7 @@ impl Scopes {
         let _ = a.min_align();
         let content = id.to_le_bytes();
         let (hidden, look) = self.newest.search(a, &content);
-        if self.is_inner(a, hidden) {
+        if self.is_inner(hidden) {
             return Ok(false);
         }
         if self.pairs.len() >= MOST_PAIRS {
@@ -200,25 +195,25 @@ impl Scopes {
     #[tactic(auto, using(crate::proofs::TableLemmas::entry_size))]
     fn undo<C: ChunkSource>(&mut self, a: &mut Allocator<C>)
         requires held { IsTableIn entry_item a.old.memory self.old }
-        requires inner { start_in (starts_in a.old.memory self.old) < self.old.pairs.raw.len }
+        requires inner { self.old.start < self.old.pairs.raw.len }
         ensures { Cuts entry_item a.old a.new self.old self.new (self.old.pairs.raw.len - 1) }
     {
         let last = self.pairs.len() - 1;
         let entry = self.pairs.get(a, last);
         entry.known();
-        self.unhide(a, entry.0, entry.1.1);
         self.pairs.truncate(last);
+        self.unhide(a, entry.0, entry.1.1);
     }
 
     // Takes the pairs away from a place on, the newest first.
     #[inline(always)]
     fn cut<C: ChunkSource>(&mut self, a: &mut Allocator<C>, start: u32)
         requires held { IsTableIn entry_item a.old.memory self.old }
-        requires inner { start_in (starts_in a.old.memory self.old) ≤ start }
+        requires inner { self.old.start ≤ start }
         requires within { start ≤ self.old.pairs.raw.len }
         ensures { Cuts entry_item a.old a.new self.old self.new start }
     {
-        'pairs: for _ in start..self.pairs.len() {
+        'pairs: while self.pairs.len() > start {
             self.undo(a);
         }
     }
@@ -249,9 +244,21 @@ impl Scopes {
         if self.starts.is_empty() {
             return false;
         }
-        let start = self.start(a);
+        let start = self.start;
         self.starts.truncate(self.starts.len() - 1);
+        self.start = self.last_start(a);
         self.cut(a, start);
         true
+    }
+
+    // Where the innermost map begins, as the list of places tells.
+    #[inline(always)]
+    #[tactic(auto, using(crate::proofs::ScopeLemmas::start_laws))]
+    fn last_start<C: ChunkSource>(&self, a: &Allocator<C>) -> u32
+        requires { IsVecIn place_item a.now.memory self.now.starts }
+        ensures { result ≡ start_in (starts_in a.now.memory self.now) }
+    {
+        let n = self.starts.len();
+        if n == 0 { 0 } else { self.starts.get(a, n - 1) }
     }
 }

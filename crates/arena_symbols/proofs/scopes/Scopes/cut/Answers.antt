@@ -3,8 +3,11 @@ use Rattle.arena_symbols.proofs.UndoLemmas.{cut_none, cut_then}
 use Rattle.arena_symbols.proofs.scopes.Scopes.cut.Goals as goal
 
 pub pairs-init : goal.pairs-init
-pairs-init g c = cut_none c.args.a.now c.args.self.now (omega arith) c.requires.held
+pairs-init g c = (cut_none c.args.a.now c.args.self.now (omega arith) c.requires.held, c.requires.within)
 
 pub pairs-preserved : goal.pairs-preserved
 pairs-preserved g c =
-    cut_then (omega (arith, c.pairs.invariant.len, c.pairs-test.true, c.len-end.ensures)) (omega arith) c.pairs.invariant c.undo.ensures
+    let more = c.pairs-test.true in (
+      cut_then (omega (arith, c.undo.ensures.len)) (omega (arith, c.undo.ensures.len)) c.pairs.invariant.0 c.undo.ensures,
+      omega (arith, c.undo.ensures.len, c.len.ensures, more),
+    )

@@ -1,4 +1,4 @@
-use Rattle.std.proofs.Common.{ℕ, [], ◌∷◌, reverse, ap, arith}
+use Rattle.std.proofs.Common.{ℕ, [], ◌∷◌, reverse, refl, ap, arith}
 use Rattle.std.specs.Int.{w32, to_le_bytes}
 use Rattle.placement.specs.Rounding.{up}
 use Rattle.arena_chunks.proofs.Layers.{apart_empty}
@@ -28,6 +28,7 @@ returns c =
         places = λ id fits. ap (λ (f : Finite ℕ ℕ). value_of (f (to_le_bytes w32 id))) (map.map_is memory);
         hidden = tt;
         begins = tt;
+        start = refl;
         depth = omega (arith, starts.len);
         count = map.len;
       });
