@@ -3,8 +3,6 @@ pub use Rattle.arena_clone.proofs.AsksLemmas.{same_places, same_asked, asked_the
 pub use Rattle.arena_clone.proofs.CopyLemmas.{
   deep_agree,
   deep_stays,
-  placed_stays,
-  copies_earlier,
   made_stays,
   made_readable,
   apart_of_none,
@@ -17,5 +15,6 @@ pub use Rattle.arena_clone.proofs.CopyLemmas.{
   makes_refused,
 }
 pub use Rattle.arena_clone.proofs.LawLemmas.{all_turned}
+pub use Rattle.arena_clone.proofs.OriginLemmas.{placed_held, placed_copied}
 pub use Rattle.arena_clone.proofs.BoxLemmas.{makes_box}
 pub use Rattle.arena_clone.proofs.BothLemmas.{makes_both, second_refused}

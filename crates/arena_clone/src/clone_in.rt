@@ -5,6 +5,7 @@ ghost use Rattle.arena_clone.specs.KindLaws.{IsLawful};
 ghost use Rattle.arena_clone.specs.Copies.{Copies};
 
 use crate::ids::CloneInSemanticIds;
+use crate::origin::{Here, Origin};
 use arena_chunks::{Allocator, ChunkSource};
 use arena_items::Grown;
 
@@ -19,14 +20,29 @@ pub trait CloneIn: Sized {
     fn is_flat(ids: CloneInSemanticIds) -> bool
         ensures { result ≡ kind.is_flat ids };
 
-    /// A copy in another arena, which keeps semantic ids where that is asked for.
+    /// A copy of a value that stands there, which keeps semantic ids where that is asked for.
     ///
     /// # Errors
     ///
     /// `AllocErr` and `OutOfMemory` as of the arena's `alloc_layout`, at the first block that it refuses, and
     /// `CapacityOverflow` where a vector's values have more than 4,294,967,295 bytes. Blocks that were placed for the copy
     /// stay then, and nobody names them.
-    fn clone_in_impl<C: ChunkSource, D: ChunkSource>(
+    fn copy_of<O: Origin<D>, D: ChunkSource>(
+        &self,
+        ids: CloneInSemanticIds,
+        from: &O,
+        to: &mut Allocator<D>,
+    ) -> Grown<Self>
+        requires small { kind.is_small }
+        requires held { kind.is_held (O.there from.now to.old.memory) self.now }
+        ensures { Copies kind ids (O.there from.now to.old.memory) to.old to.new self.now result };
+
+    /// A copy in another arena, which keeps semantic ids where that is asked for.
+    ///
+    /// # Errors
+    ///
+    /// As of `copy_of`.
+    final fn clone_in_impl<C: ChunkSource, D: ChunkSource>(
         &self,
         ids: CloneInSemanticIds,
         from: &Allocator<C>,
@@ -34,21 +50,27 @@ pub trait CloneIn: Sized {
     ) -> Grown<Self>
         requires small { kind.is_small }
         requires held { kind.is_held from.now.memory self.now }
-        ensures { Copies kind ids from.now.memory to.old to.new self.now result };
+        ensures { Copies kind ids from.now.memory to.old to.new self.now result }
+    {
+        self.copy_of(ids, from, to)
+    }
 
     /// A copy in the same arena, which keeps semantic ids where that is asked for. The source stays as it is.
     ///
     /// # Errors
     ///
     /// As of `clone_in_impl`.
-    fn clone_within<C: ChunkSource>(
+    final fn clone_within<C: ChunkSource>(
         &self,
         ids: CloneInSemanticIds,
         a: &mut Allocator<C>,
     ) -> Grown<Self>
         requires small { kind.is_small }
         requires held { kind.is_held a.old.memory self.now }
-        ensures { Copies kind ids a.old.memory a.old a.new self.now result };
+        ensures { Copies kind ids a.old.memory a.old a.new self.now result }
+    {
+        self.copy_of(ids, &Here, a)
+    }
 
     /// A copy in another arena, with 0 for each semantic id.
     ///

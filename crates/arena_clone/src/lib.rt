@@ -30,6 +30,8 @@ pub use convert::{FromIn, IntoIn};
 pub use dummy::Dummy;
 pub use ids::CloneInSemanticIds;
 pub use keys::CloneKey;
+pub use numbers::Scalar;
+pub use origin::Origin;
 pub use replace_with::ReplaceWith;
 pub use semantic_id::SemanticId;
 pub use take_in::TakeIn;

@@ -12,7 +12,7 @@ ghost use Rattle.arena_clone.specs.Origins.{AreBeside};
 use crate::clone_in::CloneIn;
 use crate::ids::CloneInSemanticIds;
 use crate::keys::CloneKey;
-use crate::origin::{Here, Origin};
+use crate::origin::Origin;
 use crate::tables::{copy_table, is_copied_whole};
 use arena_chunks::{Allocator, ChunkSource};
 use arena_hash::{HashMap, KeyHasher};
@@ -29,8 +29,8 @@ fn clone_pair<K: CloneIn + Item, V: CloneIn + Item, O: Origin<D>, D: ChunkSource
     requires held { (pair_of K.kind V.kind).is_held (O.there from.now to.old.memory) pair.now }
     ensures { Copies (pair_of K.kind V.kind) ids (O.there from.now to.old.memory) to.old to.new pair.now result }
 {
-    let key = from.copy_of(&pair.0, ids, to)?;
-    let value = from.copy_of(&pair.1, ids, to)?;
+    let key = pair.0.copy_of(ids, from, to)?;
+    let value = pair.1.copy_of(ids, from, to)?;
     Ok((key, value))
 }
 
@@ -71,33 +71,6 @@ fn put_pairs<
     Ok(copy)
 }
 
-// A copy of a map, with the table of a new map for its pairs.
-fn copy_map<
-    K: CloneKey,
-    V: CloneIn + Item,
-    S: KeyHasher + Copy + Drop,
-    O: Origin<D>,
-    D: ChunkSource,
->(
-    map: &HashMap<K, V, S>,
-    ids: CloneInSemanticIds,
-    from: &O,
-    to: &mut Allocator<D>,
-) -> Grown<HashMap<K, V, S>>
-    requires small { (map_of (kind K.Item K.key V.Item S.hash_of) K.kind V.kind).is_small }
-    requires held { (map_of (kind K.Item K.key V.Item S.hash_of) K.kind V.kind).is_held
-        (O.there from.now to.old.memory) map.now }
-    ensures { Copies (map_of (kind K.Item K.key V.Item S.hash_of) K.kind V.kind) ids
-        (O.there from.now to.old.memory) to.old to.new map.now result }
-{
-    if is_copied_whole(map, ids) {
-        return copy_table(map, from, to);
-    }
-    let empty = HashMap::with_capacity_and_hasher_in(map.len as u64, map.hasher, to)?;
-    let copy = put_pairs::<K, V, S, O, D>(map, empty, ids, from, to)?;
-    Ok(copy)
-}
-
 impl<K: CloneKey, V: CloneIn + Item, S: KeyHasher + Copy + Drop> CloneIn for HashMap<K, V, S> {
     ghost kind = { map_of (kind K.Item K.key V.Item S.hash_of) K.kind V.kind };
 
@@ -123,20 +96,17 @@ impl<K: CloneKey, V: CloneIn + Item, S: KeyHasher + Copy + Drop> CloneIn for Has
         false
     }
 
-    fn clone_in_impl<C: ChunkSource, D: ChunkSource>(
+    fn copy_of<O: Origin<D>, D: ChunkSource>(
         &self,
         ids: CloneInSemanticIds,
-        from: &Allocator<C>,
+        from: &O,
         to: &mut Allocator<D>,
     ) -> Grown<Self> {
-        copy_map(self, ids, from, to)
-    }
-
-    fn clone_within<C: ChunkSource>(
-        &self,
-        ids: CloneInSemanticIds,
-        a: &mut Allocator<C>,
-    ) -> Grown<Self> {
-        copy_map(self, ids, &Here, a)
+        if is_copied_whole(self, ids) {
+            return copy_table(self, from, to);
+        }
+        let empty = HashMap::with_capacity_and_hasher_in(self.len as u64, self.hasher, to)?;
+        let copy = put_pairs::<K, V, S, O, D>(self, empty, ids, from, to)?;
+        Ok(copy)
     }
 }

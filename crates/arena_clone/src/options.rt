@@ -4,6 +4,7 @@ ghost use Rattle.arena_clone.specs.KindLaws.{option_lawful};
 
 use crate::clone_in::CloneIn;
 use crate::ids::CloneInSemanticIds;
+use crate::origin::Origin;
 use arena_chunks::{Allocator, ChunkSource};
 use arena_items::Grown;
 
@@ -16,25 +17,14 @@ impl<T: CloneIn> CloneIn for Option<T> {
         T::is_flat(ids)
     }
 
-    fn clone_in_impl<C: ChunkSource, D: ChunkSource>(
+    fn copy_of<O: Origin<D>, D: ChunkSource>(
         &self,
         ids: CloneInSemanticIds,
-        from: &Allocator<C>,
+        from: &O,
         to: &mut Allocator<D>,
     ) -> Grown<Self> {
         match self {
-            Some(value) => Ok(Some(value.clone_in_impl(ids, from, to)?)),
-            None => Ok(None),
-        }
-    }
-
-    fn clone_within<C: ChunkSource>(
-        &self,
-        ids: CloneInSemanticIds,
-        a: &mut Allocator<C>,
-    ) -> Grown<Self> {
-        match self {
-            Some(value) => Ok(Some(value.clone_within(ids, a)?)),
+            Some(value) => Ok(Some(value.copy_of(ids, from, to)?)),
             None => Ok(None),
         }
     }

@@ -4,16 +4,13 @@ ghost use Rattle.arena_chunks.specs.Memory.{Memory, is_readable, image, bytes_fr
 ghost use Rattle.arena_chunks.specs.BlockCalls.{WritesBlock};
 ghost use Rattle.arena_chunks.specs.Frame.{IsApart};
 ghost use Rattle.arena_chunks.specs.declared.block.Block.{Block as Place};
-ghost use Rattle.arena_clone.specs.Copies.{Copies};
 ghost use Rattle.arena_clone.specs.Origins.{IsOrigin, elsewhere, in_place};
 
-use crate::clone_in::CloneIn;
-use crate::ids::CloneInSemanticIds;
 use arena_chunks::{Allocator, Block, ChunkSource};
-use arena_items::Grown;
 
-// Where values stand that are copied into an arena.
-pub(crate) trait Origin<D: ChunkSource> {
+/// Where values stand that are copied into an arena.
+pub trait Origin<D: ChunkSource> {
+    /// The source of chunks of that arena.
     type Chunks: ChunkSource;
 
     // The memory that they stand in, by that of their copies' arena.
@@ -22,11 +19,11 @@ pub(crate) trait Origin<D: ChunkSource> {
     // What keeps a block there while a call works on blocks of the copies' arena.
     ghost is_beside: { Place → List Place → Type 0 };
 
-    // The arena that they stand in.
+    /// The arena that they stand in.
     fn arena<'x>(&'x self, to: &'x Allocator<D>) -> &'x Allocator<Self::Chunks>
         ensures { result.now.memory ≡ there self.now to.now.memory };
 
-    // Puts the first bytes of a block there to the front of a block of the copies' arena.
+    /// Puts the first `size` bytes of a block there to the front of a block of the copies' arena.
     fn copy_front(&self, source: Block, to: &mut Allocator<D>, target: Block, size: u64)
         requires source { IsTrue (is_readable (there self.now to.old.memory).state source) }
         requires target { IsTrue (is_readable to.old.memory.state target) }
@@ -35,17 +32,6 @@ pub(crate) trait Origin<D: ChunkSource> {
         ensures writes { WritesBlock to.old.memory to.new.memory target 0
             (bytes_from (image (there self.now to.old.memory)) source.addr size) }
         ensures source { to.new.source ≡ to.old.source };
-
-    // A copy of a value that stands there.
-    fn copy_of<T: CloneIn>(
-        &self,
-        value: &T,
-        ids: CloneInSemanticIds,
-        to: &mut Allocator<D>,
-    ) -> Grown<T>
-        requires small { T.kind.is_small }
-        requires held { T.kind.is_held (there self.now to.old.memory) value.now }
-        ensures { Copies T.kind ids (there self.now to.old.memory) to.old to.new value.now result };
 
     ghost is_origin: { (s : Self) → IsOrigin (there s) is_beside };
 }
@@ -66,19 +52,10 @@ impl<C: ChunkSource, D: ChunkSource> Origin<D> for Allocator<C> {
     fn copy_front(&self, source: Block, to: &mut Allocator<D>, target: Block, size: u64) {
         to.write(target, 0, &self.read(source)[..size as usize]);
     }
-
-    fn copy_of<T: CloneIn>(
-        &self,
-        value: &T,
-        ids: CloneInSemanticIds,
-        to: &mut Allocator<D>,
-    ) -> Grown<T> {
-        value.clone_in_impl(ids, self, to)
-    }
 }
 
 // The arena of the copies.
-pub(crate) struct Here;
+pub struct Here;
 
 impl<D: ChunkSource> Origin<D> for Here {
     type Chunks = D;
@@ -95,14 +72,5 @@ impl<D: ChunkSource> Origin<D> for Here {
 
     fn copy_front(&self, source: Block, to: &mut Allocator<D>, target: Block, size: u64) {
         to.copy_between(source, 0, target, 0, size);
-    }
-
-    fn copy_of<T: CloneIn>(
-        &self,
-        value: &T,
-        ids: CloneInSemanticIds,
-        to: &mut Allocator<D>,
-    ) -> Grown<T> {
-        value.clone_within(ids, to)
     }
 }

@@ -47,7 +47,7 @@ pub(crate) fn copy_row<T: CloneIn + Item, O: Origin<D>, D: ChunkSource>(
     }
     for i in 0..row.count {
         let value: T = item_at(from.arena(to), row.source, i);
-        let copy = from.copy_of(&value, ids, to)?;
+        let copy = value.copy_of(ids, from, to)?;
         put_item(to, row.target, i, copy);
     }
     Ok(())

@@ -8,6 +8,7 @@ ghost use Rattle.arena_clone.specs.KindLaws.{semantic_id_lawful};
 
 use crate::clone_in::CloneIn;
 use crate::ids::CloneInSemanticIds;
+use crate::origin::Origin;
 use arena_chunks::{Allocator, ChunkSource};
 use arena_items::{Grown, Item};
 
@@ -74,19 +75,11 @@ impl CloneIn for SemanticId {
         }
     }
 
-    fn clone_in_impl<C: ChunkSource, D: ChunkSource>(
+    fn copy_of<O: Origin<D>, D: ChunkSource>(
         &self,
         ids: CloneInSemanticIds,
-        _from: &Allocator<C>,
+        _from: &O,
         _to: &mut Allocator<D>,
-    ) -> Grown<Self> {
-        Ok(self.copied(ids))
-    }
-
-    fn clone_within<C: ChunkSource>(
-        &self,
-        ids: CloneInSemanticIds,
-        _a: &mut Allocator<C>,
     ) -> Grown<Self> {
         Ok(self.copied(ids))
     }

@@ -1,54 +1,56 @@
 -- Branches that are copied part by part: the name, the id, and the leaves.
 use Rattle.std.proofs.Common.{[], ◌++◌, Ok, Err, refl}
-use Rattle.std.specs.Prelude.{Result}
+use Rattle.std.specs.Prelude.{List, Result}
 use Rattle.arena_chunks.specs.Frame.{Frame}
 use Rattle.arena_chunks.specs.Memory.{Memory}
 use Rattle.arena_chunks.specs.Source.{View}
 use Rattle.arena_chunks.specs.declared.allocator.text.Str.{Str}
+use Rattle.arena_chunks.specs.declared.block.Block.{Block}
 use Rattle.arena_items.specs.declared.room.AllocError.{AllocError}
 use Rattle.arena_vec.specs.declared.vec.Vec.{Vec}
 use Rattle.arena_clone.specs.Kinds.{Kind, text, semantic_id}
 use Rattle.arena_clone.specs.KindLaws.{IsLawful, text_lawful, semantic_id_lawful}
 use Rattle.arena_clone.specs.Copies.{Copies}
+use Rattle.arena_clone.specs.Origins.{IsOrigin}
 use Rattle.arena_clone.specs.declared.ids.CloneInSemanticIds.{CloneInSemanticIds}
 use Rattle.arena_clone.specs.declared.semantic_id.SemanticId.{SemanticId}
-use Rattle.arena_clone.proofs.Layers.{placed_stays, apart_of_none, frame_more, copies_earlier, makes_both, makes_refused, second_refused}
+use Rattle.arena_clone.proofs.Layers.{frame_more, makes_both, makes_refused, placed_copied, placed_held, second_refused}
 use Rattle.example_collections.specs.Branches.{inside_of, branch_of}
 use Rattle.example_collections.specs.declared.branches.Branch.{Branch}
 
-module _ {L : Type 0} (leaves : Kind (Vec L)) (ids : CloneInSemanticIds) (source : Memory) (b : Branch L)
-    (old first second new : View) where
+module _ {L : Type 0} (leaves : Kind (Vec L)) (ids : CloneInSemanticIds) (source : Memory) (b : Branch L) where
   -- Where the name is refused, so is the branch,
-  pub name_refused : (e : AllocError) → Copies text ids source old new b.name (Err e)
+  pub name_refused : {old new : View} {e : AllocError} → Copies text ids source old new b.name (Err e)
       → Copies (branch_of leaves) ids source old new b (Err e)
-  name_refused e name = makes_refused ((inside_of leaves).asks source b) name
+  name_refused name = makes_refused ((inside_of leaves).asks source b) name
 
-  module _ (name : Str) (id : SemanticId) (named : Copies text ids source old first b.name (Ok name))
+  module _ {old first second new : View} {name : Str} {id : SemanticId} (named : Copies text ids source old first b.name (Ok name))
       (known : Copies semantic_id ids source first second b.id (Ok id)) where
     -- and where the leaves are.
-    pub leaves_refused : (e : AllocError) → Copies leaves ids source second new b.leaves (Err e)
+    pub leaves_refused : {e : AllocError} → Copies leaves ids source second new b.leaves (Err e)
         → Copies (branch_of leaves) ids source old new b (Err e)
-    leaves_refused e rest =
+    leaves_refused rest =
         second_refused text (inside_of leaves) (λ b. b.name) (λ b. b) text_lawful named
         (second_refused semantic_id leaves (λ b. b.id) (λ b. b.leaves) semantic_id_lawful known rest)
 
     -- Where nothing is refused the branch has the copies.
-    pub branch_made : (list : Vec L) → Copies leaves ids source second new b.leaves (Ok list)
+    pub branch_made : {list : Vec L} → Copies leaves ids source second new b.leaves (Ok list)
         → Copies (branch_of leaves) ids source old new b (Ok (record { name = name; id = id; leaves = list }))
-    branch_made list rest =
+    branch_made rest =
         makes_both text (inside_of leaves) (λ b. b.name) (λ b. b) text_lawful named refl refl
         (makes_both semantic_id leaves (λ b. b.id) (λ b. b.leaves) semantic_id_lawful known refl refl rest)
 
--- In one arena the leaves are as they were once the name and the id were copied.
-module _ {L : Type 0} (leaves : Kind (Vec L)) (are : IsLawful leaves) (ids : CloneInSemanticIds) (b : Branch L)
-    (old first second new : View) (name : Str) (id : SemanticId) (named : Copies text ids old.memory old first b.name (Ok name))
-    (known : Copies semantic_id ids old.memory first second b.id (Ok id)) (held : leaves.is_held old.memory b.leaves) where
+-- The leaves are as they were once the name and the id were copied.
+module _ {there : Memory → Memory} {is_beside : Block → List Block → Type 0} (origin : IsOrigin there is_beside) {L : Type 0}
+    {leaves : Kind (Vec L)} (are : IsLawful leaves) (b : Branch L) (ids : CloneInSemanticIds) {old first second : View} {name : Str}
+    {id : SemanticId} (named : Copies text ids (there old.memory) old first b.name (Ok name))
+    (known : Copies semantic_id ids (there old.memory) first second b.id (Ok id)) (held : leaves.is_held (there old.memory) b.leaves) where
   placed : Frame old.memory second.memory [] (named.blocks ++ known.blocks)
   placed = frame_more old.memory first.memory second.memory named.blocks known.blocks named.placed.frame known.placed.frame
 
-  pub leaves_held : leaves.is_held second.memory b.leaves
-  leaves_held = (placed_stays are b.leaves placed held).held
+  pub leaves_held : leaves.is_held (there second.memory) b.leaves
+  leaves_held = placed_held origin placed are b.leaves held
 
-  pub leaves_copied : (result : Result (Vec L) AllocError) → Copies leaves ids second.memory second new b.leaves result
-      → Copies leaves ids old.memory second new b.leaves result
-  leaves_copied result = copies_earlier are placed ids b.leaves held (apart_of_none (leaves.deep old.memory b.leaves))
+  pub leaves_copied : {new : View} {result : Result (Vec L) AllocError} → Copies leaves ids (there second.memory) second new b.leaves result
+      → Copies leaves ids (there old.memory) second new b.leaves result
+  leaves_copied = placed_copied origin placed are b.leaves held

@@ -4,7 +4,7 @@ ghost use Rattle.example_collections.specs.Branches.{branch_of};
 ghost use Rattle.example_collections.specs.BranchLaws.{branch_lawful};
 
 use arena_chunks::{Allocator, ChunkSource, Str};
-use arena_clone::{CloneIn, CloneInSemanticIds, Grown, SemanticId};
+use arena_clone::{CloneIn, CloneInSemanticIds, Grown, Origin, SemanticId};
 use arena_items::Item;
 use arena_vec::Vec;
 
@@ -27,26 +27,15 @@ impl<L: CloneIn + Item> CloneIn for Branch<L> {
         false
     }
 
-    fn clone_in_impl<C: ChunkSource, D: ChunkSource>(
+    fn copy_of<O: Origin<D>, D: ChunkSource>(
         &self,
         ids: CloneInSemanticIds,
-        from: &Allocator<C>,
+        from: &O,
         to: &mut Allocator<D>,
     ) -> Grown<Self> {
-        let name = self.name.clone_in_impl(ids, from, to)?;
-        let id = self.id.clone_in_impl(ids, from, to)?;
-        let leaves = self.leaves.clone_in_impl(ids, from, to)?;
-        Ok(Branch { name, id, leaves })
-    }
-
-    fn clone_within<C: ChunkSource>(
-        &self,
-        ids: CloneInSemanticIds,
-        a: &mut Allocator<C>,
-    ) -> Grown<Self> {
-        let name = self.name.clone_within(ids, a)?;
-        let id = self.id.clone_within(ids, a)?;
-        let leaves = self.leaves.clone_within(ids, a)?;
+        let name = self.name.copy_of(ids, from, to)?;
+        let id = self.id.copy_of(ids, from, to)?;
+        let leaves = self.leaves.copy_of(ids, from, to)?;
         Ok(Branch { name, id, leaves })
     }
 }

@@ -4,7 +4,7 @@ ghost use Rattle.example_collections.specs.Nodes.{node_of};
 ghost use Rattle.example_collections.specs.NodeLaws.{node_lawful};
 
 use arena_chunks::{Allocator, ChunkSource, Str};
-use arena_clone::{CloneIn, CloneInSemanticIds, Grown};
+use arena_clone::{CloneIn, CloneInSemanticIds, Grown, Origin};
 use arena_items::Item;
 use arena_vec::Vec;
 
@@ -27,28 +27,16 @@ impl<L: CloneIn + Item> CloneIn for Node<L> {
         false
     }
 
-    fn clone_in_impl<C: ChunkSource, D: ChunkSource>(
+    fn copy_of<O: Origin<D>, D: ChunkSource>(
         &self,
         ids: CloneInSemanticIds,
-        from: &Allocator<C>,
+        from: &O,
         to: &mut Allocator<D>,
     ) -> Grown<Self> {
         match self {
-            Node::Name(name) => Ok(Node::Name(name.clone_in_impl(ids, from, to)?)),
-            Node::Leaf(leaf) => Ok(Node::Leaf(leaf.clone_in_impl(ids, from, to)?)),
-            Node::Leaves(leaves) => Ok(Node::Leaves(leaves.clone_in_impl(ids, from, to)?)),
-        }
-    }
-
-    fn clone_within<C: ChunkSource>(
-        &self,
-        ids: CloneInSemanticIds,
-        a: &mut Allocator<C>,
-    ) -> Grown<Self> {
-        match self {
-            Node::Name(name) => Ok(Node::Name(name.clone_within(ids, a)?)),
-            Node::Leaf(leaf) => Ok(Node::Leaf(leaf.clone_within(ids, a)?)),
-            Node::Leaves(leaves) => Ok(Node::Leaves(leaves.clone_within(ids, a)?)),
+            Node::Name(name) => Ok(Node::Name(name.copy_of(ids, from, to)?)),
+            Node::Leaf(leaf) => Ok(Node::Leaf(leaf.copy_of(ids, from, to)?)),
+            Node::Leaves(leaves) => Ok(Node::Leaves(leaves.copy_of(ids, from, to)?)),
         }
     }
 }

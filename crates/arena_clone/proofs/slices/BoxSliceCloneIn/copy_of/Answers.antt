@@ -3,42 +3,42 @@ use Rattle.std.proofs.lemmas.Result.{err_from_is_err_and}
 use Rattle.arena_clone.proofs.LayoutLemmas.{readable_size, readable_layout}
 use Rattle.arena_clone.proofs.SliceLemmas.{slice_refused, slice_value_refused, slice_made}
 use Rattle.arena_clone.proofs.ThroughLemmas.{from_kept, row_held, row_beside, row_before}
-use Rattle.arena_clone.proofs.slices.copy_slice.Goals as goal
+use Rattle.arena_clone.proofs.slices.BoxSliceCloneIn.copy_of.Goals as goal
 
-pub overflow_mul-s : goal.overflow_mul-s
-overflow_mul-s g c =
-    let few = readable_size c.arena.result.now.memory.state c.args.s.now.block c.min_align.ensures.valid
+pub overflow_mul-self : goal.overflow_mul-self
+overflow_mul-self g c =
+    let few = readable_size c.arena.result.now.memory.state c.args.self.now.block c.min_align.ensures.valid
     (rw c.arena.ensures c.requires.held.0.readable) in
     rw (c.SIZE.ensures) (omega (arith, few, c.requires.held.0.of_size))
 
 pub place-requires : goal.place-requires
 place-requires g c =
     rw (c.SIZE.ensures, c.ALIGN.ensures, ← c.requires.held.0.of_size)
-    (readable_layout c.arena.result.now.memory.state c.args.s.now.block g.T.Item.ALIGN c.min_align.ensures.valid
+    (readable_layout c.arena.result.now.memory.state c.args.self.now.block g.T.Item.ALIGN c.min_align.ensures.valid
     g.met.T.Item.layout.is_align (rw c.arena.ensures c.requires.held.0.readable))
 
 pub returns-in_err-target : goal.returns-in_err-target
 returns-in_err-target g c =
     let p = err_from_is_err_and c.from_residual.result c.from_residual.ensures.1 in
-    rw (p.1, p.2) (slice_refused g.T.Item g.T.CloneIn.kind c.args.ids (g.O.Origin.there c.args.from.now c.args.to.now.memory) c.args.s.now
+    rw (p.1, p.2) (slice_refused g.T.Item g.T.CloneIn.kind c.args.ids (g.O.Origin.there c.args.from.now c.args.to.now.memory) c.args.self.now
     (rw (c.SIZE.ensures, c.ALIGN.ensures) at c.in_err-target.ensures))
 
 pub copy_row-requires-clause-source : goal.copy_row-requires-clause-source
 copy_row-requires-clause-source g c =
     let placed = rw (c.SIZE.ensures, c.ALIGN.ensures) at c.in_ok-target.ensures in
-    (from_kept (g.met.O.Origin.is_origin c.args.from.now) g.T.Item g.met.T.CloneIn.lawful c.args.s.now.block c.args.s.now.length
+    (from_kept (g.met.O.Origin.is_origin c.args.from.now) g.T.Item g.met.T.CloneIn.lawful c.args.self.now.block c.args.self.now.length
     placed.1.outcome.frame c.requires.held.0.readable c.requires.held.1).readable
 
 pub copy_row-requires-clause-values : goal.copy_row-requires-clause-values
 copy_row-requires-clause-values g c =
     let placed = rw (c.SIZE.ensures, c.ALIGN.ensures) at c.in_ok-target.ensures in
-    row_held (g.met.O.Origin.is_origin c.args.from.now) g.T.Item g.met.T.CloneIn.lawful c.args.s.now.block c.args.s.now.length
+    row_held (g.met.O.Origin.is_origin c.args.from.now) g.T.Item g.met.T.CloneIn.lawful c.args.self.now.block c.args.self.now.length
     placed.1.outcome.frame c.requires.held.0.readable c.requires.held.1
 
 pub copy_row-requires-clause-beside : goal.copy_row-requires-clause-beside
 copy_row-requires-clause-beside g c =
     let placed = rw (c.SIZE.ensures, c.ALIGN.ensures) at c.in_ok-target.ensures in
-    row_beside (g.met.O.Origin.is_origin c.args.from.now) g.T.Item g.met.T.CloneIn.lawful c.args.s.now.block c.args.s.now.length
+    row_beside (g.met.O.Origin.is_origin c.args.from.now) g.T.Item g.met.T.CloneIn.lawful c.args.self.now.block c.args.self.now.length
     placed.1.outcome.frame c.requires.held.0.readable c.requires.held.1
 
 pub returns-in_err-copy_row : goal.returns-in_err-copy_row
@@ -46,13 +46,13 @@ returns-in_err-copy_row g c =
     let placed = rw (c.SIZE.ensures, c.ALIGN.ensures) at c.in_ok-target.ensures in
     let p = err_from_is_err_and c.from_residual-in_err-copy_row.result c.from_residual-in_err-copy_row.ensures.1 in
     rw (p.1, p.2) (slice_value_refused g.T.Item g.T.CloneIn.kind c.args.ids (g.O.Origin.there c.args.from.now c.args.to.now.memory)
-    c.args.s.now placed
-    (row_before (g.met.O.Origin.is_origin c.args.from.now) g.T.Item g.met.T.CloneIn.lawful c.args.s.now.block c.args.s.now.length
+    c.args.self.now placed
+    (row_before (g.met.O.Origin.is_origin c.args.from.now) g.T.Item g.met.T.CloneIn.lawful c.args.self.now.block c.args.self.now.length
     placed.1.outcome.frame c.requires.held.0.readable c.requires.held.1 c.in_err-copy_row.ensures))
 
 pub returns : goal.returns
 returns g c =
     let placed = rw (c.SIZE.ensures, c.ALIGN.ensures) at c.in_ok-target.ensures in
-    slice_made g.T.Item g.T.CloneIn.kind c.args.ids (g.O.Origin.there c.args.from.now c.args.to.now.memory) c.args.s.now placed refl refl
-    (row_before (g.met.O.Origin.is_origin c.args.from.now) g.T.Item g.met.T.CloneIn.lawful c.args.s.now.block c.args.s.now.length
+    slice_made g.T.Item g.T.CloneIn.kind c.args.ids (g.O.Origin.there c.args.from.now c.args.to.now.memory) c.args.self.now placed refl refl
+    (row_before (g.met.O.Origin.is_origin c.args.from.now) g.T.Item g.met.T.CloneIn.lawful c.args.self.now.block c.args.self.now.length
     placed.1.outcome.frame c.requires.held.0.readable c.requires.held.1 c.in_ok-copy_row.ensures)

@@ -2,11 +2,11 @@ use Rattle.std.proofs.lemmas.Result.{err_from_is_err_and}
 use Rattle.arena_items.specs.Layout.IsAlign.{one}
 use Rattle.arena_clone.proofs.LayoutLemmas.{readable_layout}
 use Rattle.arena_clone.proofs.CopyLemmas.{one_refused}
-use Rattle.arena_clone.proofs.texts.copy_text.Goals as goal
+use Rattle.arena_clone.proofs.texts.StrCloneIn.copy_of.Goals as goal
 
 pub place_copy-requires-clause-fits : goal.place_copy-requires-clause-fits
 place_copy-requires-clause-fits g c =
-    readable_layout c.arena.result.now.memory.state c.args.s.now.block 1 c.min_align.ensures.valid one (rw c.arena.ensures c.requires)
+    readable_layout c.arena.result.now.memory.state c.args.self.now.block 1 c.min_align.ensures.valid one (rw c.arena.ensures c.requires.held)
 
 pub returns-in_err-block : goal.returns-in_err-block
 returns-in_err-block g c =

@@ -4,20 +4,20 @@ use Rattle.arena_hash.specs.Contents.{kind}
 use Rattle.arena_clone.specs.MapLaws.{map_lawful}
 use Rattle.arena_clone.proofs.OriginLemmas.{placed_held, placed_beside, placed_copied}
 use Rattle.arena_clone.proofs.MapLemmas.{table_empty, map_refused, map_pair_refused, map_made}
-use Rattle.arena_clone.proofs.maps.copy_map.Goals as goal
+use Rattle.arena_clone.proofs.maps.HashMapCloneIn.copy_of.Goals as goal
 
 pub returns-in_err-empty : goal.returns-in_err-empty
 returns-in_err-empty g c =
     let p = err_from_is_err_and c.from_residual.result c.from_residual.ensures.1 in
     rw (p.1, p.2) (map_refused (kind g.K.Item g.K.ArenaKey.key g.V.Item g.S.KeyHasher.hash_of) g.K.CloneIn.kind g.V.CloneIn.kind
-    c.args.ids (g.O.Origin.there c.args.from.now c.args.to.now.memory) c.args.map.now (omega (arith, c.requires.held.0.within))
+    c.args.ids (g.O.Origin.there c.args.from.now c.args.to.now.memory) c.args.self.now (omega (arith, c.requires.held.0.within))
     c.in_err-empty.ensures.placed)
 
 pub put_pairs-requires-clause-held : goal.put_pairs-requires-clause-held
 put_pairs-requires-clause-held g c =
     let law = map_lawful (kind g.K.Item g.K.ArenaKey.key g.V.Item g.S.KeyHasher.hash_of) g.K.CloneIn.kind g.V.CloneIn.kind
     g.met.K.CloneKey.keeps g.met.K.CloneIn.lawful g.met.V.CloneIn.lawful in
-    placed_held (g.met.O.Origin.is_origin c.args.from.now) c.in_ok-empty.ensures.placed.frame law c.args.map.now c.requires.held
+    placed_held (g.met.O.Origin.is_origin c.args.from.now) c.in_ok-empty.ensures.placed.frame law c.args.self.now c.requires.held
 
 pub put_pairs-requires-clause-empty : goal.put_pairs-requires-clause-empty
 put_pairs-requires-clause-empty g c = table_empty c.in_ok-empty.ensures.placed
@@ -29,26 +29,26 @@ pub put_pairs-requires-clause-beside : goal.put_pairs-requires-clause-beside
 put_pairs-requires-clause-beside g c =
     let law = map_lawful (kind g.K.Item g.K.ArenaKey.key g.V.Item g.S.KeyHasher.hash_of) g.K.CloneIn.kind g.V.CloneIn.kind
     g.met.K.CloneKey.keeps g.met.K.CloneIn.lawful g.met.V.CloneIn.lawful in
-    placed_beside (g.met.O.Origin.is_origin c.args.from.now) c.in_ok-empty.ensures.placed.frame law c.args.map.now c.requires.held
+    placed_beside (g.met.O.Origin.is_origin c.args.from.now) c.in_ok-empty.ensures.placed.frame law c.args.self.now c.requires.held
 
 pub returns-in_err-copy : goal.returns-in_err-copy
 returns-in_err-copy g c =
     let p = err_from_is_err_and c.from_residual-in_err-copy.result c.from_residual-in_err-copy.ensures.1 in
     let law = map_lawful (kind g.K.Item g.K.ArenaKey.key g.V.Item g.S.KeyHasher.hash_of) g.K.CloneIn.kind g.V.CloneIn.kind
     g.met.K.CloneKey.keeps g.met.K.CloneIn.lawful g.met.V.CloneIn.lawful in
-    rw (p.1, p.2) (placed_copied (g.met.O.Origin.is_origin c.args.from.now) c.in_ok-empty.ensures.placed.frame law c.args.map.now
+    rw (p.1, p.2) (placed_copied (g.met.O.Origin.is_origin c.args.from.now) c.in_ok-empty.ensures.placed.frame law c.args.self.now
     c.requires.held
     (map_pair_refused (kind g.K.Item g.K.ArenaKey.key g.V.Item g.S.KeyHasher.hash_of) g.K.CloneIn.kind g.V.CloneIn.kind c.args.ids
-    (g.O.Origin.there c.args.from.now c.with_capacity_and_hasher_in.new.a.memory) c.args.map.now
+    (g.O.Origin.there c.args.from.now c.with_capacity_and_hasher_in.new.a.memory) c.args.self.now
     (omega (arith, c.requires.held.0.within)) c.in_ok-empty.ensures.placed c.in_err-copy.ensures))
 
 pub returns : goal.returns
 returns g c =
     let law = map_lawful (kind g.K.Item g.K.ArenaKey.key g.V.Item g.S.KeyHasher.hash_of) g.K.CloneIn.kind g.V.CloneIn.kind
     g.met.K.CloneKey.keeps g.met.K.CloneIn.lawful g.met.V.CloneIn.lawful in
-    let held = placed_held (g.met.O.Origin.is_origin c.args.from.now) c.in_ok-empty.ensures.placed.frame law c.args.map.now
+    let held = placed_held (g.met.O.Origin.is_origin c.args.from.now) c.in_ok-empty.ensures.placed.frame law c.args.self.now
     c.requires.held in
-    placed_copied (g.met.O.Origin.is_origin c.args.from.now) c.in_ok-empty.ensures.placed.frame law c.args.map.now c.requires.held
+    placed_copied (g.met.O.Origin.is_origin c.args.from.now) c.in_ok-empty.ensures.placed.frame law c.args.self.now c.requires.held
     (map_made (kind g.K.Item g.K.ArenaKey.key g.V.Item g.S.KeyHasher.hash_of) g.K.CloneIn.kind g.V.CloneIn.kind c.args.ids
-    (g.O.Origin.there c.args.from.now c.with_capacity_and_hasher_in.new.a.memory) c.args.map.now
+    (g.O.Origin.there c.args.from.now c.with_capacity_and_hasher_in.new.a.memory) c.args.self.now
     (omega (arith, c.requires.held.0.within)) c.in_ok-empty.ensures.placed held.0 c.in_ok-empty.ensures.hasher c.in_ok-copy.ensures)
