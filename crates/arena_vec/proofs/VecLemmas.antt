@@ -99,6 +99,21 @@ makes {T} item old mid new room raw n list made within same frame values = recor
   err = tt;
 }
 
+-- There was no place for storage.
+pub makes_refused : {T : Type 0} (item : Ghosts T) (old new : View) (room : ℕ) (list : List T) (e : AllocError)
+    → Makes {X = RawVec T} item (λ r. r) old new room [] (Err e) → Makes {X = Vec T} item (λ v. v.raw) old new room list (Err e)
+makes_refused {T} item old new room list e made = record {
+  made = room_refused {Y = Vec T} item.SIZE item.ALIGN old new (empty_block item.ALIGN) (empty_capacity item.SIZE) (new_growth item.SIZE room)
+      (λ (r : RawVec T). r.block) (λ (v : Vec T). v.raw.block) e made.made;
+  held = tt;
+  list_is = tt;
+  len = tt;
+  cap = tt;
+  enough = tt;
+  frame = tt;
+  err = made.err;
+}
+
 module _ {T X : Type 0} (item : Ghosts T) (old mid : View) (v : Vec T) (growth : Growth) where
   -- Room was made, and bytes were written there, so that the first n values are this list.
   pub grows : (new : View) (raw : RawVec T) (n : ℕ) (list : List T) (x : X)
