@@ -1,7 +1,7 @@
 // A chunk, as its three numbers.
 use std::marker::Model;
 
-#[derive(Clone, Copy, Debug)]
+#[derive(Clone, Copy)]
 pub(crate) struct PlainChunk {
     pub(crate) base: u64,
     pub(crate) size: u64,

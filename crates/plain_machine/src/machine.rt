@@ -17,7 +17,7 @@ use std::alloc::Global;
 use std::marker::Model;
 
 /// The machine of the definitions.
-#[derive(Drop, Debug)]
+#[derive(Drop)]
 pub struct PlainMachine {
     pub(crate) state: PlainState,
     pub(crate) held: Names<Place>,

@@ -15,7 +15,7 @@ use placement::{OutOfMemory, Reply};
 use std::marker::Model;
 
 /// How many chunks there were, and the cursor.
-#[derive(Clone, Copy, Debug)]
+#[derive(Clone, Copy)]
 pub(crate) struct PlainPoint {
     pub(crate) chunks: u64,
     pub(crate) cursor: u64,

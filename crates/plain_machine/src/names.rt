@@ -12,7 +12,7 @@ use std::collections::BTreeMap;
 use std::marker::Model;
 
 /// A map from names to values.
-#[derive(Drop, Debug)]
+#[derive(Drop)]
 pub(crate) struct Names<V> {
     values: BTreeMap<u32, V>,
 }

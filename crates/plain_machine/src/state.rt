@@ -23,7 +23,7 @@ use std::marker::Model;
 pub(crate) type Answer = Option<u64>;
 
 /// The chunks of a growing arena, newest first.
-#[derive(Drop, Debug)]
+#[derive(Drop)]
 pub(crate) struct PlainState {
     min_align: u64,
     generation: u64,

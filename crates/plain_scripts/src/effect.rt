@@ -8,7 +8,7 @@ use crate::object::{Kind, PlainObject};
 use script_rules::ScriptReply;
 
 /// It tells something and changes nothing, or a name gets an object, or a name is let go.
-#[derive(Drop, Debug)]
+#[derive(Drop)]
 pub(crate) enum PlainEffect {
     Tells(ScriptReply),
     Gives {

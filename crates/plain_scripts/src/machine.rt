@@ -16,7 +16,7 @@ use std::alloc::Global;
 use std::marker::Model;
 
 /// What a command answers, and what it costs.
-#[derive(Drop, Debug)]
+#[derive(Drop)]
 pub struct Answered {
     /// The reply, which may be a refusal.
     pub reply: ScriptReply,
@@ -25,7 +25,7 @@ pub struct Answered {
 }
 
 /// The objects of the definitions, under names.
-#[derive(Drop, Debug)]
+#[derive(Drop)]
 pub struct PlainScripts {
     objects: Names<PlainObject>,
 }

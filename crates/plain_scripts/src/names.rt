@@ -9,7 +9,7 @@ use std::collections::BTreeMap;
 use std::marker::Model;
 
 /// A map from names to values, which contracts see as its entries by rising names.
-#[derive(Drop, Debug)]
+#[derive(Drop)]
 pub(crate) struct Names<V> {
     pub(crate) values: BTreeMap<u32, V>,
 }

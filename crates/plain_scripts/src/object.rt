@@ -10,7 +10,7 @@ use std::alloc::Global;
 use std::marker::Model;
 
 /// What an object is.
-#[derive(Drop, Debug)]
+#[derive(Drop)]
 pub(crate) enum Kind {
     List(Vec<u32>),
     Text(Bytes),
@@ -20,7 +20,7 @@ pub(crate) enum Kind {
 }
 
 /// An object, which contracts see as that of the definitions.
-#[derive(Drop, Debug)]
+#[derive(Drop)]
 pub(crate) struct PlainObject {
     pub(crate) kind: Kind,
 }

@@ -9,7 +9,7 @@ use script_rules::{Command, Replies, Script};
 use std::alloc::Global;
 
 /// What commands answered and cost, one after another.
-#[derive(Drop, Debug)]
+#[derive(Drop)]
 pub struct PlainRun {
     /// One reply for each command.
     pub replies: Replies,
