@@ -19,8 +19,7 @@ use Rattle.arena_clone.specs.Asks.{Ask, PlacesAll, refusal}
 use Rattle.arena_clone.specs.Asks.Ask.{Room, Empty}
 use Rattle.arena_clone.specs.Kinds.{Kind}
 use Rattle.arena_clone.specs.KindLaws.{IsLawful}
-use Rattle.arena_clone.specs.Copies.{IsMade, MakesNew, Copies, StaysWhole}
-use Rattle.arena_clone.specs.declared.ids.CloneInSemanticIds.{CloneInSemanticIds}
+use Rattle.arena_clone.specs.Copies.{IsMade, MakesNew, StaysWhole}
 use Rattle.arena_clone.proofs.AsksLemmas.{same_places, asked_then, asked_refused, block_of, refusal_leaves, one_asked}
 
 -- ---- Blocks in another order
@@ -69,12 +68,6 @@ module _ {T : Type 0} {kind : Kind T} (is : IsLawful kind) {old new : Memory} {b
         whole = is.whole old new v agree;
         apart = subst (λ bs. AreAllApart bs after) (sym same) (stays_apart old new after blocks stays);
       }
-
-  -- So a copy that is made afterwards is one of what it was.
-  pub copies_earlier : (ids : CloneInSemanticIds) (v : T) {to later : View} {result : Result T AllocError} → kind.is_held old v
-      → AreAllApart (kind.deep old v) before → Copies kind ids new to later v result → Copies kind ids old to later v result
-  copies_earlier ids v held apart copies =
-      let agree = deep_agree v held apart in rw (sym (is.whole old new v agree), sym (is.asks old new v agree)) copies
 
   -- A value that was made is as it was made.
   pub made_stays : {meaning : kind.Whole} {blocks : List Block} {w : T} → IsMade kind meaning old blocks w → AreAllApart blocks before

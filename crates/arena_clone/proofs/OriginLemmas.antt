@@ -1,5 +1,5 @@
 -- What stands where values are copied from is what it was while their copies are made.
-use Rattle.std.proofs.Common.{◌≡◌, ℕ, zero, suc, ◌+◌, ap, subst, sym, List, [], ◌∷◌, ◌++◌, Some, Ok, Err, IsTrue}
+use Rattle.std.proofs.Common.{◌≡◌, ℕ, zero, suc, ◌+◌, subst, sym, List, [], ◌∷◌, ◌++◌, Some, Ok, Err, IsTrue}
 use Rattle.std.specs.Prelude.{Result, slice_get}
 use Rattle.std.specs.List.{AllByRecursion, flat_map}
 use Rattle.arena_chunks.specs.Memory.{Memory, is_readable}

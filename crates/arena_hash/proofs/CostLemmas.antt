@@ -13,7 +13,7 @@ use Rattle.arena_items.specs.LayoutLaws.{IsAlign-bounds}
 use Rattle.arena_items.specs.Room.{MakesRoom}
 use Rattle.arena_items.specs.Values.{IsHeld}
 use Rattle.arena_items.specs.declared.room.AllocError.{AllocError}
-use Rattle.arena_items.specs.declared.room.AllocError.TheVariants.{AllocErr, CapacityOverflow, OutOfMemory}
+use Rattle.arena_items.specs.declared.room.AllocError.TheVariants.{AllocErr, CapacityOverflow}
 use Rattle.arena_items.specs.declared.room.Growth.TheVariants.{Stays, GrowsTo, Overflows}
 use Rattle.arena_items.proofs.Layers.{costs_nothing, room_costs}
 use Rattle.arena_hash.specs.Accounts.{unit_of, spare_of, credit_of, used, InsertCosts}

@@ -1,5 +1,5 @@
 -- What copies of things do: those of any kind, and of lists.
-use Rattle.std.proofs.Common.{◌≡◌, ℕ, ◌-◌, ◌*◌, refl, ap, ◌∙◌, subst, arith, Ok, Err, None, Some, Option, Result, length}
+use Rattle.std.proofs.Common.{◌≡◌, ℕ, ◌-◌, ◌*◌, refl, ap, ◌∙◌, subst, arith, Ok, Err, None, Result, length}
 use Rattle.arena_chunks.specs.Memory.{Memory}
 use Rattle.arena_chunks.specs.Source.{View}
 use Rattle.arena_items.specs.Room.{capacity_after}

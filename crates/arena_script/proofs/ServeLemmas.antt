@@ -19,7 +19,7 @@ use Rattle.script_rules.proofs.LookupLemmas.{get_bind, get_unbind, same_by_get}
 use Rattle.script_rules.proofs.RunLemmas.{step_keeps}
 use Rattle.arena_script.specs.Things.{Things, IsThingIn, object_in, objects_in, block_of, blocks_of, seen, AreHeldApart, AreThings, size_of, credit_of, credit_held}
 use Rattle.arena_script.specs.Wants.{tells_much, takes_room}
-use Rattle.arena_script.specs.Acts.{used, far, GivesThing, GivesNothing, HasNoPlace, Acts, CostsGiven, CostsRefused}
+use Rattle.arena_script.specs.Acts.{far, GivesThing, GivesNothing, HasNoPlace, Acts, CostsGiven, CostsRefused}
 use Rattle.arena_script.specs.Serves.{Serves, Stops, ServesOrStops, Settles, credits_of, KeepsKind}
 use Rattle.arena_script.specs.declared.act.Act.{Act}
 use Rattle.arena_script.specs.declared.act.Act.TheVariants.{Tells, Gives, LetsGo}

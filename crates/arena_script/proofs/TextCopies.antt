@@ -2,7 +2,6 @@
 use Rattle.std.proofs.Common.{IsPermutation, ◌≡◌, ℕ, ◌+◌, ◌*◌, ◌^◌, ◌≤◌, sym, ap, ◌∙◌, subst, arith, IsTrue, Ok, Err, None, Result, List, [], ◌∷◌, length, take}
 use Rattle.std.proofs.lemmas.List.{take_all}
 use Rattle.placement.specs.Rounding.{is_layout}
-use Rattle.arena_chunks.specs.Memory.{Memory}
 use Rattle.arena_chunks.specs.Source.{View}
 use Rattle.arena_chunks.specs.Frame.{Frame}
 use Rattle.arena_chunks.specs.declared.block.Block.{Block}

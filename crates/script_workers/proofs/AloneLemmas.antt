@@ -1,6 +1,5 @@
 -- What comes of work on a lent arena, where the work is a script, is what comes of the script alone.
-use Rattle.std.proofs.Common.{◌≡◌, ◌≢◌, ℕ, ◌+◌, ◌<◌, ◌≤◌, ◌^◌, ◌⊎◌, inl, inr, true, false, List, [], ◌∷◌, length, take, Option, None, Some, sym, refl, ap, ◌∙◌, subst, arith}
-use Rattle.std.specs.Prelude.{IfSome, IsSomeAnd}
+use Rattle.std.proofs.Common.{◌≡◌, ◌≢◌, ◌+◌, ◌⊎◌, inl, inr, false, List, [], ◌∷◌, length, take, sym, refl, ap, ◌∙◌, arith}
 use Rattle.std.specs.List.{AllZip}
 use Rattle.arena_chunks.specs.Source.{Source, View}
 use Rattle.arena_pool.specs.Kinds.{IsOfKind}

@@ -1,4 +1,3 @@
-use Rattle.std.proofs.Common.{◌≡◌}
 use Rattle.arena_chunks.specs.Memory.{image}
 use Rattle.arena_clone.proofs.CopiedLemmas.{copied_placed, copied_bytes, source_kept, front_kept}
 use Rattle.arena_clone.proofs.blocks.place_copy.Goals as goal

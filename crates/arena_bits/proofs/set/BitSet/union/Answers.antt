@@ -3,7 +3,6 @@ use Rattle.std.proofs.lemmas.Bool.Decides.{nat_tests}
 use Rattle.arena_chunks.specs.Frame.{AreBlocksApart}
 use Rattle.arena_chunks.specs.declared.block.Block.{Block}
 use Rattle.arena_bits.specs.Sets.{AreOneOrApart}
-use Rattle.arena_bits.proofs.set.BitSet.union.Goals as goal
 
 -- blocks that the test finds to be two
 two_apart : (one other : Block)

@@ -1,8 +1,6 @@
 use Rattle.std.proofs.Common.{refl}
 use Rattle.std.proofs.lemmas.Result.{err_from_is_err_and}
 use Rattle.arena_hash.specs.Sets.{set_kind}
-use Rattle.arena_hash.specs.declared.map.HashMap.{HashMap}
-use Rattle.arena_hash.specs.declared.set.HashSet.{HashSet}
 use Rattle.arena_hash.proofs.WholeLemmas.{places-as, refused-as}
 use Rattle.arena_hash.proofs.set.HashSet.with_capacity_and_hasher_in.Goals as goal
 
