@@ -1,8 +1,6 @@
 mod SortingLemmas
 mod TakingLemmas
 mod PushingLemmas
-mod NumberLemmas
-mod PlacingLemmas
 mod BranchLemmas
 mod BesideLemmas
 mod ByteLemmas

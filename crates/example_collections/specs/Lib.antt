@@ -1,9 +1,9 @@
 pub mod Ranking
 pub mod Pushing
-pub mod Numbers
 pub mod Seeded
 pub mod Branches
 pub mod BranchLaws
 pub mod CopyAndPush
 pub mod Nodes
 pub mod NodeLaws
+pub mod Through

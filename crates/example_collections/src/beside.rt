@@ -1,7 +1,13 @@
-// A list that changes beside its copy.
-ghost use Rattle.std.specs.Prelude.{◌≡◌, ◌^◌, ◌≤◌, ◌++◌, IfOk, OnOk, OnErr, List, [], ◌∷◌};
-ghost use Rattle.arena_chunks.specs.Frame.{Frame, ArePairwiseApart};
+// A list that changes beside its copy, and a map that changes beside others.
+ghost use Rattle.std.specs.Prelude.{◌≡◌, ◌+◌, ◌*◌, ◌^◌, ◌≤◌, ◌++◌, IsTrue, IfOk, OnOk, OnErr, List, [], ◌∷◌};
+ghost use Rattle.arena_chunks.specs.Frame.{AreAllApart, AreBlocksApart, ArePairwiseApart, Frame};
+ghost use Rattle.arena_chunks.specs.Memory.{is_readable};
 ghost use Rattle.arena_chunks.specs.declared.block.Block.{Block};
+ghost use Rattle.arena_hash.specs.Accounts.{credit_of, unit_of, used};
+ghost use Rattle.arena_hash.specs.Changes.{Puts, is_value};
+ghost use Rattle.arena_hash.specs.Contents.{kind};
+ghost use Rattle.arena_hash.specs.Maps.{IsMapIn, StaysMap, footprint};
+ghost use Rattle.arena_hash.specs.declared.map.HashMap.{HashMap};
 ghost use Rattle.arena_vec.specs.Vecs.{vec_list};
 ghost use Rattle.arena_clone.specs.Kinds.{vec_of};
 ghost use Rattle.arena_clone.specs.Copies.{IsMade};
@@ -10,6 +16,7 @@ ghost use Rattle.example_collections.specs.CopyAndPush.{CopiesThenPushes};
 use arena_chunks::{Allocator, ChunkSource};
 use arena_clone::laws::copy_law;
 use arena_clone::{CloneIn, CloneInSemanticIds, Grown};
+use arena_hash::{ArenaKey, HashMap, KeyHasher, costs_law, map_frame_law};
 use arena_items::Item;
 use arena_items::laws::frame_law;
 use arena_vec::Vec;
@@ -43,4 +50,33 @@ pub fn copy_and_push<T: CloneIn + Item, C: ChunkSource>(
     let copy = list.clone_within(CloneInSemanticIds::With, a)?;
     list.push(a, value)?;
     Ok(copy)
+}
+
+/// Puts a pair into a map. Each other map whose blocks lie apart from the table says what it did, under every hasher. What is in use
+/// and the map's credit rise together by two units at most.
+///
+/// # Errors
+///
+/// As of `insert`. Nothing changes.
+pub fn put_beside<K: ArenaKey, V: Item, S: KeyHasher, C: ChunkSource>(
+    map: &mut HashMap<K, V, S>,
+    a: &mut Allocator<C>,
+    key: K,
+    value: V,
+) -> Grown<Option<V>>
+    requires keys_small { K.SIZE ≤ 2 ^ 24 }
+    requires values_small { V.SIZE ≤ 2 ^ 24 }
+    requires held { IsMapIn (kind K.Item K.key V.Item S.hash_of) a.old.memory map.old }
+    requires text { IsTrue (is_readable a.old.memory.state (K.key.text key)) }
+    requires apart { AreBlocksApart (K.key.text key) map.old.table.block }
+    ensures puts { Puts (kind K.Item K.key V.Item S.hash_of) a.old a.new map.old key value is_value map.new result }
+    ensures others { let k = kind K.Item K.key V.Item S.hash_of in (other : HashMap K V S)
+        → IsMapIn k a.old.memory other → AreAllApart (footprint k a.old.memory other) (map.old.table.block ∷ [])
+        → StaysMap k a.old.memory a.new.memory (map.new.table.block ∷ []) other }
+    ensures costs { let k = kind K.Item K.key V.Item S.hash_of in
+        used a.new + credit_of k map.new ≤ used a.old + (credit_of k map.old + 2 * unit_of k) }
+{
+    map_frame_law::<K, V, S>();
+    costs_law::<K, V, S>();
+    map.insert(a, key, value)
 }

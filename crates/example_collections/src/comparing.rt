@@ -1,5 +1,5 @@
 // Vectors compared.
-ghost use Rattle.std.specs.Prelude.{◌≡◌, ◌^◌, ◌≤◌, ◌↔◌, ◌⊎◌, IsTrue, IsFalse, fold};
+ghost use Rattle.std.specs.Prelude.{◌≡◌, ◌^◌, ◌≤◌, ◌⊎◌, IsTrue, IsFalse, fold};
 ghost use Rattle.std.specs.Cmp.Lexicographic.{pointwise, slice_cmp};
 ghost use Rattle.std.specs.Hash as fed;
 ghost use Rattle.std.specs.Ordering.{is_gt, nat_cmp};
@@ -10,16 +10,6 @@ use arena_items::Item;
 use arena_vec::Vec;
 use arena_vec::laws::{hash_law, order_law};
 use std::hash::{Hash, Hasher};
-
-/// Whether two vectors are the same list of numbers.
-pub fn is_same<C: ChunkSource>(a: &Allocator<C>, one: &Vec<u32>, other: &Vec<u32>) -> bool
-    requires one { IsVecIn ⟦<u32 as Item>⟧ a.now.memory one.now }
-    requires other { IsVecIn ⟦<u32 as Item>⟧ a.now.memory other.now }
-    ensures { IsTrue result ↔ (vec_list ⟦<u32 as Item>⟧ a.now.memory one.now
-        ≡ vec_list ⟦<u32 as Item>⟧ a.now.memory other.now) }
-{
-    one.eq(a, other)
-}
 
 /// The one of two vectors that comes first. It comes after neither, and of equal ones it is the first.
 pub fn earlier<T: Item + Ord, C: ChunkSource>(

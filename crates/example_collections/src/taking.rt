@@ -1,10 +1,12 @@
 // Values picked, taken out, and put in the place of others.
 ghost use Rattle.std.specs.Prelude.{◌≡◌, ℕ, ◌-◌, ◌^◌, ◌≤◌, [], ◌∷◌, length, take, drop, filter, OnOk, OnErr};
 ghost use Rattle.std.specs.List.{replace_range, range_with_len};
+ghost use Rattle.std.specs.Iterator.{IsFinite};
 ghost use Rattle.std.specs.Ordering.{is_le};
 ghost use Rattle.arena_chunks.specs.Frame.{Frame};
 ghost use Rattle.arena_vec.specs.Vecs.{IsVecIn, vec_list};
 ghost use Rattle.arena_vec.specs.Changes.{Becomes};
+ghost use Rattle.arena_vec.specs.Splicing.{Replaces};
 
 use arena_chunks::{Allocator, ChunkSource};
 use arena_items::Item;
@@ -65,4 +67,26 @@ pub fn put_numbers<C: ChunkSource>(
     ensures frame { Frame a.old.memory a.new.memory (vec.old.raw.block ∷ []) (vec.new.raw.block ∷ []) }
 {
     vec.splice(a, start, end, numbers).finish()
+}
+
+/// Looks at both ends of a range, and puts an iterator's items in its place.
+pub fn exchange<T: Item, C: ChunkSource, I: Iterator<Item = T> + Drop>(
+    vec: &mut Vec<T>,
+    a: &mut Allocator<C>,
+    start: u32,
+    end: u32,
+    with: I,
+) -> Grown<()>
+    requires small { T.SIZE ≤ 2 ^ 24 }
+    requires held { IsVecIn T.Item a.old.memory vec.old }
+    requires order { start ≤ end }
+    requires within { end ≤ vec.old.raw.len }
+    requires can { I.can_next with }
+    requires ends { IsFinite (I.remaining with) }
+    ensures { Replaces T.Item I.next_gives with a.old.memory a.new.memory vec.old start end vec.new result }
+{
+    let mut gone = vec.splice(a, start, end, with);
+    let _first = gone.next();
+    let _last = gone.next_back();
+    gone.finish()
 }

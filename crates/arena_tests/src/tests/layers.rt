@@ -1,7 +1,7 @@
 // The example's callers over an arena in memory, and the bytes that calls take.
 use super::{ample, layout, same};
 use arena_chunks::Bytes;
-use example_layer::{Buffer, give_back, place_two, reverse_block};
+use example_blocks::{Buffer, give_back, place_two, reverse_block};
 use std::test::Fail;
 
 #[test]

@@ -1,6 +1,6 @@
 // Regions with ample memory: of zeros, of a copy, and of a vector that has room for more.
 use arena_region::Region;
-use example_layer::put_last;
+use example_blocks::put_last;
 use std::test::Fail;
 
 #[test]

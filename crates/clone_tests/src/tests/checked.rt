@@ -7,7 +7,7 @@ use arena_chunks::{Allocator, ChunkSource, Str};
 use arena_clone::{CloneIn, CloneInSemanticIds, Grown, SemanticId};
 use arena_items::{Box, Item};
 use arena_vec::{RawVec, Vec};
-use example_items::get_checked;
+use example_blocks::get_checked;
 use std::process::Abort;
 
 pub trait Checked: CloneIn {

@@ -2,7 +2,7 @@
 ghost use Rattle.std.specs.Prelude.{◌≡◌, ◌≤◌, All, IfOk};
 
 use arena_pool::{ClaimErr, ClaimSeat, Claims};
-use example_pool::{claim_all, claim_by_two};
+use example_collections::{claim_all, claim_by_two};
 use std::alloc::Global;
 use std::process::Abort;
 use std::test::*;

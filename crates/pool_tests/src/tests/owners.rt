@@ -5,7 +5,7 @@ use super::MARKED;
 use arena_chunks::{Allocator, ChunkSource, MemoryChunks};
 use arena_place::Layout;
 use arena_pool::{ShareErr, share};
-use example_pool::{alone, freed, freed_by_two};
+use example_collections::{alone, freed, freed_by_two};
 use std::alloc::Global;
 use std::sync::Wait;
 use std::sync::atomic::{AtomicU64, Ordering};

@@ -4,7 +4,7 @@ ghost use Rattle.arena_pool.specs.Names.{IsBlankOf};
 
 use super::{Plan, SMALL, marks, pool_of};
 use arena_pool::{AllocatorPool, ChunkMaker, MOST_LENT, PoolKind, PoolName};
-use example_pool::{over_fixed, over_limited, over_standard};
+use example_collections::{over_fixed, over_limited, over_standard};
 use std::alloc::Global;
 use std::marker::Brand;
 use std::process::Abort;

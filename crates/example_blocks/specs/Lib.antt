@@ -1,0 +1,10 @@
+pub mod Blocks
+pub mod TwoCalls
+pub mod Buffers
+pub mod Accounts
+pub mod TwoValues
+pub mod Chains
+pub mod ChainLaws
+pub mod Rows
+pub mod Objects
+pub mod ObjectLaws

@@ -1,0 +1,51 @@
+// What calls ask for, and why they are refused.
+ghost use Rattle.std.specs.Prelude.{◌≡◌, ◌+◌, ◌^◌, ◌≤◌, IfOk, IsTrue, [], ◌∷◌};
+ghost use Rattle.placement.specs.State.{used_bytes};
+ghost use Rattle.arena_chunks.specs.Answers.{answer_of};
+ghost use Rattle.arena_chunks.specs.BlockCalls.{GrowsBlock};
+ghost use Rattle.example_blocks.specs.TwoCalls.{PlacesThen};
+ghost use Rattle.example_blocks.specs.Accounts.{Accounts, needed};
+
+use arena_chunks::laws::{asks, full, starved, used_by_placing, used_by_resizing};
+use arena_chunks::{Alloc, Allocator, ArenaErr, Block, ChunkSource};
+use arena_place::Layout;
+use placement::laws::{asked_together, starved_together};
+
+/// Places a block and grows it. An arena that grows asks for chunks of at most twice what both sizes need, and five pages.
+///
+/// # Errors
+///
+/// As of `alloc_layout`, or of `grow` where the smaller block was placed. That one stays then. A growing arena was
+/// starved, and one that doesn't grow has fewer bytes than both sizes need.
+pub fn place_then_grow<C: ChunkSource>(
+    a: &mut Allocator<C>,
+    small: Layout,
+    large: Layout,
+) -> Result<Block, ArenaErr>
+    requires size { small.size ≤ large.size }
+    requires align { small.align ≤ large.align }
+    requires low_align { large.align ≤ 16 }
+    requires few { large.size ≤ 2 ^ 60 }
+    ensures calls { PlacesThen a.old a.new small.size small.align
+        (λ between b. GrowsBlock between a.new b large.size large.align (answer_of result)) result }
+    ensures accounts { Accounts (2 ^ 63) (needed a.old small.size large.size) a.old a.new (answer_of result) }
+    ensures used { IfOk result (λ _.
+        used_bytes a.new.memory.state ≤ needed a.old small.size large.size) }
+{
+    asks();
+    starved();
+    full();
+    asked_together();
+    starved_together();
+    used_by_placing();
+    used_by_resizing();
+    // So the least alignment is known to be 1.
+    let _ = a.min_align();
+    match a.alloc_layout(small) {
+        Ok(block) => match a.grow(block, large) {
+            Ok(grown) => Ok(grown),
+            Err(e) => Err(e),
+        },
+        Err(e) => Err(e),
+    }
+}

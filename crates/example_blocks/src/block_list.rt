@@ -1,0 +1,48 @@
+// A list of blocks that lie pairwise apart.
+ghost use Rattle.std.specs.Prelude.{◌≡◌, ◌⊎◌, ◌++◌, [], ◌∷◌, IfOk, IfErr, Err};
+ghost use Rattle.arena_chunks.specs.Answers.{answer_of};
+ghost use Rattle.arena_chunks.specs.Answers.Answer.{Placed};
+ghost use Rattle.arena_chunks.specs.Frame.{ArePairwiseApart};
+ghost use Rattle.arena_chunks.specs.BlockCalls.{PlacesBlock};
+ghost use Rattle.arena_chunks.specs.declared.block.Block.{Block};
+ghost use Rattle.arena_chunks.specs.declared.block.ArenaErr.TheVariants.{OutOfMemory};
+ghost use Rattle.example_blocks.specs.Blocks.{AreReadable};
+
+use arena_chunks::laws::{apart, placed};
+use arena_chunks::{Allocator, ArenaErr, Block, ChunkSource};
+use arena_place::Layout;
+
+/// Places one more block, and puts it behind the others. All of them may be read then, and lie pairwise
+/// apart.
+///
+/// # Errors
+///
+/// As of `alloc_layout`, and `OutOfMemory` where memory for the list is wanting, before the arena is called.
+/// The list and the arena stay as they were.
+pub fn add_block<C: ChunkSource>(
+    a: &mut Allocator<C>,
+    blocks: &mut Vec<Block>,
+    layout: Layout,
+) -> Result<(), ArenaErr>
+    requires readable { AreReadable a.old.memory blocks.old.items }
+    requires apart { ArePairwiseApart blocks.old.items }
+    ensures readable { AreReadable a.new.memory blocks.new.items }
+    ensures apart { ArePairwiseApart blocks.new.items }
+    ensures placed { IfOk result (λ _. (b : Block)
+        × PlacesBlock a.old a.new layout.size layout.align (Placed b)
+        × (blocks.new.items ≡ blocks.old.items ++ b ∷ [])) }
+    ensures err { IfErr result (λ e. PlacesBlock a.old a.new layout.size layout.align (answer_of (Err e))
+        ⊎ ((e ≡ OutOfMemory) × (a.new ≡ a.old))) }
+    ensures list { IfErr result (λ e. blocks.new.items ≡ blocks.old.items) }
+{
+    apart();
+    placed();
+    if blocks.reserve(1).is_err() {
+        return Err(ArenaErr::OutOfMemory);
+    }
+    let block = a.alloc_layout(layout)?;
+    match blocks.push(block) {
+        Ok(()) => Ok(()),
+        Err(_) => unreachable!(),
+    }
+}

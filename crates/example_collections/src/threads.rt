@@ -1,0 +1,189 @@
+// Many threads over one pool.
+ghost use Rattle.std.specs.Prelude.{◌≡◌, ℕ, ◌%◌, ◌<◌, ◌≤◌, None, Some, IfOk, IfSome, length, vec_len, slice_index, slice_index_or};
+ghost use Rattle.arena_pool.specs.Names.{IsBlankOf};
+ghost use Rattle.arena_pool.specs.declared.kind.PoolKind.TheVariants.{Standard, FixedSize};
+ghost use Rattle.example_collections.specs.Through.{ComeBack};
+
+use crate::borrow::through;
+use crate::loans::{through_fixed, through_standard};
+use arena_pool::{
+    AllocatorPool, ChunkMaker, FixedSizeAllocatorPool, MOST_LENT, MemoryMaker, OutOfMemory,
+    PoolName, StandardAllocatorPool,
+};
+use std::alloc::Global;
+use std::marker::Brand;
+use std::sync::Wait;
+use std::sync::ledger::Blank;
+use std::thread;
+use std::thread::Threads;
+
+/// A pool of any kind, through whose arenas values are sent.
+pub trait Lends {
+    /// Sends a value through an arena. It comes back as it was, or not at all.
+    fn send<R: Wait>(&self, rt: &R, value: u64) -> Option<u64>
+        ensures { IfSome result (λ v. v ≡ value) };
+}
+
+impl<K: ChunkMaker, L: PoolName> Lends for AllocatorPool<K, L> {
+    fn send<R: Wait>(&self, rt: &R, value: u64) -> Option<u64> {
+        through(rt, self, value)
+    }
+}
+
+impl<K: ChunkMaker, L: PoolName> Lends for FixedSizeAllocatorPool<K, L> {
+    fn send<R: Wait>(&self, rt: &R, value: u64) -> Option<u64> {
+        through_fixed(rt, self, value)
+    }
+}
+
+impl<K: ChunkMaker, L: PoolName> Lends for StandardAllocatorPool<K, L> {
+    fn send<R: Wait>(&self, rt: &R, value: u64) -> Option<u64> {
+        through_standard(rt, self, value)
+    }
+}
+
+/// Sends values through arenas of a pool, each in a thread of its own. Each comes back as it was, or not at all.
+///
+/// # Errors
+///
+/// Memory for the results is wanting.
+pub fn all_through<P: Lends + Sync, R: Threads + Wait + Sync>(
+    rt: &R,
+    alloc: Global,
+    pool: &P,
+    values: &[u64],
+) -> Result<Vec<Option<u64>>, OutOfMemory>
+    ensures { IfOk result (λ back. ComeBack values.now back.items) }
+{
+    let back = thread::map_indices(
+        rt,
+        alloc,
+        values.len(),
+        &|i| -> Option<u64>
+            requires { i < length values.now }
+            ensures { IfSome result (λ v. v ≡ slice_index values.entry.now i) }
+        { pool.send(rt, values[i]) },
+    );
+    back.map_err(|_| OutOfMemory)
+}
+
+/// The same over a new standard pool of so many arenas, each with a budget of bytes.
+///
+/// # Errors
+///
+/// Memory is wanting.
+pub fn over_standard<R: Threads + Wait + Sync>(
+    rt: &R,
+    alloc: Global,
+    arenas: u32,
+    budget: u64,
+    values: &[u64],
+) -> Result<Vec<Option<u64>>, OutOfMemory>
+    ensures { IfOk result (λ back. ComeBack values.now back.items) }
+{
+    in_standard::<Brand, R>(rt, alloc, arenas, budget, Blank::new(MOST_LENT), values)
+}
+
+// The pool is named by L, which stands in no type of the signature.
+fn in_standard<L: PoolName + Send + Sync, R: Threads + Wait + Sync>(
+    rt: &R,
+    alloc: Global,
+    arenas: u32,
+    budget: u64,
+    blank: Blank,
+    values: &[u64],
+) -> Result<Vec<Option<u64>>, OutOfMemory>
+    requires blank { IsBlankOf L.name L.parts blank }
+    requires kind { L.kind ≡ Standard }
+    requires limit { L.limit ≡ None }
+    ensures { IfOk result (λ back. ComeBack values.now back.items) }
+{
+    let maker = MemoryMaker::new(alloc, budget);
+    let pool = AllocatorPool::<MemoryMaker, L>::new(alloc, arenas, maker, blank)?;
+    all_through(rt, alloc, &pool, values)
+}
+
+/// The same over a new standard pool that keeps no arena of more than so many bytes.
+///
+/// # Errors
+///
+/// Memory is wanting.
+pub fn over_limited<R: Threads + Wait + Sync>(
+    rt: &R,
+    alloc: Global,
+    arenas: u32,
+    limit: u64,
+    budget: u64,
+    values: &[u64],
+) -> Result<Vec<Option<u64>>, OutOfMemory>
+    ensures { IfOk result (λ back. ComeBack values.now back.items) }
+{
+    in_limited::<Brand, R>(
+        rt,
+        alloc,
+        arenas,
+        limit,
+        budget,
+        Blank::new(MOST_LENT),
+        values,
+    )
+}
+
+fn in_limited<L: PoolName + Send + Sync, R: Threads + Wait + Sync>(
+    rt: &R,
+    alloc: Global,
+    arenas: u32,
+    limit: u64,
+    budget: u64,
+    blank: Blank,
+    values: &[u64],
+) -> Result<Vec<Option<u64>>, OutOfMemory>
+    requires blank { IsBlankOf L.name L.parts blank }
+    requires kind { L.kind ≡ Standard }
+    requires limit { L.limit ≡ Some limit }
+    ensures { IfOk result (λ back. ComeBack values.now back.items) }
+{
+    let maker = MemoryMaker::new(alloc, budget);
+    let pool = AllocatorPool::<MemoryMaker, L>::new_with_limit(alloc, arenas, limit, maker, blank)?;
+    all_through(rt, alloc, &pool, values)
+}
+
+/// The same over a new pool of so many arenas, each over a region of `bytes`. It waits without end where there are values and no
+/// arena.
+///
+/// # Errors
+///
+/// Memory is wanting.
+pub fn over_fixed<R: Threads + Wait + Sync>(
+    rt: &R,
+    alloc: Global,
+    arenas: u32,
+    bytes: u64,
+    values: &[u64],
+) -> Result<Vec<Option<u64>>, OutOfMemory>
+    requires units { bytes % 16 ≡ 0 }
+    requires room { 48 ≤ bytes }
+    ensures { IfOk result (λ back. ComeBack values.now back.items) }
+{
+    in_fixed::<Brand, R>(rt, alloc, arenas, bytes, Blank::new(MOST_LENT), values)
+}
+
+fn in_fixed<L: PoolName + Send + Sync, R: Threads + Wait + Sync>(
+    rt: &R,
+    alloc: Global,
+    arenas: u32,
+    bytes: u64,
+    blank: Blank,
+    values: &[u64],
+) -> Result<Vec<Option<u64>>, OutOfMemory>
+    requires blank { IsBlankOf L.name L.parts blank }
+    requires kind { L.kind ≡ FixedSize bytes }
+    requires limit { L.limit ≡ None }
+    requires units { bytes % 16 ≡ 0 }
+    requires room { 48 ≤ bytes }
+    ensures { IfOk result (λ back. ComeBack values.now back.items) }
+{
+    let maker = MemoryMaker::new(alloc, 0);
+    let pool = AllocatorPool::<MemoryMaker, L>::new_fixed_size(alloc, arenas, bytes, maker, blank)?;
+    all_through(rt, alloc, &pool, values)
+}

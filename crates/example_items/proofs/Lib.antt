@@ -1,4 +1,0 @@
-mod ChainLemmas
-mod CostLemmas
-mod RowLemmas
-mod TryLemmas

@@ -1,6 +1,0 @@
-pub mod TwoCalls
-pub mod Chains
-pub mod ChainLaws
-pub mod Rows
-pub mod Objects
-pub mod ObjectLaws

@@ -1,5 +1,0 @@
-mod BlockLemmas
-mod GrowthLemmas
-mod BufferLemmas
-mod AccountLemmas
-mod TryLemmas

@@ -1,8 +1,0 @@
-use Rattle.example_layer.proofs.counts.give_back.Goals as goal
-
-pub returns-clause-used : goal.returns-clause-used
-returns-clause-used g c at = c.used_by_giving_back.ensures.plain _ _ c.args.block c.requires c.dealloc.ensures.given at
-    c.min_align.ensures.state
-
-pub returns-clause-doubling : goal.returns-clause-doubling
-returns-clause-doubling g c z = c.doubling.ensures.given_back z _ _ c.args.block c.dealloc.ensures.given

@@ -1,4 +1,0 @@
-pub mod Blocks
-pub mod TwoCalls
-pub mod Buffers
-pub mod Accounts
