@@ -1,3 +1,4 @@
+mod AnswerLemmas
 mod BlockLemmas
 mod GrowthLemmas
 mod BufferLemmas

@@ -37,12 +37,10 @@ pub fn add_block<C: ChunkSource>(
 {
     apart();
     placed();
-    if blocks.reserve(1).is_err() {
+    let Ok(()) = blocks.reserve(1) else {
         return Err(ArenaErr::OutOfMemory);
-    }
+    };
     let block = a.alloc_layout(layout)?;
-    match blocks.push(block) {
-        Ok(()) => Ok(()),
-        Err(_) => unreachable!(),
-    }
+    blocks.push_reserved(block);
+    Ok(())
 }

@@ -1,10 +1,16 @@
 // Bare arenas with their loans.
-ghost use Rattle.std.specs.Prelude.{◌≡◌, ◌^◌, ◌≤◌, IfSome};
+ghost use Rattle.std.specs.Prelude.{◌≡◌, ◌^◌, ◌<◌, ◌≤◌, IfOk, IfSome, length, slice_index};
+ghost use Rattle.example_collections.specs.Through.{ComeBack};
 
 use crate::borrow::read_back;
 use arena_items::Item;
-use arena_pool::{ChunkMaker, FixedSizeAllocatorPool, PoolName, StandardAllocatorPool};
+use arena_pool::{
+    ChunkMaker, FixedSizeAllocatorPool, OutOfMemory, PoolName, StandardAllocatorPool,
+};
+use std::alloc::Global;
 use std::sync::Wait;
+use std::thread;
+use std::thread::Threads;
 
 /// Sends a value through a bare arena of a fixed pool.
 pub fn through_fixed<T: Item, K: ChunkMaker, L: PoolName, R: Wait>(
@@ -36,4 +42,58 @@ pub fn through_standard<T: Item, K: ChunkMaker, L: PoolName, R: Wait>(
     let found = read_back(&mut arena, value);
     pool.add(rt, arena, loan);
     found
+}
+
+/// Sends values through bare arenas of a fixed pool, each in a thread of its own. Each comes back as it was, or not at all.
+///
+/// # Errors
+///
+/// Memory for the results is wanting.
+pub fn all_through_fixed<K: ChunkMaker + Send, L: PoolName + Send + Sync, R: Threads + Wait + Sync>(
+    rt: &R,
+    alloc: Global,
+    pool: &FixedSizeAllocatorPool<K, L>,
+    values: &[u64],
+) -> Result<Vec<Option<u64>>, OutOfMemory>
+    ensures { IfOk result (λ back. ComeBack values.now back.items) }
+{
+    let back = thread::map_indices(
+        rt,
+        alloc,
+        values.len(),
+        &|i| -> Option<u64>
+            requires { i < length values.now }
+            ensures { IfSome result (λ v. v ≡ slice_index values.entry.now i) }
+        { through_fixed(rt, pool, values[i]) },
+    );
+    back.map_err(|_| OutOfMemory)
+}
+
+/// The same over a standard pool.
+///
+/// # Errors
+///
+/// Memory for the results is wanting.
+pub fn all_through_standard<
+    K: ChunkMaker + Send,
+    L: PoolName + Send + Sync,
+    R: Threads + Wait + Sync,
+>(
+    rt: &R,
+    alloc: Global,
+    pool: &StandardAllocatorPool<K, L>,
+    values: &[u64],
+) -> Result<Vec<Option<u64>>, OutOfMemory>
+    ensures { IfOk result (λ back. ComeBack values.now back.items) }
+{
+    let back = thread::map_indices(
+        rt,
+        alloc,
+        values.len(),
+        &|i| -> Option<u64>
+            requires { i < length values.now }
+            ensures { IfSome result (λ v. v ≡ slice_index values.entry.now i) }
+        { through_standard(rt, pool, values[i]) },
+    );
+    back.map_err(|_| OutOfMemory)
 }

@@ -5,11 +5,7 @@ ghost use Rattle.arena_pool.specs.declared.kind.PoolKind.TheVariants.{Standard, 
 ghost use Rattle.example_collections.specs.Through.{ComeBack};
 
 use crate::borrow::through;
-use crate::loans::{through_fixed, through_standard};
-use arena_pool::{
-    AllocatorPool, ChunkMaker, FixedSizeAllocatorPool, MOST_LENT, MemoryMaker, OutOfMemory,
-    PoolName, StandardAllocatorPool,
-};
+use arena_pool::{AllocatorPool, ChunkMaker, MOST_LENT, MemoryMaker, OutOfMemory, PoolName};
 use std::alloc::Global;
 use std::marker::Brand;
 use std::sync::Wait;
@@ -17,40 +13,15 @@ use std::sync::ledger::Blank;
 use std::thread;
 use std::thread::Threads;
 
-/// A pool of any kind, through whose arenas values are sent.
-pub trait Lends {
-    /// Sends a value through an arena. It comes back as it was, or not at all.
-    fn send<R: Wait>(&self, rt: &R, value: u64) -> Option<u64>
-        ensures { IfSome result (λ v. v ≡ value) };
-}
-
-impl<K: ChunkMaker, L: PoolName> Lends for AllocatorPool<K, L> {
-    fn send<R: Wait>(&self, rt: &R, value: u64) -> Option<u64> {
-        through(rt, self, value)
-    }
-}
-
-impl<K: ChunkMaker, L: PoolName> Lends for FixedSizeAllocatorPool<K, L> {
-    fn send<R: Wait>(&self, rt: &R, value: u64) -> Option<u64> {
-        through_fixed(rt, self, value)
-    }
-}
-
-impl<K: ChunkMaker, L: PoolName> Lends for StandardAllocatorPool<K, L> {
-    fn send<R: Wait>(&self, rt: &R, value: u64) -> Option<u64> {
-        through_standard(rt, self, value)
-    }
-}
-
-/// Sends values through arenas of a pool, each in a thread of its own. Each comes back as it was, or not at all.
+/// Sends values through borrowed arenas, each in a thread of its own. Each comes back as it was, or not at all.
 ///
 /// # Errors
 ///
 /// Memory for the results is wanting.
-pub fn all_through<P: Lends + Sync, R: Threads + Wait + Sync>(
+pub fn all_through<K: ChunkMaker + Send, L: PoolName + Send + Sync, R: Threads + Wait + Sync>(
     rt: &R,
     alloc: Global,
-    pool: &P,
+    pool: &AllocatorPool<K, L>,
     values: &[u64],
 ) -> Result<Vec<Option<u64>>, OutOfMemory>
     ensures { IfOk result (λ back. ComeBack values.now back.items) }
@@ -62,7 +33,7 @@ pub fn all_through<P: Lends + Sync, R: Threads + Wait + Sync>(
         &|i| -> Option<u64>
             requires { i < length values.now }
             ensures { IfSome result (λ v. v ≡ slice_index values.entry.now i) }
-        { pool.send(rt, values[i]) },
+        { through(rt, pool, values[i]) },
     );
     back.map_err(|_| OutOfMemory)
 }

@@ -13,7 +13,8 @@ use arena_pool::{
     MOST_LENT, MemoryMaker, PoolKind, PoolName, StandardAllocatorPool,
 };
 use example_collections::{
-    all_through, put_in, take_out, through, through_fixed, through_standard,
+    all_through_fixed, all_through_standard, put_in, take_out, through, through_fixed,
+    through_standard,
 };
 use std::alloc::Global;
 use std::marker::Brand;
@@ -225,7 +226,7 @@ fn loans_of_two<L: PoolName + Send + Sync, R: Threads + Wait + Abort + Sync>(
     pool.add(rt, other, other_loan);
     assert!(rt; marks(&mut arena, 3));
     pool.add(rt, arena, loan);
-    let back = all_through(rt, alloc, &pool, &VALUES);
+    let back = all_through_fixed(rt, alloc, &pool, &VALUES);
     assert!(rt; are_values(&back.ok().expect(rt, "results")));
     let Ok((arena, loan)) = pool.get(rt) else {
         unreachable!()
@@ -256,7 +257,7 @@ fn loans_without_end<L: PoolName + Send + Sync, R: Threads + Wait + Abort + Sync
     let (other, loan) = pool.get(rt).ok().expect(rt, "an arena");
     assert_eq!(rt; other.capacity(), 0);
     pool.add(rt, other, loan);
-    let back = all_through(rt, alloc, &pool, &VALUES);
+    let back = all_through_standard(rt, alloc, &pool, &VALUES);
     assert!(rt; are_values(&back.ok().expect(rt, "results")));
 }
 
