@@ -5,8 +5,9 @@ ghost use Rattle.arena_items.specs.Values.{IsBoxIn, box_value};
 ghost use Rattle.arena_pool.specs.Kinds.{IsOfKind};
 ghost use Rattle.arena_pool.specs.declared.kind.PoolKind.{PoolKind};
 
+use crate::lender::put;
 use arena_chunks::{Allocator, ChunkSource};
-use arena_items::{ArenaItems, Box, Item, ItemErr, allocator_of};
+use arena_items::{Box, Item, ItemErr};
 use arena_pool::laws::kinds_by_values;
 use arena_pool::{AllocatorGuard, AllocatorPool, ChunkMaker, PoolName};
 use std::sync::Wait;
@@ -63,7 +64,7 @@ pub fn take_out<T: Item, K: ChunkMaker, L: PoolName, R: Wait>(
     }
 }
 
-/// Places a value in a guard's arena, as in whatever has an allocator. The guard's id stays.
+/// Places a value in a guard's arena, by the call for whatever has an allocator. The guard's id stays.
 ///
 /// # Errors
 ///
@@ -76,6 +77,5 @@ pub fn put_in<T: Item, K: ChunkMaker, L: PoolName>(
     ensures places { PlacesBox T.Item guard.old.0 guard.new.0 (λ v. v ≡ value) result }
     ensures id { guard.new.1 ≡ guard.old.1 }
 {
-    let result = allocator_of(guard).alloc(value);
-    result
+    put(guard, value)
 }

@@ -7,6 +7,12 @@ returns-in_err-block-clause-calls g c =
     let p = err_from_is_err_and c.from_residual.result c.from_residual.ensures.1 in
     rw (p.1, p.2) (inl c.in_err-block.ensures)
 
+pub grow-requires-clause-readable : goal.grow-requires-clause-readable
+grow-requires-clause-readable g c = c.in_ok-block.ensures.1.outcome.of_layout.readable
+
+pub grow-requires-clause-size : goal.grow-requires-clause-size
+grow-requires-clause-size g c = omega (arith, c.in_ok-block.ensures.1.outcome.of_layout.of_size, c.requires)
+
 pub returns-in_err-grown-clause-calls : goal.returns-in_err-grown-clause-calls
 returns-in_err-grown-clause-calls g c =
     let p = err_from_is_err_and c.from_residual-in_err-grown.result c.from_residual-in_err-grown.ensures.1 in

@@ -9,6 +9,12 @@ returns-in_err-grown-clause-grown g c =
     let p = err_from_is_err_and c.from_residual.result c.from_residual.ensures.1 in
     rw (p.1, p.2) c.in_err-grown.ensures
 
+pub write-requires-clause-readable : goal.write-requires-clause-readable
+write-requires-clause-readable g c = c.in_ok-grown.ensures.1.outcome.of_layout.readable
+
+pub write-requires-clause-range : goal.write-requires-clause-range
+write-requires-clause-range g c = omega (arith, c.in_ok-grown.ensures.1.outcome.of_layout.of_size, c.requires.size)
+
 pub returns-clause-grown : goal.returns-clause-grown
 returns-clause-grown g c =
     grows_written _ _ _ c.args.block c.in_ok-grown.grown c.args.layout.size c.args.layout.align c.args.block.size c.args.bytes.now
