@@ -1,15 +1,15 @@
 // Bare arenas with their loans.
-ghost use Rattle.std.specs.Prelude.{◌≡◌, ◌^◌, ◌<◌, ◌≤◌, IfOk, IfSome, length, slice_index};
+ghost use Rattle.std.specs.Prelude.{◌≡◌, ◌^◌, ◌≤◌, IfOk, IfSome};
 ghost use Rattle.example_collections.specs.Through.{ComeBack};
 
 use crate::borrow::read_back;
+use crate::threads::{AnyPool, all_sent};
 use arena_items::Item;
 use arena_pool::{
     ChunkMaker, FixedSizeAllocatorPool, OutOfMemory, PoolName, StandardAllocatorPool,
 };
 use std::alloc::Global;
 use std::sync::Wait;
-use std::thread;
 use std::thread::Threads;
 
 /// Sends a value through a bare arena of a fixed pool.
@@ -57,16 +57,7 @@ pub fn all_through_fixed<K: ChunkMaker + Send, L: PoolName + Send + Sync, R: Thr
 ) -> Result<Vec<Option<u64>>, OutOfMemory>
     ensures { IfOk result (λ back. ComeBack values.now back.items) }
 {
-    let back = thread::map_indices(
-        rt,
-        alloc,
-        values.len(),
-        &|i| -> Option<u64>
-            requires { i < length values.now }
-            ensures { IfSome result (λ v. v ≡ slice_index values.entry.now i) }
-        { through_fixed(rt, pool, values[i]) },
-    );
-    back.map_err(|_| OutOfMemory)
+    all_sent(rt, alloc, &AnyPool::FixedSize(pool), values)
 }
 
 /// The same over a standard pool.
@@ -86,14 +77,5 @@ pub fn all_through_standard<
 ) -> Result<Vec<Option<u64>>, OutOfMemory>
     ensures { IfOk result (λ back. ComeBack values.now back.items) }
 {
-    let back = thread::map_indices(
-        rt,
-        alloc,
-        values.len(),
-        &|i| -> Option<u64>
-            requires { i < length values.now }
-            ensures { IfSome result (λ v. v ≡ slice_index values.entry.now i) }
-        { through_standard(rt, pool, values[i]) },
-    );
-    back.map_err(|_| OutOfMemory)
+    all_sent(rt, alloc, &AnyPool::Standard(pool), values)
 }

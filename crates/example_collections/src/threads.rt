@@ -5,13 +5,60 @@ ghost use Rattle.arena_pool.specs.declared.kind.PoolKind.TheVariants.{Standard, 
 ghost use Rattle.example_collections.specs.Through.{ComeBack};
 
 use crate::borrow::through;
-use arena_pool::{AllocatorPool, ChunkMaker, MOST_LENT, MemoryMaker, OutOfMemory, PoolName};
+use crate::loans::{through_fixed, through_standard};
+use arena_pool::{
+    AllocatorPool, ChunkMaker, FixedSizeAllocatorPool, MOST_LENT, MemoryMaker, OutOfMemory,
+    PoolName, StandardAllocatorPool,
+};
 use std::alloc::Global;
 use std::marker::Brand;
 use std::sync::Wait;
 use std::sync::ledger::Blank;
 use std::thread;
 use std::thread::Threads;
+
+/// A pool of one of the three types.
+pub(crate) enum AnyPool<'a, K: ChunkMaker, L: PoolName> {
+    Pool(&'a AllocatorPool<K, L>),
+    FixedSize(&'a FixedSizeAllocatorPool<K, L>),
+    Standard(&'a StandardAllocatorPool<K, L>),
+}
+
+// Sends a value through an arena of a pool.
+fn sent<K: ChunkMaker, L: PoolName, R: Wait>(
+    rt: &R,
+    pool: &AnyPool<'_, K, L>,
+    value: u64,
+) -> Option<u64>
+    ensures { IfSome result (λ v. v ≡ value) }
+{
+    match *pool {
+        AnyPool::Pool(pool) => through(rt, pool, value),
+        AnyPool::FixedSize(pool) => through_fixed(rt, pool, value),
+        AnyPool::Standard(pool) => through_standard(rt, pool, value),
+    }
+}
+
+// Sends values through arenas of a pool, each in a thread of its own.
+pub(crate) fn all_sent<K: ChunkMaker + Send, L: PoolName + Send + Sync, R: Threads + Wait + Sync>(
+    rt: &R,
+    alloc: Global,
+    pool: &AnyPool<'_, K, L>,
+    values: &[u64],
+) -> Result<Vec<Option<u64>>, OutOfMemory>
+    ensures { IfOk result (λ back. ComeBack values.now back.items) }
+{
+    let back = thread::map_indices(
+        rt,
+        alloc,
+        values.len(),
+        &|i| -> Option<u64>
+            requires { i < length values.now }
+            ensures { IfSome result (λ v. v ≡ slice_index values.entry.now i) }
+        { sent(rt, pool, values[i]) },
+    );
+    back.map_err(|_| OutOfMemory)
+}
 
 /// Sends values through borrowed arenas, each in a thread of its own. Each comes back as it was, or not at all.
 ///
@@ -26,16 +73,7 @@ pub fn all_through<K: ChunkMaker + Send, L: PoolName + Send + Sync, R: Threads +
 ) -> Result<Vec<Option<u64>>, OutOfMemory>
     ensures { IfOk result (λ back. ComeBack values.now back.items) }
 {
-    let back = thread::map_indices(
-        rt,
-        alloc,
-        values.len(),
-        &|i| -> Option<u64>
-            requires { i < length values.now }
-            ensures { IfSome result (λ v. v ≡ slice_index values.entry.now i) }
-        { through(rt, pool, values[i]) },
-    );
-    back.map_err(|_| OutOfMemory)
+    all_sent(rt, alloc, &AnyPool::Pool(pool), values)
 }
 
 /// The same over a new standard pool of so many arenas, each with a budget of bytes.
