@@ -12,7 +12,7 @@ use arena_chunks::{Alloc, Allocator, ArenaErr, Block, ChunkSource};
 use arena_place::Layout;
 
 /// Why a buffer has no room for more.
-#[derive(Clone, Copy, PartialEq, Eq, Debug)]
+#[derive(Clone, Copy, Debug)]
 pub enum BufferErr {
     /// The size that is wanted is no layout. The arena wasn't asked.
     CapacityOverflow,
@@ -21,7 +21,7 @@ pub enum BufferErr {
 }
 
 /// Bytes in a block that has room for more.
-#[derive(Clone, Copy, PartialEq, Eq, Debug)]
+#[derive(Clone, Copy)]
 pub struct Buffer {
     pub block: Block,
     pub length: u64,

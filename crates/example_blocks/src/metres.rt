@@ -7,7 +7,7 @@ ghost use Rattle.arena_items.specs.NumberLaws.{bytes_back};
 use arena_items::Item;
 
 /// A length in whole metres.
-#[derive(Clone, Copy, PartialEq, Eq, Debug)]
+#[derive(Clone, Copy)]
 pub struct Metres {
     pub count: u32,
 }

@@ -1,6 +1,7 @@
 use Rattle.std.proofs.Common.{refl, ◌∙◌, [], ◌∷◌, inl, inr}
 use Rattle.std.proofs.lemmas.Result.{err_from_is_err_and}
 use Rattle.arena_chunks.specs.BlockCalls.{PlacesBlock}
+use Rattle.arena_chunks.specs.declared.block.Block.{Block}
 use Rattle.arena_chunks.proofs.Layers.{frame_keeps_new, frame_beside, frame_then}
 use Rattle.example_blocks.proofs.AnswerLemmas.{refused_by}
 use Rattle.example_blocks.proofs.pairs.place_two.Goals as goal
@@ -18,7 +19,7 @@ returns-in_err-other-clause-calls g c =
       block = _;
       placed = c.in_ok-one.ensures.placed;
       follows = (
-        refused_by (λ r. r.1) c.in_err-other.field-0.0
+        refused_by (λ (r : Block × Block). r.1) c.in_err-other.field-0.0
             (PlacesBlock c.place_bytes.new.a c.place_bytes-2.new.a c.args.layout.size c.args.layout.align) c.in_err-other.ensures.placed,
         tt,
       );
