@@ -18,6 +18,7 @@ use std::thread;
 use std::thread::Threads;
 
 /// A pool of one of the three types.
+#[derive(Drop)]
 pub(crate) enum AnyPool<'a, K: ChunkMaker, L: PoolName> {
     Pool(&'a AllocatorPool<K, L>),
     FixedSize(&'a FixedSizeAllocatorPool<K, L>),
