@@ -32,6 +32,3 @@ pub const RAW_MIN_SIZE: u64 = CHUNK_FOOTER_SIZE;
 
 /// The size of a region that an arena is made over is a multiple of this, as its address would be.
 pub const RAW_MIN_ALIGN: u64 = CHUNK_ALIGN;
-
-#[cfg(test)]
-mod tests;

@@ -1,5 +1,5 @@
-//! Tests of the arena by its public calls alone: worked examples of the rules, and whole runs beside the plain program
-//! of the definitions.
+//! Tests of places, of the arena and of values in it by their public calls alone: worked examples of the rules, byte forms, and
+//! whole runs beside the plain program of the definitions.
 #![tactic(auto)]
 
 #[cfg(test)]

@@ -6,8 +6,11 @@ mod blocks;
 mod creation;
 mod ends;
 mod growth;
+mod items;
 mod layers;
+mod layouts;
 mod marks;
+mod places;
 mod reallocation;
 mod regions;
 mod replies;
@@ -52,14 +55,14 @@ fn held<C: ChunkSource>(rt: &impl Abort, a: &Allocator<C>, block: Block) -> Bloc
     ensures readable { IsTrue (is_readable a.now.memory.state result) }
     ensures block { result ≡ block }
 {
-    assert!(rt; a.is_held_place(block), "a held block");
+    must(rt, block, a.is_held_place(block));
     block
 }
 
 // A block that was answered at this address, which is held.
 fn placed<C: ChunkSource>(
     rt: &impl Abort,
-    what: &str,
+    what: &'static str,
     a: &Allocator<C>,
     answered: Result<Block, ArenaErr>,
     addr: u64,
@@ -68,41 +71,37 @@ fn placed<C: ChunkSource>(
     ensures block { answered ≡ Ok result }
 {
     let block = answered.expect(rt, what);
-    assert_eq!(rt; block.addr, addr, "{what}");
+    same_at(rt, what, block.addr, addr);
     held(rt, a, block)
 }
 
 // The block is held and has these bytes.
 fn reads<C: ChunkSource>(
     rt: &impl Abort,
-    what: &str,
+    what: &'static str,
     a: &Allocator<C>,
     block: Block,
     wanted: &[u8],
 ) {
     let block = held(rt, a, block);
-    assert_eq!(rt; a.read(block), wanted, "{what}");
+    must(rt, what, *a.read(block) == *wanted);
 }
 
 // So many bytes are used, and so many blocks were placed, and grown or shrunk.
 fn has<C: ChunkSource>(
     rt: &impl Abort,
-    what: &str,
+    what: &'static str,
     a: &Allocator<C>,
     used: u64,
     counts: (u64, u64),
 ) {
-    same_at(
-        rt,
-        what,
-        (a.used_bytes(), a.get_allocation_stats()),
-        (used, counts),
-    );
+    let found = (a.used_bytes(), a.get_allocation_stats());
+    same_at(rt, what, found, (used, counts));
 }
 
 // What was found is what is wanted.
 fn same<T: Copy + PartialEq + Debug>(rt: &impl Abort, found: T, wanted: T) {
-    assert_eq!(rt; found, wanted);
+    same_at(rt, "a value", found, wanted);
 }
 
 // What was found there is what is wanted.
@@ -112,5 +111,16 @@ fn same_at<A: Copy + Debug, T: Copy + PartialEq + Debug>(
     found: T,
     wanted: T,
 ) {
-    assert_eq!(rt; found, wanted, "{at:?}");
+    if found != wanted {
+        panic!(rt; "{at:?}: {found:?} in place of {wanted:?}");
+    }
+}
+
+// It is so there.
+fn must<A: Copy + Debug>(rt: &impl Abort, at: A, is: bool)
+    ensures { IsTrue is }
+{
+    if !is {
+        panic!(rt; "{at:?}");
+    }
 }

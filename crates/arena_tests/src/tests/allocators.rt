@@ -11,7 +11,7 @@ fn values_and_texts_until_a_reset(rt: HostRuntime) {
     let array = a.alloc_layout(layout(&rt, 10, 1)).expect(&rt, "a block");
     a.write(array, 0, &[123; 10]);
     let text = a.alloc_str("hello").expect(&rt, "a text").block;
-    assert_eq!(rt; text.addr, 20401);
+    same(&rt, text.addr, 20401);
     reads(&rt, "the array", &a, array, &[123; 10]);
     reads(&rt, "the text", &a, text, b"hello");
     has(&rt, "before the reset", &a, 15, (2, 0));

@@ -1,6 +1,6 @@
 // The engine beside the plain program of the definitions, which is told how many requests were refused in each call: tables
 // with every case of every call, and calls that are drawn.
-use super::runs::{Row, replies_of};
+use super::runs::{Row, call, calls, replies_of};
 use std::test::Fail;
 
 // Every case of every call: names held and free, layouts good and bad, sizes of none, a place in the newest chunk and
@@ -170,19 +170,20 @@ fn drawn(n: u64) -> Row {
 fn replies(rt: HostRuntime) -> Result<(), Fail> {
     for refuse in REFUSALS {
         for rows in [CALLS, RESIZING_CALLS] {
-            replies_of::<1>(&rt, rt.alloc(), rows, refuse)?;
+            let calls = calls(rt.alloc(), rows)?;
+            replies_of::<1>(&rt, rt.alloc(), calls.as_slice(), refuse)?;
         }
     }
     let mut n: u64 = 1;
     for refuse in REFUSALS {
-        let mut rows = Vec::new(rt.alloc());
+        let mut calls = Vec::new(rt.alloc());
         for _ in 0..200 {
             n = n
                 .wrapping_mul(6_364_136_223_846_793_005)
                 .wrapping_add(1_442_695_040_888_963_407);
-            rows.push(drawn(n >> 20))?;
+            calls.push(call(rt.alloc(), &drawn(n >> 20))?)?;
         }
-        replies_of::<1>(&rt, rt.alloc(), rows.as_slice(), refuse)?;
+        replies_of::<1>(&rt, rt.alloc(), calls.as_slice(), refuse)?;
     }
     Ok(())
 }

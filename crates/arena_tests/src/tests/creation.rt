@@ -1,7 +1,7 @@
 // How arenas begin.
 use super::stage::Stage;
 use super::steps::Step;
-use super::{refusing, same_at};
+use super::{must, refusing, same_at};
 use arena_chunks::{Arena, ArenaErr, ChunkSource, MemoryChunks};
 use std::alloc::Global;
 use std::process::Abort;
@@ -20,12 +20,16 @@ fn answers<C: ChunkSource>(rt: &impl Abort, alloc: Global, chunks: &mut C, rows:
                     size.checked_add(4096)
                 };
                 same_at(rt, capacity, Some(arena.data_end()), end);
-                let counts = (arena.allocated_bytes(), arena.chunk_capacity());
-                same_at(rt, capacity, counts, (size, size));
-                assert!(rt; arena.is_growing() && arena.used_bytes() == 0);
+                let counts = (
+                    arena.allocated_bytes(),
+                    arena.chunk_capacity(),
+                    arena.used_bytes(),
+                );
+                same_at(rt, capacity, counts, (size, size, 0));
+                must(rt, capacity, arena.is_growing());
             }
             (Err(e), Err(refused)) => same_at(rt, capacity, e, ArenaErr::AllocErr { refused }),
-            _ => panic!(rt; "an answer for {capacity}"),
+            _ => must(rt, capacity, false),
         }
     }
 }
@@ -84,7 +88,7 @@ fn arenas_of_a_capacity(rt: HostRuntime) -> Result<(), Fail> {
     let mut chunks = refusing(alloc, &[1, 2, 4])?;
     answers(&rt, alloc, &mut chunks, REFUSALS);
     let told = [(64, 16), (32704, 16), (64, 16), ((1 << 63) - 64, 16)];
-    assert_eq!(rt; chunks.requests(), Some(told.as_slice()));
+    same_at(&rt, "requests", chunks.requests(), Some(told.as_slice()));
     Ok(())
 }
 
@@ -114,9 +118,12 @@ fn takes<const M: usize>(
     steps: &[Step],
 ) {
     let arena = arena.expect(rt, name);
-    assert_eq!(rt; arena.min_align(), M as u64);
+    same_at(rt, name, arena.min_align(), M as u64);
     let chunks = refusing(alloc, &[]).expect(rt, "memory");
-    Stage::of(alloc, arena, chunks).takes(rt, name, steps);
+    let mut stage = Stage::of(alloc, name, arena, chunks);
+    for step in steps {
+        stage.take(rt, step);
+    }
 }
 
 #[test]
@@ -223,10 +230,10 @@ const REGIONS: &[(usize, &[Step])] = &[
 fn regions(rt: HostRuntime) -> Result<(), Fail> {
     let alloc = rt.alloc();
     for &(size, steps) in REGIONS {
-        assert!(rt; size % 16 == 0 && size >= 48, "a region");
+        must(&rt, size, size % 16 == 0 && size >= 48);
         let bytes = vec![in alloc; 7; size]?;
         let arena = Arena::<16>::from_raw_parts(alloc, bytes).expect(&rt, "an arena");
-        assert!(rt; !arena.is_growing());
+        must(&rt, size, !arena.is_growing());
         takes(&rt, alloc, "a region", Ok(arena), steps);
     }
     Ok(())

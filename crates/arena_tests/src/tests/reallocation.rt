@@ -1,89 +1,49 @@
 // Blocks that get another size at their alignment.
-use super::steps::{Case, Step};
+use super::steps::Step;
 use super::{ample, held, layout, same};
 use arena_chunks::bumpalo_alloc::Alloc;
 use std::test::Fail;
 
-pub(super) const SIZES: &[Case] = &[
-    Case {
-        name: "51 of 100 bytes",
-        refuse: &[],
-        steps: &[
-            Step::Alloc(100, 1, Ok(20316)),
-            Step::Realloc(0, 51, Ok(20316)),
-        ],
-    },
-    Case {
-        name: "50 of 100 bytes",
-        refuse: &[],
-        steps: &[
-            Step::Alloc(100, 1, Ok(20316)),
-            Step::Realloc(0, 50, Ok(20366)),
-        ],
-    },
-    Case {
-        name: "11 bytes for 10",
-        refuse: &[],
-        steps: &[
-            Step::Alloc(10, 1, Ok(20406)),
-            Step::Realloc(0, 11, Ok(20405)),
-        ],
-    },
-    Case {
-        name: "10 bytes for 10",
-        refuse: &[],
-        steps: &[
-            Step::Alloc(10, 1, Ok(20406)),
-            Step::Realloc(0, 10, Ok(20406)),
-        ],
-    },
-    Case {
-        name: "more than the chunk has",
-        refuse: &[],
-        steps: &[
-            Step::Alloc(1, 1, Ok(20415)),
-            Step::Write(0, 0, &[5]),
-            Step::Realloc(0, 16321, Ok(36847)),
-            Step::Begins(1, &[5]),
-            Step::Requests(&[(16320, 16), (32704, 16)]),
-        ],
-    },
-    Case {
-        name: "2 bytes for 1, above another",
-        refuse: &[],
-        steps: &[
-            Step::Alloc(1, 1, Ok(20415)),
-            Step::Write(0, 0, &[5]),
-            Step::Alloc(1, 1, Ok(20414)),
-            Step::Realloc(0, 2, Ok(20412)),
-            Step::Begins(2, &[5]),
-        ],
-    },
-    Case {
-        name: "8 bytes for none, placed anew",
-        refuse: &[],
-        steps: &[
-            Step::Alloc(0, 1, Ok(16)),
-            Step::Realloc(0, 8, Ok(20408)),
-            Step::Statistics(2, 0),
-        ],
-    },
-    Case {
-        name: "sizes that are no layout",
-        refuse: &[],
-        steps: &[
-            Step::Alloc(1, 1, Ok(20415)),
-            Step::Realloc(0, 1 << 63, Err(0)),
-            Step::Held(0, true),
-            Step::Alloc(16, 16, Ok(20384)),
-            Step::Realloc(1, (1 << 63) - 15, Err(0)),
-            Step::Held(1, true),
-            Step::Alloc(0, 2, Ok(20384)),
-            Step::Realloc(2, u64::MAX, Err(0)),
-            Step::Held(2, true),
-            Step::Requests(&[(16320, 16)]),
-        ],
-    },
+pub(super) const SIZES: &[Step] = &[
+    Step::Case("51 of 100 bytes", &[]),
+    Step::Alloc(100, 1, Ok(20316)),
+    Step::Realloc(0, 51, Ok(20316)),
+    Step::Case("50 of 100 bytes", &[]),
+    Step::Alloc(100, 1, Ok(20316)),
+    Step::Realloc(0, 50, Ok(20366)),
+    Step::Case("11 bytes for 10", &[]),
+    Step::Alloc(10, 1, Ok(20406)),
+    Step::Realloc(0, 11, Ok(20405)),
+    Step::Case("10 bytes for 10", &[]),
+    Step::Alloc(10, 1, Ok(20406)),
+    Step::Realloc(0, 10, Ok(20406)),
+    Step::Case("more than the chunk has", &[]),
+    Step::Alloc(1, 1, Ok(20415)),
+    Step::Write(0, 0, &[5]),
+    Step::Realloc(0, 16321, Ok(36847)),
+    Step::Begins(1, &[5]),
+    Step::Requests(&[(16320, 16), (32704, 16)]),
+    Step::Case("2 bytes for 1, above another", &[]),
+    Step::Alloc(1, 1, Ok(20415)),
+    Step::Write(0, 0, &[5]),
+    Step::Alloc(1, 1, Ok(20414)),
+    Step::Realloc(0, 2, Ok(20412)),
+    Step::Begins(2, &[5]),
+    Step::Case("8 bytes for none, placed anew", &[]),
+    Step::Alloc(0, 1, Ok(16)),
+    Step::Realloc(0, 8, Ok(20408)),
+    Step::Statistics(2, 0),
+    Step::Case("sizes that are no layout", &[]),
+    Step::Alloc(1, 1, Ok(20415)),
+    Step::Realloc(0, 1 << 63, Err(0)),
+    Step::Held(0, true),
+    Step::Alloc(16, 16, Ok(20384)),
+    Step::Realloc(1, (1 << 63) - 15, Err(0)),
+    Step::Held(1, true),
+    Step::Alloc(0, 2, Ok(20384)),
+    Step::Realloc(2, u64::MAX, Err(0)),
+    Step::Held(2, true),
+    Step::Requests(&[(16320, 16)]),
 ];
 
 // Each byte of a block is read again in the second and in the third chunk.
@@ -99,7 +59,7 @@ fn bytes_through_three_chunks(rt: HostRuntime) -> Result<(), Fail> {
     }
     block = held(&rt, &a, block);
     same(&rt, block.addr, 8416);
-    assert!(rt; block.size == bytes.len() as u64, "as many bytes");
+    assert!(rt; block.size == bytes.len() as u64);
     a.write(block, 0, bytes.as_slice());
     Alloc::alloc(&mut a, layout(&rt, 1000, 4)).expect(&rt, "a block");
     for (size, addr) in [(24000, 29168), (48000, 70688)] {

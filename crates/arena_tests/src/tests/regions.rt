@@ -1,4 +1,5 @@
 // Regions with ample memory: of zeros, of a copy, and of a vector that has room for more.
+use super::same;
 use arena_region::Region;
 use example_blocks::put_last;
 use std::test::Fail;
@@ -17,10 +18,10 @@ fn beginnings(rt: HostRuntime) -> Result<(), Fail> {
         (Region::from_vec(vec), 0),
     ] {
         let mut region = region;
-        assert_eq!(rt; (region.len(), region.low()), (2, low));
+        same(&rt, (region.len(), region.low()), (2, low));
         put_last(&mut region, &[7]);
         let low = region.low();
-        assert_eq!(rt; region.len(), 2);
+        same(&rt, region.len(), 2);
         assert!(rt; region.part(low, 2 - low).ends_with(&[7]));
     }
     Ok(())

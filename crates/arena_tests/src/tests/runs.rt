@@ -2,7 +2,7 @@
 ghost use Rattle.std.specs.Prelude.{IsTrue};
 ghost use Rattle.placement.specs.State.{is_min_align};
 
-use super::refusing;
+use super::{must, refusing};
 use arena_chunks::{Arena, Bytes, Call, OutOfMemory, Ran, Reply, run_calls};
 use plain_machine::PlainMachine;
 use std::alloc::Global;
@@ -10,7 +10,7 @@ use std::process::Abort;
 use std::test::Fail;
 
 // A call: the name, and what it has of a size, an alignment, a fill byte, an index and bytes, in this order.
-#[derive(Clone, Copy)]
+#[derive(Drop)]
 pub(super) enum Row {
     Alloc(u32, u64, u64, u8),
     Grow(u32, u64, u64, u8),
@@ -27,7 +27,6 @@ pub(super) enum Row {
 }
 
 // A reply, with bytes as a slice.
-#[derive(Clone, Copy)]
 pub(super) enum Says {
     // An address, and how many requests were refused.
     Placed(u64, u32),
@@ -41,8 +40,8 @@ pub(super) enum Says {
     OutOfRange,
 }
 
-fn call(alloc: Global, row: Row) -> Result<Call, OutOfMemory> {
-    Ok(match row {
+pub(super) fn call(alloc: Global, row: &Row) -> Result<Call, OutOfMemory> {
+    Ok(match *row {
         Row::Alloc(name, size, align, fill) => Call::Alloc {
             name,
             size,
@@ -73,13 +72,13 @@ fn call(alloc: Global, row: Row) -> Result<Call, OutOfMemory> {
 pub(super) fn calls(alloc: Global, rows: &[Row]) -> Result<Vec<Call>, Fail> {
     let mut calls = Vec::new(alloc);
     for row in rows {
-        calls.push(call(alloc, *row)?)?;
+        calls.push(call(alloc, row)?)?;
     }
     Ok(calls)
 }
 
-fn reply(alloc: Global, says: Says) -> Result<Reply, OutOfMemory> {
-    Ok(match says {
+fn reply(alloc: Global, says: &Says) -> Result<Reply, OutOfMemory> {
+    Ok(match *says {
         Says::Placed(addr, refused) => Reply::Placed { addr, refused },
         Says::AllocErr(refused) => Reply::AllocErr { refused },
         Says::Done => Reply::Done,
@@ -96,33 +95,35 @@ fn reply(alloc: Global, says: Says) -> Result<Reply, OutOfMemory> {
 pub(super) fn replies_of<const M: usize>(
     rt: &impl Abort,
     alloc: Global,
-    rows: &[Row],
+    calls: &[Call],
     refuse: &[u64],
 ) -> Result<Vec<Reply>, Fail>
     requires { IsTrue (is_min_align M) }
 {
-    let calls = calls(alloc, rows)?;
     let mut chunks = refusing(alloc, refuse)?;
     let mut arena = Arena::<M>::with_min_align(alloc);
-    let Ok(Ran { replies, .. }) = run_calls(alloc, &mut arena, &mut chunks, calls.as_slice()) else {
+    let Ok(Ran { replies, .. }) = run_calls(alloc, &mut arena, &mut chunks, calls) else {
         return Err(Fail::from("memory is ample"));
     };
-    let mut refused = Vec::new(alloc);
-    for reply in &replies {
-        refused.push(match reply {
+    let refused = refused(alloc, replies.as_slice())?;
+    let plain = PlainMachine::run(alloc, M as u64, calls, refused.as_slice());
+    let Ok(Some(plain)) = plain else {
+        return Err(Fail::from("the machine has this run"));
+    };
+    must(rt, refuse, replies.as_slice() == plain.as_slice());
+    Ok(replies)
+}
+
+// How many requests were refused in each call.
+fn refused(alloc: Global, replies: &[Reply]) -> Result<Vec<u32>, Fail> {
+    let mut all = Vec::new(alloc);
+    for reply in replies {
+        all.push(match reply {
             Reply::Placed { refused, .. } | Reply::AllocErr { refused } => *refused,
             _ => 0,
         })?;
     }
-    let plain = PlainMachine::run(alloc, M as u64, calls.as_slice(), refused.as_slice());
-    let Ok(Some(plain)) = plain else {
-        return Err(Fail::from("the machine has this run"));
-    };
-    assert!(rt;
-        replies.as_slice() == plain.as_slice(),
-        "refused: {refuse:?}"
-    );
-    Ok(replies)
+    Ok(all)
 }
 
 // Calls in a row, each with its reply, where the requests of these numbers are refused.
@@ -140,14 +141,13 @@ pub(super) fn all_reply<const M: usize>(
     requires { IsTrue (is_min_align M) }
 {
     for run in runs {
-        let mut rows = Vec::new(alloc);
+        let mut calls = Vec::new(alloc);
         for (row, _) in run.lines {
-            rows.push(*row)?;
+            calls.push(call(alloc, row)?)?;
         }
-        let replies = replies_of::<M>(rt, alloc, rows.as_slice(), run.refuse)?;
+        let replies = replies_of::<M>(rt, alloc, calls.as_slice(), run.refuse)?;
         for (n, (given, (_, says))) in replies.iter().zip(run.lines).enumerate() {
-            let wanted = reply(alloc, *says)?;
-            assert!(rt; *given == wanted, "{}, call {n}", run.name);
+            must(rt, (run.name, n), *given == reply(alloc, says)?);
         }
     }
     Ok(())

@@ -73,7 +73,8 @@ fn a_count_that_stands(rt: HostRuntime) -> Result<(), Fail> {
         grants: 0,
         refused: u64::MAX,
     };
-    let calls = calls(alloc, &[Row::Alloc(0, 1, 1, 0); 2])?;
+    let rows = [Row::Alloc(0, 1, 1, 0), Row::Alloc(0, 1, 1, 0)];
+    let calls = calls(alloc, &rows)?;
     let mut arena = Arena::<1>::new(alloc);
     let Ok(Ran { replies, .. }) = run_calls(alloc, &mut arena, &mut chunks, calls.as_slice()) else {
         return Err(Fail::from("memory is ample"));

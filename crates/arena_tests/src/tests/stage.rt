@@ -4,13 +4,10 @@ ghost use Rattle.placement.specs.State.{start_of};
 ghost use Rattle.arena_chunks.specs.Memory.{is_readable};
 
 use super::steps::{Answer, Step};
-use super::{layout, same_at};
+use super::{layout, must, same_at};
 use arena_chunks::{Arena, ArenaErr, Block, Checkpoint, RefusingChunks};
 use std::alloc::Global;
 use std::process::Abort;
-
-// The name of the table and the step that is taken, for messages.
-type At = (&'static str, usize);
 
 // How a block gets another size.
 #[derive(Clone, Copy)]
@@ -23,6 +20,8 @@ enum Way {
 // An arena, its source, the blocks that it answered, and the marks that were set.
 #[derive(Drop)]
 pub(super) struct Stage<const M: usize> {
+    // The name of the case and the step that is taken, for messages.
+    at: (&'static str, u64),
     arena: Arena<M>,
     chunks: RefusingChunks,
     blocks: Vec<Block>,
@@ -30,8 +29,14 @@ pub(super) struct Stage<const M: usize> {
 }
 
 impl<const M: usize> Stage<M> {
-    pub(super) fn of(alloc: Global, arena: Arena<M>, chunks: RefusingChunks) -> Stage<M> {
+    pub(super) fn of(
+        alloc: Global,
+        name: &'static str,
+        arena: Arena<M>,
+        chunks: RefusingChunks,
+    ) -> Stage<M> {
         Stage {
+            at: (name, 0),
             arena,
             chunks,
             blocks: Vec::new(alloc),
@@ -39,56 +44,56 @@ impl<const M: usize> Stage<M> {
         }
     }
 
-    // Takes all steps of a table, which has this name in messages.
-    pub(super) fn takes(&mut self, rt: &impl Abort, name: &'static str, steps: &[Step]) {
-        for (step, taken) in steps.iter().enumerate() {
-            self.take(rt, (name, step), *taken);
+    // Takes a step. Here are those of many bytes.
+    pub(super) fn take(&mut self, rt: &impl Abort, step: &Step) {
+        self.at.1 = self.at.1.wrapping_add(1);
+        match *step {
+            Step::Write(n, from, bytes) => self.write(rt, n, from, bytes),
+            Step::Lend(n, lent, written) => self.lend(rt, n, lent, written),
+            Step::Move(n, from, to, size) => self.move_within(rt, n, from, to, size),
+            Step::Copy(n, from, m, to, size) => self.copy_between(rt, (n, from), (m, to), size),
+            Step::Walk(chunks) => self.walks(rt, chunks),
+            _ => self.changes(rt, step),
         }
     }
 
-    fn take(&mut self, rt: &impl Abort, at: At, step: Step) {
-        match step {
-            Step::Alloc(size, align, wanted) => self.alloc(rt, at, size, align, wanted),
+    // The steps that change which blocks there are.
+    fn changes(&mut self, rt: &impl Abort, step: &Step) {
+        match *step {
+            Step::Alloc(size, align, wanted) => self.alloc(rt, size, align, wanted),
             Step::Grow(n, size, align, wanted) => {
-                self.resize(rt, at, Way::Grow, n, (size, align), wanted)
+                self.resize(rt, Way::Grow, n, (size, align), wanted)
             }
             Step::GrowZeroed(n, size, align, wanted) => {
-                self.resize(rt, at, Way::GrowZeroed, n, (size, align), wanted)
+                self.resize(rt, Way::GrowZeroed, n, (size, align), wanted)
             }
             Step::Shrink(n, size, align, wanted) => {
-                self.resize(rt, at, Way::Shrink, n, (size, align), wanted)
+                self.resize(rt, Way::Shrink, n, (size, align), wanted)
             }
-            Step::Realloc(n, size, wanted) => self.realloc(rt, at, n, size, wanted),
-            Step::Dealloc(n) => {
-                let block = self.held(rt, at, n);
-                self.arena.dealloc(block);
-            }
+            Step::Realloc(n, size, wanted) => self.realloc(rt, n, size, wanted),
+            Step::Dealloc(n) => self.dealloc(rt, n),
             Step::Reset => self.arena.reset(),
-            Step::SetCursor(addr) => self.set_cursor(rt, at, addr),
-            Step::Mark => {
-                let mark = self.arena.checkpoint();
-                self.marks.push(mark).expect(rt, "memory");
-            }
-            Step::Back(k) => self.back(rt, at, k),
-            Step::Write(n, from, bytes) => self.write(rt, at, n, from, bytes),
-            Step::Lend(n, lent, written) => self.lend(rt, at, n, lent, written),
-            Step::Move(n, from, to, size) => self.move_within(rt, at, n, from, to, size),
-            Step::Copy(n, from, m, to, size) => self.copy_between(rt, at, (n, from), (m, to), size),
-            _ => self.shows(rt, at, step),
+            Step::SetCursor(addr) => self.set_cursor(rt, addr),
+            Step::Mark => self.mark(rt),
+            Step::Back(k) => self.back(rt, k),
+            _ => self.shows(rt, step),
         }
     }
 
     // The steps that change nothing.
-    fn shows(&mut self, rt: &impl Abort, at: At, step: Step) {
-        match step {
-            Step::Read(n, wanted) => same_at(rt, at, self.bytes(rt, at, n), wanted),
-            Step::Begins(n, wanted) => {
-                same_at(rt, at, self.bytes(rt, at, n).starts_with(wanted), true)
-            }
-            Step::Held(n, wanted) => {
-                let block = self.block(rt, at, n);
-                same_at(rt, at, self.arena.is_held_place(block), wanted);
-            }
+    fn shows(&self, rt: &impl Abort, step: &Step) {
+        match *step {
+            Step::Read(n, wanted) => same_at(rt, self.at, self.bytes(rt, n), wanted),
+            Step::Begins(n, wanted) => must(rt, self.at, self.bytes(rt, n).starts_with(wanted)),
+            Step::Requests(wanted) => same_at(rt, self.at, self.chunks.requests(), Some(wanted)),
+            _ => self.knows(rt, step),
+        }
+    }
+
+    // The steps that ask whether a block is held or a mark accepted.
+    fn knows(&self, rt: &impl Abort, step: &Step) {
+        let (found, wanted) = match *step {
+            Step::Held(n, wanted) => (self.arena.is_held_place(self.block(rt, n)), wanted),
             Step::HeldAt(generation, addr, size, wanted) => {
                 let block = Block {
                     generation,
@@ -96,68 +101,63 @@ impl<const M: usize> Stage<M> {
                     size,
                     align: 1,
                 };
-                same_at(rt, at, self.arena.is_held_place(block), wanted);
+                (self.arena.is_held_place(block), wanted)
             }
-            Step::Accepts(k, wanted) => {
-                let mark = self.mark(rt, at, k);
-                same_at(rt, at, self.arena.accepts(mark), wanted);
-            }
+            Step::Accepts(k, wanted) => (self.arena.accepts(self.marked(rt, k)), wanted),
             Step::AcceptsAt(generation, chunks, addr, wanted) => {
                 let mark = Checkpoint {
                     generation,
                     chunks,
                     addr,
                 };
-                same_at(rt, at, self.arena.accepts(mark), wanted);
+                (self.arena.accepts(mark), wanted)
             }
-            Step::Requests(wanted) => { same_at(rt, at, self.chunks.requests(), Some(wanted)) }
-            _ => self.tells(rt, at, step),
-        }
+            _ => return self.tells(rt, step),
+        };
+        same_at(rt, self.at, found, wanted);
     }
 
-    // The steps that ask the arena for numbers.
-    fn tells(&mut self, rt: &impl Abort, at: At, step: Step) {
-        match step {
-            Step::Used(wanted) => same_at(rt, at, self.arena.used_bytes(), wanted),
-            Step::Allocated(wanted) => { same_at(rt, at, self.arena.allocated_bytes(), wanted) }
-            Step::Capacity(wanted) => same_at(rt, at, self.arena.chunk_capacity(), wanted),
+    // The steps that ask the arena for a number or two.
+    fn tells(&self, rt: &impl Abort, step: &Step) {
+        let (found, wanted) = match *step {
+            Step::Used(wanted) => ((self.arena.used_bytes(), 0), (wanted, 0)),
+            Step::Allocated(wanted) => ((self.arena.allocated_bytes(), 0), (wanted, 0)),
+            Step::Capacity(wanted) => ((self.arena.chunk_capacity(), 0), (wanted, 0)),
             Step::Ends(data_end, end) => {
-                let ends = (self.arena.data_end(), self.arena.end());
-                same_at(rt, at, ends, (data_end, end));
+                ((self.arena.data_end(), self.arena.end()), (data_end, end))
             }
             Step::Statistics(placed, resized) => {
-                let counted = self.arena.get_allocation_stats();
-                same_at(rt, at, counted, (placed, resized));
+                (self.arena.get_allocation_stats(), (placed, resized))
             }
-            Step::Walk(chunks) => self.walks(rt, at, chunks),
-            _ => panic!(rt; "{at:?}: a step"),
-        }
+            _ => return must(rt, self.at, false),
+        };
+        same_at(rt, self.at, found, wanted);
     }
 
     // The block of this number.
-    fn block(&self, rt: &impl Abort, at: At, n: usize) -> Block {
-        assert!(rt; n < self.blocks.len(), "{at:?}: a block");
+    fn block(&self, rt: &impl Abort, n: usize) -> Block {
+        must(rt, self.at, n < self.blocks.len());
         self.blocks[n]
     }
 
     // The block of this number, which must be held.
-    fn held(&self, rt: &impl Abort, at: At, n: usize) -> Block
+    fn held(&self, rt: &impl Abort, n: usize) -> Block
         ensures { IsTrue (is_readable self.now.arena.state result) }
     {
-        let block = self.block(rt, at, n);
-        assert!(rt; self.arena.is_held_place(block), "{at:?}: a held block");
+        let block = self.block(rt, n);
+        must(rt, self.at, self.arena.is_held_place(block));
         block
     }
 
     // The bytes of this block.
-    fn bytes(&self, rt: &impl Abort, at: At, n: usize) -> &[u8] {
-        let block = self.held(rt, at, n);
+    fn bytes(&self, rt: &impl Abort, n: usize) -> &[u8] {
+        let block = self.held(rt, n);
         self.arena.read(block)
     }
 
     // The mark of this number.
-    fn mark(&self, rt: &impl Abort, at: At, k: usize) -> Checkpoint {
-        assert!(rt; k < self.marks.len(), "{at:?}: a mark");
+    fn marked(&self, rt: &impl Abort, k: usize) -> Checkpoint {
+        must(rt, self.at, k < self.marks.len());
         self.marks[k]
     }
 
@@ -165,101 +165,116 @@ impl<const M: usize> Stage<M> {
     fn has_answered(
         &mut self,
         rt: &impl Abort,
-        at: At,
         answered: Result<Block, ArenaErr>,
-        layout: (u64, u64),
+        (size, align): (u64, u64),
         wanted: Answer,
     ) {
-        let answer = match answered {
-            Ok(block) => {
-                same_at(rt, at, (block.size, block.align), layout);
+        match (answered, wanted) {
+            (Ok(block), Ok(addr)) => {
+                let found = (block.addr, block.size, block.align);
+                same_at(rt, self.at, found, (addr, size, align));
                 self.blocks.push(block).expect(rt, "memory");
-                Ok(block.addr)
             }
-            Err(ArenaErr::AllocErr { refused }) => Err(refused),
-            Err(ArenaErr::OutOfMemory) => panic!(rt; "{at:?}: out of memory"),
-        };
-        same_at(rt, at, answer, wanted);
+            (Err(e), Err(refused)) => same_at(rt, self.at, e, ArenaErr::AllocErr { refused }),
+            _ => must(rt, (self.at, answered), false),
+        }
     }
 
-    fn alloc(&mut self, rt: &impl Abort, at: At, size: u64, align: u64, wanted: Answer) {
+    fn alloc(&mut self, rt: &impl Abort, size: u64, align: u64, wanted: Answer) {
         let layout = layout(rt, size, align);
         let result = self.arena.try_alloc_layout(&mut self.chunks, layout);
-        self.has_answered(rt, at, result, (size, align), wanted);
+        self.has_answered(rt, result, (size, align), wanted);
     }
 
     fn resize(
         &mut self,
         rt: &impl Abort,
-        at: At,
         way: Way,
         n: usize,
-        wanted_layout: (u64, u64),
+        (size, align): (u64, u64),
         wanted: Answer,
     ) {
-        let (size, align) = wanted_layout;
-        let block = self.held(rt, at, n);
+        let block = self.held(rt, n);
         let layout = layout(rt, size, align);
         let result = match way {
             Way::Grow => {
-                assert!(rt; block.size <= size, "{at:?}: a greater size");
+                must(rt, self.at, block.size <= size);
                 self.arena.grow(&mut self.chunks, block, layout)
             }
             Way::GrowZeroed => {
-                assert!(rt; block.size <= size, "{at:?}: a greater size");
+                must(rt, self.at, block.size <= size);
                 self.arena.grow_zeroed(&mut self.chunks, block, layout)
             }
             Way::Shrink => {
-                assert!(rt; size <= block.size, "{at:?}: a smaller size");
+                must(rt, self.at, size <= block.size);
                 self.arena.shrink(&mut self.chunks, block, layout)
             }
         };
-        self.has_answered(rt, at, result, wanted_layout, wanted);
+        self.has_answered(rt, result, (size, align), wanted);
     }
 
-    fn realloc(&mut self, rt: &impl Abort, at: At, n: usize, size: u64, wanted: Answer) {
-        let block = self.held(rt, at, n);
+    fn realloc(&mut self, rt: &impl Abort, n: usize, size: u64, wanted: Answer) {
+        let block = self.held(rt, n);
         let result = self.arena.realloc(&mut self.chunks, block, size);
-        self.has_answered(rt, at, result, (size, block.align), wanted);
+        self.has_answered(rt, result, (size, block.align), wanted);
+    }
+
+    fn dealloc(&mut self, rt: &impl Abort, n: usize) {
+        let block = self.held(rt, n);
+        self.arena.dealloc(block);
     }
 
     // The arena must have a chunk that reaches to the address.
-    fn set_cursor(&mut self, rt: &impl Abort, at: At, addr: u64) {
+    fn set_cursor(&mut self, rt: &impl Abort, addr: u64) {
         let least = least_address(&self.arena);
         let end = self.arena.data_end();
-        assert!(rt; end != 16, "{at:?}: a chunk");
-        assert!(rt;
-            least <= addr && addr <= end,
-            "{at:?}: an address in the chunk"
-        );
-        let align = self.arena.min_align();
-        assert!(rt; addr % align == 0, "{at:?}: an aligned address");
+        must(rt, self.at, end != 16);
+        must(rt, self.at, least <= addr);
+        must(rt, self.at, addr <= end);
+        must(rt, self.at, addr % self.arena.min_align() == 0);
         self.arena.set_cursor(addr);
     }
 
-    fn back(&mut self, rt: &impl Abort, at: At, k: usize) {
-        let mark = self.mark(rt, at, k);
-        assert!(rt; self.arena.accepts(mark), "{at:?}: a mark that is accepted");
+    fn mark(&mut self, rt: &impl Abort) {
+        let mark = self.arena.checkpoint();
+        self.marks.push(mark).expect(rt, "memory");
+    }
+
+    fn back(&mut self, rt: &impl Abort, k: usize) {
+        let mark = self.marked(rt, k);
+        must(rt, self.at, self.arena.accepts(mark));
         self.arena.rewind(mark);
     }
 
-    fn write(&mut self, rt: &impl Abort, at: At, n: usize, from: u64, bytes: &[u8]) {
-        let block = self.held(rt, at, n);
-        assert!(rt; fits(block, from, bytes.len() as u64), "{at:?}: a range");
+    // A block that is held, and of which this is a range.
+    fn part(&self, rt: &impl Abort, n: usize, from: u64, size: u64) -> Block
+        ensures readable { IsTrue (is_readable self.now.arena.state result) }
+        ensures range { from + size ≤ result.size }
+    {
+        let block = self.held(rt, n);
+        must(rt, self.at, from <= block.size);
+        must(rt, self.at, size <= block.size - from);
+        block
+    }
+
+    fn write(&mut self, rt: &impl Abort, n: usize, from: u64, bytes: &[u8]) {
+        let block = self.part(rt, n, from, bytes.len() as u64);
         self.arena.write(block, from, bytes);
     }
 
-    fn lend(&mut self, rt: &impl Abort, at: At, n: usize, lent: &[u8], written: &[u8]) {
-        let block = self.held(rt, at, n);
+    fn lend(&mut self, rt: &impl Abort, n: usize, lent: &[u8], written: &[u8]) {
+        let at = self.at;
+        let block = self.held(rt, n);
         let place = self.arena.read_mut(block);
-        assert!(rt; *place == *lent && place.len() == written.len(), "{at:?}");
+        must(rt, at, *place == *lent);
+        must(rt, at, place.len() == written.len());
         place.copy_from_slice(written);
     }
 
-    fn move_within(&mut self, rt: &impl Abort, at: At, n: usize, from: u64, to: u64, size: u64) {
-        let block = self.held(rt, at, n);
-        assert!(rt; fits(block, from, size), "{at:?}: a range to read");
-        assert!(rt; fits(block, to, size), "{at:?}: a range to write");
+    fn move_within(&mut self, rt: &impl Abort, n: usize, from: u64, to: u64, size: u64) {
+        let block = self.part(rt, n, from, size);
+        must(rt, self.at, to <= block.size);
+        must(rt, self.at, size <= block.size - to);
         self.arena.move_within(block, from, to, size);
     }
 
@@ -267,20 +282,18 @@ impl<const M: usize> Stage<M> {
     fn copy_between(
         &mut self,
         rt: &impl Abort,
-        at: At,
         (n, from): (usize, u64),
         (m, to): (usize, u64),
         size: u64,
     ) {
-        let source = self.held(rt, at, n);
-        let target = self.held(rt, at, m);
-        assert!(rt; fits(source, from, size), "{at:?}: a range to read");
-        assert!(rt; fits(target, to, size), "{at:?}: a range to write");
+        let source = self.part(rt, n, from, size);
+        let target = self.part(rt, m, to, size);
         self.arena.copy_between(source, from, target, to, size);
     }
 
     // Both walks give these used parts, and nothing afterwards, however often they are asked.
-    fn walks(&mut self, rt: &impl Abort, at: At, chunks: &[(u64, usize, Option<u8>)]) {
+    fn walks(&mut self, rt: &impl Abort, chunks: &[(u64, usize, Option<u8>)]) {
+        let at = self.at;
         let mut ranges = self.arena.iter_allocated_chunks_raw();
         for &(addr, size, _) in chunks {
             same_at(rt, at, ranges.next(), Some((addr, size as u64)));
@@ -293,13 +306,6 @@ impl<const M: usize> Stage<M> {
         }
         same_at(rt, at, (parts.next(), parts.next()), (None, None));
     }
-}
-
-// Whether the range is one of the block.
-fn fits(block: Block, from: u64, size: u64) -> bool
-    ensures { IsTrue result → from + size ≤ block.size }
-{
-    from <= block.size && size <= block.size - from
 }
 
 // An address at which the newest chunk has begun.

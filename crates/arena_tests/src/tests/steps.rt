@@ -11,9 +11,10 @@ use std::process::Abort;
 // The address of the block that is answered, or how many requests were refused.
 pub(super) type Answer = Result<u64, u32>;
 
-// One call. Blocks are named by their numbers: the first block that was answered is 0.
-#[derive(Clone, Copy)]
+// One call. Blocks are named by their numbers: the first block that was answered in a case is 0.
 pub(super) enum Step {
+    // A case begins, which has this name, on a new arena. Its source refuses the requests of these numbers.
+    Case(&'static str, &'static [u64]),
     // A size and an alignment.
     Alloc(u64, u64, Answer),
     // A block, and the size and the alignment that it is to have.
@@ -61,21 +62,30 @@ pub(super) enum Step {
     Requests(&'static [(u64, u64)]),
 }
 
-// Calls in a row on a new arena, whose source refuses the listed requests.
-#[derive(Clone, Copy)]
-pub(super) struct Case {
-    pub(super) name: &'static str,
-    pub(super) refuse: &'static [u64],
-    pub(super) steps: &'static [Step],
-}
-
-// Each case is taken on an arena of its own.
-pub(super) fn all_hold<const M: usize>(rt: &impl Abort, alloc: Global, cases: &[Case])
+// A new arena, for a case of this name.
+fn begun<const M: usize>(
+    rt: &impl Abort,
+    alloc: Global,
+    name: &'static str,
+    refuse: &[u64],
+) -> Stage<M>
     requires { IsTrue (is_min_align M) }
 {
-    for case in cases {
-        let arena = Arena::<M>::with_min_align(alloc);
-        let chunks = refusing(alloc, case.refuse).expect(rt, "memory");
-        Stage::of(alloc, arena, chunks).takes(rt, case.name, case.steps);
+    let chunks = refusing(alloc, refuse).expect(rt, "memory");
+    Stage::of(alloc, name, Arena::with_min_align(alloc), chunks)
+}
+
+// Takes all steps of the tables.
+pub(super) fn all_hold<const M: usize>(rt: &impl Abort, alloc: Global, tables: &[&[Step]])
+    requires { IsTrue (is_min_align M) }
+{
+    for steps in tables {
+        let mut stage = begun::<M>(rt, alloc, "no case", &[]);
+        for step in *steps {
+            match *step {
+                Step::Case(name, refuse) => stage = begun(rt, alloc, name, refuse),
+                _ => stage.take(rt, step),
+            }
+        }
     }
 }

@@ -1,5 +1,5 @@
 // Texts in an arena.
-use super::{ample, has, held, layout, same};
+use super::{ample, has, held, layout, same, same_at};
 use arena_chunks::{Allocator, ArenaErr, Block, ChunkSource, MemoryChunks, Str};
 use std::convert::AsStr;
 use std::process::Abort;
@@ -15,7 +15,7 @@ fn address_of<C: ChunkSource>(
     let text = text.expect(rt, "a text");
     let block = held(rt, a, text.block);
     let text = Str { block };
-    assert_eq!(rt; text.get(a), Some(wanted));
+    same(rt, text.get(a), Some(wanted));
     block.addr
 }
 
@@ -42,7 +42,7 @@ fn joins<T: AsStr + Drop, const N: usize>(
     addr: u64,
 ) {
     let joined = a.alloc_concat_strs_array(texts);
-    assert_eq!(rt; address_of(rt, a, joined, wanted), addr, "{wanted}");
+    same_at(rt, wanted, address_of(rt, a, joined, wanted), addr);
 }
 
 #[test]

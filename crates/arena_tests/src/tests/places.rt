@@ -1,7 +1,8 @@
 // Where blocks are placed: in both halves of the address space, at its ends, for each least alignment, and at the
 // largest sizes.
-use super::MAX;
-use crate::{CHUNK_ALIGN, Layout, place};
+use super::layouts::MAX;
+use super::{must, same, same_at};
+use arena_place::{CHUNK_ALIGN, Layout, place};
 use std::process::Abort;
 
 // The lowest address with the top bit set.
@@ -151,19 +152,22 @@ const TABLES: &[Table] = &[
 // a chunk.
 fn place_of(rt: &impl Abort, at: u64, min_align: u64, case: Case) -> Option<u64> {
     let (name, low, high, (size, align), _) = case;
-    assert!(rt;
+    must(
+        rt,
+        name,
         low <= high && high <= u64::MAX - at && high - low <= MAX,
-        "{name}"
     );
     let start = at + low;
     let cursor = at + high;
-    assert!(rt; 0 < start && start % CHUNK_ALIGN == 0, "the start: {name}");
-    assert!(rt;
-        matches!(min_align, 1 | 2 | 4 | 8 | 16),
-        "the least alignment: {name}"
-    );
+    must(rt, name, 0 < start && start % CHUNK_ALIGN == 0);
+    must(rt, name, matches!(min_align, 1 | 2 | 4 | 8 | 16));
     let layout = Layout::new(size, align).expect(rt, "a layout");
     place(start, cursor, layout, min_align)
+}
+
+// The place so many addresses higher.
+fn higher(at: u64, place: Option<u64>) -> Option<u64> {
+    at.checked_add(place?)
 }
 
 #[test]
@@ -172,9 +176,8 @@ fn where_they_are_placed(rt: HostRuntime) {
         for &at in table.at {
             for &case in table.cases {
                 let (name, _, _, _, wanted) = case;
-                let wanted = wanted.and_then(|p| at.checked_add(p));
                 let addr = place_of(&rt, at, table.min_align, case);
-                assert_eq!(rt; addr, wanted, "{}: {name}, at {at}", table.name);
+                same_at(&rt, (table.name, name, at), addr, higher(at, wanted));
             }
         }
     }
@@ -210,7 +213,7 @@ fn one_after_another(rt: HostRuntime) {
         let mut case = first;
         for &wanted in places {
             let addr = place_of(&rt, 0, min_align, case);
-            assert_eq!(rt; addr, wanted);
+            same(&rt, addr, wanted);
             case.2 = addr.unwrap_or(case.2);
         }
     }

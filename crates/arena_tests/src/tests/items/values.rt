@@ -1,7 +1,7 @@
 // Values in an arena by their handles.
 ghost use Rattle.arena_items.specs.Values.{IsHeld};
 
-use super::{ample, held, reads, same};
+use crate::tests::{ample, held, reads, same};
 use arena_chunks::{Allocator, Block, ChunkSource};
 use arena_items::{Address, ArenaItems, Box, BoxSlice, GetAddress, Item, allocator_of};
 use std::alloc::Global;

@@ -1,13 +1,12 @@
-// Worked examples of layouts, places, sizes and bases, as tables.
-mod places;
-
-use crate::{
+// Worked examples of layouts, and of sizes and bases of chunks, as tables.
+use super::{same, same_at};
+use arena_place::{
     Layout, RAW_MIN_ALIGN, RAW_MIN_SIZE, chunk_data_size, is_aligned_to, layout_from_size_align,
     next_base, round_up_to,
 };
 
 // The largest size of a layout.
-const MAX: u64 = (1 << 63) - 1;
+pub(super) const MAX: u64 = (1 << 63) - 1;
 
 // A size and an alignment, and whether they are a layout.
 const LAYOUTS: &[(u64, u64, bool)] = &[
@@ -24,21 +23,25 @@ const LAYOUTS: &[(u64, u64, bool)] = &[
 // How many elements, their size and their alignment, and the size of the array.
 const ARRAYS: &[(u64, u64, u64, Option<u64>)] = &[(3, 8, 4, Some(24)), (1 << 32, 1 << 32, 1, None)];
 
+fn size_of(layout: Option<Layout>) -> Option<u64> {
+    Some(layout?.size())
+}
+
 #[test]
 fn layouts(rt: HostRuntime) {
     for &(size, align, is_one) in LAYOUTS {
         let layout = Layout::new(size, align);
-        assert_eq!(rt; layout.is_some(), is_one, "{size} at {align}");
+        same_at(&rt, (size, align), layout.is_some(), is_one);
+        same(&rt, layout_from_size_align(size, align), layout);
         if let Some(layout) = layout {
-            assert_eq!(rt; (layout.size(), layout.align()), (size, align));
+            same(&rt, (layout.size(), layout.align()), (size, align));
         }
-        assert!(rt; layout_from_size_align(size, align) == layout);
     }
     for &(n, size, align, wanted) in ARRAYS {
         let array = Layout::array(n, size, align);
-        assert_eq!(rt; array.map(|l| l.size()), wanted, "{n} of {size}");
+        same_at(&rt, (n, size), size_of(array), wanted);
     }
-    assert_eq!(rt; (RAW_MIN_SIZE, RAW_MIN_ALIGN), (48, 16));
+    same(&rt, (RAW_MIN_SIZE, RAW_MIN_ALIGN), (48, 16));
 }
 
 // A capacity and a size at alignment 1, and the data size of a chunk for both.
@@ -61,12 +64,12 @@ const BASES: &[(Option<u64>, Option<u64>)] = &[
 fn sizes_and_bases_of_chunks(rt: HostRuntime) {
     for &(n, size, wanted) in SIZES {
         let layout = Layout::new(size, 1).expect(&rt, "a layout");
-        assert_eq!(rt; chunk_data_size(n, layout), wanted, "{n}");
+        same_at(&rt, n, chunk_data_size(n, layout), wanted);
     }
     for &(end, wanted) in BASES {
-        assert_eq!(rt; next_base(end, 16), wanted);
+        same(&rt, next_base(end, 16), wanted);
     }
-    assert_eq!(rt; next_base(Some(20416), 64), Some(20480));
-    assert_eq!(rt; round_up_to(u64::MAX, 2), None);
+    same(&rt, next_base(Some(20416), 64), Some(20480));
+    same(&rt, round_up_to(u64::MAX, 2), None);
     assert!(rt; is_aligned_to(48, 16));
 }

@@ -1,6 +1,6 @@
 // Tables of calls that place values, each with what it must answer.
 use super::calls::{Call, Row, Wanted, asked, place, takes};
-use super::{ample, layout, refusing, same};
+use crate::tests::{ample, layout, refusing, same};
 use arena_chunks::{Allocator, MemoryChunks};
 use arena_items::{ArenaItems, ItemErr};
 use std::test::Fail;
@@ -176,7 +176,7 @@ fn refused_requests(rt: HostRuntime) -> Result<(), Fail> {
     for row in ROWS {
         let mut a = Allocator::new(rt.alloc(), refusing(rt.alloc(), &[2, 3])?);
         let all = a.alloc_layout(layout(&rt, 16320, 1)).expect(&rt, "a block");
-        assert_eq!(rt; all.addr, 4096);
+        same(&rt, all.addr, 4096);
         takes(&rt, &mut a, (row.0, row.1, Wanted::Refused(2)));
         asked(&rt, a, row.0, &[(16320, 16), (32704, 16), (16320, 16)]);
     }

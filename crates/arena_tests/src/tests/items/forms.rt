@@ -1,5 +1,5 @@
 // Byte forms of single values: the least and the greatest of each type, and bytes that no value is written as.
-use super::same;
+use crate::tests::{must, same};
 use arena_items::Item;
 use std::num::{
     NonZeroI8, NonZeroI16, NonZeroI32, NonZeroI64, NonZeroI128, NonZeroIsize, NonZeroU8,
@@ -14,12 +14,12 @@ fn has_form<T: Item + PartialEq>(rt: &impl Abort, value: T, form: &[u8]) {
     let mut out = [9; 48];
     value.encode(&mut out[..form.len()]);
     same(rt, &out[..form.len()], form);
-    assert!(rt; T::decode(form) == value, "{form:?}");
+    must(rt, form, T::decode(form) == value);
 }
 
 // The type has this size and this alignment, and each value has the form beside it.
 pub(super) fn forms<T: Item + PartialEq>(rt: &impl Abort, layout: (u64, u64), rows: &[(T, &[u8])]) {
-    assert_eq!(rt; (T::SIZE, T::ALIGN), layout);
+    same(rt, (T::SIZE, T::ALIGN), layout);
     for (value, form) in rows {
         has_form(rt, *value, *form);
     }
@@ -31,7 +31,7 @@ pub(super) fn reads<T: Item + PartialEq>(rt: &impl Abort, rows: &[(&[u8], T)]) {
     for (n, row) in rows.iter().enumerate() {
         let (form, value) = *row;
         assert!(rt; form.len() as u64 == T::SIZE);
-        assert!(rt; T::decode(form) == value, "row {n}");
+        must(rt, n, T::decode(form) == value);
     }
 }
 

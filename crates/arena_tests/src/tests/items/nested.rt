@@ -1,6 +1,6 @@
 // Byte forms of options, of pairs and of handles.
 use super::forms::{UP, forms, reads};
-use super::same;
+use crate::tests::same;
 use arena_chunks::{Block, Str};
 use arena_items::{Box, BoxSlice, Item};
 use std::num::NonZeroU32;

@@ -1,7 +1,7 @@
 // Calls that place values, and what they must answer.
 ghost use Rattle.std.specs.Iterator.{at_most};
 
-use super::{reads, same_at};
+use crate::tests::{reads, same_at};
 use arena_chunks::{Allocator, Block, ChunkSource, RefusingChunks};
 use arena_items::{ArenaItems, Box, ItemErr};
 use std::process::Abort;
@@ -154,9 +154,9 @@ pub(super) fn takes<C: ChunkSource>(rt: &impl Abort, a: &mut Allocator<C>, row: 
 pub(super) fn asked(
     rt: &impl Abort,
     a: Allocator<RefusingChunks>,
-    name: &str,
+    name: &'static str,
     wanted: &[(u64, u64)],
 ) {
     let (_, chunks) = a.into_parts();
-    assert_eq!(rt; chunks.requests(), Some(wanted), "{name}");
+    same_at(rt, name, chunks.requests(), Some(wanted));
 }
