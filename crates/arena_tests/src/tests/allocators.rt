@@ -6,7 +6,11 @@ use std::test::Fail;
 #[test]
 fn values_and_texts_until_a_reset(rt: HostRuntime) {
     let mut a = ample(rt.alloc());
-    assert!(rt; a.is_growing() && a.data_end() == 16 && a.capacity() == 0);
+    same(
+        &rt,
+        (a.is_growing(), a.data_end(), a.capacity()),
+        (true, 16, 0),
+    );
     has(&rt, "at first", &a, 0, (0, 0));
     let array = a.alloc_layout(layout(&rt, 10, 1)).expect(&rt, "a block");
     a.write(array, 0, &[123; 10]);
@@ -17,7 +21,8 @@ fn values_and_texts_until_a_reset(rt: HostRuntime) {
     has(&rt, "before the reset", &a, 15, (2, 0));
     a.reset();
     has(&rt, "after the reset", &a, 0, (0, 0));
-    assert!(rt; a.capacity() == 16320 && !a.is_held_place(array) && !a.is_held_place(text));
+    let held = (a.is_held_place(array), a.is_held_place(text));
+    same(&rt, (a.capacity(), held), (16320, (false, false)));
 }
 
 // An allocator of a capacity hands its source back where there is none.

@@ -10,16 +10,19 @@ use std::test::Fail;
 // A capacity, and the bytes of the chunk that an arena of least alignment 1 begins with, or how many requests were refused.
 type Capacity = (u64, Result<u64, u32>);
 
+// Where a first chunk of this size ends, of which 0 is none.
+fn end_of(size: u64) -> Option<u64> {
+    if size == 0 {
+        return Some(16);
+    }
+    size.checked_add(4096)
+}
+
 fn answers<C: ChunkSource>(rt: &impl Abort, alloc: Global, chunks: &mut C, rows: &[Capacity]) {
     for &(capacity, wanted) in rows {
         match (Arena::with_capacity(alloc, chunks, capacity), wanted) {
             (Ok(arena), Ok(size)) => {
-                let end = if size == 0 {
-                    Some(16)
-                } else {
-                    size.checked_add(4096)
-                };
-                same_at(rt, capacity, Some(arena.data_end()), end);
+                same_at(rt, capacity, Some(arena.data_end()), end_of(size));
                 let counts = (
                     arena.allocated_bytes(),
                     arena.chunk_capacity(),

@@ -2,6 +2,7 @@
 use super::steps::Step;
 use super::{ample, held, layout, same};
 use arena_chunks::bumpalo_alloc::Alloc;
+use std::alloc::{AllocError, Global};
 use std::test::Fail;
 
 pub(super) const SIZES: &[Step] = &[
@@ -46,17 +47,23 @@ pub(super) const SIZES: &[Step] = &[
     Step::Requests(&[(16320, 16)]),
 ];
 
+// So many bytes: 0 to 250, over and over.
+fn numbered(alloc: Global, size: usize) -> Result<Vec<u8>, AllocError> {
+    let mut bytes = Vec::new(alloc);
+    let mut byte: u8 = 0;
+    for _ in 0..size {
+        bytes.push(byte)?;
+        byte = if byte < 250 { byte + 1 } else { 0 };
+    }
+    Ok(bytes)
+}
+
 // Each byte of a block is read again in the second and in the third chunk.
 #[test]
 fn bytes_through_three_chunks(rt: HostRuntime) -> Result<(), Fail> {
     let mut a = ample(rt.alloc());
     let mut block = Alloc::alloc(&mut a, layout(&rt, 12000, 4)).expect(&rt, "a block");
-    let mut bytes = Vec::new(rt.alloc());
-    let mut byte: u8 = 0;
-    for _ in 0..12000 {
-        bytes.push(byte)?;
-        byte = if byte < 250 { byte + 1 } else { 0 };
-    }
+    let bytes = numbered(rt.alloc(), 12000)?;
     block = held(&rt, &a, block);
     same(&rt, block.addr, 8416);
     assert!(rt; block.size == bytes.len() as u64);

@@ -1,5 +1,6 @@
 // Tables of calls that place values, each with what it must answer.
-use super::calls::{Call, Row, Wanted, asked, place, takes};
+use super::calls::Wanted::{Placed, Refused, TooFew};
+use super::calls::{Call, Row, asked, place, takes};
 use crate::tests::{ample, layout, refusing, same};
 use arena_chunks::{Allocator, MemoryChunks};
 use arena_items::{ArenaItems, ItemErr};
@@ -17,116 +18,76 @@ const NUMBERS: &[u8] = b"\x01\0\0\0\0\0\0\0\x02\0\0\0\0\0\0\0\x03\0\0\0\0\0\0\0"
 
 // Each on a new allocator.
 const ROWS: &[Row] = &[
-    ("alloc", Call::Alloc, Wanted::Placed(20412, SEVEN, 0)),
-    ("try_alloc", Call::TryAlloc, Wanted::Placed(20412, SEVEN, 0)),
-    ("new_in", Call::NewIn, Wanted::Placed(20412, SEVEN, 0)),
-    (
-        "alloc_with",
-        Call::AllocWith,
-        Wanted::Placed(20412, SEVEN, 1),
-    ),
+    ("alloc", Call::Alloc, Placed(20412, SEVEN, 0)),
+    ("try_alloc", Call::TryAlloc, Placed(20412, SEVEN, 0)),
+    ("new_in", Call::NewIn, Placed(20412, SEVEN, 0)),
+    ("alloc_with", Call::AllocWith, Placed(20412, SEVEN, 1)),
     (
         "try_alloc_with",
         Call::TryAllocWith,
-        Wanted::Placed(20412, SEVEN, 1),
+        Placed(20412, SEVEN, 1),
     ),
-    (
-        "copy",
-        Call::SliceCopy,
-        Wanted::Placed(20404, ONE_TO_THREE, 0),
-    ),
-    (
-        "clone",
-        Call::SliceClone,
-        Wanted::Placed(20404, ONE_TO_THREE, 0),
-    ),
-    (
-        "fill_copy",
-        Call::FillCopy(2),
-        Wanted::Placed(20400, SEVENS, 0),
-    ),
-    (
-        "fill_clone",
-        Call::FillClone(2),
-        Wanted::Placed(20400, SEVENS, 0),
-    ),
+    ("copy", Call::SliceCopy, Placed(20404, ONE_TO_THREE, 0)),
+    ("clone", Call::SliceClone, Placed(20404, ONE_TO_THREE, 0)),
+    ("fill_copy", Call::FillCopy(2), Placed(20400, SEVENS, 0)),
+    ("fill_clone", Call::FillClone(2), Placed(20400, SEVENS, 0)),
     (
         "fill_default",
         Call::FillDefault(2),
-        Wanted::Placed(20400, &[0; 16], 0),
+        Placed(20400, &[0; 16], 0),
     ),
-    (
-        "fill_with",
-        Call::FillWith(3),
-        Wanted::Placed(20392, DOUBLES, 123),
-    ),
+    ("fill_with", Call::FillWith(3), Placed(20392, DOUBLES, 123)),
     (
         "fill_iter",
         Call::FillIter(3, 3),
-        Wanted::Placed(20392, NUMBERS, 123),
+        Placed(20392, NUMBERS, 123),
     ),
     (
         "more than it tells",
         Call::FillIter(3, 4),
-        Wanted::Placed(20392, NUMBERS, 123),
+        Placed(20392, NUMBERS, 123),
     ),
-    ("one too few", Call::FillIter(3, 2), Wanted::TooFew(2, 12)),
-    ("none of one", Call::FillIter(1, 0), Wanted::TooFew(0, 0)),
+    ("one too few", Call::FillIter(3, 2), TooFew(2, 12)),
+    ("none of one", Call::FillIter(1, 0), TooFew(0, 0)),
 ];
 
 // So many values have no layout, or are more than any chunk holds.
 const TOO_MANY: &[Row] = &[
-    ("fill_copy", Call::FillCopy(1 << 61), Wanted::Refused(0)),
-    ("fill_clone", Call::FillClone(1 << 61), Wanted::Refused(0)),
-    (
-        "fill_default",
-        Call::FillDefault(1 << 60),
-        Wanted::Refused(0),
-    ),
-    ("fill_with", Call::FillWith(1 << 61), Wanted::Refused(0)),
-    ("all numbers", Call::FillWith(u64::MAX), Wanted::Refused(0)),
+    ("fill_copy", Call::FillCopy(1 << 61), Refused(0)),
+    ("fill_clone", Call::FillClone(1 << 61), Refused(0)),
+    ("fill_default", Call::FillDefault(1 << 60), Refused(0)),
+    ("fill_with", Call::FillWith(1 << 61), Refused(0)),
+    ("all numbers", Call::FillWith(u64::MAX), Refused(0)),
     (
         "the most with a layout",
         Call::FillWith((1 << 60) - 1),
-        Wanted::Refused(0),
+        Refused(0),
     ),
-    ("fill_iter", Call::FillIter(1 << 61, 5), Wanted::Refused(0)),
+    ("fill_iter", Call::FillIter(1 << 61, 5), Refused(0)),
     (
         "the most with a layout",
         Call::FillIter((1 << 60) - 1, 5),
-        Wanted::Refused(0),
+        Refused(0),
     ),
 ];
 
 // No values, on an allocator without a chunk.
 const NONE: &[Row] = &[
-    ("fill_copy", Call::FillCopy(0), Wanted::Placed(16, &[], 0)),
-    ("fill_clone", Call::FillClone(0), Wanted::Placed(16, &[], 0)),
-    (
-        "fill_default",
-        Call::FillDefault(0),
-        Wanted::Placed(16, &[], 0),
-    ),
-    ("fill_with", Call::FillWith(0), Wanted::Placed(16, &[], 0)),
-    (
-        "fill_iter",
-        Call::FillIter(0, 5),
-        Wanted::Placed(16, &[], 0),
-    ),
+    ("fill_copy", Call::FillCopy(0), Placed(16, &[], 0)),
+    ("fill_clone", Call::FillClone(0), Placed(16, &[], 0)),
+    ("fill_default", Call::FillDefault(0), Placed(16, &[], 0)),
+    ("fill_with", Call::FillWith(0), Placed(16, &[], 0)),
+    ("fill_iter", Call::FillIter(0, 5), Placed(16, &[], 0)),
 ];
 
 // Calls in a row, on an arena of 16 bytes that doesn't grow.
 const SIXTEEN: &[Row] = &[
-    (
-        "three of 4",
-        Call::SliceCopy,
-        Wanted::Placed(4100, ONE_TO_THREE, 0),
-    ),
-    ("two of 8", Call::FillCopy(2), Wanted::Refused(0)),
-    ("one of 8", Call::FillWith(1), Wanted::Refused(0)),
-    ("one of 4", Call::AllocWith, Wanted::Placed(4096, SEVEN, 1)),
-    ("another", Call::AllocWith, Wanted::Refused(0)),
-    ("none", Call::FillWith(0), Wanted::Placed(4096, &[], 0)),
+    ("three of 4", Call::SliceCopy, Placed(4100, ONE_TO_THREE, 0)),
+    ("two of 8", Call::FillCopy(2), Refused(0)),
+    ("one of 8", Call::FillWith(1), Refused(0)),
+    ("one of 4", Call::AllocWith, Placed(4096, SEVEN, 1)),
+    ("another", Call::AllocWith, Refused(0)),
+    ("none", Call::FillWith(0), Placed(4096, &[], 0)),
 ];
 
 // Each call also in an allocator that was reset, whose free bytes are no zeros.
@@ -156,7 +117,7 @@ fn a_fixed_arena(rt: HostRuntime) -> Result<(), Fail> {
         takes(&rt, &mut a, *row);
     }
     for row in ROWS {
-        takes(&rt, &mut a, (row.0, row.1, Wanted::Refused(0)));
+        takes(&rt, &mut a, (row.0, row.1, Refused(0)));
     }
     for row in TOO_MANY {
         takes(&rt, &mut a, *row);
@@ -168,7 +129,7 @@ fn a_fixed_arena(rt: HostRuntime) -> Result<(), Fail> {
 fn refused_requests(rt: HostRuntime) -> Result<(), Fail> {
     for row in ROWS {
         let mut a = Allocator::new(rt.alloc(), refusing(rt.alloc(), &[1])?);
-        takes(&rt, &mut a, (row.0, row.1, Wanted::Refused(1)));
+        takes(&rt, &mut a, (row.0, row.1, Refused(1)));
         takes(&rt, &mut a, *row);
         asked(&rt, a, row.0, &[(16320, 16), (16320, 16)]);
     }
@@ -177,7 +138,7 @@ fn refused_requests(rt: HostRuntime) -> Result<(), Fail> {
         let mut a = Allocator::new(rt.alloc(), refusing(rt.alloc(), &[2, 3])?);
         let all = a.alloc_layout(layout(&rt, 16320, 1)).expect(&rt, "a block");
         same(&rt, all.addr, 4096);
-        takes(&rt, &mut a, (row.0, row.1, Wanted::Refused(2)));
+        takes(&rt, &mut a, (row.0, row.1, Refused(2)));
         asked(&rt, a, row.0, &[(16320, 16), (32704, 16), (16320, 16)]);
     }
     for row in TOO_MANY {
@@ -195,7 +156,7 @@ fn too_few_values(rt: HostRuntime) {
     takes(
         &rt,
         &mut a,
-        ("no chunk yet", Call::FillIter(3, 2), Wanted::TooFew(2, 12)),
+        ("no chunk yet", Call::FillIter(3, 2), TooFew(2, 12)),
     );
     same(&rt, (a.used_bytes(), a.capacity()), (0, 16320));
     let one = a.alloc(1u8).expect(&rt, "a box");

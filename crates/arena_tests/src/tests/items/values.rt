@@ -1,7 +1,7 @@
 // Values in an arena by their handles.
 ghost use Rattle.arena_items.specs.Values.{IsHeld};
 
-use crate::tests::{ample, held, reads, same};
+use crate::tests::{ample, held, must, reads, same};
 use arena_chunks::{Allocator, Block, ChunkSource};
 use arena_items::{Address, ArenaItems, Box, BoxSlice, GetAddress, Item, allocator_of};
 use std::alloc::Global;
@@ -13,7 +13,8 @@ fn of_layout<C: ChunkSource>(rt: &impl Abort, a: &Allocator<C>, block: Block, si
     ensures { IsHeld size align a.now.memory.state block }
 {
     held(rt, a, block);
-    assert!(rt; block.size == size && block.align == align);
+    must(rt, block, block.size == size);
+    must(rt, block, block.align == align);
 }
 
 // The value of a box, which must be held.
@@ -26,7 +27,9 @@ fn value<T: Item, C: ChunkSource>(rt: &impl Abort, a: &Allocator<C>, b: Box<T>) 
 // The value at an index of a slice, which must be held.
 fn at<T: Item, C: ChunkSource>(rt: &impl Abort, a: &Allocator<C>, s: BoxSlice<T>, i: u64) -> T {
     let length = s.len();
-    assert!(rt; T::SIZE <= 48 && length <= 1000 && i < length);
+    must(rt, i, T::SIZE <= 48);
+    must(rt, i, length <= 1000);
+    must(rt, i, i < length);
     of_layout(rt, a, s.block, length * T::SIZE, T::ALIGN);
     s.get(a, i)
 }
@@ -40,12 +43,12 @@ fn values_of_boxes(rt: HostRuntime) {
         (seven.address(), seven.block.size),
         (Address(20408), 8),
     );
-    assert!(rt; value(&rt, &a, seven) == 7 && seven.unbox(&a) == 7);
+    same(&rt, (value(&rt, &a, seven), seven.unbox(&a)), (7, 7));
     seven.set(&mut a, 8);
     same(&rt, seven.get(&a), 8);
     let block = Box::as_non_null(&seven);
     same(&rt, (block.addr, block.size), (20408, 8));
-    assert!(rt; Box::into_non_null(seven) == block);
+    same(&rt, Box::into_non_null(seven), block);
 }
 
 #[test]
@@ -88,7 +91,7 @@ fn slices(rt: HostRuntime) {
     same(&rt, (s.len(), s.block.size), (1000, 0));
     at(&rt, &a, s, 999);
     let arena_slice = s.into_arena_slice().into_arena_slice_mut();
-    assert!(rt; (arena_slice.block, arena_slice.len()) == (s.block, 1000));
+    same(&rt, (arena_slice.block, arena_slice.len()), (s.block, 1000));
     let none = <BoxSlice<u64>>::new_empty_boxed_slice();
     same(&rt, (none.len(), none.block), (0, Block::empty(8)));
     of_layout(&rt, &a, none.block, 0, 8);
