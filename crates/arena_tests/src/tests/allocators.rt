@@ -6,11 +6,8 @@ use std::test::Fail;
 #[test]
 fn values_and_texts_until_a_reset(rt: HostRuntime) {
     let mut a = ample(rt.alloc());
-    same(
-        &rt,
-        (a.is_growing(), a.data_end(), a.capacity()),
-        (true, 16, 0),
-    );
+    same(&rt, a.is_growing(), true);
+    same(&rt, (a.data_end(), a.capacity()), (16, 0));
     has(&rt, "at first", &a, 0, (0, 0));
     let array = a.alloc_layout(layout(&rt, 10, 1)).expect(&rt, "a block");
     a.write(array, 0, &[123; 10]);
@@ -21,15 +18,21 @@ fn values_and_texts_until_a_reset(rt: HostRuntime) {
     has(&rt, "before the reset", &a, 15, (2, 0));
     a.reset();
     has(&rt, "after the reset", &a, 0, (0, 0));
-    let held = (a.is_held_place(array), a.is_held_place(text));
-    same(&rt, (a.capacity(), held), (16320, (false, false)));
+    same(&rt, a.capacity(), 16320);
+    same(&rt, a.is_held_place(array), false);
+    same(&rt, a.is_held_place(text), false);
 }
+
+// A capacity, and how many requests were refused.
+const REFUSED: &[(u64, u32)] = &[(10, 1), (1 << 63, 0)];
+
+const TOLD: &[(u64, u64)] = &[(64, 16), (64, 16)];
 
 // An allocator of a capacity hands its source back where there is none.
 #[test]
 fn allocators_of_a_capacity(rt: HostRuntime) -> Result<(), Fail> {
     let mut chunks = refusing(rt.alloc(), &[1])?;
-    for (capacity, refused) in [(10, 1), (1 << 63, 0)] {
+    for &(capacity, refused) in REFUSED {
         match Allocator::with_capacity(rt.alloc(), chunks, capacity) {
             Err((e, back)) => {
                 same(&rt, e, ArenaErr::AllocErr { refused });
@@ -41,9 +44,8 @@ fn allocators_of_a_capacity(rt: HostRuntime) -> Result<(), Fail> {
     let Ok(a) = Allocator::with_capacity(rt.alloc(), chunks, 10) else {
         return Err(Fail::from("an allocator"));
     };
-    same(&rt, (a.capacity(), a.data_end()), (64, 4160));
+    same(&rt, (a.data_end(), a.capacity()), (4160, 64));
     let (_, chunks) = a.into_parts();
-    let told = [(64, 16), (64, 16)];
-    same(&rt, chunks.requests(), Some(told.as_slice()));
+    same(&rt, chunks.requests(), Some(TOLD));
     Ok(())
 }

@@ -133,6 +133,8 @@ const RESIZING_CALLS: &[Row] = &[
     Row::Allocated,
 ];
 
+const TABLES: &[&[Row]] = &[CALLS, RESIZING_CALLS];
+
 // None, each first, each second, a row of them, and all.
 const REFUSALS: &[&[u64]] = &[
     &[],
@@ -151,12 +153,20 @@ fn drawn(n: u64) -> Row {
     let size = n / 5 % 300 * (n / 1500 % 40);
     let align = 1 << (n / 60_000 % 7);
     let fill = (n / 420_000 % 256) as u8;
-    match n / 107_520_000 % 19 {
+    let kind = n / 107_520_000 % 19;
+    match kind {
         0..4 => Row::Alloc(name, size, align, fill),
         4..7 => Row::Grow(name, size, align, fill),
         7..9 => Row::Shrink(name, size % 200, align),
         9 => Row::Dealloc(name),
         10 => Row::Write(name, size % 100, b"written"),
+        _ => short_drawn(kind, name),
+    }
+}
+
+// The call of this kind, of a name at most.
+fn short_drawn(kind: u64, name: u32) -> Row {
+    match kind {
         11 => Row::Read(name),
         12 => Row::Used,
         13 => Row::Allocated,
@@ -169,7 +179,7 @@ fn drawn(n: u64) -> Row {
 #[test]
 fn replies(rt: HostRuntime) -> Result<(), Fail> {
     for refuse in REFUSALS {
-        for rows in [CALLS, RESIZING_CALLS] {
+        for rows in TABLES {
             let calls = calls(rt.alloc(), rows)?;
             replies_of::<1>(&rt, rt.alloc(), calls.as_slice(), refuse)?;
         }

@@ -23,12 +23,9 @@ fn answers<C: ChunkSource>(rt: &impl Abort, alloc: Global, chunks: &mut C, rows:
         match (Arena::with_capacity(alloc, chunks, capacity), wanted) {
             (Ok(arena), Ok(size)) => {
                 same_at(rt, capacity, Some(arena.data_end()), end_of(size));
-                let counts = (
-                    arena.allocated_bytes(),
-                    arena.chunk_capacity(),
-                    arena.used_bytes(),
-                );
-                same_at(rt, capacity, counts, (size, size, 0));
+                same_at(rt, capacity, arena.allocated_bytes(), size);
+                same_at(rt, capacity, arena.chunk_capacity(), size);
+                same_at(rt, capacity, arena.used_bytes(), 0);
                 must(rt, capacity, arena.is_growing());
             }
             (Err(e), Err(refused)) => same_at(rt, capacity, e, ArenaErr::AllocErr { refused }),
@@ -63,6 +60,8 @@ const REFUSALS: &[Capacity] = &[
     ((1 << 63) - 64, Err(1)),
 ];
 
+const TOLD: &[(u64, u64)] = &[(64, 16), (32704, 16), (64, 16), ((1 << 63) - 64, 16)];
+
 // From a budget of 256 bytes.
 const FROM_A_BUDGET: &[Capacity] = &[
     (20000, Err(1)),
@@ -90,8 +89,7 @@ fn arenas_of_a_capacity(rt: HostRuntime) -> Result<(), Fail> {
     );
     let mut chunks = refusing(alloc, &[1, 2, 4])?;
     answers(&rt, alloc, &mut chunks, REFUSALS);
-    let told = [(64, 16), (32704, 16), (64, 16), ((1 << 63) - 64, 16)];
-    same_at(&rt, "requests", chunks.requests(), Some(told.as_slice()));
+    same_at(&rt, "requests", chunks.requests(), Some(TOLD));
     Ok(())
 }
 
@@ -233,7 +231,8 @@ const REGIONS: &[(usize, &[Step])] = &[
 fn regions(rt: HostRuntime) -> Result<(), Fail> {
     let alloc = rt.alloc();
     for &(size, steps) in REGIONS {
-        must(&rt, size, size % 16 == 0 && size >= 48);
+        must(&rt, size, size % 16 == 0);
+        must(&rt, size, size >= 48);
         let bytes = vec![in alloc; 7; size]?;
         let arena = Arena::<16>::from_raw_parts(alloc, bytes).expect(&rt, "an arena");
         must(&rt, size, !arena.is_growing());

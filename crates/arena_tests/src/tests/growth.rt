@@ -1,7 +1,8 @@
 // Where blocks are placed, how an arena comes to its chunks, what it does where it is refused, and what a reset keeps.
-use super::steps::Step;
-use super::{layout, same};
+use super::steps::{Answer, Step};
+use super::{layout, must, same_at};
 use arena_chunks::{Arena, ArenaErr, MemoryChunks};
+use std::process::Abort;
 
 pub(super) const PLACES: &[Step] = &[
     Step::Case("downwards, in growing chunks", &[]),
@@ -201,24 +202,28 @@ pub(super) const RESETS: &[Step] = &[
     Step::HeldAt(2, 20412, 4, true),
 ];
 
+// A size, and the address of its block or how many requests were refused.
+type Row = (u64, Answer);
+
+const IN_A_BUDGET: &[Row] = &[(16320, Ok(4096)), (1, Ok(53167)), (32704, Err(2))];
+
+const AFTER_A_RESET: &[Row] = &[(32704, Ok(20464)), (1, Err(3))];
+
+fn places(rt: &impl Abort, arena: &mut Arena<1>, chunks: &mut MemoryChunks, rows: &[Row]) {
+    for &(size, wanted) in rows {
+        match (arena.alloc_layout(chunks, layout(rt, size, 1)), wanted) {
+            (Ok(block), Ok(addr)) => same_at(rt, size, block.addr, addr),
+            (Err(e), Err(refused)) => same_at(rt, size, e, ArenaErr::AllocErr { refused }),
+            _ => must(rt, size, false),
+        }
+    }
+}
+
 #[test]
 fn a_budget_bounds_the_growth_and_is_not_refilled_by_a_reset(rt: HostRuntime) {
     let mut arena = Arena::new(rt.alloc());
     let mut chunks = MemoryChunks::new(rt.alloc(), 16320 + 32704);
-    for (size, wanted) in [
-        (16320, Ok(4096)),
-        (1, Ok(53167)),
-        (32704, Err(ArenaErr::AllocErr { refused: 2 })),
-    ] {
-        let placed = arena.alloc_layout(&mut chunks, layout(&rt, size, 1));
-        same(&rt, placed.map(|block| block.addr), wanted);
-    }
+    places(&rt, &mut arena, &mut chunks, IN_A_BUDGET);
     arena.reset();
-    for (size, wanted) in [
-        (32704, Ok(20464)),
-        (1, Err(ArenaErr::AllocErr { refused: 3 })),
-    ] {
-        let placed = arena.alloc_layout(&mut chunks, layout(&rt, size, 1));
-        same(&rt, placed.map(|block| block.addr), wanted);
-    }
+    places(&rt, &mut arena, &mut chunks, AFTER_A_RESET);
 }

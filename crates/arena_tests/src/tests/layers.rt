@@ -29,10 +29,7 @@ fn buffers_and_bytes_grow(rt: HostRuntime) -> Result<(), Fail> {
     bytes.push(3)?;
     same(&rt, bytes.as_slice(), [1, 2, 3].as_slice());
     let again = Bytes::from_vec(rt.alloc(), vec![in rt.alloc(); 1, 2, 3]?)?;
-    same(
-        &rt,
-        (again.as_slice(), again.len()),
-        ([1, 2, 3].as_slice(), 3),
-    );
+    same(&rt, again.as_slice(), [1, 2, 3].as_slice());
+    same(&rt, again.len(), 3);
     Ok(())
 }

@@ -2,7 +2,7 @@
 ghost use Rattle.arena_bases.specs.Bases.{IsBlankOf};
 
 use super::steps::Step;
-use super::{layout, same, same_at};
+use super::{layout, must, same, same_at};
 use arena_bases::Steps;
 use arena_chunks::{Arena, Checkpoint, MemoryChunks};
 use std::alloc::Global;
@@ -167,6 +167,9 @@ fn number(arena: &Arena<1>, addr: u64) -> Option<u64> {
     number_of::<Brand>(arena, addr, Blank::new(1))
 }
 
+// Sizes of blocks in three chunks, and their addresses.
+const BLOCKS: &[(u64, u64)] = &[(64, 20352), (64, 20288), (16320, 36848), (32640, 86048)];
+
 // An address, and the number of the chunk that has it: four worked ones, and each chunk from its base to its data end, with
 // what lies around it.
 const SEARCHES: &[(u64, Option<u64>)] = &[
@@ -195,9 +198,9 @@ fn chunks_that_are_found(rt: HostRuntime) {
     let mut arena = Arena::new(rt.alloc());
     let mut chunks = MemoryChunks::new(rt.alloc(), 1 << 20);
     same(&rt, number(&arena, 16), None);
-    for (size, addr) in [(64, 20352), (64, 20288), (16320, 36848), (32640, 86048)] {
+    for &(size, addr) in BLOCKS {
         let block = arena.alloc_layout(&mut chunks, layout(&rt, size, 1));
-        same(&rt, block.map(|b| b.addr), Ok(addr));
+        same(&rt, block.expect(&rt, "a block").addr, addr);
     }
     for &(addr, wanted) in SEARCHES {
         same_at(&rt, addr, number(&arena, addr), wanted);
@@ -227,7 +230,7 @@ fn marked(rt: &impl Abort, alloc: Global, arena: &mut Arena<1>) -> Vec<Checkpoin
 }
 
 fn go_back(rt: &impl Abort, arena: &mut Arena<1>, mark: Checkpoint) {
-    assert!(rt; arena.accepts(mark));
+    must(rt, mark, arena.accepts(mark));
     arena.rewind(mark);
 }
 

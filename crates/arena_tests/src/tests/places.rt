@@ -152,15 +152,14 @@ const TABLES: &[Table] = &[
 // a chunk.
 fn place_of(rt: &impl Abort, at: u64, min_align: u64, case: Case) -> Option<u64> {
     let (name, low, high, (size, align), _) = case;
-    must(
-        rt,
-        name,
-        low <= high && high <= u64::MAX - at && high - low <= MAX,
-    );
+    must(rt, name, low <= high);
+    must(rt, name, high <= u64::MAX - at);
+    must(rt, name, high - low <= MAX);
     let start = at + low;
     let cursor = at + high;
-    must(rt, name, 0 < start && start % CHUNK_ALIGN == 0);
-    must(rt, name, matches!(min_align, 1 | 2 | 4 | 8 | 16));
+    must(rt, name, 0 < start);
+    must(rt, name, start % CHUNK_ALIGN == 0);
+    assert!(rt; matches!(min_align, 1 | 2 | 4 | 8 | 16));
     let layout = Layout::new(size, align).expect(rt, "a layout");
     place(start, cursor, layout, min_align)
 }

@@ -1,6 +1,6 @@
 // Blocks that get another size at their alignment.
 use super::steps::Step;
-use super::{ample, held, layout, same};
+use super::{ample, held, layout, must, same};
 use arena_chunks::bumpalo_alloc::Alloc;
 use std::alloc::{AllocError, Global};
 use std::test::Fail;
@@ -58,6 +58,9 @@ fn numbered(alloc: Global, size: usize) -> Result<Vec<u8>, AllocError> {
     Ok(bytes)
 }
 
+// A size, and the address of the block that has it.
+const MOVED: &[(u64, u64)] = &[(24000, 29168), (48000, 70688)];
+
 // Each byte of a block is read again in the second and in the third chunk.
 #[test]
 fn bytes_through_three_chunks(rt: HostRuntime) -> Result<(), Fail> {
@@ -66,15 +69,15 @@ fn bytes_through_three_chunks(rt: HostRuntime) -> Result<(), Fail> {
     let bytes = numbered(rt.alloc(), 12000)?;
     block = held(&rt, &a, block);
     same(&rt, block.addr, 8416);
-    assert!(rt; block.size == bytes.len() as u64);
+    must(&rt, block, block.size == bytes.len() as u64);
     a.write(block, 0, bytes.as_slice());
     Alloc::alloc(&mut a, layout(&rt, 1000, 4)).expect(&rt, "a block");
-    for (size, addr) in [(24000, 29168), (48000, 70688)] {
+    for &(size, addr) in MOVED {
         block = held(&rt, &a, block);
         block = a.realloc(block, size).expect(&rt, "a block");
         same(&rt, (block.addr, block.size), (addr, size));
         block = held(&rt, &a, block);
-        assert!(rt; a.read(block).starts_with(bytes.as_slice()));
+        must(&rt, block, a.read(block).starts_with(bytes.as_slice()));
     }
     Ok(())
 }

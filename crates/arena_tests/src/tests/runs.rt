@@ -60,13 +60,20 @@ pub(super) fn call(alloc: Global, row: &Row) -> Result<Call, OutOfMemory> {
             let bytes = Bytes::of(alloc, bytes)?;
             Call::Write { name, at, bytes }
         }
+        _ => short_call(row),
+    })
+}
+
+// A call of a name at most.
+fn short_call(row: &Row) -> Call {
+    match *row {
         Row::Read(name) => Call::Read { name },
         Row::Mark(name) => Call::Mark { name },
         Row::Back(name) => Call::Back { name },
         Row::Reset => Call::Reset,
         Row::Used => Call::Used,
-        Row::Allocated => Call::Allocated,
-    })
+        _ => Call::Allocated,
+    }
 }
 
 pub(super) fn calls(alloc: Global, rows: &[Row]) -> Result<Vec<Call>, Fail> {
@@ -84,11 +91,17 @@ fn reply(alloc: Global, says: &Says) -> Result<Reply, OutOfMemory> {
         Says::Done => Reply::Done,
         Says::Number(n) => Reply::Number(n),
         Says::Bytes(bytes) => Reply::Bytes(Bytes::of(alloc, bytes)?),
+        _ => refusal(says),
+    })
+}
+
+fn refusal(says: &Says) -> Reply {
+    match *says {
         Says::NoSuchName => Reply::NoSuchName,
         Says::NameTaken => Reply::NameTaken,
         Says::BadLayout => Reply::BadLayout,
-        Says::OutOfRange => Reply::OutOfRange,
-    })
+        _ => Reply::OutOfRange,
+    }
 }
 
 // The replies of the engine, which are those of the plain program told of the same refusals.

@@ -61,8 +61,11 @@ fn a_source_of_vectors(rt: HostRuntime) {
     same(&rt, third, Err(ArenaErr::AllocErr { refused: 2 }));
     has(&rt, "afterwards", &a, 16323, (2, 0));
     let (arena, chunks) = a.into_parts();
-    same(&rt, (arena.allocated_bytes(), chunks.refused), (49024, 2));
+    same(&rt, arena.allocated_bytes(), 49024);
+    same(&rt, chunks.refused, 2);
 }
+
+const TWO: &[Row] = &[Row::Alloc(0, 1, 1, 0), Row::Alloc(0, 1, 1, 0)];
 
 // The count stands at its last value, so it tells no refusal; each answer does.
 #[test]
@@ -73,13 +76,13 @@ fn a_count_that_stands(rt: HostRuntime) -> Result<(), Fail> {
         grants: 0,
         refused: u64::MAX,
     };
-    let rows = [Row::Alloc(0, 1, 1, 0), Row::Alloc(0, 1, 1, 0)];
-    let calls = calls(alloc, &rows)?;
+    let calls = calls(alloc, TWO)?;
     let mut arena = Arena::<1>::new(alloc);
     let Ok(Ran { replies, .. }) = run_calls(alloc, &mut arena, &mut chunks, calls.as_slice()) else {
         return Err(Fail::from("memory is ample"));
     };
-    same(&rt, (replies.len(), chunks.refused), (2, u64::MAX));
+    same(&rt, replies.len(), 2);
+    same(&rt, chunks.refused, u64::MAX);
     for reply in &replies {
         assert!(rt; *reply == Reply::AllocErr { refused: 1 });
     }

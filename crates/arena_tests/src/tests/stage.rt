@@ -53,12 +53,12 @@ impl<const M: usize> Stage<M> {
             Step::Move(n, from, to, size) => self.move_within(rt, n, from, to, size),
             Step::Copy(n, from, m, to, size) => self.copy_between(rt, (n, from), (m, to), size),
             Step::Walk(chunks) => self.walks(rt, chunks),
-            _ => self.changes(rt, step),
+            _ => self.places(rt, step),
         }
     }
 
-    // The steps that change which blocks there are.
-    fn changes(&mut self, rt: &impl Abort, step: &Step) {
+    // The steps that are answered a block.
+    fn places(&mut self, rt: &impl Abort, step: &Step) {
         match *step {
             Step::Alloc(size, align, wanted) => self.alloc(rt, size, align, wanted),
             Step::Grow(n, size, align, wanted) => {
@@ -71,6 +71,13 @@ impl<const M: usize> Stage<M> {
                 self.resize(rt, Way::Shrink, n, (size, align), wanted)
             }
             Step::Realloc(n, size, wanted) => self.realloc(rt, n, size, wanted),
+            _ => self.takes_back(rt, step),
+        }
+    }
+
+    // The steps after which fewer blocks are held, and marks.
+    fn takes_back(&mut self, rt: &impl Abort, step: &Step) {
+        match *step {
             Step::Dealloc(n) => self.dealloc(rt, n),
             Step::Reset => self.arena.reset(),
             Step::SetCursor(addr) => self.set_cursor(rt, addr),
@@ -166,17 +173,17 @@ impl<const M: usize> Stage<M> {
         &mut self,
         rt: &impl Abort,
         answered: Result<Block, ArenaErr>,
-        (size, align): (u64, u64),
+        layout: (u64, u64),
         wanted: Answer,
     ) {
-        match (answered, wanted) {
-            (Ok(block), Ok(addr)) => {
-                let found = (block.addr, block.size, block.align);
-                same_at(rt, self.at, found, (addr, size, align));
+        match answered {
+            Ok(block) => {
+                same_at(rt, self.at, Ok(block.addr), wanted);
+                same_at(rt, self.at, (block.size, block.align), layout);
                 self.blocks.push(block).expect(rt, "memory");
             }
-            (Err(e), Err(refused)) => same_at(rt, self.at, e, ArenaErr::AllocErr { refused }),
-            _ => must(rt, (self.at, answered), false),
+            Err(ArenaErr::AllocErr { refused }) => same_at(rt, self.at, Err(refused), wanted),
+            Err(ArenaErr::OutOfMemory) => must(rt, self.at, false),
         }
     }
 

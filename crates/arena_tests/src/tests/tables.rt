@@ -25,9 +25,13 @@ const BY_1: &[&[Step]] = &[
     ENDS,
 ];
 
+const BY_8: &[&[Step]] = &[PLACES_BY_8, SHRUNK_BY_8, MARKS_BY_8];
+
+const BY_16: &[&[Step]] = &[PLACES_BY_16, GROWN_BY_16];
+
 #[test]
 fn steps(rt: HostRuntime) {
     all_hold::<1>(&rt, rt.alloc(), BY_1);
-    all_hold::<8>(&rt, rt.alloc(), &[PLACES_BY_8, SHRUNK_BY_8, MARKS_BY_8]);
-    all_hold::<16>(&rt, rt.alloc(), &[PLACES_BY_16, GROWN_BY_16]);
+    all_hold::<8>(&rt, rt.alloc(), BY_8);
+    all_hold::<16>(&rt, rt.alloc(), BY_16);
 }

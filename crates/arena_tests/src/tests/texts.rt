@@ -19,10 +19,13 @@ fn address_of<C: ChunkSource>(
     block.addr
 }
 
+// A text and its address.
+const TEXTS: &[(&str, u64)] = &[("hello", 20411), ("", 20411), ("é", 20409)];
+
 #[test]
 fn a_text_lies_below_the_cursor(rt: HostRuntime) {
     let mut a = ample(rt.alloc());
-    for (text, addr) in [("hello", 20411), ("", 20411), ("é", 20409)] {
+    for &(text, addr) in TEXTS {
         let placed = a.alloc_str(text);
         same(&rt, address_of(&rt, &a, placed, text), addr);
     }

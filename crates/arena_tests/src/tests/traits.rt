@@ -81,7 +81,8 @@ fn elements_and_arrays(rt: HostRuntime) {
     let one = placed(&rt, "alloc_one", &a, one, 20415);
     let ten = a.alloc_array(byte, 10);
     let ten = placed(&rt, "alloc_array", &a, ten, 20405);
-    same(&rt, (ten.size, ten.align), (10, 1));
+    same(&rt, ten.size, 10);
+    same(&rt, ten.align, 1);
     same(&rt, a.realloc_array(ten, byte, 10, 0), Err(REFUSED));
     let ten = held(&rt, &a, ten);
     let eleven = a.realloc_array(ten, byte, 10, 11);

@@ -7,7 +7,7 @@ use arena_items::{ArenaItems, Box, ItemErr};
 use std::process::Abort;
 
 // A call that places values: one is a u32, 7; copied ones are of u32, 1 to 3; all others are of u64.
-#[derive(Clone, Copy)]
+#[derive(Drop)]
 pub(super) enum Call {
     Alloc,
     TryAlloc,
@@ -24,6 +24,8 @@ pub(super) enum Call {
     // How many values the iterator tells, and how many it gives.
     FillIter(usize, u64),
 }
+
+const VALUES: &[u32] = &[1, 2, 3];
 
 // Numbers from 1 on. It tells how many there are, which may be more or fewer than it gives, and notes each that is taken.
 #[derive(Drop)]
@@ -64,32 +66,10 @@ fn noted(asked: u64, digit: u64) -> u64 {
 // Makes the call and tells the block. Its closure or iterator notes in `asked` what it was asked for.
 pub(super) fn place<C: ChunkSource>(
     a: &mut Allocator<C>,
-    call: Call,
+    call: &Call,
     asked: &mut u64,
 ) -> Result<Block, ItemErr> {
-    Ok(match call {
-        Call::Alloc => a.alloc(7u32)?.block,
-        Call::TryAlloc => a.try_alloc(7u32)?.block,
-        Call::NewIn => Box::new_in(7u32, a)?.block,
-        Call::AllocWith => {
-            a.alloc_with(|| {
-                *asked = noted(*asked, 1);
-                7u32
-            })?
-            .block
-        }
-        Call::TryAllocWith => {
-            a.try_alloc_with(|| {
-                *asked = noted(*asked, 1);
-                7u32
-            })?
-            .block
-        }
-        Call::SliceCopy => a.alloc_slice_copy(&[1u32, 2, 3])?.block,
-        Call::SliceClone => a.alloc_slice_clone(&[1u32, 2, 3])?.block,
-        Call::FillCopy(len) => a.alloc_slice_fill_copy(len, 7u64)?.block,
-        Call::FillClone(len) => a.alloc_slice_fill_clone(len, &7u64)?.block,
-        Call::FillDefault(len) => a.alloc_slice_fill_default::<u64>(len)?.block,
+    Ok(match *call {
         Call::FillWith(len) => {
             a.alloc_slice_fill_with(len, |i| {
                 *asked = noted(*asked, i.wrapping_add(1));
@@ -106,11 +86,45 @@ pub(super) fn place<C: ChunkSource>(
             })?
             .block
         }
+        Call::AllocWith => {
+            a.alloc_with(|| {
+                *asked = noted(*asked, 1);
+                7u32
+            })?
+            .block
+        }
+        Call::TryAllocWith => {
+            a.try_alloc_with(|| {
+                *asked = noted(*asked, 1);
+                7u32
+            })?
+            .block
+        }
+        _ => place_copies(a, call)?,
+    })
+}
+
+// Makes a call that asks for no value.
+fn place_copies<C: ChunkSource>(a: &mut Allocator<C>, call: &Call) -> Result<Block, ItemErr> {
+    Ok(match *call {
+        Call::SliceCopy => a.alloc_slice_copy(VALUES)?.block,
+        Call::SliceClone => a.alloc_slice_clone(VALUES)?.block,
+        Call::FillCopy(len) => a.alloc_slice_fill_copy(len, 7u64)?.block,
+        Call::FillClone(len) => a.alloc_slice_fill_clone(len, &7u64)?.block,
+        Call::FillDefault(len) => a.alloc_slice_fill_default::<u64>(len)?.block,
+        _ => place_one(a, call)?,
+    })
+}
+
+fn place_one<C: ChunkSource>(a: &mut Allocator<C>, call: &Call) -> Result<Block, ItemErr> {
+    Ok(match *call {
+        Call::TryAlloc => a.try_alloc(7u32)?.block,
+        Call::NewIn => Box::new_in(7u32, a)?.block,
+        _ => a.alloc(7u32)?.block,
     })
 }
 
 // What a call answers, and what was asked for.
-#[derive(Clone, Copy)]
 pub(super) enum Wanted {
     // The address and the bytes of a block, which is the last one.
     Placed(u64, &'static [u8], u64),
@@ -120,23 +134,30 @@ pub(super) enum Wanted {
     TooFew(u64, u64),
 }
 
+// A name, the call, and what it answers.
 pub(super) type Row = (&'static str, Call, Wanted);
 
-pub(super) fn takes<C: ChunkSource>(rt: &impl Abort, a: &mut Allocator<C>, row: Row) {
-    let (name, call, wanted) = row;
+pub(super) fn takes<C: ChunkSource>(rt: &impl Abort, a: &mut Allocator<C>, row: &Row) {
+    answers(rt, a, row, &row.2);
+}
+
+// The call of a row answers this.
+pub(super) fn answers<C: ChunkSource>(
+    rt: &impl Abort,
+    a: &mut Allocator<C>,
+    row: &Row,
+    wanted: &Wanted,
+) {
+    let name = row.0;
     let used = a.used_bytes();
     let mut asked = 0;
-    let answer = place(a, call, &mut asked);
-    match wanted {
+    let answer = place(a, &row.1, &mut asked);
+    match *wanted {
         Wanted::Placed(addr, bytes, called) => {
             let block = answer.expect(rt, name);
             same_at(rt, name, (block.addr, asked), (addr, called));
-            same_at(
-                rt,
-                name,
-                a.data_end().checked_sub(addr),
-                Some(a.used_bytes()),
-            );
+            let below = a.data_end().checked_sub(a.used_bytes());
+            same_at(rt, name, below, Some(addr));
             reads(rt, name, a, block, bytes);
         }
         Wanted::Refused(refused) => {

@@ -8,7 +8,7 @@ use std::num::{
 use std::process::Abort;
 
 // The value is written as these bytes and is read from them.
-fn has_form<T: Item + PartialEq>(rt: &impl Abort, value: T, form: &[u8]) {
+pub(super) fn has_form<T: Item + PartialEq>(rt: &impl Abort, value: T, form: &[u8]) {
     assert!(rt; form.len() as u64 == T::SIZE);
     assert!(rt; T::SIZE <= 48);
     let mut out = [9; 48];
@@ -21,7 +21,7 @@ fn has_form<T: Item + PartialEq>(rt: &impl Abort, value: T, form: &[u8]) {
 pub(super) fn forms<T: Item + PartialEq>(rt: &impl Abort, layout: (u64, u64), rows: &[(T, &[u8])]) {
     same(rt, (T::SIZE, T::ALIGN), layout);
     for (value, form) in rows {
-        has_form(rt, *value, *form);
+        has_form(rt, *value, form);
     }
 }
 
@@ -36,7 +36,7 @@ pub(super) fn reads<T: Item + PartialEq>(rt: &impl Abort, rows: &[(&[u8], T)]) {
 }
 
 // The numbers 1 to 16.
-pub(super) const UP: &[u8] = &[1, 2, 3, 4, 5, 6, 7, 8, 9, 10, 11, 12, 13, 14, 15, 16];
+const UP: &[u8] = &[1, 2, 3, 4, 5, 6, 7, 8, 9, 10, 11, 12, 13, 14, 15, 16];
 
 // The least and the greatest signed number of 128 bits.
 const LEAST: &[u8] = &[0, 0, 0, 0, 0, 0, 0, 0, 0, 0, 0, 0, 0, 0, 0, 128];
@@ -53,20 +53,32 @@ const ONE: &[u8] = &[1, 0, 0, 0, 0, 0, 0, 0, 0, 0, 0, 0, 0, 0, 0, 0];
 
 const ONES: &[u8] = &[255; 16];
 
+const BYTES: &[(u8, &[u8])] = &[(0, &[0]), (1, &[1]), (255, &[255])];
+
+const U16S: &[(u16, &[u8])] = &[(0x0201, &[1, 2]), (u16::MAX, &[255; 2])];
+
+const U32S: &[(u32, &[u8])] = &[(123, &[0x7b, 0, 0, 0]), (u32::MAX, &[255; 4])];
+
+const U64S: &[(u64, &[u8])] = &[
+    (0x0807_0605_0403_0201, &[1, 2, 3, 4, 5, 6, 7, 8]),
+    (u64::MAX, &[255; 8]),
+];
+
+const USIZES: &[(usize, &[u8])] = &[(0, &[0; 8]), (usize::MAX, &[255; 8])];
+
+const U128S: &[(u128, &[u8])] = &[
+    (0x100f_0e0d_0c0b_0a09_0807_0605_0403_0201, UP),
+    (u128::MAX, ONES),
+];
+
 #[test]
 fn unsigned(rt: HostRuntime) {
-    const LOW: u64 = 0x0807_0605_0403_0201;
-    forms::<u8>(&rt, (1, 1), &[(0, &[0]), (1, &[1]), (255, &[255])]);
-    forms::<u16>(&rt, (2, 2), &[(0x0201, &[1, 2]), (u16::MAX, &[255; 2])]);
-    forms::<u32>(
-        &rt,
-        (4, 4),
-        &[(123, &[0x7b, 0, 0, 0]), (u32::MAX, &[255; 4])],
-    );
-    forms::<u64>(&rt, (8, 8), &[(LOW, &UP[..8]), (u64::MAX, &[255; 8])]);
-    forms::<usize>(&rt, (8, 8), &[(0, &[0; 8]), (usize::MAX, &[255; 8])]);
-    let up = (0x100f_0e0d_0c0b_0a09_0807_0605_0403_0201, UP);
-    forms::<u128>(&rt, (16, 16), &[up, (u128::MAX, &[255; 16])]);
+    forms(&rt, (1, 1), BYTES);
+    forms(&rt, (2, 2), U16S);
+    forms(&rt, (4, 4), U32S);
+    forms(&rt, (8, 8), U64S);
+    forms(&rt, (8, 8), USIZES);
+    forms(&rt, (16, 16), U128S);
 }
 
 // The least number of a type of signed numbers, -2, and the greatest.
@@ -118,30 +130,32 @@ fn non_zero(rt: HostRuntime) {
     non_zero_ends(&rt, true, NonZeroI128::MIN, NonZeroI128::MAX);
 }
 
+const BOOLS: &[(bool, &[u8])] = &[(false, &[0]), (true, &[1])];
+
+// Any byte but 0 is true.
+const TRUES: &[(&[u8], bool)] = &[(&[2], true), (&[128], true), (&[255], true)];
+
+const CHARS: &[(char, &[u8])] = &[
+    ('\0', &[0; 4]),
+    ('\u{e9}', &[0xe9, 0, 0, 0]),
+    ('\u{D7FF}', &[255, 0xd7, 0, 0]),
+    ('\u{E000}', &[0, 0xe0, 0, 0]),
+    ('\u{10FFFF}', &[255, 255, 16, 0]),
+];
+
+const NO_CHARS: &[(&[u8], char)] = &[
+    (&[0, 0xd8, 0, 0], '\0'),
+    (&[255, 0xdf, 0, 0], '\0'),
+    (&[0, 0, 17, 0], '\0'),
+    (&[0x41, 0, 0, 1], '\0'),
+    (&[255; 4], '\0'),
+];
+
 #[test]
 fn plain(rt: HostRuntime) {
-    forms(&rt, (1, 1), &[(false, &[0]), (true, &[1])]);
-    reads(&rt, &[(&[2], true), (&[128], true), (&[255], true)]);
-    forms(&rt, (0, 1), &[((), &[])]);
-    forms(
-        &rt,
-        (4, 4),
-        &[
-            ('\0', &[0; 4]),
-            ('\u{e9}', &[0xe9, 0, 0, 0]),
-            ('\u{D7FF}', &[255, 0xd7, 0, 0]),
-            ('\u{E000}', &[0, 0xe0, 0, 0]),
-            ('\u{10FFFF}', &[255, 255, 16, 0]),
-        ],
-    );
-    reads(
-        &rt,
-        &[
-            (&[0, 0xd8, 0, 0], '\0'),
-            (&[255, 0xdf, 0, 0], '\0'),
-            (&[0, 0, 17, 0], '\0'),
-            (&[0x41, 0, 0, 1], '\0'),
-            (&[255; 4], '\0'),
-        ],
-    );
+    forms(&rt, (1, 1), BOOLS);
+    reads(&rt, TRUES);
+    forms::<()>(&rt, (0, 1), &[((), &[])]);
+    forms(&rt, (4, 4), CHARS);
+    reads(&rt, NO_CHARS);
 }

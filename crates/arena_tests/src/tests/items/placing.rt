@@ -1,6 +1,6 @@
 // Tables of calls that place values, each with what it must answer.
 use super::calls::Wanted::{Placed, Refused, TooFew};
-use super::calls::{Call, Row, asked, place, takes};
+use super::calls::{Call, Row, answers, asked, place, takes};
 use crate::tests::{ample, layout, refusing, same};
 use arena_chunks::{Allocator, MemoryChunks};
 use arena_items::{ArenaItems, ItemErr};
@@ -95,14 +95,14 @@ const SIXTEEN: &[Row] = &[
 fn ample_memory(rt: HostRuntime) {
     for row in ROWS {
         let mut a = ample(rt.alloc());
-        takes(&rt, &mut a, *row);
+        takes(&rt, &mut a, row);
         let block = a.alloc_layout(layout(&rt, 64, 1)).expect(&rt, "a block");
         a.write(block, 0, &[9; 64]);
         a.reset();
-        takes(&rt, &mut a, *row);
+        takes(&rt, &mut a, row);
     }
     for row in NONE {
-        takes(&rt, &mut ample(rt.alloc()), *row);
+        takes(&rt, &mut ample(rt.alloc()), row);
     }
 }
 
@@ -114,13 +114,13 @@ fn a_fixed_arena(rt: HostRuntime) -> Result<(), Fail> {
         return Err(Fail::from("an allocator"));
     };
     for row in SIXTEEN {
-        takes(&rt, &mut a, *row);
+        takes(&rt, &mut a, row);
     }
     for row in ROWS {
-        takes(&rt, &mut a, (row.0, row.1, Refused(0)));
+        answers(&rt, &mut a, row, &Refused(0));
     }
     for row in TOO_MANY {
-        takes(&rt, &mut a, *row);
+        takes(&rt, &mut a, row);
     }
     Ok(())
 }
@@ -129,8 +129,8 @@ fn a_fixed_arena(rt: HostRuntime) -> Result<(), Fail> {
 fn refused_requests(rt: HostRuntime) -> Result<(), Fail> {
     for row in ROWS {
         let mut a = Allocator::new(rt.alloc(), refusing(rt.alloc(), &[1])?);
-        takes(&rt, &mut a, (row.0, row.1, Refused(1)));
-        takes(&rt, &mut a, *row);
+        answers(&rt, &mut a, row, &Refused(1));
+        takes(&rt, &mut a, row);
         asked(&rt, a, row.0, &[(16320, 16), (16320, 16)]);
     }
     // Beside a full chunk, twice its size is tried and then the least.
@@ -138,30 +138,29 @@ fn refused_requests(rt: HostRuntime) -> Result<(), Fail> {
         let mut a = Allocator::new(rt.alloc(), refusing(rt.alloc(), &[2, 3])?);
         let all = a.alloc_layout(layout(&rt, 16320, 1)).expect(&rt, "a block");
         same(&rt, all.addr, 4096);
-        takes(&rt, &mut a, (row.0, row.1, Refused(2)));
+        answers(&rt, &mut a, row, &Refused(2));
         asked(&rt, a, row.0, &[(16320, 16), (32704, 16), (16320, 16)]);
     }
     for row in TOO_MANY {
         let mut a = Allocator::new(rt.alloc(), refusing(rt.alloc(), &[])?);
-        takes(&rt, &mut a, *row);
+        takes(&rt, &mut a, row);
         asked(&rt, a, row.0, &[]);
     }
     Ok(())
 }
 
+const NO_CHUNK: &Row = &("no chunk yet", Call::FillIter(3, 2), TooFew(2, 12));
+
 // The padding below the block stays used, and so does a new chunk.
 #[test]
 fn too_few_values(rt: HostRuntime) {
     let mut a = ample(rt.alloc());
-    takes(
-        &rt,
-        &mut a,
-        ("no chunk yet", Call::FillIter(3, 2), TooFew(2, 12)),
-    );
+    takes(&rt, &mut a, NO_CHUNK);
     same(&rt, (a.used_bytes(), a.capacity()), (0, 16320));
     let one = a.alloc(1u8).expect(&rt, "a box");
     let mut asked = 0;
-    let answer = place(&mut a, Call::FillIter(3, 1), &mut asked);
+    let answer = place(&mut a, &Call::FillIter(3, 1), &mut asked);
     same(&rt, answer, Err(ItemErr::TooFew { taken: 1 }));
-    same(&rt, (one.block.addr, asked, a.used_bytes()), (20415, 1, 8));
+    same(&rt, one.block.addr, 20415);
+    same(&rt, (asked, a.used_bytes()), (1, 8));
 }
