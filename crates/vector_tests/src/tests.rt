@@ -1,4 +1,4 @@
-// Worked examples of the rules, one call of each function, and refusals in the midst. Most are tables of calls.
+// Worked examples of the rules, one call of each function, and refusals in the midst. Most are tables of calls, which are read by reference.
 mod comparisons;
 mod numbers;
 mod splices;
@@ -15,7 +15,7 @@ mod vector_types;
 mod vector_walks;
 mod vectors;
 
-ghost use Rattle.std.specs.Prelude.{◌≡◌, IsTrue};
+ghost use Rattle.std.specs.Prelude.{◌≡◌, ◌<◌, ◌≤◌, IsTrue};
 ghost use Rattle.arena_chunks.specs.Memory.{is_readable};
 
 use arena_chunks::{Allocator, Block, ChunkSource, MemoryChunks};
@@ -45,17 +45,27 @@ fn has<C: ChunkSource>(
     used: u64,
     counts: (u64, u64),
 ) {
-    same_at(
-        rt,
-        what,
-        (a.used_bytes(), a.get_allocation_stats()),
-        (used, counts),
-    );
+    same_at(rt, what, a.used_bytes(), used);
+    same_at(rt, what, a.get_allocation_stats(), counts);
+}
+
+// An index is below that.
+fn below(rt: &impl Abort, i: u32, len: u32)
+    ensures { i < len }
+{
+    assert!(rt; i < len, "an index");
+}
+
+// A number is at most that.
+fn at_most(rt: &impl Abort, n: u32, most: u32)
+    ensures { n ≤ most }
+{
+    assert!(rt; n <= most, "a number that is at most another");
 }
 
 // What was found is what is wanted.
 fn same<T: Copy + PartialEq + Debug>(rt: &impl Abort, found: T, wanted: T) {
-    assert_eq!(rt; found, wanted);
+    same_at(rt, (), found, wanted);
 }
 
 // What was found there is what is wanted.
@@ -65,5 +75,7 @@ fn same_at<A: Copy + Debug, T: Copy + PartialEq + Debug>(
     found: T,
     wanted: T,
 ) {
-    assert_eq!(rt; found, wanted, "{at:?}");
+    if found != wanted {
+        panic!(rt; "{found:?} is not {wanted:?}, at {at:?}");
+    }
 }

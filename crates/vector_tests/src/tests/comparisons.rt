@@ -39,29 +39,29 @@ fn equal<C: ChunkSource>(
     is_equal
 }
 
-// How the values before an index compare with those from there on. All calls say the same.
-fn compared(rt: &impl Abort, alloc: Global, values: &[u8], at: u32) -> Ordering {
+// How one list compares with another. All calls say the same.
+fn compared(rt: &impl Abort, alloc: Global, list: &[u8], with: &[u8]) -> Ordering {
     let mut a = ample(alloc);
-    let mut vec = vec_of(rt, &mut a, values);
-    assert!(rt; at <= vec.len() && at as usize <= values.len());
-    let tail = vec.split_off(&mut a, at).expect(rt, "room");
-    let order = ordered(rt, &a, vec, tail);
-    let is_equal = equal(rt, &a, vec, tail, &values[at as usize..]);
-    same(rt, is_equal, order.is_eq());
+    let one = vec_of(rt, &mut a, list);
+    let other = vec_of(rt, &mut a, with);
+    let order = ordered(rt, &a, one, other);
+    same(rt, equal(rt, &a, one, other, with), order.is_eq());
     order
 }
 
-const ORDERS: [(&[u8], u32, Ordering); 9] = [
-    (&[1, 2, 3, 1, 2, 3], 3, Ordering::Equal),
-    (&[1, 2, 3, 1, 2, 4], 3, Ordering::Less),
-    (&[1, 2, 3, 1, 2], 3, Ordering::Greater),
-    (&[1, 2, 1, 2, 3], 2, Ordering::Less),
-    (&[2, 1, 1], 1, Ordering::Greater),
-    (&[1, 1, 0], 1, Ordering::Less),
-    (&[1, 0], 2, Ordering::Greater),
-    (&[1, 0], 0, Ordering::Less),
-    (&[], 0, Ordering::Equal),
+const ORDERS: &[(&[u8], &[u8], Ordering)] = &[
+    (&[1, 2, 3], &[1, 2, 3], Ordering::Equal),
+    (&[1, 2, 3], &[1, 2, 4], Ordering::Less),
+    (&[1, 2, 3], &[1, 2], Ordering::Greater),
+    (&[1, 2], &[1, 2, 3], Ordering::Less),
+    (&[2], &[1, 1], Ordering::Greater),
+    (&[1], &[1, 0], Ordering::Less),
+    (&[1, 0], &[], Ordering::Greater),
+    (&[], &[1, 0], Ordering::Less),
+    (&[], &[], Ordering::Equal),
 ];
+
+const HASHED: &[&[u32]] = &[&[1, 2], &[2, 1], &[]];
 
 // The hash is that of the slice.
 fn hashed(rt: &impl Abort, alloc: Global, list: &[u32]) {
@@ -70,30 +70,28 @@ fn hashed(rt: &impl Abort, alloc: Global, list: &[u32]) {
     let (mut one, mut other) = (DefaultHasher::new(), DefaultHasher::new());
     vec.hash(&a, &mut one);
     list.hash(&mut other);
-    assert!(rt; one.finish() == other.finish());
+    same(rt, one.finish(), other.finish());
 }
 
 #[test]
 fn orders_and_hashes(rt: HostRuntime) {
-    for (values, at, order) in ORDERS {
-        same(&rt, compared(&rt, rt.alloc(), values, at), order);
+    for (list, with, order) in ORDERS {
+        same(&rt, compared(&rt, rt.alloc(), list, with), *order);
     }
-    let rows: [&[u32]; 3] = [&[1, 2], &[2, 1], &[]];
-    for list in rows {
+    for list in HASHED {
         hashed(&rt, rt.alloc(), list);
     }
 }
 
 // The values have this text.
 fn says<T: Item + Debug>(rt: &impl Abort, alloc: Global, list: &[T], wanted: &str) {
-    assert!(rt; T::SIZE <= 48);
     let mut a = ample(alloc);
     let vec = vec_of(rt, &mut a, list);
     let text = vec.debug(alloc, &a).expect(rt, "memory");
-    assert!(rt; text.as_str() == wanted);
+    same(rt, text.as_str(), wanted);
 }
 
-const ERRORS: [(AllocError, &str); 3] = [
+const ERRORS: &[(AllocError, &str)] = &[
     (
         AllocError::AllocErr { refused: 2 },
         "memory allocation failed",
@@ -110,6 +108,6 @@ fn texts(rt: HostRuntime) {
     says::<u32>(&rt, rt.alloc(), &[], "Vec([])");
     for (error, text) in ERRORS {
         let said = format!(in rt.alloc(); "{error}").expect(&rt, "a text");
-        assert_eq!(rt; said.as_str(), text);
+        same(&rt, said.as_str(), *text);
     }
 }

@@ -2,7 +2,7 @@
 ghost use Rattle.std.specs.Iterator.{at_most};
 
 // What an iterator tells of how many items are to come. The last number is how many it gives.
-#[derive(Clone, Copy)]
+#[derive(Drop)]
 pub(super) enum Hints {
     Exactly(u32),
     AtLeast(usize, u32),
@@ -13,8 +13,8 @@ pub(super) enum Hints {
 
 impl Hints {
     // The iterator: the numbers from the first on.
-    pub(super) fn numbers(self, first: u32) -> Numbers {
-        let (least, most, bound, gives) = match self {
+    pub(super) fn numbers(&self, first: u32) -> Numbers {
+        let (least, most, bound, gives) = match *self {
             Hints::Exactly(n) => (n as usize, Some(n as usize), n as usize, n),
             Hints::AtLeast(least, n) => (least, None, usize::MAX, n),
             Hints::AtMost(most, n) => (0, Some(most), most, n),
@@ -31,7 +31,7 @@ impl Hints {
     }
 
     // The iterator from 1 on, which counts the items that are taken.
-    pub(super) fn counting(self, taken: &mut u64) -> Counting<'_> {
+    pub(super) fn counting<'a>(&self, taken: &'a mut u64) -> Counting<'a> {
         Counting {
             numbers: self.numbers(1),
             taken,

@@ -1,8 +1,8 @@
 // Ranges of vectors in whose place other values come.
 use super::numbers::Hints;
 use super::vector_refusals::{NONE_REFUSED, fixed};
-use super::vectors::{holds, known, vec_of};
-use super::{ample, same, same_at};
+use super::vectors::{is_list, known, vec_of};
+use super::{ample, at_most, same};
 use arena_chunks::{Allocator, MemoryChunks};
 use arena_vec::{Grown, Vec};
 use std::alloc::Global;
@@ -18,13 +18,14 @@ fn splice(
     a: &mut Allocator<MemoryChunks>,
     vec: &mut Vec<u32>,
     range: (u32, u32),
-    hints: Hints,
+    hints: &Hints,
 ) -> Told {
     known(rt, a, *vec);
     let (start, end) = range;
-    assert!(rt; start <= end && end <= vec.len());
+    at_most(rt, start, end);
+    at_most(rt, end, vec.len());
     let mut gone = vec.splice(a, start, end, hints.numbers(7));
-    assert_eq!(rt; gone.len(), (end - start) as usize);
+    same(rt, gone.len(), (end - start) as usize);
     let ends = (gone.next(), gone.next_back());
     let answer = gone.finish();
     (ends, answer)
@@ -34,7 +35,7 @@ const FOUR: &[u32] = &[1, 2, 3, 4];
 
 // What is told, the list then, its capacity, and how many bytes are used. 2 and 3 were taken out of four
 // values.
-const IN_THE_MIDST: [(Hints, &[u32], u32, u64); 11] = [
+const IN_THE_MIDST: &[(Hints, &[u32], u32, u64)] = &[
     (Hints::Exactly(3), &[1, 7, 8, 9, 4], 8, 32),
     (
         Hints::Exactly(8),
@@ -65,7 +66,7 @@ const IN_THE_MIDST: [(Hints, &[u32], u32, u64); 11] = [
 ];
 
 // The range, what is told, the values at its ends, the list then, and its capacity.
-const OF_RANGES: [((u32, u32), Hints, (Option<u32>, Option<u32>), &[u32], u32); 10] = [
+const OF_RANGES: &[((u32, u32), Hints, (Option<u32>, Option<u32>), &[u32], u32)] = &[
     (
         (0, 2),
         Hints::Exactly(2),
@@ -120,23 +121,23 @@ fn spliced(
     rt: &impl Abort,
     arena: Allocator<MemoryChunks>,
     range: (u32, u32),
-    hints: Hints,
+    hints: &Hints,
     list: &[u32],
 ) -> (Told, u32, u64) {
     let mut a = arena;
     let mut vec = vec_of(rt, &mut a, FOUR);
     let told = splice(rt, &mut a, &mut vec, range, hints);
-    same_at(rt, list, holds(rt, &a, vec, list), true);
+    is_list(rt, &a, vec, list);
     (told, vec.capacity(), a.used_bytes())
 }
 
 fn units(rt: &impl Abort, alloc: Global) {
     let mut a = ample(alloc);
     let mut vec = vec_of(rt, &mut a, &[(), (), ()]);
-    assert!(rt; vec.len() == 3);
+    at_most(rt, 1, vec.len());
     let mut gone = vec.splice(&mut a, 0, 1, [(), (), ()].into_iter());
     same(rt, (gone.next(), gone.next()), (Some(()), None));
-    assert!(rt; gone.finish().is_ok());
+    same(rt, gone.finish(), Ok(()));
     same(rt, vec.len(), 5);
 }
 
@@ -144,17 +145,17 @@ fn units(rt: &impl Abort, alloc: Global) {
 fn of_ranges(rt: HostRuntime) {
     for (hints, list, cap, used) in IN_THE_MIDST {
         let found = spliced(&rt, ample(rt.alloc()), (1, 3), hints, list);
-        same(&rt, found, (((Some(2), Some(3)), Ok(())), cap, used));
+        same(&rt, found, (((Some(2), Some(3)), Ok(())), *cap, *used));
     }
     for (range, hints, ends, list, cap) in OF_RANGES {
-        let (told, room, _) = spliced(&rt, ample(rt.alloc()), range, hints, list);
-        same(&rt, (told, room), ((ends, Ok(())), cap));
+        let (told, room, _) = spliced(&rt, ample(rt.alloc()), *range, hints, list);
+        same(&rt, (told, room), ((*ends, Ok(())), *cap));
     }
     units(&rt, rt.alloc());
 }
 
 // How many bytes there are, the range, what is told, the list then, and how many bytes are used.
-const REFUSED: [(usize, (u32, u32), Hints, &[u32], u64); 7] = [
+const REFUSED: &[(usize, (u32, u32), Hints, &[u32], u64)] = &[
     // There is no room for the third, which is told.
     (16, (1, 3), Hints::Exactly(3), &[1, 7, 8, 4], 16),
     // The third was taken, and no place is left for it.
@@ -173,8 +174,8 @@ const REFUSED: [(usize, (u32, u32), Hints, &[u32], u64); 7] = [
 #[test]
 fn refused(rt: HostRuntime) {
     for (bytes, range, hints, list, used) in REFUSED {
-        let a = fixed(&rt, rt.alloc(), bytes);
-        let ((_, answer), _, taken) = spliced(&rt, a, range, hints, list);
-        same(&rt, (answer, taken), (NONE_REFUSED, used));
+        let a = fixed(&rt, rt.alloc(), *bytes);
+        let ((_, answer), _, taken) = spliced(&rt, a, *range, hints, list);
+        same(&rt, (answer, taken), (NONE_REFUSED, *used));
     }
 }

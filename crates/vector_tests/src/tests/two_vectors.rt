@@ -1,15 +1,14 @@
 // Calls on two vectors, one of which is split off from the other and joined to it again, as tables.
-ghost use Rattle.std.specs.Prelude.{◌≡◌};
 ghost use Rattle.arena_chunks.specs.Frame.{AreBlocksApart};
 
-use super::same_at;
-use super::vectors::{Answer, Call, done, failed, holds, known, make};
+use super::vectors::{Answer, Call, done, failed, is_list, known, make};
+use super::{at_most, same_at};
 use arena_chunks::{Allocator, Block, ChunkSource};
 use arena_vec::Vec;
 use std::process::Abort;
 
 // A call on two vectors.
-#[derive(Clone, Copy)]
+#[derive(Drop)]
 pub(super) enum Pair<'s> {
     First(Call<'s, u32>),
     Second(Call<'s, u32>),
@@ -31,6 +30,37 @@ fn apart(rt: &impl Abort, one: Block, other: Block)
     assert!(rt; is_below || (other.addr <= one.addr && other.size <= one.addr - other.addr));
 }
 
+fn split_off<C: ChunkSource>(
+    rt: &impl Abort,
+    a: &mut Allocator<C>,
+    first: &mut Vec<u32>,
+    second: &mut Vec<u32>,
+    at: u32,
+) -> Answer<u32> {
+    known(rt, a, *first);
+    at_most(rt, at, first.len());
+    match first.split_off(a, at) {
+        Ok(tail) => {
+            *second = tail;
+            Answer::Done
+        }
+        Err(e) => failed(e),
+    }
+}
+
+// Puts the values of the second behind those of the first.
+fn append<C: ChunkSource>(
+    rt: &impl Abort,
+    a: &mut Allocator<C>,
+    first: &mut Vec<u32>,
+    second: &mut Vec<u32>,
+) -> Answer<u32> {
+    known(rt, a, *first);
+    known(rt, a, *second);
+    apart(rt, second.as_ptr(), first.as_ptr());
+    done(first.append(a, second))
+}
+
 // Makes a call on two vectors.
 fn step<C: ChunkSource>(
     rt: &impl Abort,
@@ -39,29 +69,12 @@ fn step<C: ChunkSource>(
     second: &mut Vec<u32>,
     call: &Pair<'_>,
 ) -> Answer<u32> {
-    known(rt, a, *first);
-    known(rt, a, *second);
     match call {
         Pair::First(call) => make(rt, a, first, call),
         Pair::Second(call) => make(rt, a, second, call),
-        Pair::SplitOff(at) => {
-            assert!(rt; *at <= first.len());
-            match first.split_off(a, *at) {
-                Ok(tail) => {
-                    *second = tail;
-                    Answer::Done
-                }
-                Err(e) => failed(e),
-            }
-        }
-        Pair::Append => {
-            apart(rt, second.as_ptr(), first.as_ptr());
-            done(first.append(a, second))
-        }
-        Pair::AppendBack => {
-            apart(rt, first.as_ptr(), second.as_ptr());
-            done(second.append(a, first))
-        }
+        Pair::SplitOff(at) => split_off(rt, a, first, second, *at),
+        Pair::Append => append(rt, a, first, second),
+        Pair::AppendBack => append(rt, a, second, first),
     }
 }
 
@@ -73,16 +86,17 @@ pub(super) fn both<C: ChunkSource>(
     rows: &[Row<'_>],
 ) {
     let (mut first, mut second) = (vec, Vec::new_in());
-    for (n, row) in rows.iter().enumerate() {
+    for row in rows {
         let (call, wanted, (one, room), (other, more)) = row;
         let answer = step(rt, a, &mut first, &mut second, call);
-        same_at(rt, n, answer == *wanted, true);
+        same_at(rt, *one, answer == *wanted, true);
+        is_list(rt, a, first, one);
+        is_list(rt, a, second, other);
         same_at(
             rt,
-            n,
-            holds(rt, a, first, one) && holds(rt, a, second, other),
-            true,
+            *one,
+            (first.capacity(), second.capacity()),
+            (*room, *more),
         );
-        same_at(rt, n, (first.capacity(), second.capacity()), (*room, *more));
     }
 }

@@ -1,7 +1,7 @@
 // Calls on vectors of numbers, as tables.
 use super::vectors::{Answer, Call, Row, from};
 
-const AT_THE_END: [Row<'static, u32>; 9] = [
+const AT_THE_END: &[Row<'static, u32>] = &[
     (Call::Push(3), Answer::Done, &[1, 2, 3], 4),
     (Call::Pop, Answer::Value(3), &[1, 2], 4),
     (Call::PushMut(3), Answer::Index(2), &[1, 2, 3], 4),
@@ -14,7 +14,7 @@ const AT_THE_END: [Row<'static, u32>; 9] = [
 ];
 
 // Each that grows a full vector.
-const IN_FULL_ONES: [Row<'static, u32>; 11] = [
+const IN_FULL_ONES: &[Row<'static, u32>] = &[
     (Call::Reserve(4), Answer::Done, &[], 4),
     (Call::PushMut(1), Answer::Index(0), &[1], 4),
     (Call::PushFastMut(2), Answer::Index(1), &[1, 2], 4),
@@ -28,7 +28,7 @@ const IN_FULL_ONES: [Row<'static, u32>; 11] = [
     (Call::PushFast(6), Answer::Done, &[1, 2, 3, 4, 5, 6], 10),
 ];
 
-const AS_A_STACK: [Row<'static, u32>; 13] = [
+const AS_A_STACK: &[Row<'static, u32>] = &[
     (Call::Pop, Answer::None, &[], 0),
     (Call::Push(1), Answer::Done, &[1], 1),
     (Call::Push(2), Answer::Done, &[1, 2], 2),
@@ -44,7 +44,7 @@ const AS_A_STACK: [Row<'static, u32>; 13] = [
     (Call::Push(5), Answer::Done, &[5], 1),
 ];
 
-const IN_THE_MIDST: [Row<'static, u32>; 9] = [
+const IN_THE_MIDST: &[Row<'static, u32>] = &[
     (Call::Insert(1, 4), Answer::Done, &[1, 4, 2, 3], 6),
     (Call::Insert(4, 5), Answer::Done, &[1, 4, 2, 3, 5], 6),
     (Call::Insert(0, 9), Answer::Done, &[9, 1, 4, 2, 3, 5], 6),
@@ -56,7 +56,7 @@ const IN_THE_MIDST: [Row<'static, u32>; 9] = [
     (Call::Set(1, 7), Answer::Done, &[1, 7, 3], 12),
 ];
 
-const SWAPPED: [Row<'static, char>; 5] = [
+const SWAPPED: &[Row<'static, char>] = &[
     (Call::SwapRemove(1), Answer::Value('r'), &['f', 'q', 'z'], 4),
     (Call::SwapRemove(0), Answer::Value('f'), &['z', 'q'], 4),
     (Call::SwapRemove(1), Answer::Value('q'), &['z'], 4),
@@ -64,7 +64,7 @@ const SWAPPED: [Row<'static, char>; 5] = [
     (Call::Insert(0, 'é'), Answer::Done, &['é'], 4),
 ];
 
-const FEWER: [Row<'static, u32>; 9] = [
+const FEWER: &[Row<'static, u32>] = &[
     (Call::Truncate(8), Answer::Done, &[1, 2, 3, 4, 5], 5),
     (Call::Truncate(5), Answer::Done, &[1, 2, 3, 4, 5], 5),
     (Call::Resize(4, 9), Answer::Done, &[1, 2, 3, 4], 5),
@@ -76,7 +76,7 @@ const FEWER: [Row<'static, u32>; 9] = [
     (Call::Resize(0, 9), Answer::Done, &[], 2),
 ];
 
-const MANY: [Row<'static, u32>; 10] = [
+const MANY: &[Row<'static, u32>] = &[
     (Call::Extend(&[2, 3, 4]), Answer::Done, &[1, 2, 3, 4], 4),
     (Call::Truncate(1), Answer::Done, &[1], 4),
     (Call::ExtendCopy(&[2, 3, 4]), Answer::Done, &[1, 2, 3, 4], 4),
@@ -99,7 +99,7 @@ const MANY: [Row<'static, u32>; 10] = [
     ),
 ];
 
-const MANY_BYTES: [Row<'static, u8>; 5] = [
+const MANY_BYTES: &[Row<'static, u8>] = &[
     (
         Call::ExtendSlices(&[b"ello,", b"", b" world!"]),
         Answer::Done,
@@ -118,7 +118,7 @@ const MANY_BYTES: [Row<'static, u8>; 5] = [
 ];
 
 // Each on a vector of one value.
-const ROOM: [Row<'static, u32>; 7] = [
+const ROOM: &[Row<'static, u32>] = &[
     (Call::Reserve(10), Answer::Done, &[1], 11),
     (Call::TryReserve(10), Answer::Done, &[1], 11),
     (Call::ReserveExact(10), Answer::Done, &[1], 11),
@@ -129,7 +129,7 @@ const ROOM: [Row<'static, u32>; 7] = [
     (Call::ReserveExact(0), Answer::Done, &[1], 1),
 ];
 
-const ROOM_AGAIN: [Row<'static, u32>; 9] = [
+const ROOM_AGAIN: &[Row<'static, u32>] = &[
     (Call::Reserve(1), Answer::Done, &[1, 2, 3], 6),
     (Call::Reserve(3), Answer::Done, &[1, 2, 3], 6),
     (Call::ReserveExact(4), Answer::Done, &[1, 2, 3], 7),
@@ -157,7 +157,7 @@ const NO: Answer<u32> = Answer::Overflows;
 
 // What is required passes 32 bits, as a number of values or of their bytes. What fits is asked for, and there
 // is no chunk that large.
-const TOO_MANY: [Row<'static, u32>; 10] = [
+const TOO_MANY: &[Row<'static, u32>] = &[
     (Call::Reserve(1 << 30), NO, NUMBERS, 3),
     (Call::TryReserve((1 << 30) - 3), NO, NUMBERS, 3),
     (Call::ReserveExact((1 << 30) - 3), NO, NUMBERS, 3),
@@ -170,22 +170,22 @@ const TOO_MANY: [Row<'static, u32>; 10] = [
     (Call::Resize(1 << 29, 0), Answer::Refused(1), NUMBERS, 3),
 ];
 
-const TOO_MANY_BYTES: [Row<'static, u8>; 3] = [
+const TOO_MANY_BYTES: &[Row<'static, u8>] = &[
     (Call::Reserve((1 << 32) - 3), Answer::Overflows, b"abc", 3),
     (Call::ReserveExact(1 << 32), Answer::Overflows, b"abc", 3),
     (Call::Reserve((1 << 32) - 4), Answer::Refused(1), b"abc", 3),
 ];
 
 // A list, and the calls on a vector of it.
-const ON_NUMBERS: [(&[u32], &[Row<'static, u32>]); 8] = [
-    (&[1, 2], &AT_THE_END),
-    (&[], &IN_FULL_ONES),
-    (&[], &AS_A_STACK),
-    (NUMBERS, &IN_THE_MIDST),
-    (&[1, 2, 3, 4, 5], &FEWER),
-    (&[1], &MANY),
-    (NUMBERS, &ROOM_AGAIN),
-    (NUMBERS, &TOO_MANY),
+const ON_NUMBERS: &[(&[u32], &[Row<'static, u32>])] = &[
+    (&[1, 2], AT_THE_END),
+    (&[], IN_FULL_ONES),
+    (&[], AS_A_STACK),
+    (NUMBERS, IN_THE_MIDST),
+    (&[1, 2, 3, 4, 5], FEWER),
+    (&[1], MANY),
+    (NUMBERS, ROOM_AGAIN),
+    (NUMBERS, TOO_MANY),
 ];
 
 #[test]
@@ -194,13 +194,13 @@ fn on_numbers(rt: HostRuntime) {
         from(&rt, rt.alloc(), list, rows);
     }
     for row in ROOM {
-        from(&rt, rt.alloc(), &[1], &[row]);
+        from(&rt, rt.alloc(), &[1], std::slice::from_ref(row));
     }
 }
 
 #[test]
 fn on_bytes_and_characters(rt: HostRuntime) {
-    from(&rt, rt.alloc(), b"H", &MANY_BYTES);
-    from(&rt, rt.alloc(), b"abc", &TOO_MANY_BYTES);
-    from(&rt, rt.alloc(), &['f', 'r', 'z', 'q'], &SWAPPED);
+    from(&rt, rt.alloc(), b"H", MANY_BYTES);
+    from(&rt, rt.alloc(), b"abc", TOO_MANY_BYTES);
+    from(&rt, rt.alloc(), &['f', 'r', 'z', 'q'], SWAPPED);
 }

@@ -1,27 +1,26 @@
 // Vectors of handles, and handles of vectors.
-ghost use Rattle.arena_items.specs.Values.{IsHeld};
+ghost use Rattle.arena_items.specs.Values.{IsBoxIn};
 
-use super::vectors::{holds, known, vec_of};
-use super::{ample, held, same};
+use super::vectors::{is_list, known, vec_of};
+use super::{ample, below, same};
 use arena_chunks::{Allocator, Block, ChunkSource};
 use arena_items::{ArenaItems, Box, Item};
 use arena_vec::Vec;
 use std::process::Abort;
 
-// The block of a number, which must be held.
-fn of_number<C: ChunkSource>(rt: &impl Abort, a: &Allocator<C>, block: Block)
-    ensures { IsHeld 4 4 a.now.memory.state block }
+// A box, which must be held.
+fn held<C: ChunkSource>(rt: &impl Abort, a: &Allocator<C>, one: Box<u32>)
+    ensures { IsBoxIn ⟦<u32 as Item>⟧ a.now.memory one }
 {
-    held(rt, a, block);
-    assert!(rt; block.size == 4 && block.align == 4);
+    assert!(rt; one.is_held(a), "a held box");
 }
 
 // The number in the box at an index.
 fn number<C: ChunkSource>(rt: &impl Abort, a: &Allocator<C>, boxes: Vec<Box<u32>>, i: u32) -> u32 {
     known(rt, a, boxes);
-    assert!(rt; i < boxes.len());
+    below(rt, i, boxes.len());
     let found = boxes.get(a, i);
-    of_number(rt, a, found.block);
+    held(rt, a, found);
     found.get(a)
 }
 
@@ -35,10 +34,13 @@ fn numbers<C: ChunkSource>(
     cap: u32,
 ) {
     known(rt, a, outer);
-    assert!(rt; i < outer.len());
+    below(rt, i, outer.len());
     let inner = outer.get(a, i);
-    assert!(rt; holds(rt, a, inner, list) && inner.capacity() == cap);
+    is_list(rt, a, inner, list);
+    same(rt, inner.capacity(), cap);
 }
+
+const NUMBERS: &[(u32, u32)] = &[(0, 9), (1, 2), (2, 9)];
 
 #[test]
 fn vectors_of_boxes(rt: HostRuntime) {
@@ -48,10 +50,10 @@ fn vectors_of_boxes(rt: HostRuntime) {
     let mut boxes = vec_of(&rt, &mut a, &[one, two]);
     boxes.push(&mut a, one).expect(&rt, "room");
     // The first is the last, too.
-    of_number(&rt, &a, one.block);
+    held(&rt, &a, one);
     one.set(&mut a, 9);
-    for (i, wanted) in [(0, 9), (1, 2), (2, 9)] {
-        same(&rt, number(&rt, &a, boxes, i), wanted);
+    for (i, wanted) in NUMBERS {
+        same(&rt, number(&rt, &a, boxes, *i), *wanted);
     }
     same(&rt, (boxes.capacity(), boxes.as_ptr().size), (4, 128));
 }
@@ -72,22 +74,24 @@ fn vectors_of_vectors(rt: HostRuntime) {
 }
 
 // The block, the length and the capacity.
+const FORM: &[u8; 40] = &[
+    1, 2, 3, 4, 5, 6, 7, 8, 9, 10, 11, 12, 13, 14, 15, 16, 17, 18, 19, 20, 21, 22, 23, 24, 25, 26,
+    27, 28, 29, 30, 31, 32, 33, 34, 35, 36, 37, 38, 39, 40,
+];
+
+const BLOCK: Block = Block {
+    generation: 0x0807_0605_0403_0201,
+    addr: 0x100f_0e0d_0c0b_0a09,
+    size: 0x1817_1615_1413_1211,
+    align: 0x201f_1e1d_1c1b_1a19,
+};
+
 #[test]
 fn handles(rt: HostRuntime) {
-    let form = [
-        1, 2, 3, 4, 5, 6, 7, 8, 9, 10, 11, 12, 13, 14, 15, 16, 17, 18, 19, 20, 21, 22, 23, 24, 25,
-        26, 27, 28, 29, 30, 31, 32, 33, 34, 35, 36, 37, 38, 39, 40,
-    ];
-    let block = Block {
-        generation: 0x0807_0605_0403_0201,
-        addr: 0x100f_0e0d_0c0b_0a09,
-        size: 0x1817_1615_1413_1211,
-        align: 0x201f_1e1d_1c1b_1a19,
-    };
-    let vec = <Vec<u8>>::decode(&form);
-    same(&rt, vec.as_ptr(), block);
+    let vec = <Vec<u8>>::decode(FORM);
+    same(&rt, vec.as_ptr(), BLOCK);
     same(&rt, (vec.len(), vec.capacity()), (0x2423_2221, 0x2827_2625));
     let mut out = [9; 40];
     vec.encode(&mut out);
-    same(&rt, out, form);
+    same::<&[u8]>(&rt, &out, FORM);
 }

@@ -1,6 +1,6 @@
 // Vectors that take an iterator's items: which room is made is told by its hints.
 use super::numbers::Hints;
-use super::vectors::{holds, vec_of};
+use super::vectors::{is_list, vec_of};
 use super::{ample, same_at};
 use arena_vec::Vec;
 use std::alloc::Global;
@@ -10,7 +10,7 @@ use std::process::Abort;
 const MANY: usize = 1 << 30;
 
 // What is told, the list then, and its capacity.
-const NEW_VECTORS: [(Hints, &[u32], u32); 11] = [
+const NEW_VECTORS: &[(Hints, &[u32], u32)] = &[
     (Hints::Exactly(5), &[1, 2, 3, 4, 5], 5),
     (Hints::Exactly(0), &[], 0),
     (Hints::AtMost(10, 3), &[1, 2, 3], 10),
@@ -28,7 +28,7 @@ const NEW_VECTORS: [(Hints, &[u32], u32); 11] = [
 // The list, for how many more it has room, what is told, the list then, and its capacity.
 type Row = (&'static [u32], u64, Hints, &'static [u32], u32);
 
-const BEHIND_A_LIST: [Row; 12] = [
+const BEHIND_A_LIST: &[Row] = &[
     // A full vector makes room for all that are told to follow, or for twice as many.
     (&[9], 0, Hints::Exactly(4), &[9, 1, 2, 3, 4], 5),
     (&[9, 9, 9], 0, Hints::Exactly(1), &[9, 9, 9, 1], 6),
@@ -48,31 +48,31 @@ const BEHIND_A_LIST: [Row; 12] = [
     (&[9], 0, Hints::AtLeast(MANY, 2), &[9, 1, 2], 4),
 ];
 
-fn of_items(rt: &impl Abort, alloc: Global, hints: Hints, list: &[u32], cap: u32) {
+fn of_items(rt: &impl Abort, alloc: Global, hints: &Hints, list: &[u32], cap: u32) {
     let mut a = ample(alloc);
     let mut taken = 0;
     let vec = Vec::from_iter_in(hints.counting(&mut taken), &mut a).expect(rt, "room");
-    same_at(rt, list, holds(rt, &a, vec, list), true);
+    is_list(rt, &a, vec, list);
     same_at(rt, list, (vec.capacity(), taken), (cap, list.len() as u64));
 }
 
-fn with_items(rt: &impl Abort, alloc: Global, row: Row) {
+fn with_items(rt: &impl Abort, alloc: Global, row: &Row) {
     let (list, room, hints, wanted, cap) = row;
     let mut a = ample(alloc);
     let mut vec = vec_of(rt, &mut a, list);
-    vec.reserve_exact(&mut a, room).expect(rt, "room");
+    vec.reserve_exact(&mut a, *room).expect(rt, "room");
     let mut taken = 0;
     vec.extend(&mut a, hints.counting(&mut taken))
         .expect(rt, "room");
-    same_at(rt, wanted, holds(rt, &a, vec, wanted), true);
+    is_list(rt, &a, vec, wanted);
     let items = wanted.len().saturating_sub(list.len()) as u64;
-    same_at(rt, wanted, (vec.capacity(), taken), (cap, items));
+    same_at(rt, *wanted, (vec.capacity(), taken), (*cap, items));
 }
 
 #[test]
 fn as_told(rt: HostRuntime) {
     for (hints, list, cap) in NEW_VECTORS {
-        of_items(&rt, rt.alloc(), hints, list, cap);
+        of_items(&rt, rt.alloc(), hints, list, *cap);
     }
     for row in BEHIND_A_LIST {
         with_items(&rt, rt.alloc(), row);

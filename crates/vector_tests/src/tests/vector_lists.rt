@@ -2,7 +2,7 @@
 use super::numbers::Hints;
 use super::two_vectors::{Pair, Row, both};
 use super::vector_refusals::fixed;
-use super::vectors::{Answer, Call, holds};
+use super::vectors::{Answer, Call, is_list};
 use super::{ample, same, same_at};
 use arena_chunks::{Allocator, MemoryChunks};
 use arena_vec::{AllocError, Grown, Vec};
@@ -10,7 +10,7 @@ use std::alloc::Global;
 use std::process::Abort;
 
 // How a vector is made.
-#[derive(Clone, Copy)]
+#[derive(Drop)]
 enum New {
     // With room for so many.
     Room(u64),
@@ -23,20 +23,20 @@ enum New {
     InRoom(u64, Hints),
 }
 
-fn make(a: &mut Allocator<MemoryChunks>, new: New, taken: &mut u64) -> Grown<Vec<u32>> {
+fn make(a: &mut Allocator<MemoryChunks>, new: &New, taken: &mut u64) -> Grown<Vec<u32>> {
     match new {
-        New::Room(cap) => Vec::with_capacity_in(cap, a),
-        New::Value(value) => Vec::from_value_in(value, a),
-        New::Three(values) => Vec::from_array_in(values, a),
-        New::Five(values) => Vec::from_array_in(values, a),
-        New::None(values) => Vec::from_array_in(values, a),
+        New::Room(cap) => Vec::with_capacity_in(*cap, a),
+        New::Value(value) => Vec::from_value_in(*value, a),
+        New::Three(values) => Vec::from_array_in(*values, a),
+        New::Five(values) => Vec::from_array_in(*values, a),
+        New::None(values) => Vec::from_array_in(*values, a),
         New::Items(hints) => Vec::from_iter_in(hints.counting(taken), a),
-        New::InRoom(room, hints) => { Vec::from_iter_with_room_in(hints.counting(taken), room, a) }
+        New::InRoom(room, hints) => { Vec::from_iter_with_room_in(hints.counting(taken), *room, a) }
     }
 }
 
 // The list, the capacity, and how many bytes are used.
-const NEW_VECTORS: [(New, &[u32], u32, u64); 12] = [
+const NEW_VECTORS: &[(New, &[u32], u32, u64)] = &[
     (New::Room(10), &[], 10, 40),
     (New::Room(0), &[], 0, 0),
     (New::Value(123), &[123], 1, 4),
@@ -61,7 +61,7 @@ const NEW_VECTORS: [(New, &[u32], u32, u64); 12] = [
 const NO_PLACE: AllocError = AllocError::AllocErr { refused: 0 };
 
 // 16 bytes are there. How many items were taken, and how many bytes are used then.
-const REFUSED: [(New, AllocError, u64, u64); 10] = [
+const REFUSED: &[(New, AllocError, u64, u64)] = &[
     (New::Room(5), NO_PLACE, 0, 0),
     (New::Five([1, 2, 3, 4, 5]), NO_PLACE, 0, 0),
     // Nothing is taken where the first room is refused.
@@ -81,35 +81,35 @@ const REFUSED: [(New, AllocError, u64, u64); 10] = [
     (New::Room(u64::MAX), AllocError::CapacityOverflow, 0, 0),
 ];
 
-fn is_made(rt: &impl Abort, alloc: Global, new: New, list: &[u32], room: (u32, u64)) {
+fn is_made(rt: &impl Abort, alloc: Global, new: &New, list: &[u32], room: (u32, u64)) {
     let mut a = ample(alloc);
     let vec = make(&mut a, new, &mut 0).expect(rt, "room");
-    same_at(rt, list, holds(rt, &a, vec, list), true);
+    is_list(rt, &a, vec, list);
     same_at(rt, list, vec.is_empty(), list.is_empty());
     same_at(rt, list, (vec.capacity(), a.used_bytes()), room);
     same_at(rt, list, vec.as_ptr().size, room.1);
 }
 
 // So many items were taken, and so many bytes are used.
-fn is_refused(rt: &impl Abort, alloc: Global, new: New, why: AllocError, left: (u64, u64)) {
+fn is_refused(rt: &impl Abort, alloc: Global, new: &New, why: AllocError, left: (u64, u64)) {
     let mut a = fixed(rt, alloc, 16);
     let mut taken = 0;
     let made = make(&mut a, new, &mut taken);
-    assert!(rt; matches!(made, Err(e) if e == why));
+    same(rt, made.err(), Some(why));
     same(rt, (taken, a.used_bytes()), left);
 }
 
 #[test]
 fn new_vectors(rt: HostRuntime) {
     for (new, list, cap, used) in NEW_VECTORS {
-        is_made(&rt, rt.alloc(), new, list, (cap, used));
+        is_made(&rt, rt.alloc(), new, list, (*cap, *used));
     }
     for (new, why, items, used) in REFUSED {
-        is_refused(&rt, rt.alloc(), new, why, (items, used));
+        is_refused(&rt, rt.alloc(), new, *why, (*items, *used));
     }
 }
 
-const SPLIT_AND_JOINED: [Row<'static>; 10] = [
+const SPLIT_AND_JOINED: &[Row<'static>] = &[
     (Pair::SplitOff(1), Answer::Done, (&[1], 3), (&[2, 3], 2)),
     (Pair::Append, Answer::Done, (&[1, 2, 3], 3), (&[], 2)),
     (Pair::Append, Answer::Done, (&[1, 2, 3], 3), (&[], 2)),
@@ -132,7 +132,7 @@ const SPLIT_AND_JOINED: [Row<'static>; 10] = [
     ),
 ];
 
-const CUT_AND_GROWN: [Row<'static>; 4] = [
+const CUT_AND_GROWN: &[Row<'static>] = &[
     (
         Pair::First(Call::Insert(1, 9)),
         Answer::Done,
@@ -149,7 +149,7 @@ const CUT_AND_GROWN: [Row<'static>; 4] = [
     ),
 ];
 
-const ONE_AND_ANOTHER: [Row<'static>; 1] = [(
+const ONE_AND_ANOTHER: &[Row<'static>] = &[(
     Pair::First(Call::Push(456)),
     Answer::Done,
     (&[123, 456], 2),
@@ -157,10 +157,10 @@ const ONE_AND_ANOTHER: [Row<'static>; 1] = [(
 )];
 
 // How the first of two vectors is made, and the calls on them.
-const TWO: [(New, &[Row<'static>]); 3] = [
-    (New::Three([1, 2, 3]), &SPLIT_AND_JOINED),
-    (New::Three([1, 2, 3]), &CUT_AND_GROWN),
-    (New::Value(123), &ONE_AND_ANOTHER),
+const TWO: &[(New, &[Row<'static>])] = &[
+    (New::Three([1, 2, 3]), SPLIT_AND_JOINED),
+    (New::Three([1, 2, 3]), CUT_AND_GROWN),
+    (New::Value(123), ONE_AND_ANOTHER),
 ];
 
 #[test]

@@ -1,8 +1,21 @@
 // Vectors as slices and as blocks.
-use super::vectors::{holds, vec_of};
+ghost use Rattle.std.specs.Prelude.{◌≡◌};
+ghost use Rattle.arena_items.specs.Values.{IsSliceIn};
+
+use super::vectors::{is_list, vec_of};
 use super::{ample, held, same};
-use arena_chunks::Block;
+use arena_chunks::{Allocator, Block, ChunkSource};
+use arena_items::{BoxSlice, Item};
 use arena_vec::{RawVec, Vec};
+use std::process::Abort;
+
+// A slice of two letters, which must be held.
+fn of_two<C: ChunkSource>(rt: &impl Abort, a: &Allocator<C>, slice: BoxSlice<char>)
+    ensures held { IsSliceIn ⟦<char as Item>⟧ a.now.memory slice }
+    ensures length { slice.length ≡ 2 }
+{
+    assert!(rt; slice.is_held(a) && slice.len() == 2, "two letters");
+}
 
 // A slice names the front of the vector's block.
 #[test]
@@ -11,7 +24,7 @@ fn as_slices(rt: HostRuntime) {
     let mut vec = vec_of(&rt, &mut a, &['x', 'y', 'z', 'w']);
     vec.truncate(2);
     let slice = vec.into_boxed_slice();
-    assert!(rt; slice.len() == 2);
+    of_two(&rt, &a, slice);
     same(&rt, (slice.get(&a, 0), slice.get(&a, 1)), ('x', 'y'));
     same(
         &rt,
@@ -19,14 +32,23 @@ fn as_slices(rt: HostRuntime) {
         (vec.as_ptr().addr, 8),
     );
     let slice = vec.into_arena_slice();
-    assert!(rt; slice.len() == 2);
+    of_two(&rt, &a, slice);
     same(&rt, slice.get(&a, 1), 'y');
     let slice = vec.into_arena_slice_mut();
-    assert!(rt; slice.len() == 2);
+    of_two(&rt, &a, slice);
     slice.set(&mut a, 0, 'é');
-    assert!(rt; holds(&rt, &a, vec, &['é', 'y']) && a.used_bytes() == 16);
+    is_list(&rt, &a, vec, &['é', 'y']);
+    same(&rt, a.used_bytes(), 16);
     let none = <Vec<u16>>::new_in().into_boxed_slice();
     same(&rt, (none.len(), none.block), (0, Block::empty(2)));
+}
+
+// A block of so many bytes.
+fn of_size(rt: &impl Abort, block: Block, size: u64, align: u64)
+    ensures size { block.size ≡ size }
+    ensures align { block.align ≡ align }
+{
+    assert!(rt; block.size == size && block.align == align, "a block");
 }
 
 #[test]
@@ -34,14 +56,15 @@ fn of_raw_parts(rt: HostRuntime) {
     let mut a = ample(rt.alloc());
     let mut vec = vec_of(&rt, &mut a, &[1u16, 2, 3]);
     let block = held(&rt, &a, vec.as_mut_ptr());
-    assert!(rt; block.size == 6 && block.align == 2);
+    of_size(&rt, block, 6, 2);
     a.write(block, 0, &[4, 0, 5, 0, 6, 0]);
     let rebuilt = <Vec<u16>>::from_raw_parts_in(block, 3, 3);
-    assert!(rt; holds(&rt, &a, rebuilt, &[4, 5, 6]) && rebuilt.capacity() == 3);
+    is_list(&rt, &a, rebuilt, &[4, 5, 6]);
     let front = <Vec<u16>>::from_raw_parts_in(block, 2, 3);
-    assert!(rt; holds(&rt, &a, front, &[4, 5]) && front.capacity() == 3);
+    is_list(&rt, &a, front, &[4, 5]);
+    same(&rt, (rebuilt.capacity(), front.capacity()), (3, 3));
     let units = <Vec<()>>::from_raw_parts_in(Block::empty(1), 2, 5);
-    assert!(rt; units.len() == 2 && units.capacity() == u32::MAX);
+    same(&rt, (units.len(), units.capacity()), (2, u32::MAX));
 }
 
 // Bytes that were written count once the length says so.
@@ -50,10 +73,10 @@ fn of_written_bytes(rt: HostRuntime) {
     let mut a = ample(rt.alloc());
     let mut raw = <RawVec<u8>>::with_capacity_in(4, &mut a).expect(&rt, "room");
     let block = held(&rt, &a, raw.ptr());
-    assert!(rt; block.size == 4);
+    of_size(&rt, block, 4, 1);
     a.write(block, 0, b"rust");
     raw.increase_len(4);
-    assert!(rt; holds(&rt, &a, Vec { raw }, b"rust"));
+    is_list(&rt, &a, Vec { raw }, b"rust");
     raw.decrease_len(1);
-    assert!(rt; holds(&rt, &a, Vec { raw }, b"rus"));
+    is_list(&rt, &a, Vec { raw }, b"rus");
 }

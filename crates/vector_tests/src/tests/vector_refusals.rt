@@ -1,8 +1,8 @@
 // A fixed arena that is full before a call on a vector is through.
 use super::numbers::Hints;
 use super::two_vectors::{self, Pair, both};
-use super::vectors::{Answer, Call, Row, holds, runs, vec_of};
-use super::{has, same_at};
+use super::vectors::{Answer, Call, Row, is_list, runs, vec_of};
+use super::{has, same, same_at};
 use arena_chunks::{Allocator, MemoryChunks};
 use arena_vec::{AllocError, Grown, Vec};
 use std::alloc::Global;
@@ -24,7 +24,7 @@ pub(super) fn fixed(rt: &impl Abort, alloc: Global, bytes: usize) -> Allocator<M
 
 const NO: Answer<u32> = Answer::Refused(0);
 
-const ON_A_LIST: [Row<'static, u32>; 20] = [
+const ON_A_LIST: &[Row<'static, u32>] = &[
     (Call::Extend(&[3, 4, 5]), NO, &[1, 2], 2),
     (Call::ExtendCopy(&[3, 4, 5]), NO, &[1, 2], 2),
     (Call::ExtendSlices(&[&[3], &[4, 5]]), NO, &[1, 2], 2),
@@ -48,7 +48,7 @@ const ON_A_LIST: [Row<'static, u32>; 20] = [
 ];
 
 // No room even for the first value.
-const NO_BYTES: [Row<'static, u32>; 6] = [
+const NO_BYTES: &[Row<'static, u32>] = &[
     (Call::Push(1), NO, &[], 0),
     (Call::Insert(0, 1), NO, &[], 0),
     (Call::Resize(1, 1), NO, &[], 0),
@@ -57,7 +57,7 @@ const NO_BYTES: [Row<'static, u32>; 6] = [
     (Call::Resize(0, 1), Answer::Done, &[], 0),
 ];
 
-const TWO_LISTS: [two_vectors::Row<'static>; 6] = [
+const TWO_LISTS: &[two_vectors::Row<'static>] = &[
     (Pair::SplitOff(1), NO, (&[1, 2, 3], 3), (&[], 0)),
     (Pair::SplitOff(2), Answer::Done, (&[1, 2], 3), (&[3], 1)),
     (
@@ -75,8 +75,8 @@ const TWO_LISTS: [two_vectors::Row<'static>; 6] = [
 fn calls_in_a_full_arena(rt: HostRuntime) {
     let mut a = fixed(&rt, rt.alloc(), 16);
     let mut vec = vec_of(&rt, &mut a, &[1u32, 2]);
-    runs(&rt, &mut a, &mut vec, &ON_A_LIST);
-    assert!(rt; vec.as_ptr().addr == 4096);
+    runs(&rt, &mut a, &mut vec, ON_A_LIST);
+    same(&rt, vec.as_ptr().addr, 4096);
     has(&rt, "a full arena", &a, 16, (1, 1));
 }
 
@@ -84,19 +84,19 @@ fn calls_in_a_full_arena(rt: HostRuntime) {
 fn calls_where_there_are_no_bytes(rt: HostRuntime) {
     let mut a = fixed(&rt, rt.alloc(), 0);
     let mut vec = Vec::new_in();
-    runs(&rt, &mut a, &mut vec, &NO_BYTES);
+    runs(&rt, &mut a, &mut vec, NO_BYTES);
 }
 
 #[test]
 fn calls_on_two_lists(rt: HostRuntime) {
     let mut a = fixed(&rt, rt.alloc(), 16);
     let vec = vec_of(&rt, &mut a, &[1, 2, 3]);
-    both(&rt, &mut a, vec, &TWO_LISTS);
+    both(&rt, &mut a, vec, TWO_LISTS);
 }
 
 // The list, what is told of the items that are put behind them, how many were taken, the list then, and how
 // many bytes are used. Those that were taken are there, but for the last.
-const BEHIND_A_LIST: [(&[u32], Hints, u64, &[u32], u64); 5] = [
+const BEHIND_A_LIST: &[(&[u32], Hints, u64, &[u32], u64)] = &[
     (&[8, 9], Hints::Exactly(3), 1, &[8, 9], 8),
     (&[8, 9], Hints::AtLeast(2, 9), 1, &[8, 9], 8),
     (&[8, 9], Hints::AtLeast(0, 9), 3, &[8, 9, 1, 2], 16),
@@ -106,19 +106,14 @@ const BEHIND_A_LIST: [(&[u32], Hints, u64, &[u32], u64); 5] = [
 
 #[test]
 fn items_behind_a_list(rt: HostRuntime) {
-    for (n, row) in BEHIND_A_LIST.iter().enumerate() {
-        let (list, hints, wanted, then, used) = *row;
+    for (list, hints, wanted, then, used) in BEHIND_A_LIST {
         let mut a = fixed(&rt, rt.alloc(), 16);
         let mut vec = vec_of(&rt, &mut a, list);
         let mut taken = 0;
         let answer = vec.extend(&mut a, hints.counting(&mut taken));
-        same_at(&rt, n, (answer, taken), (NONE_REFUSED, wanted));
-        same_at(&rt, n, holds(&rt, &a, vec, then), true);
-        same_at(
-            &rt,
-            n,
-            (a.used_bytes(), vec.capacity() as u64 * 4),
-            (used, used),
-        );
+        same_at(&rt, *then, (answer, taken), (NONE_REFUSED, *wanted));
+        is_list(&rt, &a, vec, then);
+        let room = vec.capacity() as u64 * 4;
+        same_at(&rt, *then, (a.used_bytes(), room), (*used, *used));
     }
 }

@@ -1,13 +1,13 @@
 // The storage of a vector by its own calls.
 use super::vectors::known;
-use super::{ample, has, same, same_at};
+use super::{ample, at_most, has, same, same_at};
 use arena_chunks::{Allocator, Block, ChunkSource};
 use arena_vec::{AllocError, Grown, RawVec, Vec};
 use std::alloc::Global;
 use std::process::Abort;
 
 // A call that makes room behind the first values, so many of them, for so many more.
-#[derive(Clone, Copy)]
+#[derive(Drop)]
 enum Room {
     Reserve(u32, u64),
     TryReserve(u32, u64),
@@ -21,30 +21,19 @@ fn make<C: ChunkSource>(
     rt: &impl Abort,
     a: &mut Allocator<C>,
     raw: &mut RawVec<u32>,
-    room: Room,
+    room: &Room,
 ) -> Grown<()> {
     known(rt, a, Vec { raw: *raw });
     match room {
-        Room::Reserve(len, more) => {
-            assert!(rt; len <= raw.cap);
-            raw.reserve(a, len, more)
-        }
-        Room::TryReserve(len, more) => {
-            assert!(rt; len <= raw.cap);
-            raw.try_reserve(a, len, more)
-        }
-        Room::ReserveExact(len, more) => {
-            assert!(rt; len <= raw.cap);
-            raw.reserve_exact(a, len, more)
-        }
-        Room::TryReserveExact(len, more) => {
-            assert!(rt; len <= raw.cap);
-            raw.try_reserve_exact(a, len, more)
-        }
+        Room::Reserve(len, more) => raw.reserve(a, *len, *more),
+        Room::TryReserve(len, more) => raw.try_reserve(a, *len, *more),
+        Room::ReserveExact(len, more) => raw.reserve_exact(a, *len, *more),
+        Room::TryReserveExact(len, more) => raw.try_reserve_exact(a, *len, *more),
         Room::GrowOne => raw.grow_one(a),
         Room::Shrink(amount) => {
-            assert!(rt; amount <= raw.cap && raw.len == 0);
-            raw.shrink_to_fit(a, amount);
+            at_most(rt, *amount, raw.cap);
+            at_most(rt, raw.len, *amount);
+            raw.shrink_to_fit(a, *amount);
             Ok(())
         }
     }
@@ -54,16 +43,15 @@ fn make<C: ChunkSource>(
 fn runs(rt: &impl Abort, alloc: Global, rows: &[(Room, u32)]) {
     let mut a = ample(alloc);
     let mut raw = RawVec::new_in();
-    for (n, row) in rows.iter().enumerate() {
-        let (room, cap) = *row;
-        same_at(rt, n, make(rt, &mut a, &mut raw, room).is_ok(), true);
-        same_at(rt, n, (raw.len_u32(), raw.capacity_u32()), (0, cap));
-        same_at(rt, n, raw.ptr().size, cap as u64 * 4);
+    for (room, cap) in rows {
+        same_at(rt, *cap, make(rt, &mut a, &mut raw, room), Ok(()));
+        same_at(rt, *cap, (raw.len_u32(), raw.capacity_u32()), (0, *cap));
+        same_at(rt, *cap, raw.ptr().size, *cap as u64 * 4);
     }
 }
 
 // Calls on new storage, and for how many it has room after each.
-const CAPACITIES: [&[(Room, u32)]; 4] = [
+const CAPACITIES: &[&[(Room, u32)]] = &[
     &[(Room::Reserve(0, 9), 9)],
     &[(Room::Reserve(0, 7), 7), (Room::Reserve(7, 90), 97)],
     &[(Room::Reserve(0, 12), 12), (Room::Reserve(12, 3), 24)],
@@ -85,12 +73,26 @@ const CAPACITIES: [&[(Room, u32)]; 4] = [
     ],
 ];
 
-const TOO_MUCH: [Room; 5] = [
+const TOO_MUCH: &[Room] = &[
     Room::Reserve(0, 1 << 30),
     Room::TryReserve(0, 1 << 30),
     Room::ReserveExact(0, 1 << 30),
     Room::TryReserveExact(0, 1 << 32),
     Room::TryReserve(0, u64::MAX),
+];
+
+// Such a call overflows, and takes nothing.
+fn too_much(rt: &impl Abort, alloc: Global, room: &Room) {
+    let mut a = ample(alloc);
+    let mut raw = RawVec::new_in();
+    let refused = make(rt, &mut a, &mut raw, room);
+    same(rt, refused, Err(AllocError::CapacityOverflow));
+    same(rt, (raw.capacity_usize(), a.used_bytes()), (0, 0));
+}
+
+const REFUSED: &[(u64, AllocError)] = &[
+    (1 << 30, AllocError::CapacityOverflow),
+    ((1 << 30) - 1, AllocError::AllocErr { refused: 1 }),
 ];
 
 #[test]
@@ -99,17 +101,12 @@ fn capacities(rt: HostRuntime) {
         runs(&rt, rt.alloc(), rows);
     }
     for room in TOO_MUCH {
-        let mut a = ample(rt.alloc());
-        let mut raw = RawVec::new_in();
-        let refused = make(&rt, &mut a, &mut raw, room);
-        assert!(rt; matches!(refused, Err(AllocError::CapacityOverflow)));
-        assert_eq!(rt; (raw.capacity_usize(), a.used_bytes()), (0, 0));
+        too_much(&rt, rt.alloc(), room);
     }
-    let mut a = ample(rt.alloc());
-    let refused = <RawVec<u32>>::with_capacity_in(1 << 30, &mut a);
-    assert!(rt; matches!(refused, Err(AllocError::CapacityOverflow)));
-    let refused = <RawVec<u32>>::with_capacity_in((1 << 30) - 1, &mut a);
-    assert!(rt; matches!(refused, Err(AllocError::AllocErr { refused: 1 })));
+    for (cap, why) in REFUSED {
+        let refused = <RawVec<u32>>::with_capacity_in(*cap, &mut ample(rt.alloc()));
+        same_at(&rt, *cap, refused.err(), Some(*why));
+    }
 }
 
 #[test]
@@ -148,8 +145,8 @@ fn storage_of_units(rt: HostRuntime) {
     units.shrink_to_fit(&mut a, 5);
     units.reserve(&mut a, 7, (1 << 32) - 8).expect(&rt, "units");
     let refused = units.try_reserve(&mut a, 7, (1 << 32) - 7);
-    assert!(rt; matches!(refused, Err(AllocError::CapacityOverflow)));
+    same(&rt, refused, Err(AllocError::CapacityOverflow));
     let refused = units.grow_one(&mut a);
-    assert!(rt; matches!(refused, Err(AllocError::CapacityOverflow)));
+    same(&rt, refused, Err(AllocError::CapacityOverflow));
     same(&rt, (units.capacity_u32(), a.used_bytes()), (u32::MAX, 0));
 }

@@ -1,29 +1,29 @@
 // Walks over vectors, ranges on their way out, and values that a test picks.
-use super::vectors::{holds, vec_of};
-use super::{ample, same, same_at};
+use super::vectors::{is_list, vec_of};
+use super::{ample, at_most, same};
 use arena_items::Item;
 use arena_vec::Vec;
 use std::alloc::Global;
+use std::fmt::Debug;
 use std::process::Abort;
 
 const FIVE: &[u32] = &[1, 2, 3, 4, 5];
 
 // Takes a value from each end. These bytes are left.
-fn walks<T: Item + PartialEq>(
+fn walks<T: Item + PartialEq + Debug>(
     rt: &impl Abort,
     alloc: Global,
     list: &[T],
     ends: (Option<T>, Option<T>),
     left: &[u8],
 ) {
-    assert!(rt; T::SIZE <= 48);
     let mut a = ample(alloc);
     let vec = vec_of(rt, &mut a, list);
     let mut walk = vec.into_iter(&a);
     same(rt, walk.len(), list.len());
     let first = walk.next();
     let last = walk.next_back();
-    assert!(rt; (first, last) == ends);
+    same(rt, (first, last), ends);
     same(rt, walk.as_slice(), left);
     let n = list.len().saturating_sub(2);
     same(rt, walk.size_hint(), (n, Some(n)));
@@ -57,18 +57,19 @@ fn cut(
     let mut a = ample(alloc);
     let mut vec = vec_of(rt, &mut a, FIVE);
     let (start, end) = range;
-    assert!(rt; start <= end && end <= vec.len());
+    at_most(rt, start, end);
+    at_most(rt, end, vec.len());
     let mut gone = vec.drain(&mut a, start, end);
     same(rt, gone.len(), (end - start) as usize);
     let first = gone.next();
     let last = gone.next_back();
     same(rt, (first, last), ends);
     gone.finish();
-    assert!(rt; holds(rt, &a, vec, list));
+    is_list(rt, &a, vec, list);
     same(rt, (vec.capacity(), a.used_bytes()), (5, 20));
 }
 
-const RANGES: [((u32, u32), (Option<u32>, Option<u32>), &[u32]); 8] = [
+const RANGES: &[((u32, u32), (Option<u32>, Option<u32>), &[u32])] = &[
     ((1, 3), (Some(2), Some(3)), &[1, 4, 5]),
     ((1, 5), (Some(2), Some(5)), &[1]),
     ((0, 5), (Some(1), Some(5)), &[]),
@@ -83,21 +84,22 @@ const RANGES: [((u32, u32), (Option<u32>, Option<u32>), &[u32]); 8] = [
 fn in_part(rt: &impl Abort, alloc: Global) {
     let mut a = ample(alloc);
     let mut vec = Vec::from_iter_in([1u32, 2, 3, 4, 5].into_iter(), &mut a).expect(rt, "room");
-    assert!(rt; vec.len() == 5);
+    at_most(rt, 3, vec.len());
     let mut gone = vec.drain(&mut a, 1, 3);
     same(rt, gone.next(), Some(2));
     gone.finish();
-    assert!(rt; vec.len() == 3 && holds(rt, &a, vec, &[1, 4, 5]));
+    is_list(rt, &a, vec, &[1, 4, 5]);
+    at_most(rt, 2, vec.len());
     let mut gone = vec.drain(&mut a, 0, 2);
     same(rt, gone.next(), Some(1));
     let _ = gone;
-    assert!(rt; holds(rt, &a, vec, &[1, 4, 5]));
+    is_list(rt, &a, vec, &[1, 4, 5]);
 }
 
 #[test]
 fn ranges(rt: HostRuntime) {
     for (range, ends, list) in RANGES {
-        cut(&rt, rt.alloc(), range, ends, list);
+        cut(&rt, rt.alloc(), *range, *ends, list);
     }
     in_part(&rt, rt.alloc());
 }
@@ -129,7 +131,7 @@ fn meets(x: &mut u32, test: Test) -> bool {
 // The test, the first two of 1 to 5 that go, how many are untested then, and those that stay.
 type Gone = (Test, (Option<u32>, Option<u32>), usize, &'static [u32]);
 
-const THAT_GO: [Gone; 6] = [
+const THAT_GO: &[Gone] = &[
     (Test::Even, (Some(2), Some(4)), 1, &[1, 3, 5]),
     (Test::All, (Some(1), Some(2)), 3, &[]),
     (Test::None, (None, None), 0, FIVE),
@@ -138,8 +140,8 @@ const THAT_GO: [Gone; 6] = [
     (Test::ThenMoreThan(12), (Some(13), Some(14)), 1, &[11, 12]),
 ];
 
-fn go(rt: &impl Abort, alloc: Global, row: Gone) {
-    let (test, wanted, untested, list) = row;
+fn go(rt: &impl Abort, alloc: Global, row: &Gone) {
+    let (test, wanted, untested, list) = *row;
     let mut a = ample(alloc);
     let mut vec = vec_of(rt, &mut a, FIVE);
     let mut gone = vec.drain_filter(&mut a, move |x| meets(x, test));
@@ -149,12 +151,8 @@ fn go(rt: &impl Abort, alloc: Global, row: Gone) {
     same(rt, (first, second), wanted);
     same(rt, gone.size_hint(), (0, Some(untested)));
     gone.finish();
-    same_at(
-        rt,
-        list,
-        holds(rt, &a, vec, list) && vec.capacity() == 5,
-        true,
-    );
+    is_list(rt, &a, vec, list);
+    same(rt, vec.capacity(), 5);
 }
 
 // One more digit of what was seen.
@@ -163,7 +161,7 @@ fn noted(seen: u64, digit: u32) -> u64 {
 }
 
 // The test, those of 1 to 5 that stay, and those that stay where the test may change them.
-const THAT_STAY: [(Test, &[u32], &[u32]); 5] = [
+const THAT_STAY: &[(Test, &[u32], &[u32])] = &[
     (Test::Even, &[2, 4], &[2, 4]),
     (Test::All, FIVE, FIVE),
     (Test::None, &[], &[]),
@@ -180,7 +178,7 @@ fn stay(rt: &impl Abort, alloc: Global, test: Test, list: &[u32]) {
         let mut copy = *x;
         meets(&mut copy, test)
     });
-    same_at(rt, list, holds(rt, &a, vec, list), true);
+    is_list(rt, &a, vec, list);
     same(rt, (vec.capacity(), seen), (5, 12345));
 }
 
@@ -192,7 +190,7 @@ fn stay_changed(rt: &impl Abort, alloc: Global, test: Test, list: &[u32]) {
         seen = noted(seen, *x);
         meets(x, test)
     });
-    same_at(rt, list, holds(rt, &a, vec, list), true);
+    is_list(rt, &a, vec, list);
     same(rt, (vec.capacity(), seen), (5, 12345));
 }
 
@@ -202,14 +200,14 @@ fn values_that_go_and_stay(rt: HostRuntime) {
         go(&rt, rt.alloc(), row);
     }
     for (test, list, changed) in THAT_STAY {
-        stay(&rt, rt.alloc(), test, list);
-        stay_changed(&rt, rt.alloc(), test, changed);
+        stay(&rt, rt.alloc(), *test, list);
+        stay_changed(&rt, rt.alloc(), *test, changed);
     }
 }
 
 // The list, what stays of neighbours that are equal, of those with equal tens, and where each that is less
 // than the last one kept is added to that.
-const ALIKE: [(&[u32], &[u32], &[u32], &[u32]); 6] = [
+const ALIKE: &[(&[u32], &[u32], &[u32], &[u32])] = &[
     (&[1, 1, 2, 1], &[1, 2, 1], &[1], &[1, 1, 3]),
     (&[1, 2, 2, 3, 2], &[1, 2, 3, 2], &[1], &[1, 2, 2, 5]),
     (
@@ -228,6 +226,13 @@ fn pairs(list: &[u32]) -> u64 {
     list.len().saturating_sub(1) as u64
 }
 
+fn by_equality(rt: &impl Abort, alloc: Global, list: &[u32], left: &[u32]) {
+    let mut a = ample(alloc);
+    let mut vec = vec_of(rt, &mut a, list);
+    vec.dedup(&mut a);
+    is_list(rt, &a, vec, left);
+}
+
 fn by_tens(rt: &impl Abort, alloc: Global, list: &[u32], left: &[u32]) {
     let mut a = ample(alloc);
     let mut asked = 0u64;
@@ -236,7 +241,7 @@ fn by_tens(rt: &impl Abort, alloc: Global, list: &[u32], left: &[u32]) {
         asked = asked.wrapping_add(1);
         *x / 10
     });
-    same_at(rt, list, holds(rt, &a, vec, left), true);
+    is_list(rt, &a, vec, left);
     same(rt, asked, pairs(list).wrapping_mul(2));
 }
 
@@ -252,17 +257,14 @@ fn by_sums(rt: &impl Abort, alloc: Global, list: &[u32], left: &[u32]) {
         }
         goes
     });
-    same_at(rt, list, holds(rt, &a, vec, left), true);
+    is_list(rt, &a, vec, left);
     same(rt, tested, pairs(list));
 }
 
 #[test]
 fn alike(rt: HostRuntime) {
     for (list, equal, tens, sums) in ALIKE {
-        let mut a = ample(rt.alloc());
-        let mut vec = vec_of(&rt, &mut a, list);
-        vec.dedup(&mut a);
-        same_at(&rt, list, holds(&rt, &a, vec, equal), true);
+        by_equality(&rt, rt.alloc(), list, equal);
         by_tens(&rt, rt.alloc(), list, tens);
         by_sums(&rt, rt.alloc(), list, sums);
     }

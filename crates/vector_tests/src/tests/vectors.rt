@@ -1,16 +1,17 @@
 // Calls on a vector, and what they must answer and leave.
-ghost use Rattle.std.specs.Prelude.{◌^◌, ◌≤◌, IfOk};
+ghost use Rattle.std.specs.Prelude.{◌^◌, ◌≤◌};
 ghost use Rattle.arena_vec.specs.Vecs.{IsVecIn};
 
-use super::{ample, same_at};
+use super::{ample, at_most, below, same_at};
 use arena_chunks::{Allocator, ChunkSource};
 use arena_items::Item;
 use arena_vec::{AllocError, Grown, Vec};
 use std::alloc::Global;
+use std::fmt::Debug;
 use std::process::Abort;
 
 // A call on a vector. Indices and values are those that the call takes.
-#[derive(Clone, Copy)]
+#[derive(Drop)]
 pub(super) enum Call<'s, T> {
     Push(T),
     PushFast(T),
@@ -35,7 +36,7 @@ pub(super) enum Call<'s, T> {
 }
 
 // What a call answers.
-#[derive(Clone, Copy, PartialEq)]
+#[derive(Drop, PartialEq)]
 pub(super) enum Answer<T> {
     Done,
     Index(u32),
@@ -73,7 +74,67 @@ fn index<T>(grown: Grown<u32>) -> Answer<T> {
     }
 }
 
-// Makes a call that takes no memory.
+// Makes a call on a vector, which must be held. One function has a few calls, and hands on the others.
+pub(super) fn make<T: Item, C: ChunkSource>(
+    rt: &impl Abort,
+    a: &mut Allocator<C>,
+    vec: &mut Vec<T>,
+    call: &Call<'_, T>,
+) -> Answer<T> {
+    known(rt, a, *vec);
+    match call {
+        Call::Push(value) => done(vec.push(a, *value)),
+        Call::PushFast(value) => done(vec.push_fast(a, *value)),
+        Call::PushMut(value) => index(vec.push_mut(a, *value)),
+        Call::PushFastMut(value) => index(vec.push_fast_mut(a, *value)),
+        Call::Insert(i, value) => {
+            at_most(rt, *i, vec.len());
+            done(vec.insert(a, *i, *value))
+        }
+        _ => put_many(rt, a, vec, call),
+    }
+}
+
+fn put_many<T: Item, C: ChunkSource>(
+    rt: &impl Abort,
+    a: &mut Allocator<C>,
+    vec: &mut Vec<T>,
+    call: &Call<'_, T>,
+) -> Answer<T>
+    requires small { T.SIZE ≤ 2 ^ 24 }
+    requires held { IsVecIn T.Item a.old.memory vec.old }
+{
+    match call {
+        Call::Resize(len, value) => done(vec.resize(a, *len, *value)),
+        Call::Extend(values) => done(vec.extend_from_slice(a, values)),
+        Call::ExtendCopy(values) => done(vec.extend_from_slice_copy(a, values)),
+        Call::ExtendSlices(slices) => done(vec.extend_from_slices_copy(a, slices)),
+        _ => make_room(rt, a, vec, call),
+    }
+}
+
+fn make_room<T: Item, C: ChunkSource>(
+    rt: &impl Abort,
+    a: &mut Allocator<C>,
+    vec: &mut Vec<T>,
+    call: &Call<'_, T>,
+) -> Answer<T>
+    requires small { T.SIZE ≤ 2 ^ 24 }
+    requires held { IsVecIn T.Item a.old.memory vec.old }
+{
+    match call {
+        Call::Reserve(more) => done(vec.reserve(a, *more)),
+        Call::TryReserve(more) => done(vec.try_reserve(a, *more)),
+        Call::ReserveExact(more) => done(vec.reserve_exact(a, *more)),
+        Call::TryReserveExact(more) => done(vec.try_reserve_exact(a, *more)),
+        Call::ShrinkToFit => {
+            vec.shrink_to_fit(a);
+            Answer::Done
+        }
+        _ => change(rt, a, vec, call),
+    }
+}
+
 fn change<T: Item, C: ChunkSource>(
     rt: &impl Abort,
     a: &mut Allocator<C>,
@@ -82,7 +143,6 @@ fn change<T: Item, C: ChunkSource>(
 ) -> Answer<T>
     requires small { T.SIZE ≤ 2 ^ 24 }
     requires held { IsVecIn T.Item a.old.memory vec.old }
-    ensures { IsVecIn T.Item a.new.memory vec.new }
 {
     match call {
         Call::Pop => {
@@ -91,108 +151,68 @@ fn change<T: Item, C: ChunkSource>(
                 None => Answer::None,
             };
         }
-        Call::Set(i, value) => {
-            assert!(rt; *i < vec.len());
-            vec.set(a, *i, *value);
-        }
         Call::Remove(i) => {
-            assert!(rt; *i < vec.len());
+            below(rt, *i, vec.len());
             return Answer::Value(vec.remove(a, *i));
         }
         Call::SwapRemove(i) => {
-            assert!(rt; *i < vec.len());
+            below(rt, *i, vec.len());
             return Answer::Value(vec.swap_remove(a, *i));
+        }
+        Call::Set(i, value) => {
+            below(rt, *i, vec.len());
+            vec.set(a, *i, *value);
         }
         Call::Truncate(len) => vec.truncate(*len),
         Call::Clear => vec.clear(),
-        Call::ShrinkToFit => vec.shrink_to_fit(a),
         _ => panic!(rt; "a call that takes memory"),
     }
     Answer::Done
 }
 
-// Makes a call.
-pub(super) fn make<T: Item, C: ChunkSource>(
-    rt: &impl Abort,
-    a: &mut Allocator<C>,
-    vec: &mut Vec<T>,
-    call: &Call<'_, T>,
-) -> Answer<T>
-    requires small { T.SIZE ≤ 2 ^ 24 }
-    requires held { IsVecIn T.Item a.old.memory vec.old }
-    ensures { IsVecIn T.Item a.new.memory vec.new }
+// A value takes few bytes.
+pub(super) fn small<T: Item>(rt: &impl Abort)
+    ensures { T.SIZE ≤ 2 ^ 24 }
 {
-    match call {
-        Call::Push(value) => done(vec.push(a, *value)),
-        Call::PushFast(value) => done(vec.push_fast(a, *value)),
-        Call::PushMut(value) => index(vec.push_mut(a, *value)),
-        Call::PushFastMut(value) => index(vec.push_fast_mut(a, *value)),
-        Call::Insert(i, value) => {
-            assert!(rt; *i <= vec.len());
-            done(vec.insert(a, *i, *value))
-        }
-        Call::Resize(len, value) => done(vec.resize(a, *len, *value)),
-        Call::Extend(values) => done(vec.extend_from_slice(a, values)),
-        Call::ExtendCopy(values) => done(vec.extend_from_slice_copy(a, values)),
-        Call::ExtendSlices(slices) => done(vec.extend_from_slices_copy(a, slices)),
-        Call::Reserve(more) => done(vec.reserve(a, *more)),
-        Call::TryReserve(more) => done(vec.try_reserve(a, *more)),
-        Call::ReserveExact(more) => done(vec.reserve_exact(a, *more)),
-        Call::TryReserveExact(more) => done(vec.try_reserve_exact(a, *more)),
-        _ => change(rt, a, vec, call),
-    }
-}
-
-// Whether the vector is this list.
-fn is_list<T: Item + PartialEq, C: ChunkSource>(a: &Allocator<C>, vec: Vec<T>, list: &[T]) -> bool
-    requires small { T.SIZE ≤ 2 ^ 24 }
-    requires held { IsVecIn T.Item a.now.memory vec }
-{
-    for (value, wanted) in vec.into_iter(a).zip(list) {
-        if value != *wanted {
-            return false;
-        }
-    }
-    vec.len() as usize == list.len()
+    assert!(rt; T::SIZE <= 48);
 }
 
 // A vector that was read out of an arena, or stood there while others changed, is held and well formed.
 pub(super) fn known<T: Item, C: ChunkSource>(rt: &impl Abort, a: &Allocator<C>, vec: Vec<T>)
-    ensures { IsVecIn T.Item a.now.memory vec }
+    ensures small { T.SIZE ≤ 2 ^ 24 }
+    ensures held { IsVecIn T.Item a.now.memory vec }
 {
-    assert!(rt; T::SIZE <= 48);
+    small::<T>(rt);
     assert!(rt; vec.is_held(a), "a vector that is held");
 }
 
-// Whether a vector, which must be held, is this list.
-pub(super) fn holds<T: Item + PartialEq, C: ChunkSource>(
+// A vector, which must be held, is this list.
+pub(super) fn is_list<T: Item + PartialEq + Debug, C: ChunkSource>(
     rt: &impl Abort,
     a: &Allocator<C>,
     vec: Vec<T>,
     list: &[T],
-) -> bool {
-    assert!(rt; T::SIZE <= 48);
+) {
     known(rt, a, vec);
-    is_list(a, vec, list)
+    same_at(rt, list, vec.len() as usize, list.len());
+    for (value, wanted) in vec.into_iter(a).zip(list) {
+        same_at(rt, list, value, *wanted);
+    }
 }
 
 // Makes the calls of these rows one after another.
-pub(super) fn runs<T: Item + PartialEq, C: ChunkSource>(
+pub(super) fn runs<T: Item + PartialEq + Debug, C: ChunkSource>(
     rt: &impl Abort,
     a: &mut Allocator<C>,
     vec: &mut Vec<T>,
     rows: &[Row<'_, T>],
-)
-    requires small { T.SIZE ≤ 2 ^ 24 }
-    requires held { IsVecIn T.Item a.old.memory vec.old }
-    ensures { IsVecIn T.Item a.new.memory vec.new }
-{
-    for (n, row) in rows.iter().enumerate() {
+) {
+    for row in rows {
         let (call, wanted, list, cap) = row;
         let answer = make(rt, a, vec, call);
-        same_at(rt, n, answer == *wanted, true);
-        same_at(rt, n, is_list(a, *vec, list), true);
-        same_at(rt, n, vec.capacity(), *cap);
+        same_at(rt, *list, answer == *wanted, true);
+        is_list(rt, a, *vec, list);
+        same_at(rt, *list, vec.capacity(), *cap);
     }
 }
 
@@ -202,22 +222,22 @@ pub(super) fn vec_of<T: Item, C: ChunkSource>(
     a: &mut Allocator<C>,
     list: &[T],
 ) -> Vec<T>
-    requires { T.SIZE ≤ 2 ^ 24 }
-    ensures { IsVecIn T.Item a.new.memory result }
+    ensures small { T.SIZE ≤ 2 ^ 24 }
+    ensures held { IsVecIn T.Item a.new.memory result }
 {
+    small::<T>(rt);
     let mut vec = Vec::with_capacity_in(list.len() as u64, a).expect(rt, "room");
     vec.extend_from_slice(a, list).expect(rt, "room");
     vec
 }
 
 // Makes the calls of these rows one after another on a vector of these values.
-pub(super) fn from<T: Item + PartialEq>(
+pub(super) fn from<T: Item + PartialEq + Debug>(
     rt: &impl Abort,
     alloc: Global,
     list: &[T],
     rows: &[Row<'_, T>],
 ) {
-    assert!(rt; T::SIZE <= 48);
     let mut a = ample(alloc);
     let mut vec = vec_of(rt, &mut a, list);
     runs(rt, &mut a, &mut vec, rows);
