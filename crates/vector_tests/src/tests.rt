@@ -1,4 +1,4 @@
-// Worked examples of the rules, one call of each function, and refusals in the midst. Most are tables of calls, which are read by reference.
+// Worked examples of the rules, one call of each function, and refusals in the midst. Most are tables of calls.
 mod comparisons;
 mod numbers;
 mod splices;
