@@ -1,17 +1,19 @@
-// The loops that need to know only how many calls they make.
+// The loops that need to know only how many calls they make, and mostly are given a new arena.
 ghost use Rattle.std.specs.Prelude.{◌<◌};
 
 use crate::loops::{
     Failed, Timed, alloc_and_reset, alloc_fixed, alloc_warm, bitset_contains, bitset_ones,
     bitset_set, bitset_set_ascending, bitset_union, box_new, claim, grow_at_cursor, intern_known,
     intern_new, map_clone, map_get, map_insert, map_iter, map_remove, map_small, map_walked,
-    reset_chunks, scope_define, scope_enter, scope_lookup, slice_copy, str_copy, string_push_byte,
-    string_push_start, string_push_str, tree_parse, vec_clone, vec_extend, vec_insert_front,
-    vec_iter, vec_push, vec_push_reserved, vec_retain, vec_small, vec_sum,
+    new_allocator, reset_chunks, scope_define, scope_enter, scope_lookup, slice_copy, str_copy,
+    string_push_byte, string_push_start, string_push_str, tree_parse, vec_clone, vec_extend,
+    vec_insert_front, vec_iter, vec_push, vec_push_reserved, vec_retain, vec_small, vec_sum,
+    with_capacity,
 };
+use arena_chunks::{Allocator, MemoryChunks};
 
 /// A loop that needs to know only how many calls it makes.
-#[derive(Clone, Copy, PartialEq, Eq)]
+#[derive(Clone, Copy)]
 pub enum Alone {
     AllocWarm,
     GrowAtCursor,
@@ -123,48 +125,77 @@ impl Alone {
         }
     }
 
+    // How many bytes the first chunk of its arena has: as many as the loop needs between two resets.
+    fn capacity(self) -> u64 {
+        match self {
+            Alone::AllocWarm | Alone::GrowAtCursor => 1 << 20,
+            Alone::BoxNew
+            | Alone::SliceCopy
+            | Alone::StrCopy
+            | Alone::VecSmall
+            | Alone::VecInsertFront
+            | Alone::StringPushStart
+            | Alone::MapSmall
+            | Alone::TreeParse => 1 << 22,
+            _ => 0,
+        }
+    }
+
     /// Runs the loop once.
     pub fn run(self, rt: &HostRuntime, calls: u64) -> Result<Timed, Failed> {
+        let mut a = with_capacity(rt, self.capacity())?;
+        let mut b = new_allocator(rt);
+        self.run_in(rt, &mut a, &mut b, calls)
+    }
+
+    // Runs the loop in new arenas.
+    fn run_in(
+        self,
+        rt: &HostRuntime,
+        a: &mut Allocator<MemoryChunks>,
+        b: &mut Allocator<MemoryChunks>,
+        calls: u64,
+    ) -> Result<Timed, Failed> {
         match self {
-            Alone::AllocWarm => alloc_warm(rt, calls),
-            Alone::GrowAtCursor => grow_at_cursor(rt, calls),
-            Alone::AllocAndReset => alloc_and_reset(rt, calls),
+            Alone::AllocWarm => alloc_warm(rt, a, calls),
+            Alone::GrowAtCursor => grow_at_cursor(rt, a, calls),
+            Alone::AllocAndReset => alloc_and_reset(rt, a, calls),
             Alone::ResetChunks => reset_chunks(rt, calls),
-            Alone::BoxNew => box_new(rt, calls),
-            Alone::SliceCopy => slice_copy(rt, calls),
-            Alone::StrCopy => str_copy(rt, calls),
-            Alone::AllocFixed => alloc_fixed(rt, calls),
-            Alone::VecPush => vec_push(rt, calls),
-            Alone::VecPushReserved => vec_push_reserved(rt, calls),
-            Alone::VecSum => vec_sum(rt, calls),
-            Alone::VecSmall => vec_small(rt, calls),
-            Alone::VecExtend => vec_extend(rt, calls),
-            Alone::VecInsertFront => vec_insert_front(rt, calls),
-            Alone::VecRetain => vec_retain(rt, calls),
-            Alone::VecIter => vec_iter(rt, calls),
+            Alone::BoxNew => box_new(rt, a, calls),
+            Alone::SliceCopy => slice_copy(rt, a, calls),
+            Alone::StrCopy => str_copy(rt, a, calls),
+            Alone::AllocFixed => alloc_fixed(rt, a, calls),
+            Alone::VecPush => vec_push(rt, a, calls),
+            Alone::VecPushReserved => vec_push_reserved(rt, a, calls),
+            Alone::VecSum => vec_sum(rt, a, calls),
+            Alone::VecSmall => vec_small(rt, a, calls),
+            Alone::VecExtend => vec_extend(rt, a, calls),
+            Alone::VecInsertFront => vec_insert_front(rt, a, calls),
+            Alone::VecRetain => vec_retain(rt, a, calls),
+            Alone::VecIter => vec_iter(rt, a, calls),
             Alone::Claim => claim(rt, calls),
-            Alone::StringPushStr => string_push_str(rt, calls),
-            Alone::StringPushByte => string_push_byte(rt, calls),
-            Alone::StringPushStart => string_push_start(rt, calls),
-            Alone::BitsetSet => bitset_set(rt, calls),
-            Alone::BitsetSetAscending => bitset_set_ascending(rt, calls),
-            Alone::BitsetContains => bitset_contains(rt, calls),
-            Alone::BitsetOnes => bitset_ones(rt, calls),
-            Alone::BitsetUnion => bitset_union(rt, calls),
-            Alone::MapSmall => map_small(rt, calls),
-            Alone::MapGet => map_get(rt, calls),
-            Alone::MapRemove => map_remove(rt, calls),
-            Alone::MapInsert => map_insert(rt, calls),
-            Alone::MapIter => map_iter(rt, calls),
-            Alone::MapWalked => map_walked(rt, calls),
-            Alone::VecClone => vec_clone(rt, calls),
-            Alone::MapClone => map_clone(rt, calls),
-            Alone::InternNew => intern_new(rt, calls),
-            Alone::InternKnown => intern_known(rt, calls),
-            Alone::ScopeDefine => scope_define(rt, calls),
-            Alone::ScopeLookup => scope_lookup(rt, calls),
-            Alone::ScopeEnter => scope_enter(rt, calls),
-            Alone::TreeParse => tree_parse(rt, calls),
+            Alone::StringPushStr => string_push_str(rt, a, calls),
+            Alone::StringPushByte => string_push_byte(rt, a, calls),
+            Alone::StringPushStart => string_push_start(rt, a, calls),
+            Alone::BitsetSet => bitset_set(rt, a, calls),
+            Alone::BitsetSetAscending => bitset_set_ascending(rt, a, calls),
+            Alone::BitsetContains => bitset_contains(rt, a, calls),
+            Alone::BitsetOnes => bitset_ones(rt, a, calls),
+            Alone::BitsetUnion => bitset_union(rt, a, calls),
+            Alone::MapSmall => map_small(rt, a, calls),
+            Alone::MapGet => map_get(rt, a, calls),
+            Alone::MapRemove => map_remove(rt, a, calls),
+            Alone::MapInsert => map_insert(rt, a, calls),
+            Alone::MapIter => map_iter(rt, a, calls),
+            Alone::MapWalked => map_walked(rt, a, b, calls),
+            Alone::VecClone => vec_clone(rt, a, b, calls),
+            Alone::MapClone => map_clone(rt, a, b, calls),
+            Alone::InternNew => intern_new(rt, a, calls),
+            Alone::InternKnown => intern_known(rt, a, calls),
+            Alone::ScopeDefine => scope_define(rt, a, calls),
+            Alone::ScopeLookup => scope_lookup(rt, a, calls),
+            Alone::ScopeEnter => scope_enter(rt, a, calls),
+            Alone::TreeParse => tree_parse(rt, a, calls),
         }
     }
 }

@@ -1,4 +1,4 @@
-// The loops that are timed. Each gives the time of its calls and a number that depends on the calls alone.
+// The loops that are timed. Each gives the time of its calls and a number that depends on the calls alone. Most are given a new arena.
 mod arena;
 mod batches;
 mod bits;
@@ -13,7 +13,7 @@ mod trees;
 mod vec;
 
 pub use arena::{alloc_and_reset, alloc_warm, grow_at_cursor, reset_chunks};
-use arena_chunks::ArenaErr;
+use arena_chunks::{Allocator, ArenaErr, MemoryChunks};
 use arena_items::ItemErr;
 use arena_tree::TreeErr;
 use arena_vec::AllocError;
@@ -24,7 +24,7 @@ pub use maps::{map_get, map_insert, map_iter, map_remove, map_small, map_walked}
 pub use older::{read_older, write_older};
 pub use pool::{claim, claim_threads, pool_get, pool_get_threads};
 use std::io;
-use std::time::Duration;
+use std::time::{Duration, Instant};
 pub use symbols::{intern_known, intern_new, scope_define, scope_enter, scope_lookup};
 pub use texts::{string_push_byte, string_push_start, string_push_str};
 pub use trees::tree_parse;
@@ -36,8 +36,22 @@ pub use vec::{
 // How many bytes a loop's chunks may have together.
 const BUDGET: u64 = 1 << 30;
 
+/// An arena with no chunk.
+pub fn new_allocator(rt: &HostRuntime) -> Allocator<MemoryChunks> {
+    Allocator::new(rt.alloc(), MemoryChunks::new(rt.alloc(), BUDGET))
+}
+
+/// An arena whose first chunk has so many bytes; with none for 0.
+pub fn with_capacity(rt: &HostRuntime, capacity: u64) -> Result<Allocator<MemoryChunks>, Failed> {
+    let chunks = MemoryChunks::new(rt.alloc(), BUDGET);
+    match Allocator::with_capacity(rt.alloc(), chunks, capacity) {
+        Ok(a) => Ok(a),
+        Err(_) => Err(Failed::NoPlace),
+    }
+}
+
 /// Why a loop ended early.
-#[derive(Drop)]
+#[derive(Clone, Copy)]
 pub enum Failed {
     NoPlace,
     NoClock,
@@ -74,8 +88,34 @@ impl From<io::Error> for Failed {
 }
 
 /// What a loop took, and its number.
-#[derive(Drop)]
+#[derive(Clone, Copy)]
 pub struct Timed {
     pub time: Duration,
     pub number: u64,
+}
+
+// When a loop began, if the clock could be read.
+#[derive(Clone, Copy)]
+struct Clock {
+    began: Option<Instant>,
+}
+
+impl Clock {
+    fn start(rt: &HostRuntime) -> Clock {
+        Clock {
+            began: Instant::now(rt).ok(),
+        }
+    }
+
+    fn stop(self, rt: &HostRuntime, number: u64) -> Result<Timed, Failed> {
+        let Some(began) = self.began else {
+            return Err(Failed::NoClock);
+        };
+        let time = began.elapsed(rt)?;
+        Ok(Timed { time, number })
+    }
+}
+
+fn count(calls: u64) -> Result<u32, Failed> {
+    u32::try_from(calls).map_err(|_| Failed::NoPlace)
 }

@@ -6,25 +6,17 @@
 ghost use Rattle.std.specs.Prelude.{◌<◌};
 
 mod alone;
+mod asked;
 mod loops;
 
 use alone::Alone;
+use asked::{Asked, Runs, tell};
 use loops::{Failed, Timed, claim_threads, pool_get, pool_get_threads, read_older, write_older};
 use std::process::ExitCode;
 use std::sync::Wait;
 use std::thread::Threads;
-use std::{env, io};
 
-// How often each loop is run. The best run counts.
-const RUNS: u32 = 5;
-
-// How many calls each loop makes where only its number is printed.
-const CHECKED: u64 = 2048;
-
-// How many chunks the arena of a loop over older chunks has.
-const CHUNKS: u64 = 9;
-
-#[derive(Clone, Copy, PartialEq, Eq)]
+#[derive(Clone, Copy)]
 enum Loop {
     Alone(Alone),
     ReadOlder,
@@ -124,12 +116,12 @@ impl Loop {
         self,
         rt: &HostRuntime,
         threads: &R,
-        calls: u64,
+        runs: Runs,
         chunks: u64,
     ) -> Result<Timed, Failed> {
-        let mut best = self.run(rt, threads, calls, chunks)?;
-        for _ in 1..RUNS {
-            let next = self.run(rt, threads, calls, chunks)?;
+        let mut best = self.run(rt, threads, runs.calls, chunks)?;
+        for _ in 1..runs.count {
+            let next = self.run(rt, threads, runs.calls, chunks)?;
             if next.time < best.time {
                 best = next;
             }
@@ -138,58 +130,12 @@ impl Loop {
     }
 }
 
-// Prints each loop's number alone, for few calls.
-fn check<R: Threads + Wait + Sync>(rt: &HostRuntime, threads: &R) -> Result<(), Failed> {
-    for each in Loop::ALL {
-        let number = each.run(rt, threads, CHECKED, CHUNKS)?.number;
-        let name = each.name();
-        println!(rt; "{name} {number}")?;
-    }
-    Ok(())
-}
-
-fn measure<R: Threads + Wait + Sync>(
-    rt: &HostRuntime,
-    threads: &R,
-    each: Loop,
-) -> Result<(), Failed> {
-    let calls = asked(rt, 2, each.calls())?.max(1);
-    let chunks = asked(rt, 3, CHUNKS)?;
-    let best = each.best(rt, threads, calls, chunks)?;
-    let name = each.name();
-    // A call may take less than a picosecond.
-    let femtoseconds = best.time.as_nanos() * 1_000_000 / calls as u128;
-    let whole = femtoseconds / 1_000_000;
-    let part = femtoseconds % 1_000_000;
-    let number = best.number;
-    println!(rt; "{name:<21} {whole:>4}.{part:06} ns/op  ops {calls}  number {number}")?;
-    Ok(())
-}
-
-// The number that the word at this index tells, or this one.
-fn asked(rt: &HostRuntime, at: usize, number: u64) -> io::Result<u64> {
-    let mut words = env::args(rt)?.skip(at);
-    Ok(
-        words.next().map_or(
-            number,
-            |word| word.as_str().parse::<u64>().unwrap_or(number),
-        ),
-    )
-}
-
-// Whether this is the one word, or there is none and any will do.
-fn is_word(rt: &HostRuntime, wanted: &str, any: bool) -> io::Result<bool> {
-    let mut words = env::args(rt)?.skip(1);
-    Ok(words.next().map_or(any, |word| word.as_str() == wanted))
-}
-
 fn run<R: Threads + Wait + Sync>(rt: &HostRuntime, threads: &R) -> Result<(), Failed> {
-    if is_word(rt, "check", false)? {
-        return check(rt, threads);
-    }
+    let asked = Asked::read(rt)?;
     for each in Loop::ALL {
-        if is_word(rt, each.name(), true)? {
-            measure(rt, threads, each)?;
+        if let Some(runs) = asked.runs_of(each.name(), each.calls()) {
+            let best = each.best(rt, threads, runs, asked.chunks)?;
+            tell(rt, each.name(), runs, best)?;
         }
     }
     Ok(())

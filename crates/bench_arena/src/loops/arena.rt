@@ -1,13 +1,9 @@
 // Loops over blocks.
 ghost use Rattle.std.specs.Prelude.{◌≡◌, IfOk};
 
-use super::{BUDGET, Failed, Timed};
+use super::{Clock, Failed, Timed, new_allocator};
 use arena_chunks::{Alloc, Allocator, MemoryChunks};
 use arena_place::Layout;
-use std::time::Instant;
-
-// A chunk that holds all of a round's blocks has so many bytes.
-const CAPACITY: u64 = 1 << 20;
 
 // How many blocks are placed, and how often a block of one byte is grown by one more, between two resets.
 const PLACED: u64 = 16384;
@@ -18,14 +14,6 @@ pub(super) fn layout(size: u64, align: u64) -> Result<Layout, Failed>
     ensures { IfOk result (λ l. l.size ≡ size) }
 {
     Layout::new(size, align).ok_or(Failed::NoPlace)
-}
-
-fn with_capacity(rt: &HostRuntime) -> Result<Allocator<MemoryChunks>, Failed> {
-    let chunks = MemoryChunks::new(rt.alloc(), BUDGET);
-    match Allocator::with_capacity(rt.alloc(), chunks, CAPACITY) {
-        Ok(a) => Ok(a),
-        Err(_) => Err(Failed::NoPlace),
-    }
 }
 
 // Sizes 1 to 64 and alignments 1 to 8, in no order that can be foreseen.
@@ -52,17 +40,19 @@ fn place_round(
 }
 
 /// Blocks of mixed small layouts, in a chunk that is reset before it is full.
-pub fn alloc_warm(rt: &HostRuntime, calls: u64) -> Result<Timed, Failed> {
-    let mut a = with_capacity(rt)?;
+pub fn alloc_warm(
+    rt: &HostRuntime,
+    a: &mut Allocator<MemoryChunks>,
+    calls: u64,
+) -> Result<Timed, Failed> {
     let layouts = small_layouts()?;
-    let began = Instant::now(rt)?;
+    let clock = Clock::start(rt);
     let mut number: u64 = 0;
     for _ in 0..calls / PLACED {
-        number = number.wrapping_add(place_round(&mut a, &layouts, PLACED)?);
+        number = number.wrapping_add(place_round(a, &layouts, PLACED)?);
     }
-    number = number.wrapping_add(place_round(&mut a, &layouts, calls % PLACED)?);
-    let time = began.elapsed(rt)?;
-    Ok(Timed { time, number })
+    number = number.wrapping_add(place_round(a, &layouts, calls % PLACED)?);
+    clock.stop(rt, number)
 }
 
 // Places a byte, grows its block by one more at a time up to so many, and answers how many bytes are used.
@@ -77,48 +67,60 @@ fn grow_round(a: &mut Allocator<MemoryChunks>, most: u64) -> Result<u64, Failed>
 }
 
 /// A block of 1 to 64 bytes, grown by one byte at a time.
-pub fn grow_at_cursor(rt: &HostRuntime, calls: u64) -> Result<Timed, Failed> {
-    let mut a = with_capacity(rt)?;
-    let began = Instant::now(rt)?;
+pub fn grow_at_cursor(
+    rt: &HostRuntime,
+    a: &mut Allocator<MemoryChunks>,
+    calls: u64,
+) -> Result<Timed, Failed> {
+    let clock = Clock::start(rt);
     let mut number: u64 = 0;
     for _ in 0..calls / GROWN {
-        number = number.wrapping_add(grow_round(&mut a, GROWN + 1)?);
+        number = number.wrapping_add(grow_round(a, GROWN + 1)?);
     }
     if calls % GROWN > 0 {
-        number = number.wrapping_add(grow_round(&mut a, calls % GROWN + 1)?);
+        number = number.wrapping_add(grow_round(a, calls % GROWN + 1)?);
     }
-    let time = began.elapsed(rt)?;
-    Ok(Timed { time, number })
+    clock.stop(rt, number)
 }
 
 /// One block of eight bytes, and a reset, which keeps the first chunk.
-pub fn alloc_and_reset(rt: &HostRuntime, calls: u64) -> Result<Timed, Failed> {
-    let mut a = Allocator::new(rt.alloc(), MemoryChunks::new(rt.alloc(), BUDGET));
+pub fn alloc_and_reset(
+    rt: &HostRuntime,
+    a: &mut Allocator<MemoryChunks>,
+    calls: u64,
+) -> Result<Timed, Failed> {
     let eight = layout(8, 8)?;
-    let began = Instant::now(rt)?;
+    let clock = Clock::start(rt);
     let mut number: u64 = 0;
     for _ in 0..calls {
         a.alloc_layout(eight)?;
         number = number.wrapping_add(a.used_bytes());
         a.reset();
     }
-    let time = began.elapsed(rt)?;
-    Ok(Timed { time, number })
+    clock.stop(rt, number)
+}
+
+// Places these, resets, and answers how many bytes there are then.
+fn placed_and_reset(a: &mut Allocator<MemoryChunks>, layouts: &[Layout; 3]) -> Result<u64, Failed> {
+    for layout in layouts {
+        a.alloc_layout(*layout)?;
+    }
+    a.reset();
+    Ok(a.capacity())
+}
+
+fn new_and_reset(rt: &HostRuntime, layouts: &[Layout; 3]) -> Result<u64, Failed> {
+    let mut a = new_allocator(rt);
+    placed_and_reset(&mut a, layouts)
 }
 
 /// A new arena of three chunks, of which a reset frees two.
 pub fn reset_chunks(rt: &HostRuntime, calls: u64) -> Result<Timed, Failed> {
     let layouts = [layout(1, 1)?, layout(16320, 1)?, layout(32640, 1)?];
-    let began = Instant::now(rt)?;
+    let clock = Clock::start(rt);
     let mut number: u64 = 0;
     for _ in 0..calls {
-        let mut a = Allocator::new(rt.alloc(), MemoryChunks::new(rt.alloc(), BUDGET));
-        for layout in layouts {
-            a.alloc_layout(layout)?;
-        }
-        a.reset();
-        number = number.wrapping_add(a.capacity());
+        number = number.wrapping_add(new_and_reset(rt, &layouts)?);
     }
-    let time = began.elapsed(rt)?;
-    Ok(Timed { time, number })
+    clock.stop(rt, number)
 }

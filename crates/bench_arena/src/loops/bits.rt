@@ -3,11 +3,10 @@ ghost use Rattle.std.specs.Prelude.{◌≡◌, ◌<◌, IfOk, IsTrue};
 ghost use Rattle.arena_chunks.specs.Frame.{AreBlocksApart};
 ghost use Rattle.arena_bits.specs.Sets.{IsSetIn};
 
-use super::{BUDGET, Failed, Timed};
+use super::{Clock, Failed, Timed};
 use arena_bits::BitSet;
 use arena_chunks::{Allocator, MemoryChunks};
 use arena_items::laws::frame_law;
-use std::time::Instant;
 
 // The capacity of sets that are joined.
 const JOINED: u64 = 4096;
@@ -41,10 +40,6 @@ impl Scattered {
     }
 }
 
-fn new_allocator(rt: &HostRuntime) -> Allocator<MemoryChunks> {
-    Allocator::new(rt.alloc(), MemoryChunks::new(rt.alloc(), BUDGET))
-}
-
 // A set with every third number.
 fn thirds(a: &mut Allocator<MemoryChunks>, capacity: u64) -> Result<BitSet, Failed>
     ensures { IfOk result (λ set. IsSetIn a.new.memory set × (set.capacity ≡ capacity)) }
@@ -64,61 +59,71 @@ fn count(a: &Allocator<MemoryChunks>, set: &BitSet) -> u64
 }
 
 /// Numbers put into a set, in scattered order.
-pub fn bitset_set(rt: &HostRuntime, calls: u64) -> Result<Timed, Failed> {
-    let mut a = new_allocator(rt);
-    let mut set = BitSet::new_in(calls, &mut a)?;
+pub fn bitset_set(
+    rt: &HostRuntime,
+    a: &mut Allocator<MemoryChunks>,
+    calls: u64,
+) -> Result<Timed, Failed> {
+    let mut set = BitSet::new_in(calls, a)?;
     let mut scattered = Scattered::below(calls);
-    let began = Instant::now(rt)?;
+    let clock = Clock::start(rt);
     for _ in 0..calls {
-        set.set_bit(&mut a, scattered.next());
+        set.set_bit(a, scattered.next());
     }
-    let time = began.elapsed(rt)?;
+    let timed = clock.stop(rt, 0)?;
     Ok(Timed {
-        time,
-        number: count(&a, &set),
+        number: count(a, &set),
+        ..timed
     })
 }
 
 /// Numbers put into a set, ascending.
-pub fn bitset_set_ascending(rt: &HostRuntime, calls: u64) -> Result<Timed, Failed> {
-    let mut a = new_allocator(rt);
-    let mut set = BitSet::new_in(calls, &mut a)?;
-    let began = Instant::now(rt)?;
+pub fn bitset_set_ascending(
+    rt: &HostRuntime,
+    a: &mut Allocator<MemoryChunks>,
+    calls: u64,
+) -> Result<Timed, Failed> {
+    let mut set = BitSet::new_in(calls, a)?;
+    let clock = Clock::start(rt);
     for bit in 0..calls {
-        set.set_bit(&mut a, bit);
+        set.set_bit(a, bit);
     }
-    let time = began.elapsed(rt)?;
+    let timed = clock.stop(rt, 0)?;
     Ok(Timed {
-        time,
-        number: count(&a, &set),
+        number: count(a, &set),
+        ..timed
     })
 }
 
 /// Numbers that are asked for, in scattered order. A third are there.
-pub fn bitset_contains(rt: &HostRuntime, calls: u64) -> Result<Timed, Failed> {
-    let mut a = new_allocator(rt);
-    let set = thirds(&mut a, calls)?;
+pub fn bitset_contains(
+    rt: &HostRuntime,
+    a: &mut Allocator<MemoryChunks>,
+    calls: u64,
+) -> Result<Timed, Failed> {
+    let set = thirds(a, calls)?;
     let mut scattered = Scattered::below(calls);
-    let began = Instant::now(rt)?;
+    let clock = Clock::start(rt);
     let mut number: u64 = 0;
     for _ in 0..calls {
-        number = number.wrapping_add(set.contains(&a, scattered.next()) as u64);
+        number = number.wrapping_add(set.contains(a, scattered.next()) as u64);
     }
-    let time = began.elapsed(rt)?;
-    Ok(Timed { time, number })
+    clock.stop(rt, number)
 }
 
 /// The numbers of a set, added up. A third are there.
-pub fn bitset_ones(rt: &HostRuntime, calls: u64) -> Result<Timed, Failed> {
-    let mut a = new_allocator(rt);
-    let set = thirds(&mut a, calls)?;
-    let began = Instant::now(rt)?;
+pub fn bitset_ones(
+    rt: &HostRuntime,
+    a: &mut Allocator<MemoryChunks>,
+    calls: u64,
+) -> Result<Timed, Failed> {
+    let set = thirds(a, calls)?;
+    let clock = Clock::start(rt);
     let mut number: u64 = 0;
-    for bit in set.ones(&a) {
+    for bit in set.ones(a) {
         number = number.wrapping_add(bit);
     }
-    let time = began.elapsed(rt)?;
-    Ok(Timed { time, number })
+    clock.stop(rt, number)
 }
 
 // Joins a set with another, so many times.
@@ -136,16 +141,19 @@ fn joined(a: &mut Allocator<MemoryChunks>, set: BitSet, other: BitSet, times: u6
 }
 
 /// Bits of sets of 4,096 that are joined.
-pub fn bitset_union(rt: &HostRuntime, calls: u64) -> Result<Timed, Failed> {
+pub fn bitset_union(
+    rt: &HostRuntime,
+    a: &mut Allocator<MemoryChunks>,
+    calls: u64,
+) -> Result<Timed, Failed> {
     frame_law::<BitSet>();
-    let mut a = new_allocator(rt);
-    let other = thirds(&mut a, JOINED)?;
-    let set = BitSet::new_in(JOINED, &mut a)?;
-    let began = Instant::now(rt)?;
-    joined(&mut a, set, other, calls.div_ceil(JOINED));
-    let time = began.elapsed(rt)?;
+    let other = thirds(a, JOINED)?;
+    let set = BitSet::new_in(JOINED, a)?;
+    let clock = Clock::start(rt);
+    joined(a, set, other, calls.div_ceil(JOINED));
+    let timed = clock.stop(rt, 0)?;
     Ok(Timed {
-        time,
-        number: count(&a, &set),
+        number: count(a, &set),
+        ..timed
     })
 }

@@ -4,9 +4,8 @@ ghost use Rattle.std.specs.List.{All};
 ghost use Rattle.arena_chunks.specs.Memory.{is_readable};
 
 use super::arena::layout;
-use super::{Failed, Timed};
+use super::{Clock, Failed, Timed};
 use arena_chunks::{Arena, Block, MemoryChunks};
-use std::time::Instant;
 
 // How many blocks there are, and how many calls are made in an order that can't be foreseen before it begins again.
 const BLOCKS: u64 = 1024;
@@ -15,15 +14,6 @@ const ORDER: u64 = 65536;
 
 // The source has so many bytes left for each chunk: room for the smallest, so that none is twice as large as the one before.
 const SMALLEST: u64 = 1 << 14;
-
-// An arena with blocks of eight bytes, and numbers below 65536 in an order that can't be foreseen. A number stands for the
-// block whose index is its remainder.
-#[derive(Drop)]
-struct Scattered {
-    arena: Arena<1>,
-    blocks: [Block; BLOCKS as usize],
-    order: Vec<u16>,
-}
 
 // Places blocks of eight bytes, as many in each of so many older chunks, or all in the newest if there is to be no older
 // one.
@@ -51,8 +41,8 @@ fn place_scattered(
     Ok(blocks)
 }
 
-fn scattered_order(rt: &HostRuntime) -> Result<Vec<u16>, Failed> {
-    let mut order = Vec::new(rt.alloc());
+// Puts numbers below 65536 in an order that can't be foreseen. A number stands for the block whose index is its remainder.
+fn put_order(order: &mut Vec<u16>) -> Result<(), Failed> {
     let mut x: u64 = 1;
     for _ in 0..ORDER {
         x = x
@@ -62,7 +52,7 @@ fn scattered_order(rt: &HostRuntime) -> Result<Vec<u16>, Failed> {
             return Err(Failed::NoPlace);
         }
     }
-    Ok(order)
+    Ok(())
 }
 
 // Whether all of these blocks may be read, and have eight bytes.
@@ -74,24 +64,20 @@ fn all_held(arena: &Arena<1>, blocks: &[Block]) -> bool
         .all(|block| arena.is_held_place(*block) && block.size >= 8)
 }
 
-impl Scattered {
-    // Blocks in an arena of so many chunks: all in the newest if it is the only one, otherwise in the older ones.
-    fn new(rt: &HostRuntime, chunks: u64) -> Result<Scattered, Failed>
-        ensures { IfOk result (λ s. All (λ b. IsTrue (is_readable s.arena.state b) × (8 ≤ b.size)) s.blocks) }
-    {
-        let mut arena = Arena::<1>::new(rt.alloc());
-        let mut source = MemoryChunks::new(rt.alloc(), SMALLEST);
-        let blocks = place_scattered(&mut arena, &mut source, chunks.clamp(1, BLOCKS) - 1)?;
-        let order = scattered_order(rt)?;
-        if !all_held(&arena, &blocks) {
-            return Err(Failed::NoPlace);
-        }
-        Ok(Scattered {
-            arena,
-            blocks,
-            order,
-        })
+// Blocks in an arena of so many chunks: all in the newest if it is the only one, otherwise in the older ones.
+fn scattered(
+    rt: &HostRuntime,
+    arena: &mut Arena<1>,
+    chunks: u64,
+) -> Result<[Block; BLOCKS as usize], Failed>
+    ensures { IfOk result (λ blocks. All (λ b. IsTrue (is_readable arena.new.state b) × (8 ≤ b.size)) blocks) }
+{
+    let mut source = MemoryChunks::new(rt.alloc(), SMALLEST);
+    let blocks = place_scattered(arena, &mut source, chunks.clamp(1, BLOCKS) - 1)?;
+    if !all_held(arena, &blocks) {
+        return Err(Failed::NoPlace);
     }
+    Ok(blocks)
 }
 
 // Reads the blocks in this order, and adds up their first bytes.
@@ -119,34 +105,57 @@ fn write_round(arena: &mut Arena<1>, blocks: &[Block; BLOCKS as usize], order: &
     }
 }
 
-/// Blocks in the older of so many chunks, read in an order that can't be foreseen.
-pub fn read_older(rt: &HostRuntime, calls: u64, chunks: u64) -> Result<Timed, Failed> {
-    let s = Scattered::new(rt, chunks)?;
-    let left = &s.order[..s.order.len().min((calls % ORDER) as usize)];
-    let began = Instant::now(rt)?;
+fn timed_reads(
+    rt: &HostRuntime,
+    arena: &mut Arena<1>,
+    order: &[u16],
+    calls: u64,
+    chunks: u64,
+) -> Result<Timed, Failed> {
+    let blocks = scattered(rt, arena, chunks)?;
+    let left = &order[..order.len().min((calls % ORDER) as usize)];
+    let clock = Clock::start(rt);
     let mut number: u64 = 0;
     for _ in 0..calls / ORDER {
-        number = number.wrapping_add(read_round(&s.arena, &s.blocks, &s.order));
+        number = number.wrapping_add(read_round(arena, &blocks, order));
     }
-    number = number.wrapping_add(read_round(&s.arena, &s.blocks, left));
-    let time = began.elapsed(rt)?;
-    Ok(Timed { time, number })
+    number = number.wrapping_add(read_round(arena, &blocks, left));
+    clock.stop(rt, number)
+}
+
+fn timed_writes(
+    rt: &HostRuntime,
+    arena: &mut Arena<1>,
+    order: &[u16],
+    calls: u64,
+    chunks: u64,
+) -> Result<Timed, Failed> {
+    let blocks = scattered(rt, arena, chunks)?;
+    let left = &order[..order.len().min((calls % ORDER) as usize)];
+    let clock = Clock::start(rt);
+    for _ in 0..calls / ORDER {
+        write_round(arena, &blocks, order);
+    }
+    write_round(arena, &blocks, left);
+    let timed = clock.stop(rt, 0)?;
+    Ok(Timed {
+        number: read_round(arena, &blocks, order),
+        ..timed
+    })
+}
+
+/// Blocks in the older of so many chunks, read in an order that can't be foreseen.
+pub fn read_older(rt: &HostRuntime, calls: u64, chunks: u64) -> Result<Timed, Failed> {
+    let mut order = Vec::new(rt.alloc());
+    put_order(&mut order)?;
+    let mut arena = Arena::<1>::new(rt.alloc());
+    timed_reads(rt, &mut arena, order.as_slice(), calls, chunks)
 }
 
 /// Eight bytes written to blocks in the older of so many chunks, in an order that can't be foreseen.
 pub fn write_older(rt: &HostRuntime, calls: u64, chunks: u64) -> Result<Timed, Failed> {
-    let Scattered {
-        mut arena,
-        blocks,
-        order,
-    } = Scattered::new(rt, chunks)?;
-    let left = &order[..order.len().min((calls % ORDER) as usize)];
-    let began = Instant::now(rt)?;
-    for _ in 0..calls / ORDER {
-        write_round(&mut arena, &blocks, &order);
-    }
-    write_round(&mut arena, &blocks, left);
-    let time = began.elapsed(rt)?;
-    let number = read_round(&arena, &blocks, &order);
-    Ok(Timed { time, number })
+    let mut order = Vec::new(rt.alloc());
+    put_order(&mut order)?;
+    let mut arena = Arena::<1>::new(rt.alloc());
+    timed_writes(rt, &mut arena, order.as_slice(), calls, chunks)
 }

@@ -4,12 +4,10 @@ ghost use Rattle.arena_symbols.specs.Names.{IsInternerIn};
 ghost use Rattle.arena_symbols.specs.Tables.{entry_item, IsTableIn};
 
 use super::maps::key;
-use super::vec::{count, new_allocator};
-use super::{Failed, Timed};
+use super::{Clock, Failed, Timed, count};
 use arena_chunks::{Allocator, MemoryChunks};
 use arena_symbols::{Scopes, Symbols};
 use std::alloc::{self, Global};
-use std::time::Instant;
 
 // How many ids a scope has where it hides those of the scope outside.
 const FEW: u32 = 4;
@@ -48,26 +46,30 @@ fn interned(
 }
 
 /// Texts that get a number each.
-pub fn intern_new(rt: &HostRuntime, calls: u64) -> Result<Timed, Failed> {
+pub fn intern_new(
+    rt: &HostRuntime,
+    a: &mut Allocator<MemoryChunks>,
+    calls: u64,
+) -> Result<Timed, Failed> {
     let texts = some_texts(rt.alloc(), calls)?;
-    let mut a = new_allocator(rt);
     let mut symbols = Symbols::new_in();
-    let began = Instant::now(rt)?;
-    let number = interned(&mut a, &mut symbols, &texts)?;
-    let time = began.elapsed(rt)?;
-    Ok(Timed { time, number })
+    let clock = Clock::start(rt);
+    let number = interned(a, &mut symbols, &texts)?;
+    clock.stop(rt, number)
 }
 
 /// Texts that have a number.
-pub fn intern_known(rt: &HostRuntime, calls: u64) -> Result<Timed, Failed> {
+pub fn intern_known(
+    rt: &HostRuntime,
+    a: &mut Allocator<MemoryChunks>,
+    calls: u64,
+) -> Result<Timed, Failed> {
     let texts = some_texts(rt.alloc(), calls)?;
-    let mut a = new_allocator(rt);
     let mut symbols = Symbols::new_in();
-    interned(&mut a, &mut symbols, &texts)?;
-    let began = Instant::now(rt)?;
-    let number = interned(&mut a, &mut symbols, &texts)?;
-    let time = began.elapsed(rt)?;
-    Ok(Timed { time, number })
+    interned(a, &mut symbols, &texts)?;
+    let clock = Clock::start(rt);
+    let number = interned(a, &mut symbols, &texts)?;
+    clock.stop(rt, number)
 }
 
 // A scope in which so many ids stand.
@@ -82,32 +84,33 @@ fn defined(a: &mut Allocator<MemoryChunks>, n: u32) -> Result<Scopes, Failed>
 }
 
 /// Ids put into one scope.
-pub fn scope_define(rt: &HostRuntime, calls: u64) -> Result<Timed, Failed> {
+pub fn scope_define(
+    rt: &HostRuntime,
+    a: &mut Allocator<MemoryChunks>,
+    calls: u64,
+) -> Result<Timed, Failed> {
     let n = count(calls)?;
-    let mut a = new_allocator(rt);
-    let began = Instant::now(rt)?;
-    let scopes = defined(&mut a, n)?;
-    let time = began.elapsed(rt)?;
-    Ok(Timed {
-        time,
-        number: scopes.pairs.len() as u64,
-    })
+    let clock = Clock::start(rt);
+    let scopes = defined(a, n)?;
+    clock.stop(rt, scopes.pairs.len() as u64)
 }
 
 /// Ids looked up, of which half are there.
-pub fn scope_lookup(rt: &HostRuntime, calls: u64) -> Result<Timed, Failed> {
+pub fn scope_lookup(
+    rt: &HostRuntime,
+    a: &mut Allocator<MemoryChunks>,
+    calls: u64,
+) -> Result<Timed, Failed> {
     let n = count(calls)?;
-    let mut a = new_allocator(rt);
-    let scopes = defined(&mut a, n)?;
-    let began = Instant::now(rt)?;
+    let scopes = defined(a, n)?;
+    let clock = Clock::start(rt);
     let mut number: u64 = 0;
     for i in 0..n {
-        if let Some(value) = scopes.lookup(&a, key(i.wrapping_mul(2))) {
+        if let Some(value) = scopes.lookup(a, key(i.wrapping_mul(2))) {
             number = number.wrapping_add(value as u64);
         }
     }
-    let time = began.elapsed(rt)?;
-    Ok(Timed { time, number })
+    clock.stop(rt, number)
 }
 
 // Scopes begun and ended, in each of which some ids hide those outside; the pairs that they had, counted.
@@ -127,12 +130,14 @@ fn nested(a: &mut Allocator<MemoryChunks>, scopes: &mut Scopes, n: u32) -> Resul
 }
 
 /// Scopes begun and ended, in each of which four ids hide those outside. A call is one scope.
-pub fn scope_enter(rt: &HostRuntime, calls: u64) -> Result<Timed, Failed> {
+pub fn scope_enter(
+    rt: &HostRuntime,
+    a: &mut Allocator<MemoryChunks>,
+    calls: u64,
+) -> Result<Timed, Failed> {
     let n = count(calls)?;
-    let mut a = new_allocator(rt);
-    let mut scopes = defined(&mut a, FEW)?;
-    let began = Instant::now(rt)?;
-    let number = nested(&mut a, &mut scopes, n)?;
-    let time = began.elapsed(rt)?;
-    Ok(Timed { time, number })
+    let mut scopes = defined(a, FEW)?;
+    let clock = Clock::start(rt);
+    let number = nested(a, &mut scopes, n)?;
+    clock.stop(rt, number)
 }

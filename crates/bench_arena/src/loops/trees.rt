@@ -1,14 +1,10 @@
 // A loop over trees.
 ghost use Rattle.std.specs.Prelude.{◌^◌, ◌<◌, ◌≤◌, length};
 
-use super::{BUDGET, Failed, Timed};
+use super::{Clock, Failed, Timed};
 use arena_chunks::{Allocator, MemoryChunks};
 use arena_tree::Tree;
 use std::alloc::{self, Global};
-use std::time::Instant;
-
-// A chunk that holds the tree of the text has so many bytes.
-const CAPACITY: u64 = 1 << 22;
 
 // How many lines the text has, and how many blocks stand in one another at most.
 const COUNT: u32 = 700;
@@ -84,9 +80,8 @@ fn put_statement(
     Ok(())
 }
 
-// The text: statements, and blocks of them.
-fn source(alloc: Global) -> Result<Vec<u8>, alloc::AllocError> {
-    let mut text = Vec::new(alloc);
+// Puts the text: statements, and blocks of them.
+fn put_source(alloc: Global, text: &mut Vec<u8>) -> Result<(), alloc::AllocError> {
     let mut seed: u64 = 1;
     let mut depth: u64 = 0;
     for _ in 0..COUNT {
@@ -101,14 +96,14 @@ fn source(alloc: Global) -> Result<Vec<u8>, alloc::AllocError> {
             }
             _ => {
                 let statement = STATEMENTS[draw(&mut seed, 32) as usize];
-                put_statement(alloc, &mut text, &mut seed, statement)?;
+                put_statement(alloc, text, &mut seed, statement)?;
             }
         }
     }
     for _ in 0..depth {
         text.extend_from_slice(b"}\n")?;
     }
-    Ok(text)
+    Ok(())
 }
 
 // Parses the text so many times, each after a reset, and adds up its bytes and its statements.
@@ -126,20 +121,32 @@ fn parsed(a: &mut Allocator<MemoryChunks>, src: &[u8], times: u64) -> Result<u64
     Ok(number)
 }
 
-/// A text placed as a tree again and again, in a chunk that is reset before. A call is a byte of the text.
-pub fn tree_parse(rt: &HostRuntime, calls: u64) -> Result<Timed, Failed> {
-    let src = source(rt.alloc()).map_err(|_| Failed::NoPlace)?;
+// Parses the text until about so many bytes are parsed.
+fn parsed_often(
+    rt: &HostRuntime,
+    a: &mut Allocator<MemoryChunks>,
+    src: &[u8],
+    calls: u64,
+) -> Result<Timed, Failed> {
     let bytes = src.len() as u64;
     if bytes == 0 || bytes > 1 << 24 {
         return Err(Failed::NoPlace);
     }
-    let chunks = MemoryChunks::new(rt.alloc(), BUDGET);
-    let Ok(mut a) = Allocator::with_capacity(rt.alloc(), chunks, CAPACITY) else {
-        return Err(Failed::NoPlace);
-    };
-    parsed(&mut a, src.as_slice(), 1)?;
-    let began = Instant::now(rt)?;
-    let number = parsed(&mut a, src.as_slice(), (calls / bytes).max(1))?;
-    let time = began.elapsed(rt)?;
-    Ok(Timed { time, number })
+    parsed(a, src, 1)?;
+    let clock = Clock::start(rt);
+    let number = parsed(a, src, (calls / bytes).max(1))?;
+    clock.stop(rt, number)
+}
+
+/// A text placed as a tree again and again, in a chunk that is reset before. A call is a byte of the text.
+pub fn tree_parse(
+    rt: &HostRuntime,
+    a: &mut Allocator<MemoryChunks>,
+    calls: u64,
+) -> Result<Timed, Failed> {
+    let mut text = Vec::new(rt.alloc());
+    match put_source(rt.alloc(), &mut text) {
+        Ok(()) => parsed_often(rt, a, text.as_slice(), calls),
+        Err(_) => Err(Failed::NoPlace),
+    }
 }

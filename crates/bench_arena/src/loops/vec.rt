@@ -1,12 +1,12 @@
 // Loops over vectors.
+ghost use Rattle.std.specs.Prelude.{IfOk};
 ghost use Rattle.arena_vec.specs.Vecs.{IsVecIn};
 
 use super::batches::batches;
-use super::{BUDGET, Failed, Timed};
+use super::{Clock, Failed, Timed, count};
 use arena_chunks::{Allocator, MemoryChunks};
 use arena_items::Item;
 use arena_vec::Vec;
-use std::time::Instant;
 
 // How many numbers are put into a small vector, how many in front of one another, and how many at once.
 const FEW: u64 = 4;
@@ -15,16 +15,17 @@ const INSERTED: u64 = 64;
 
 const SLICE: u64 = 256;
 
-pub(super) fn new_allocator(rt: &HostRuntime) -> Allocator<MemoryChunks> {
-    Allocator::new(rt.alloc(), MemoryChunks::new(rt.alloc(), BUDGET))
-}
-
-pub(super) fn count(calls: u64) -> Result<u32, Failed> {
-    u32::try_from(calls).map_err(|_| Failed::NoPlace)
-}
-
 pub(super) fn sizes(vec: Vec<u32>) -> u64 {
     vec.len() as u64 + vec.capacity() as u64
+}
+
+/// A vector of as many numbers.
+pub(super) fn numbers(a: &mut Allocator<MemoryChunks>, calls: u64) -> Result<Vec<u32>, Failed>
+    ensures { IfOk result (IsVecIn ⟦<u32 as Item>⟧ a.new.memory) }
+{
+    let n = count(calls)?;
+    let vec = Vec::from_iter_in(0..n, a)?;
+    Ok(vec)
 }
 
 // The vector with the numbers below n behind its own.
@@ -50,44 +51,43 @@ fn number_at(a: &Allocator<MemoryChunks>, vec: Vec<u32>, i: u32) -> u64
 }
 
 /// Numbers put at the end.
-pub fn vec_push(rt: &HostRuntime, calls: u64) -> Result<Timed, Failed> {
+pub fn vec_push(
+    rt: &HostRuntime,
+    a: &mut Allocator<MemoryChunks>,
+    calls: u64,
+) -> Result<Timed, Failed> {
     let n = count(calls)?;
-    let mut a = new_allocator(rt);
-    let began = Instant::now(rt)?;
-    let vec = pushed(&mut a, Vec::new_in(), n)?;
-    let time = began.elapsed(rt)?;
-    Ok(Timed {
-        time,
-        number: sizes(vec),
-    })
+    let clock = Clock::start(rt);
+    let vec = pushed(a, Vec::new_in(), n)?;
+    clock.stop(rt, sizes(vec))
 }
 
 /// Numbers put at the end, where there is room.
-pub fn vec_push_reserved(rt: &HostRuntime, calls: u64) -> Result<Timed, Failed> {
+pub fn vec_push_reserved(
+    rt: &HostRuntime,
+    a: &mut Allocator<MemoryChunks>,
+    calls: u64,
+) -> Result<Timed, Failed> {
     let n = count(calls)?;
-    let mut a = new_allocator(rt);
-    let began = Instant::now(rt)?;
-    let vec = Vec::with_capacity_in(calls, &mut a)?;
-    let vec = pushed(&mut a, vec, n)?;
-    let time = began.elapsed(rt)?;
-    Ok(Timed {
-        time,
-        number: sizes(vec),
-    })
+    let clock = Clock::start(rt);
+    let vec = Vec::with_capacity_in(calls, a)?;
+    let vec = pushed(a, vec, n)?;
+    clock.stop(rt, sizes(vec))
 }
 
 /// Numbers read by their index.
-pub fn vec_sum(rt: &HostRuntime, calls: u64) -> Result<Timed, Failed> {
-    let n = count(calls)?;
-    let mut a = new_allocator(rt);
-    let vec = Vec::from_iter_in(0..n, &mut a)?;
-    let began = Instant::now(rt)?;
+pub fn vec_sum(
+    rt: &HostRuntime,
+    a: &mut Allocator<MemoryChunks>,
+    calls: u64,
+) -> Result<Timed, Failed> {
+    let vec = numbers(a, calls)?;
+    let clock = Clock::start(rt);
     let mut number: u64 = 0;
     for i in 0..vec.len() {
-        number = number.wrapping_add(vec.get(&a, i) as u64);
+        number = number.wrapping_add(vec.get(a, i) as u64);
     }
-    let time = began.elapsed(rt)?;
-    Ok(Timed { time, number })
+    clock.stop(rt, number)
 }
 
 // Puts numbers into new vectors of four, and adds up the last ones.
@@ -104,8 +104,12 @@ fn small(a: &mut Allocator<MemoryChunks>, values: u64) -> Result<u64, Failed> {
 }
 
 /// Numbers put into new vectors of four.
-pub fn vec_small(rt: &HostRuntime, calls: u64) -> Result<Timed, Failed> {
-    batches(rt, calls, small)
+pub fn vec_small(
+    rt: &HostRuntime,
+    a: &mut Allocator<MemoryChunks>,
+    calls: u64,
+) -> Result<Timed, Failed> {
+    batches(rt, a, calls, small)
 }
 
 // Puts numbers at the end of a vector, so many times.
@@ -122,19 +126,18 @@ fn extended(
 }
 
 /// Numbers put at the end 256 at a time. A call is one number.
-pub fn vec_extend(rt: &HostRuntime, calls: u64) -> Result<Timed, Failed> {
+pub fn vec_extend(
+    rt: &HostRuntime,
+    a: &mut Allocator<MemoryChunks>,
+    calls: u64,
+) -> Result<Timed, Failed> {
     let mut source = [0; SLICE as usize];
     for i in 0..SLICE {
         source[i as usize] = i as u32;
     }
-    let mut a = new_allocator(rt);
-    let began = Instant::now(rt)?;
-    let vec = extended(&mut a, &source, calls / SLICE)?;
-    let time = began.elapsed(rt)?;
-    Ok(Timed {
-        time,
-        number: sizes(vec),
-    })
+    let clock = Clock::start(rt);
+    let vec = extended(a, &source, calls / SLICE)?;
+    clock.stop(rt, sizes(vec))
 }
 
 // Puts numbers in front of one another, 64 in a vector, and adds up the first ones.
@@ -151,34 +154,37 @@ fn in_front(a: &mut Allocator<MemoryChunks>, values: u64) -> Result<u64, Failed>
 }
 
 /// Numbers put in front of up to 63 others.
-pub fn vec_insert_front(rt: &HostRuntime, calls: u64) -> Result<Timed, Failed> {
-    batches(rt, calls, in_front)
+pub fn vec_insert_front(
+    rt: &HostRuntime,
+    a: &mut Allocator<MemoryChunks>,
+    calls: u64,
+) -> Result<Timed, Failed> {
+    batches(rt, a, calls, in_front)
 }
 
 /// Numbers that a test keeps or not. It keeps two in three.
-pub fn vec_retain(rt: &HostRuntime, calls: u64) -> Result<Timed, Failed> {
-    let n = count(calls)?;
-    let mut a = new_allocator(rt);
-    let mut vec = Vec::from_iter_in(0..n, &mut a)?;
-    let began = Instant::now(rt)?;
-    vec.retain(&mut a, |x| *x % 3 != 0);
-    let time = began.elapsed(rt)?;
-    Ok(Timed {
-        time,
-        number: vec.len() as u64,
-    })
+pub fn vec_retain(
+    rt: &HostRuntime,
+    a: &mut Allocator<MemoryChunks>,
+    calls: u64,
+) -> Result<Timed, Failed> {
+    let mut vec = numbers(a, calls)?;
+    let clock = Clock::start(rt);
+    vec.retain(a, |x| *x % 3 != 0);
+    clock.stop(rt, vec.len() as u64)
 }
 
 /// Numbers in order.
-pub fn vec_iter(rt: &HostRuntime, calls: u64) -> Result<Timed, Failed> {
-    let n = count(calls)?;
-    let mut a = new_allocator(rt);
-    let vec = Vec::from_iter_in(0..n, &mut a)?;
-    let began = Instant::now(rt)?;
+pub fn vec_iter(
+    rt: &HostRuntime,
+    a: &mut Allocator<MemoryChunks>,
+    calls: u64,
+) -> Result<Timed, Failed> {
+    let vec = numbers(a, calls)?;
+    let clock = Clock::start(rt);
     let mut number: u64 = 0;
-    for x in vec.into_iter(&a) {
+    for x in vec.into_iter(a) {
         number = number.wrapping_add(x as u64);
     }
-    let time = began.elapsed(rt)?;
-    Ok(Timed { time, number })
+    clock.stop(rt, number)
 }

@@ -1,4 +1,4 @@
 use Rattle.bench_arena.proofs.loops.symbols.intern_known.Goals as goal
 
 pub interned-requires : goal.interned-requires
-interned-requires c = c.new_in-symbols.ensures.held c.new_allocator-a.result.memory
+interned-requires c = c.new_in-symbols.ensures.held c.args.a.now.memory
