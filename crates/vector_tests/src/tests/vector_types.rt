@@ -189,7 +189,7 @@ fn as_many_units_as_there_are(rt: HostRuntime) {
     for wanted in AT_THE_END {
         known(&rt, &a, vec);
         same(&rt, vec.push_mut(&mut a, ()), *wanted);
-        same(&rt, vec.len(), ALL);
+        same(&rt, (vec.len(), a.used_bytes()), (ALL, 0));
     }
     let refused = <Vec<()>>::with_capacity_in(1 << 32, &mut a);
     same(&rt, refused.err(), Some(AllocError::CapacityOverflow));

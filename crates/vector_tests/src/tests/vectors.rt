@@ -74,7 +74,7 @@ fn index<T>(grown: Grown<u32>) -> Answer<T> {
     }
 }
 
-// Makes a call on a vector, which must be held. One function has a few calls, and hands on the others.
+// Makes a call on a vector, which must be held.
 pub(super) fn make<T: Item, C: ChunkSource>(
     rt: &impl Abort,
     a: &mut Allocator<C>,
@@ -83,91 +83,74 @@ pub(super) fn make<T: Item, C: ChunkSource>(
 ) -> Answer<T> {
     known(rt, a, *vec);
     match call {
-        Call::Push(value) => done(vec.push(a, *value)),
-        Call::PushFast(value) => done(vec.push_fast(a, *value)),
         Call::PushMut(value) => index(vec.push_mut(a, *value)),
         Call::PushFastMut(value) => index(vec.push_fast_mut(a, *value)),
+        Call::Pop => match vec.pop(a) {
+            Some(value) => Answer::Value(value),
+            None => Answer::None,
+        },
+        Call::Remove(i) => {
+            below(rt, *i, vec.len());
+            Answer::Value(vec.remove(a, *i))
+        }
+        Call::SwapRemove(i) => {
+            below(rt, *i, vec.len());
+            Answer::Value(vec.swap_remove(a, *i))
+        }
+        _ => done(put(rt, a, vec, call)),
+    }
+}
+
+// Makes a call that answers no value.
+fn put<T: Item, C: ChunkSource>(
+    rt: &impl Abort,
+    a: &mut Allocator<C>,
+    vec: &mut Vec<T>,
+    call: &Call<'_, T>,
+) -> Grown<()>
+    requires small { T.SIZE ≤ 2 ^ 24 }
+    requires held { IsVecIn T.Item a.old.memory vec.old }
+{
+    match call {
+        Call::Push(value) => vec.push(a, *value),
+        Call::PushFast(value) => vec.push_fast(a, *value),
         Call::Insert(i, value) => {
             at_most(rt, *i, vec.len());
-            done(vec.insert(a, *i, *value))
+            vec.insert(a, *i, *value)
         }
-        _ => put_many(rt, a, vec, call),
-    }
-}
-
-fn put_many<T: Item, C: ChunkSource>(
-    rt: &impl Abort,
-    a: &mut Allocator<C>,
-    vec: &mut Vec<T>,
-    call: &Call<'_, T>,
-) -> Answer<T>
-    requires small { T.SIZE ≤ 2 ^ 24 }
-    requires held { IsVecIn T.Item a.old.memory vec.old }
-{
-    match call {
-        Call::Resize(len, value) => done(vec.resize(a, *len, *value)),
-        Call::Extend(values) => done(vec.extend_from_slice(a, values)),
-        Call::ExtendCopy(values) => done(vec.extend_from_slice_copy(a, values)),
-        Call::ExtendSlices(slices) => done(vec.extend_from_slices_copy(a, slices)),
-        _ => make_room(rt, a, vec, call),
-    }
-}
-
-fn make_room<T: Item, C: ChunkSource>(
-    rt: &impl Abort,
-    a: &mut Allocator<C>,
-    vec: &mut Vec<T>,
-    call: &Call<'_, T>,
-) -> Answer<T>
-    requires small { T.SIZE ≤ 2 ^ 24 }
-    requires held { IsVecIn T.Item a.old.memory vec.old }
-{
-    match call {
-        Call::Reserve(more) => done(vec.reserve(a, *more)),
-        Call::TryReserve(more) => done(vec.try_reserve(a, *more)),
-        Call::ReserveExact(more) => done(vec.reserve_exact(a, *more)),
-        Call::TryReserveExact(more) => done(vec.try_reserve_exact(a, *more)),
-        Call::ShrinkToFit => {
-            vec.shrink_to_fit(a);
-            Answer::Done
-        }
+        Call::Resize(len, value) => vec.resize(a, *len, *value),
+        Call::Extend(values) => vec.extend_from_slice(a, values),
+        Call::ExtendCopy(values) => vec.extend_from_slice_copy(a, values),
+        Call::ExtendSlices(slices) => vec.extend_from_slices_copy(a, slices),
         _ => change(rt, a, vec, call),
     }
 }
 
+// Makes a call that puts no value there.
 fn change<T: Item, C: ChunkSource>(
     rt: &impl Abort,
     a: &mut Allocator<C>,
     vec: &mut Vec<T>,
     call: &Call<'_, T>,
-) -> Answer<T>
+) -> Grown<()>
     requires small { T.SIZE ≤ 2 ^ 24 }
     requires held { IsVecIn T.Item a.old.memory vec.old }
 {
     match call {
-        Call::Pop => {
-            return match vec.pop(a) {
-                Some(value) => Answer::Value(value),
-                None => Answer::None,
-            };
-        }
-        Call::Remove(i) => {
-            below(rt, *i, vec.len());
-            return Answer::Value(vec.remove(a, *i));
-        }
-        Call::SwapRemove(i) => {
-            below(rt, *i, vec.len());
-            return Answer::Value(vec.swap_remove(a, *i));
-        }
+        Call::Reserve(more) => return vec.reserve(a, *more),
+        Call::TryReserve(more) => return vec.try_reserve(a, *more),
+        Call::ReserveExact(more) => return vec.reserve_exact(a, *more),
+        Call::TryReserveExact(more) => return vec.try_reserve_exact(a, *more),
         Call::Set(i, value) => {
             below(rt, *i, vec.len());
             vec.set(a, *i, *value);
         }
         Call::Truncate(len) => vec.truncate(*len),
         Call::Clear => vec.clear(),
-        _ => panic!(rt; "a call that takes memory"),
+        Call::ShrinkToFit => vec.shrink_to_fit(a),
+        _ => panic!(rt; "a call that answers a value"),
     }
-    Answer::Done
+    Ok(())
 }
 
 // A value takes few bytes.
