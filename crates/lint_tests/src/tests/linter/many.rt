@@ -1,0 +1,63 @@
+// Many sources by many workers, and a source of a megabyte.
+use super::super::text_of;
+use super::over::{ALONE, Over, each_tells};
+use arena_pool::PoolKind;
+use std::alloc::Global;
+use std::test::*;
+
+// Ten thousand sources, of which each third is no program, and the lines of their reports.
+fn ten_thousand(alloc: Global) -> Result<(Vec<u8>, Vec<u8>), Fail> {
+    let mut input = Vec::new(alloc);
+    let mut lines = Vec::new(alloc);
+    for i in 0..10_000u32 {
+        if i > 0 {
+            input.extend_from_slice(b"%%\n")?;
+        }
+        lines.extend_from_slice(format!(in alloc; "source {i}\n")?.as_bytes())?;
+        if i % 3 == 2 {
+            input.extend_from_slice(b"a + ;\n")?;
+            lines.extend_from_slice(b"syntax error at 4\n")?;
+        } else {
+            input.extend_from_slice(format!(in alloc; "let a{i} = b{i};\na{i};\n")?.as_bytes())?;
+            lines.extend_from_slice(format!(in alloc; "undefined b{i}\n")?.as_bytes())?;
+        }
+    }
+    Ok((input, lines))
+}
+
+const POOLS: &[(PoolKind, u32)] = &[
+    (PoolKind::Standard, 64),
+    (PoolKind::Standard, 0),
+    (PoolKind::FixedSize { bytes: 126_976 }, 1),
+    (PoolKind::FixedSize { bytes: 126_976 }, 64),
+];
+
+#[test]
+fn ten_thousand_sources_by_64_workers(rt: HostRuntime) -> Result<(), Fail> {
+    let (input, lines) = ten_thousand(rt.alloc())?;
+    for (kind, arenas) in POOLS {
+        let over = Over {
+            kind: *kind,
+            arenas: *arenas,
+            workers: 64,
+            ..ALONE
+        };
+        each_tells(&rt, rt.alloc(), over, 1 << 20, &input, (&lines, 0))?;
+    }
+    Ok(())
+}
+
+/// A line of 64 bytes.
+const LINE: &[u8] = b"{ let name = (b + 1234567890) * 123456789012 - -12345678901;  }\n";
+
+#[test]
+fn a_source_of_a_megabyte(rt: HostRuntime) -> Result<(), Fail> {
+    let input = text_of(&rt, rt.alloc(), &[(LINE, 16384)]);
+    let lines = text_of(
+        &rt,
+        rt.alloc(),
+        &[(b"source 0\n", 1), (b"undefined b\n", 16384)],
+    );
+    assert!(rt; input.len() == 1 << 20);
+    each_tells(&rt, rt.alloc(), ALONE, 1 << 30, &input, (&lines, 0))
+}

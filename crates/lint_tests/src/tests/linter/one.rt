@@ -1,0 +1,70 @@
+// Texts, each linted alone in an arena.
+use super::super::ample;
+use super::super::reports::reported;
+use arena_chunks::{Allocator, MemoryChunks};
+use arena_lint::lint_one;
+use std::alloc::Global;
+use std::process::Abort;
+
+// Texts, and the lines of their reports as those of source 0.
+const TEXTS: &[(&str, &str)] = &[
+    (
+        "let a = 1;\n{\nlet a = b;\n}\n",
+        "source 0\nundefined b\nshadowed a\n",
+    ),
+    (
+        "let a = a; let a = 2;",
+        "source 0\nundefined a\nredefined a\n",
+    ),
+    ("a + ;", "source 0\nsyntax error at 4\n"),
+    ("", "source 0\n"),
+    (
+        "let a = 1; { let a = 2; let a = 3; }",
+        "source 0\nshadowed a\nredefined a\n",
+    ),
+    ("{ let a = 1; } a;", "source 0\nundefined a\n"),
+    ("a; let a = 1; a;", "source 0\nundefined a\n"),
+    ("{ { a; } let a = 1; { a; } }", "source 0\nundefined a\n"),
+    ("{ let a = 1; } { let a = 2; }", "source 0\n"),
+    (
+        "(a + b) * -c;",
+        "source 0\nundefined a\nundefined b\nundefined c\n",
+    ),
+    (
+        "let ab = 1; a; abc; ab;",
+        "source 0\nundefined a\nundefined abc\n",
+    ),
+    ("let a = 18446744073709551615;", "source 0\n"),
+    (
+        "let a = 18446744073709551616;",
+        "source 0\nnumber too big at 8\n",
+    ),
+    (
+        "(((((((((((((((((((((((((((((((((((((((((((((((((((((((((((((((((1",
+        "source 0\ntoo deep at 64\n",
+    ),
+];
+
+// A text's report has these lines, by an arena of which nothing is used. Its tree and names take at most the bytes that are promised.
+fn linted(
+    rt: &impl Abort,
+    alloc: Global,
+    a: &mut Allocator<MemoryChunks>,
+    text: &str,
+    lines: &str,
+) {
+    let text = text.as_bytes();
+    assert!(rt; a.used_bytes() == 0 && text.len() <= 1 << 24);
+    let report = lint_one(alloc, a, text);
+    assert!(rt; a.used_bytes() <= 4096 * (text.len() as u64 + 1));
+    reported(rt, alloc, &report, lines);
+}
+
+#[test]
+fn each_text_on_one_arena(rt: HostRuntime) {
+    let mut a = ample(rt.alloc());
+    for (text, lines) in TEXTS {
+        linted(&rt, rt.alloc(), &mut a, text, lines);
+        a.reset();
+    }
+}
