@@ -4,7 +4,9 @@ mod reports;
 mod symbols;
 mod trees;
 
-use arena_chunks::{Allocator, MemoryChunks, RefusingChunks};
+ghost use Rattle.arena_pool.specs.Kinds.{IsFresh};
+
+use arena_chunks::{Allocator, ChunkSource, MemoryChunks, RefusingChunks};
 use std::alloc::Global;
 use std::fmt::Debug;
 use std::process::Abort;
@@ -50,7 +52,9 @@ fn fixed(rt: &impl Abort, alloc: Global, bytes: usize) -> Allocator<MemoryChunks
 }
 
 // A source of chunks that refuses so many requests from this one on, from 1.
-fn refusing(alloc: Global, first: u64, count: u64) -> RefusingChunks {
+fn refusing(alloc: Global, first: u64, count: u64) -> RefusingChunks
+    ensures { IsFresh (⟦<RefusingChunks as ChunkSource>⟧.source result) }
+{
     let mut refuse = Vec::new(alloc);
     for i in 0..count {
         let _ = refuse.push(first.saturating_add(i));

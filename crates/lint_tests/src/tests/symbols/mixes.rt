@@ -48,7 +48,7 @@ impl TextsBeside {
         let had = self.place_of(text.as_str());
         let number = had.unwrap_or(self.texts.len());
         same_at(rt, number, self.texts.intern(text.as_str()), Ok(number));
-        assert!(rt; self.texts.text(number) == Some(text.as_str()));
+        same_at(rt, number, self.texts.text(number), Some(text.as_str()));
         if had.is_none() {
             self.plain.push(text)?;
         }
@@ -56,8 +56,10 @@ impl TextsBeside {
     }
 
     fn are_same(&self, rt: &impl Abort) {
-        for (n, text) in (0..3000u32).zip(self.plain.iter()) {
-            assert!(rt; self.texts.text(n) == Some(text.as_str()));
+        let mut n = 0u32;
+        for text in self.plain.iter() {
+            same_at(rt, n, self.texts.text(n), Some(text.as_str()));
+            n = n.saturating_add(1);
         }
     }
 }
