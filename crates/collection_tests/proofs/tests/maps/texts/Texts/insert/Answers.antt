@@ -1,0 +1,7 @@
+use Rattle.collection_tests.proofs.HeldLemmas.{placed_beside}
+use Rattle.collection_tests.proofs.tests.maps.texts.Texts.insert.Goals as goal
+
+pub insert-requires-clause-held : goal.insert-requires-clause-held
+insert-requires-clause-held g c =
+    let placed = rw c.expect-key.ensures at c.alloc_str.ensures.placed in
+    (placed_beside _ c.self.inside.map c.self.inside.a c.alloc_str.new.self _ _ c.expect-key.result.block placed c.self.invariant).0.held

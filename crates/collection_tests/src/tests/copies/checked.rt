@@ -1,0 +1,243 @@
+// Values whose handles are tested, at every depth, before they are used.
+ghost use Rattle.std.specs.Prelude.{◌≤◌, ◌^◌, IsTrue};
+ghost use Rattle.arena_items.specs.Values.{IsBoxIn};
+ghost use Rattle.arena_vec.specs.Held.{IsRawIn};
+
+use arena_bits::BitSet;
+use arena_chunks::{Allocator, ChunkSource, Str};
+use arena_clone::{CloneIn, CloneInSemanticIds, Grown, SemanticId};
+use arena_items::{Box, Item};
+use arena_text::StringBuilder;
+use arena_vec::{RawVec, Vec};
+use example_blocks::get_checked;
+use std::process::Abort;
+
+pub trait Checked: CloneIn {
+    // Whether each type on the way is small.
+    fn is_small() -> bool
+        ensures { IsTrue result → Self.kind.is_small };
+
+    // Whether the handles are well formed and may be read.
+    fn is_held<C: ChunkSource>(&self, a: &Allocator<C>) -> bool
+        ensures { IsTrue result → Self.kind.is_held a.now.memory self.now };
+}
+
+impl Checked for u32 {
+    fn is_small() -> bool {
+        true
+    }
+
+    fn is_held<C: ChunkSource>(&self, _a: &Allocator<C>) -> bool {
+        true
+    }
+}
+
+impl Checked for u64 {
+    fn is_small() -> bool {
+        true
+    }
+
+    fn is_held<C: ChunkSource>(&self, _a: &Allocator<C>) -> bool {
+        true
+    }
+}
+
+impl Checked for SemanticId {
+    fn is_small() -> bool {
+        true
+    }
+
+    fn is_held<C: ChunkSource>(&self, _a: &Allocator<C>) -> bool {
+        true
+    }
+}
+
+impl Checked for Str {
+    fn is_small() -> bool {
+        true
+    }
+
+    fn is_held<C: ChunkSource>(&self, a: &Allocator<C>) -> bool {
+        a.is_held_place(self.block)
+    }
+}
+
+impl Checked for StringBuilder {
+    fn is_small() -> bool {
+        true
+    }
+
+    fn is_held<C: ChunkSource>(&self, a: &Allocator<C>) -> bool {
+        StringBuilder::is_held(self, a)
+    }
+}
+
+impl Checked for BitSet {
+    fn is_small() -> bool {
+        true
+    }
+
+    fn is_held<C: ChunkSource>(&self, a: &Allocator<C>) -> bool {
+        BitSet::is_held(self, a)
+    }
+}
+
+impl<T: Checked> Checked for Option<T> {
+    fn is_small() -> bool {
+        T::is_small()
+    }
+
+    fn is_held<C: ChunkSource>(&self, a: &Allocator<C>) -> bool {
+        match self {
+            Some(value) => value.is_held(a),
+            None => true,
+        }
+    }
+}
+
+impl<T: Checked + Item> Checked for Box<T> {
+    fn is_small() -> bool {
+        T::SIZE <= 1 << 24 && T::is_small()
+    }
+
+    fn is_held<C: ChunkSource>(&self, a: &Allocator<C>) -> bool {
+        if T::SIZE > 1 << 24 {
+            return false;
+        }
+        match get_checked(a, *self) {
+            Some(value) => value.is_held(a),
+            None => false,
+        }
+    }
+}
+
+impl<T: Checked + Item> Checked for Vec<T> {
+    fn is_small() -> bool {
+        T::SIZE <= 1 << 24 && T::is_small()
+    }
+
+    fn is_held<C: ChunkSource>(&self, a: &Allocator<C>) -> bool {
+        if T::SIZE > 1 << 24 || !is_raw_held(a, self.raw) {
+            return false;
+        }
+        for i in 0..self.raw.len {
+            if !self.get(a, i).is_held(a) {
+                return false;
+            }
+        }
+        true
+    }
+}
+
+// Whether storage may be read.
+pub fn is_raw_held<T: Item, C: ChunkSource>(a: &Allocator<C>, raw: RawVec<T>) -> bool
+    requires { T.SIZE ≤ 2 ^ 24 }
+    ensures { IsTrue result → IsRawIn T.Item a.now.memory raw }
+{
+    a.is_held_place(raw.block)
+        && raw.block.align == T::ALIGN
+        && raw.block.size == raw.cap as u64 * T::SIZE
+        && raw.len <= raw.cap
+        && (T::SIZE > 0 || raw.cap == u32::MAX)
+}
+
+pub fn at<T: Item, C: ChunkSource>(rt: &impl Abort, a: &Allocator<C>, list: Vec<T>, i: u32) -> T {
+    assert!(rt; T::SIZE <= 1 << 24);
+    assert!(rt; is_raw_held(a, list.raw));
+    assert!(rt; i < list.raw.len);
+    list.get(a, i)
+}
+
+pub fn read<T: Item, C: ChunkSource>(rt: &impl Abort, a: &Allocator<C>, b: Box<T>) -> T
+    ensures { IsBoxIn T.Item a.now.memory b }
+{
+    assert!(rt; T::SIZE <= 1 << 24);
+    get_checked(a, b).expect(rt, "a box that is held")
+}
+
+// Whether a list has these values.
+pub fn is_list<T: Item + PartialEq, C: ChunkSource>(
+    rt: &impl Abort,
+    a: &Allocator<C>,
+    list: Vec<T>,
+    values: &[T],
+) -> bool {
+    assert!(rt; T::SIZE <= 1 << 24);
+    assert!(rt; is_raw_held(a, list.raw));
+    list.eq_slice(a, values)
+}
+
+// Puts a value in a list, before the one that stands there.
+pub fn insert<T: Item, C: ChunkSource>(
+    rt: &impl Abort,
+    a: &mut Allocator<C>,
+    list: &mut Vec<T>,
+    i: u32,
+    value: T,
+) {
+    assert!(rt; T::SIZE <= 1 << 24);
+    assert!(rt; is_raw_held(a, list.raw));
+    assert!(rt; i <= list.raw.len);
+    list.insert(a, i, value).expect(rt, "room");
+}
+
+// Replaces a value of a list.
+pub fn set<T: Item, C: ChunkSource>(
+    rt: &impl Abort,
+    a: &mut Allocator<C>,
+    list: &mut Vec<T>,
+    i: u32,
+    value: T,
+) {
+    assert!(rt; T::SIZE <= 1 << 24);
+    assert!(rt; is_raw_held(a, list.raw));
+    assert!(rt; i < list.raw.len);
+    list.set(a, i, value);
+}
+
+// A call that makes a copy in another arena.
+#[derive(Drop)]
+pub enum By {
+    CloneIn,
+    CloneInWithSemanticIds,
+    CloneInImpl(CloneInSemanticIds),
+}
+
+// Copies a value into another arena.
+pub fn try_copy<T: Checked, C: ChunkSource, D: ChunkSource>(
+    rt: &impl Abort,
+    value: &T,
+    by: &By,
+    from: &Allocator<C>,
+    to: &mut Allocator<D>,
+) -> Grown<T> {
+    assert!(rt; T::is_small());
+    assert!(rt; value.is_held(from));
+    match by {
+        By::CloneIn => value.clone_in(from, to),
+        By::CloneInWithSemanticIds => value.clone_in_with_semantic_ids(from, to),
+        By::CloneInImpl(ids) => value.clone_in_impl(*ids, from, to),
+    }
+}
+
+pub fn copy<T: Checked, C: ChunkSource, D: ChunkSource>(
+    rt: &impl Abort,
+    value: &T,
+    by: &By,
+    from: &Allocator<C>,
+    to: &mut Allocator<D>,
+) -> T {
+    try_copy(rt, value, by, from, to).expect(rt, "a copy")
+}
+
+// Copies a value within its arena.
+pub fn copy_within<T: Checked, C: ChunkSource>(
+    rt: &impl Abort,
+    value: &T,
+    ids: CloneInSemanticIds,
+    a: &mut Allocator<C>,
+) -> T {
+    assert!(rt; T::is_small());
+    assert!(rt; value.is_held(a));
+    value.clone_within(ids, a).expect(rt, "a copy")
+}

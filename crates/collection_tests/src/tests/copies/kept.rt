@@ -1,0 +1,175 @@
+// Maps in arenas of their own.
+ghost use Rattle.std.specs.Prelude.{◌^◌, ◌≤◌, IsTrue};
+ghost use Rattle.arena_hash.specs.Contents.{kind};
+ghost use Rattle.arena_hash.specs.Maps.{IsMapIn};
+ghost use Rattle.arena_clone.specs.MapKind.{map_of};
+ghost use Rattle.collection_tests.specs.Held.{IsKept};
+
+use super::checked::{Checked, read};
+use crate::tests::ample;
+use arena_chunks::{Allocator, ChunkSource, MemoryChunks, Str};
+use arena_clone::{CloneIn, CloneInSemanticIds, CloneKey};
+use arena_hash::{ArenaKey, FxHasher, HashMap, KeyHasher};
+use arena_items::{Box, Item};
+use std::alloc::Global;
+use std::marker::Model;
+use std::process::Abort;
+
+// Keys whose handles are tested before they are used.
+pub trait CheckedKey: CloneKey {
+    fn is_key_small() -> bool
+        ensures { IsTrue result → Self.CloneIn.kind.is_small };
+
+    fn is_key_held<C: ChunkSource>(&self, a: &Allocator<C>) -> bool
+        ensures { IsTrue result → Self.CloneIn.kind.is_held a.now.memory self.now };
+}
+
+impl CheckedKey for u32 {
+    fn is_key_small() -> bool {
+        true
+    }
+
+    fn is_key_held<C: ChunkSource>(&self, _a: &Allocator<C>) -> bool {
+        true
+    }
+}
+
+impl CheckedKey for Str {
+    fn is_key_small() -> bool {
+        true
+    }
+
+    fn is_key_held<C: ChunkSource>(&self, a: &Allocator<C>) -> bool {
+        a.is_held_place(self.block)
+    }
+}
+
+// Whether keys and values of a map may be read, at every depth.
+fn are_held<K: CheckedKey, V: Checked + Item, C: ChunkSource>(
+    map: &HashMap<K, V>,
+    a: &Allocator<C>,
+) -> bool
+    requires { IsKept (kind K.Item K.key V.Item ⟦<FxHasher as KeyHasher>⟧.hash_of) a.now.memory map.now }
+    ensures { IsTrue result → (map_of (kind K.Item K.key V.Item ⟦<FxHasher as KeyHasher>⟧.hash_of)
+        K.kind V.kind).is_held a.now.memory map.now }
+{
+    for slot in 0..map.table.slots {
+        let Some(pair) = map.pair_at(a, slot) else {
+            continue;
+        };
+        if !pair.0.is_key_held(a) || !pair.1.is_held(a) {
+            return false;
+        }
+    }
+    true
+}
+
+// A map in an arena of its own. It always stands there.
+#[derive(Drop)]
+pub struct Kept<K: CheckedKey, V: Checked + Item> {
+    a: Allocator<MemoryChunks>,
+    map: HashMap<K, V>,
+}
+
+impl<K: CheckedKey, V: Checked + Item> Model for Kept<K, V> {
+    ghost Value = { Unit {0} };
+
+    ghost view = { λ s. tt };
+
+    ghost invariant = { λ s. IsKept
+        (kind K.Item K.key V.Item ⟦<FxHasher as KeyHasher>⟧.hash_of) s.a.memory s.map };
+}
+
+impl<K: CheckedKey, V: Checked + Item> Kept<K, V> {
+    // An empty map with room for so many pairs.
+    pub fn with_capacity(rt: &impl Abort, alloc: Global, capacity: u64) -> Kept<K, V> {
+        assert!(rt; K::SIZE <= 1 << 24 && V::SIZE <= 1 << 24);
+        let mut a = ample(alloc);
+        let map = HashMap::with_capacity_in(capacity, &mut a).expect(rt, "room");
+        Kept { a, map }
+    }
+
+    // A copy in another arena.
+    pub fn copied(&self, rt: &impl Abort, ids: CloneInSemanticIds, alloc: Global) -> Kept<K, V> {
+        assert!(rt; K::is_key_small() && V::is_small());
+        assert!(rt; are_held(&self.map, &self.a));
+        let mut to = ample(alloc);
+        let map = self
+            .map
+            .clone_in_impl(ids, &self.a, &mut to)
+            .expect(rt, "a copy");
+        Kept { a: to, map }
+    }
+
+    // A copy in the same arena takes the map's place.
+    pub fn copy_within(&mut self, rt: &impl Abort, ids: CloneInSemanticIds) {
+        assert!(rt; K::is_key_small() && V::is_small());
+        assert!(rt; are_held(&self.map, &self.a));
+        let map = self.map.clone_within(ids, &mut self.a).expect(rt, "a copy");
+        self.map = map;
+    }
+
+    pub fn len(&self) -> u32 {
+        self.map.len()
+    }
+
+    pub fn slots(&self) -> u64 {
+        self.map.table.slots
+    }
+
+    pub fn table_addr(&self) -> u64 {
+        self.map.table.block.addr
+    }
+
+    pub fn used_bytes(&self) -> u64 {
+        self.a.used_bytes()
+    }
+}
+
+impl Kept<u32, u32> {
+    pub fn put(&mut self, rt: &impl Abort, key: u32, value: u32) {
+        self.map.insert(&mut self.a, key, value).expect(rt, "room");
+    }
+
+    pub fn take(&mut self, key: u32) -> Option<u32> {
+        self.map.remove(&mut self.a, key)
+    }
+
+    pub fn get(&self, key: u32) -> Option<u32> {
+        self.map.get(&self.a, key)
+    }
+}
+
+impl Kept<u32, Box<u64>> {
+    // Places a number, and puts its box.
+    pub fn put_box(&mut self, rt: &impl Abort, key: u32, number: u64) {
+        let value = Box::new_in(number, &mut self.a).expect(rt, "a box");
+        self.map.insert(&mut self.a, key, value).expect(rt, "room");
+    }
+
+    pub fn number(&self, rt: &impl Abort, key: u32) -> Option<u64> {
+        match self.map.get(&self.a, key) {
+            Some(value) => Some(read(rt, &self.a, value)),
+            None => None,
+        }
+    }
+}
+
+impl Kept<Str, Str> {
+    // Places two texts, and puts them as a pair.
+    pub fn put_text(&mut self, rt: &impl Abort, key: &str, value: &str) {
+        let value = self.a.alloc_str(value).expect(rt, "a text");
+        let key = self.a.alloc_str(key).expect(rt, "a text");
+        self.map.insert(&mut self.a, key, value).expect(rt, "room");
+    }
+
+    // Whether a text is a key, and this text its value.
+    pub fn has_text(&mut self, rt: &impl Abort, key: &str, value: &str) -> bool {
+        let key = self.a.alloc_str(key).expect(rt, "a text");
+        let Some(found) = self.map.get(&self.a, key) else {
+            return false;
+        };
+        assert!(rt; self.a.is_held_place(found.block));
+        self.a.read(found.block) == value.as_bytes()
+    }
+}

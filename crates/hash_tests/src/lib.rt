@@ -1,5 +1,0 @@
-//! Tests of maps and sets by their public calls alone.
-#![tactic(auto)]
-
-#[cfg(test)]
-mod tests;

@@ -1,5 +1,0 @@
-//! Tests of texts and bit sets by their public calls alone: worked examples, one call of each, refusals in the midst.
-#![tactic(auto)]
-
-#[cfg(test)]
-mod tests;
