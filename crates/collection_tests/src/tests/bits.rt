@@ -377,8 +377,8 @@ fn sets_refused(rt: HostRuntime) {
     let mut set = set_of(&rt, &mut a, 65, &[64]);
     let other = set_of(&rt, &mut a, 100, &[1, 99]);
     same(&rt, (a.used_bytes(), a.capacity()), (32, 32));
-    for capacity in [1, u64::MAX] {
-        refused(&rt, &mut a, capacity, 0);
+    for capacity in &[1, u64::MAX] {
+        refused(&rt, &mut a, *capacity, 0);
     }
     join(&rt, &mut a, &mut set, other);
     walks(&rt, &a, &set, &[1, 64]);
@@ -391,8 +391,8 @@ fn sets_refused(rt: HostRuntime) {
 #[test]
 fn sets_refused_by_the_source(rt: HostRuntime) {
     let mut a = limited(rt.alloc(), 20_000);
-    for capacity in [1 << 20, u64::MAX] {
-        refused(&rt, &mut a, capacity, 1);
+    for capacity in &[1 << 20, u64::MAX] {
+        refused(&rt, &mut a, *capacity, 1);
     }
     let set = set_of(&rt, &mut a, 3, &[1]);
     walks(&rt, &a, &set, &[1]);

@@ -94,6 +94,20 @@ pub(super) fn text_of<C: ChunkSource>(a: &mut Allocator<C>, how: &Make) -> Grown
 // A step, and the bytes and the capacity then.
 type Row = (Step, &'static str, u64);
 
+// Takes a step, which answers this. The bytes and the capacity then.
+fn takes<C: ChunkSource>(
+    rt: &impl Abort,
+    a: &mut Allocator<C>,
+    text: &mut StringBuilder,
+    step: &Step,
+    wanted: Grown<()>,
+    bytes: &str,
+    cap: u64,
+) {
+    same_at(rt, bytes, take(rt, a, text, step), wanted);
+    has(rt, a, *text, bytes.as_bytes(), cap);
+}
+
 // Takes steps in a row, which all answer this.
 fn runs<C: ChunkSource>(
     rt: &impl Abort,
@@ -103,8 +117,7 @@ fn runs<C: ChunkSource>(
     rows: &[Row],
 ) {
     for (step, bytes, cap) in rows {
-        same_at(rt, *bytes, take(rt, a, text, step), wanted);
-        has(rt, a, *text, bytes.as_bytes(), *cap);
+        takes(rt, a, text, step, wanted, bytes, *cap);
     }
 }
 
@@ -244,10 +257,8 @@ fn built(rt: HostRuntime) {
 fn grows(rt: &impl Abort, alloc: Global, room: u64, more: u64, cap: u64) {
     let mut a = ample(alloc);
     let mut text = text_of(&mut a, &Make::Room(room)).expect(rt, "room");
-    for (n, cap) in [(0, room), (more, cap)] {
-        same(rt, take(rt, &mut a, &mut text, &Step::Room(n)), Ok(()));
-        has(rt, &a, text, b"", cap);
-    }
+    takes(rt, &mut a, &mut text, &Step::Room(0), Ok(()), "", room);
+    takes(rt, &mut a, &mut text, &Step::Room(more), Ok(()), "", cap);
 }
 
 #[test]
@@ -261,10 +272,9 @@ fn grown(rt: HostRuntime) {
 fn stays(rt: &impl Abort, alloc: Global, n: u64, why: AllocError) {
     let mut a = limited(alloc, 1 << 20);
     let mut text = text_of(&mut a, &Make::Text("abc")).expect(rt, "room");
-    for step in [Step::Room(n), Step::Times(b'x', n)] {
-        same(rt, take(rt, &mut a, &mut text, &step), Err(why));
-        has(rt, &a, text, b"abc", 3);
-    }
+    takes(rt, &mut a, &mut text, &Step::Room(n), Err(why), "abc", 3);
+    let times = Step::Times(b'x', n);
+    takes(rt, &mut a, &mut text, &times, Err(why), "abc", 3);
 }
 
 #[test]
@@ -347,13 +357,11 @@ fn between(rt: &impl Abort, alloc: Global, c: char, utf8: &[u8], before: usize) 
     let mut a = ample(alloc);
     let mut text = StringBuilder::new_in();
     assert!(rt; before <= 9);
-    for step in [
-        Step::Times(b'<', before as u64),
-        Step::Char(c),
-        Step::Times(b'>', (9 - before) as u64),
-    ] {
-        take(rt, &mut a, &mut text, &step).expect(rt, "room");
-    }
+    let times = Step::Times(b'<', before as u64);
+    take(rt, &mut a, &mut text, &times).expect(rt, "room");
+    take(rt, &mut a, &mut text, &Step::Char(c)).expect(rt, "room");
+    let times = Step::Times(b'>', (9 - before) as u64);
+    take(rt, &mut a, &mut text, &times).expect(rt, "room");
     assert!(rt; text.is_held(&a));
     let bytes = text.as_bytes(&a);
     assert!(rt; utf8.len() <= 4);

@@ -109,16 +109,8 @@ impl<K: CheckedKey, V: Checked + Item> Kept<K, V> {
         self.map = map;
     }
 
-    pub fn len(&self) -> u32 {
-        self.map.len()
-    }
-
-    pub fn slots(&self) -> u64 {
-        self.map.table.slots
-    }
-
-    pub fn table_addr(&self) -> u64 {
-        self.map.table.block.addr
+    pub fn handle(&self) -> HashMap<K, V> {
+        self.map
     }
 
     pub fn used_bytes(&self) -> u64 {

@@ -15,11 +15,11 @@ fn ids_with_and_without(rt: HostRuntime) {
     let mut from = ample(rt.alloc());
     let mut to = ample(rt.alloc());
     let ids = Vec::from_array_in([SemanticId(9), SemanticId(7)], &mut from).expect(&rt, "ids");
-    for (how, one, two) in [(Without, 0, 0), (With, 9, 7)] {
-        let wanted = [SemanticId(one), SemanticId(two)];
-        let copied = copy(&rt, &ids, &By::CloneInImpl(how), &from, &mut to);
+    for (how, one, two) in &[(Without, 0, 0), (With, 9, 7)] {
+        let wanted = [SemanticId(*one), SemanticId(*two)];
+        let copied = copy(&rt, &ids, &By::CloneInImpl(*how), &from, &mut to);
         assert!(rt; is_list(&rt, &to, copied, &wanted));
-        let within = copy_within(&rt, &ids, how, &mut from);
+        let within = copy_within(&rt, &ids, *how, &mut from);
         assert!(rt; is_list(&rt, &from, within, &wanted));
         assert!(rt; within.raw.block.addr != ids.raw.block.addr);
     }

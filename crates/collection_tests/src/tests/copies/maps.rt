@@ -13,10 +13,10 @@ fn maps_of_boxes(rt: HostRuntime) {
         map.put_box(&rt, i, i as u64 * 7);
     }
     let other = map.copied(&rt, Without, rt.alloc());
-    let before = map.table_addr();
+    let before = map.handle().table.block.addr;
     map.copy_within(&rt, With);
-    assert!(rt; map.table_addr() != before);
-    assert!(rt; other.len() == 300 && map.len() == 300);
+    assert!(rt; map.handle().table.block.addr != before);
+    assert!(rt; other.handle().len() == 300 && map.handle().len() == 300);
     for i in 0..300u32 {
         same(&rt, other.number(&rt, i), Some(i as u64 * 7));
         same(&rt, map.number(&rt, i), Some(i as u64 * 7));
@@ -42,7 +42,7 @@ fn has_first(map: &Kept<u32, u32>, count: u32) -> bool {
             return false;
         }
     }
-    map.len() == count && map.get(count).is_none()
+    map.handle().len() == count && map.get(count).is_none()
 }
 
 // How many pairs are put, how many of them stay, and the slots of a copy's table: a new one for as many.
@@ -63,10 +63,10 @@ const ROWS: &[(u32, u32, u64)] = &[
 fn copies(rt: &impl Abort, alloc: Global, put: u32, kept: u32, slots: u64) {
     let mut map = numbers(rt, alloc, put, kept);
     let copied = map.copied(rt, Without, alloc);
-    assert!(rt; has_first(&copied, kept) && copied.slots() == slots);
+    assert!(rt; has_first(&copied, kept) && copied.handle().table.slots == slots);
     same(rt, copied.used_bytes(), slots.wrapping_mul(9));
     map.copy_within(rt, With);
-    assert!(rt; has_first(&map, kept) && map.slots() == slots);
+    assert!(rt; has_first(&map, kept) && map.handle().table.slots == slots);
     map.put(rt, 1000, 1);
     assert!(rt; copied.get(1000).is_none() && map.get(1000) == Some(1));
 }

@@ -72,9 +72,8 @@ fn a_copy_in_another_arena(rt: HostRuntime) {
     let copied = copy(&rt, &source, BY, &from, &mut to);
     assert!(rt; is_tree(&rt, &to, copied));
     same(&rt, copied.capacity(), 3);
-    for (i, capacity) in [(0, 2), (1, 0)] {
-        same(&rt, at(&rt, &to, copied, i).capacity(), capacity);
-    }
+    same(&rt, at(&rt, &to, copied, 0).capacity(), 2);
+    same(&rt, at(&rt, &to, copied, 1).capacity(), 0);
     from.reset();
     assert!(rt; is_tree(&rt, &to, copied));
 }

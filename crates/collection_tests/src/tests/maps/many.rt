@@ -57,9 +57,9 @@ fn halved<S: KeyHasher + Copy>(rt: &impl Abort, alloc: Global, n: u32, step: u32
 // However the keys are hashed, the answers are the same.
 #[test]
 fn many_pairs(rt: HostRuntime) {
-    for step in [CLOSE, WIDE] {
-        halved::<FxHasher>(&rt, rt.alloc(), 1000, step);
-        halved::<Zero>(&rt, rt.alloc(), 1000, step);
-    }
+    halved::<FxHasher>(&rt, rt.alloc(), 1000, CLOSE);
+    halved::<Zero>(&rt, rt.alloc(), 1000, CLOSE);
+    halved::<FxHasher>(&rt, rt.alloc(), 1000, WIDE);
+    halved::<Zero>(&rt, rt.alloc(), 1000, WIDE);
     halved::<FxHasher>(&rt, rt.alloc(), 1_000_000, WIDE);
 }
