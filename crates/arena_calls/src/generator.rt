@@ -4,6 +4,5 @@ mod run;
 mod summary;
 mod tally;
 
-#[cfg(test)]
 pub use calls::Draws;
 pub use run::run_generated;

@@ -11,12 +11,11 @@ mod printing;
 mod replies;
 mod status;
 mod streams;
-#[cfg(test)]
-mod tests;
 mod whole_run;
 
 pub use arguments::is_one_word;
 pub use budget::{Budgeted, program_chunks};
+pub use generator::Draws;
 pub use line_parts::LinesErr;
 pub use lines::parse_calls;
 pub use messages::exit_with;

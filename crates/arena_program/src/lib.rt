@@ -9,8 +9,6 @@ mod pools;
 mod program;
 mod run;
 mod tasks;
-#[cfg(test)]
-mod tests;
 mod told;
 mod whole;
 

@@ -8,8 +8,6 @@ pub mod laws;
 mod outcomes;
 mod parse;
 mod replies;
-#[cfg(test)]
-mod tests;
 
 pub use commands::read_command;
 pub use line_parts::LinesErr;

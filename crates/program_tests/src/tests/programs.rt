@@ -1,14 +1,12 @@
 // The program whole, by its words.
-use super::{FIRST, FIRST_REPLIES, same};
-use crate::budget::program_maker;
-use crate::program::run_program;
 use arena_calls::{MemoryInput, MemoryOutput, program_chunks};
 use arena_chunks::Arena;
+use arena_program::{program_maker, run_program};
 use arena_script::Engine;
 use std::alloc::Global;
 use std::env::Args;
 use std::io;
-use std::process::ExitCode;
+use std::process::{Abort, ExitCode};
 use std::sync::Wait;
 use std::test::Fail;
 use std::thread::Threads;
@@ -19,6 +17,14 @@ struct Ended {
     status: ExitCode,
     text: Vec<u8>,
     messages: Vec<u8>,
+}
+
+impl Ended {
+    fn is(&self, (status, text, messages): (u8, &str, &str)) -> bool {
+        self.status == ExitCode::from(status)
+            && self.text.as_slice() == text.as_bytes()
+            && self.messages.as_slice() == messages.as_bytes()
+    }
 }
 
 fn run_words<R: Threads + Wait + Sync>(
@@ -62,6 +68,12 @@ fn args(alloc: Global, words: &[&str]) -> Result<Args, Fail> {
     }
     Ok(args.into_iter())
 }
+
+const FIRST: &str = "\
+script\nlist 1\npush 1 5\npush 1 6\nat 1 1\nat 1 2\nlist 1\ntext 2\nbyte 2 104\nbyte 2 200\nshow 2\npop 2\n";
+
+const FIRST_REPLIES: &str = "\
+script 0\ndone\ndone\ndone\nnumber 6\nout of range\nname taken\ndone\ndone\nnot ascii\nbytes 68\nwrong kind\nended done\n";
 
 const USAGE: &str =
     "usage: arena_run calls | gen START COUNT | scripts WORKERS [fixed BYTES ARENAS | keep BYTES] | lint WORKERS\n";
@@ -260,11 +272,11 @@ fn programs_by_their_words(rt: HostRuntime) -> Result<(), Fail> {
     let alloc = rt.alloc();
     for rows in [CALLS.as_slice(), SCRIPTS.as_slice()] {
         for (words, input, fail, status, text, messages) in rows {
-            let args = args(alloc, words)?;
-            let ended = run_words(&rt, alloc, Ok(args), input, fail)?;
-            assert!(rt; ended.status == ExitCode::from(*status));
-            same(&rt, ended.text.as_slice(), text.as_bytes());
-            same(&rt, ended.messages.as_slice(), messages.as_bytes());
+            let ended = run_words(&rt, alloc, Ok(args(alloc, words)?), input, fail)?;
+            assert!(rt;
+                ended.is((*status, text, messages)),
+                "{words:?} {input:?} {fail:?}"
+            );
         }
     }
     Ok(())
@@ -274,10 +286,8 @@ fn programs_by_their_words(rt: HostRuntime) -> Result<(), Fail> {
 fn words_that_ask_for_nothing(rt: HostRuntime) -> Result<(), Fail> {
     let alloc = rt.alloc();
     for words in NOTHING {
-        let args = args(alloc, words)?;
-        let ended = run_words(&rt, alloc, Ok(args), FIRST, &[])?;
-        assert!(rt; ended.status == ExitCode::from(1), "{words:?}");
-        same(&rt, ended.text.len(), 0);
+        let ended = run_words(&rt, alloc, Ok(args(alloc, words)?), FIRST, &[])?;
+        assert!(rt; ended.is((1, "", USAGE)), "{words:?}");
     }
     Ok(())
 }
@@ -289,9 +299,7 @@ fn words_that_are_not_told(rt: HostRuntime) -> Result<(), Fail> {
         (io::ErrorKind::InvalidData, 1, USAGE),
     ] {
         let ended = run_words(&rt, rt.alloc(), Err(io::Error::from(kind)), "used\n", &[])?;
-        assert!(rt; ended.status == ExitCode::from(status));
-        same(&rt, ended.text.len(), 0);
-        same(&rt, ended.messages.as_slice(), messages.as_bytes());
+        assert!(rt; ended.is((status, "", messages)));
     }
     Ok(())
 }

@@ -2,8 +2,7 @@
 mod commands;
 mod outcomes;
 
-use crate::parse::parse_scripts;
-use line_parts::LinesErr;
+use script_lines::{LinesErr, parse_scripts};
 use script_rules::Script;
 use std::alloc::{AllocError, Global};
 use std::test::Fail;

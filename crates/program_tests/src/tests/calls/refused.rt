@@ -1,6 +1,5 @@
 // Lines that are calls, and lines that aren't.
-use super::{Ended, run};
-use crate::status::Status;
+use super::{Asked, CALLS, ends_so};
 use std::test::Fail;
 
 // An input, and the number of its first refused line.
@@ -85,10 +84,12 @@ const REFUSED: [&[Refused]; 7] = [
 #[test]
 fn refused_lines(rt: HostRuntime) -> Result<(), Fail> {
     for rows in REFUSED {
-        for (input, wanted) in rows {
-            let Ended { status, text } = run(rt.alloc(), input.as_bytes())?;
-            let is_named = matches!(status, Status::BadLine(n) if n == *wanted);
-            assert!(rt; is_named && text.is_empty(), "{input:?}");
+        for (input, n) in rows {
+            let asked = Asked {
+                text: input.as_bytes(),
+                ..CALLS
+            };
+            ends_so(&rt, rt.alloc(), &asked, (2, *n, b""))?;
         }
     }
     Ok(())

@@ -1,12 +1,6 @@
 // Calls from a number, and what their replies come to.
-use super::words;
-use crate::generator::Draws;
-use crate::lines::parse_calls;
-use crate::status::Status;
-use crate::streams::{MemoryInput, MemoryOutput};
-use crate::whole_run::arena_calls;
-use arena_chunks::{Arena, MemoryChunks};
-use std::alloc::{AllocError, Global};
+use super::{Asked, CALLS, ends_so};
+use arena_calls::{Draws, parse_calls};
 use std::test::Fail;
 
 // A start, how many calls, and their lines.
@@ -38,43 +32,13 @@ fn first_calls_of_a_start(rt: HostRuntime) -> Result<(), Fail> {
     let alloc = rt.alloc();
     for (start, count, lines) in FIRST {
         let mut draws = Draws::new(alloc, *start);
-        let Ok(told) = parse_calls(alloc, lines.as_bytes()) else {
-            return Err(Fail::from(AllocError));
-        };
+        let told = parse_calls(alloc, lines.as_bytes())?;
         assert_eq!(rt; told.len(), *count);
-        for i in 0..*count {
-            let call = draws.call(i);
-            assert_eq!(rt; call, told[i]);
+        for (i, wanted) in told.iter().enumerate() {
+            assert!(rt; draws.call(i) == *wanted, "call {i} from {start}");
         }
     }
     Ok(())
-}
-
-// How a run ended, and what it wrote.
-#[derive(Drop)]
-struct Ended {
-    status: Status,
-    text: Vec<u8>,
-}
-
-// A run over a new arena, whose input's first read fails, and whose listed writes of 4 bytes fail.
-fn run(alloc: Global, list: &[&str], fail: &[u64]) -> Result<Ended, Fail> {
-    let words = words(alloc, list)?;
-    let mut arena = Arena::<1>::new(alloc);
-    let mut chunks = MemoryChunks::new(alloc, 1 << 30);
-    let used = b"used".to_vec(alloc)?;
-    let mut input = MemoryInput::new(alloc, used, 4096, vec![in alloc; 1]?);
-    let mut output = MemoryOutput::new(alloc, 4, fail.to_vec(alloc)?);
-    let status = arena_calls(
-        alloc,
-        words.as_slice(),
-        &mut arena,
-        &mut chunks,
-        &mut input,
-        &mut output,
-    );
-    let text = output.bytes().to_vec(alloc)?;
-    Ok(Ended { status, text })
 }
 
 // The words, and the eight lines.
@@ -117,16 +81,24 @@ const ROWS: &[(&[&str], &str)] = &[
 // The input isn't read: its first read would fail.
 #[test]
 fn summaries_that_the_rules_give(rt: HostRuntime) -> Result<(), Fail> {
-    for (list, lines) in ROWS {
-        let Ended { status, text } = run(rt.alloc(), list, &[])?;
-        assert!(rt; matches!(status, Status::Done));
-        assert_eq!(rt; text.as_slice(), lines.as_bytes());
+    for (words, lines) in ROWS {
+        let asked = Asked {
+            words,
+            reads: &[1],
+            ..CALLS
+        };
+        ends_so(&rt, rt.alloc(), &asked, (0, 0, lines.as_bytes()))?;
     }
     Ok(())
 }
 
 // Words that ask for nothing.
 const OTHERS: &[&[&str]] = &[
+    &[""],
+    &["call"],
+    &["calls "],
+    &["Calls"],
+    &["gen 1 1000001"],
     &["gen"],
     &["gen", "1"],
     &["gen", "1", "2", "3"],
@@ -143,11 +115,15 @@ const OTHERS: &[&[&str]] = &[
 ];
 
 #[test]
-fn other_words_make_no_calls(rt: HostRuntime) -> Result<(), Fail> {
-    for list in OTHERS {
-        let Ended { status, text } = run(rt.alloc(), list, &[])?;
-        assert!(rt; matches!(status, Status::Usage));
-        assert_eq!(rt; text.len(), 0);
+fn other_words_are_usage(rt: HostRuntime) -> Result<(), Fail> {
+    for words in OTHERS {
+        let asked = Asked {
+            words,
+            text: b"used",
+            reads: &[1],
+            ..CALLS
+        };
+        ends_so(&rt, rt.alloc(), &asked, (1, 0, b""))?;
     }
     Ok(())
 }
@@ -155,9 +131,14 @@ fn other_words_make_no_calls(rt: HostRuntime) -> Result<(), Fail> {
 #[test]
 fn a_failed_write_leaves_a_first_part(rt: HostRuntime) -> Result<(), Fail> {
     for (number, written) in [(1, ""), (2, "call"), (3, "calls 1\n")] {
-        let Ended { status, text } = run(rt.alloc(), &["gen", "0", "1"], &[number])?;
-        assert!(rt; matches!(status, Status::WriteFault));
-        assert_eq!(rt; text.as_slice(), written.as_bytes());
+        let asked = Asked {
+            words: &["gen", "0", "1"],
+            reads: &[1],
+            taken: 4,
+            writes: &[number],
+            ..CALLS
+        };
+        ends_so(&rt, rt.alloc(), &asked, (5, 0, written.as_bytes()))?;
     }
     Ok(())
 }

@@ -1,7 +1,6 @@
 // Lines of calls and the replies that the rules give.
-use super::{Ended, run, run_over};
-use crate::status::Status;
-use arena_chunks::{Arena, RefusingChunks};
+use super::{Asked, CALLS, ends_so, run_over};
+use arena_chunks::RefusingChunks;
 use std::test::Fail;
 
 // Lines of calls, and the replies that the rules give.
@@ -108,46 +107,54 @@ const ROWS: &[(&str, &str)] = &[
 #[test]
 fn replies_that_the_rules_give(rt: HostRuntime) -> Result<(), Fail> {
     for (calls, replies) in ROWS {
-        let Ended { status, text } = run(rt.alloc(), calls.as_bytes())?;
-        assert!(rt; matches!(status, Status::Done));
-        assert_eq!(rt; text.as_slice(), replies.as_bytes());
+        let asked = Asked {
+            text: calls.as_bytes(),
+            ..CALLS
+        };
+        ends_so(&rt, rt.alloc(), &asked, (0, 0, replies.as_bytes()))?;
     }
     Ok(())
 }
 
 // The requests that are refused, by number, the calls, the replies, and the requests that are told.
+const REFUSING: &[(&[u64], &str, &str, &[(u64, u64)])] = &[
+    // half the size after a refusal
+    (
+        &[2],
+        "alloc 0 16320 1 0\nalloc 1 100 1 0\n",
+        "placed 4096 refused 0\nplaced 36684 refused 1\n",
+        &[(16320, 16), (32704, 16), (16320, 16)],
+    ),
+    // no half below the least size
+    (
+        &[1],
+        "alloc 0 1 1 0\nallocated\nalloc 0 1 1 0\n",
+        "allocerr refused 1\nnumber 0\nplaced 20415 refused 0\n",
+        &[(16320, 16), (16320, 16)],
+    ),
+    // nothing asked for a size past all chunks
+    (
+        &[],
+        "alloc 0 9223372036854775807 1 0\n",
+        "allocerr refused 0\n",
+        &[],
+    ),
+];
+
 #[test]
 fn replies_where_requests_are_refused(rt: HostRuntime) -> Result<(), Fail> {
-    for (refuse, calls, replies, requests) in [
-        // half the size after a refusal
-        (
-            [2].as_slice(),
-            "alloc 0 16320 1 0\nalloc 1 100 1 0\n",
-            "placed 4096 refused 0\nplaced 36684 refused 1\n",
-            [(16320, 16), (32704, 16), (16320, 16)].as_slice(),
-        ),
-        // no half below the least size
-        (
-            &[1],
-            "alloc 0 1 1 0\nallocated\nalloc 0 1 1 0\n",
-            "allocerr refused 1\nnumber 0\nplaced 20415 refused 0\n",
-            &[(16320, 16), (16320, 16)],
-        ),
-        // nothing asked for a size past all chunks
-        (
-            &[],
-            "alloc 0 9223372036854775807 1 0\n",
-            "allocerr refused 0\n",
-            &[],
-        ),
-    ] {
-        let mut arena = Arena::<1>::new(rt.alloc());
+    for (refuse, calls, replies, requests) in REFUSING {
         let mut chunks = RefusingChunks::new(rt.alloc(), refuse.to_vec(rt.alloc())?);
-        let calls = calls.as_bytes();
-        let ended = run_over(rt.alloc(), &mut arena, &mut chunks, &["calls"], calls)?;
-        assert!(rt; matches!(ended.status, Status::Done));
-        assert_eq!(rt; ended.text.as_slice(), replies.as_bytes());
-        assert!(rt; matches!(chunks.requests(), Some(told) if told == requests));
+        let asked = Asked {
+            text: calls.as_bytes(),
+            ..CALLS
+        };
+        let ended = run_over(rt.alloc(), &mut chunks, &asked)?;
+        assert!(rt; ended.is((0, 0, replies.as_bytes())), "{calls:?}");
+        assert!(rt;
+            matches!(chunks.requests(), Some(told) if told == *requests),
+            "{calls:?}"
+        );
     }
     Ok(())
 }

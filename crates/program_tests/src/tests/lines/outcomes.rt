@@ -1,6 +1,6 @@
 // The text of outcomes.
-use crate::outcomes::put_outcomes;
 use placement::Bytes;
+use script_lines::put_outcomes;
 use script_rules::{Ended, Numbers, Outcome, Replies, ScriptReply};
 use std::alloc::{AllocError, Global};
 use std::test::Fail;

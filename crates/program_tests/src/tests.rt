@@ -1,0 +1,29 @@
+// What tests of the program share.
+mod calls;
+mod faults;
+mod lines;
+mod programs;
+mod scripts;
+
+use placement::Bytes;
+use std::alloc::Global;
+use std::test::Fail;
+
+// Words and an input. A read gives and a write takes at most so many bytes, but always one, and the listed ones fail.
+#[derive(Clone, Copy)]
+struct Asked<'a> {
+    words: &'a [&'a str],
+    text: &'a [u8],
+    given: u32,
+    reads: &'a [u64],
+    taken: u32,
+    writes: &'a [u64],
+}
+
+fn words(alloc: Global, list: &[&str]) -> Result<Vec<Bytes>, Fail> {
+    let mut words = Vec::new(alloc);
+    for word in list {
+        words.push(Bytes::of(alloc, word.as_bytes())?)?;
+    }
+    Ok(words)
+}

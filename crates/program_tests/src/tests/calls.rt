@@ -1,0 +1,80 @@
+// The words `calls` and `gen`.
+mod endings;
+mod generated;
+mod refused;
+mod replies;
+
+use super::{Asked, words};
+use arena_calls::{MemoryInput, MemoryOutput, Status, arena_calls};
+use arena_chunks::{Arena, ChunkSource, MemoryChunks};
+use std::alloc::Global;
+use std::process::Abort;
+use std::test::Fail;
+
+// How a run ended, and what it wrote.
+#[derive(Drop, Debug)]
+struct Ended {
+    status: Status,
+    text: Vec<u8>,
+}
+
+impl Ended {
+    // The status of this code, the number of the refused line or 0, and what was written.
+    fn is(&self, (code, line, text): (u8, u64, &[u8])) -> bool {
+        let refused = match self.status {
+            Status::BadLine(n) => n,
+            _ => 0,
+        };
+        self.status.code() == code && refused == line && self.text.as_slice() == text
+    }
+}
+
+// Runs over a new arena and a source.
+fn run_over<C: ChunkSource>(alloc: Global, chunks: &mut C, asked: &Asked) -> Result<Ended, Fail> {
+    let words = words(alloc, asked.words)?;
+    let mut arena = Arena::<1>::new(alloc);
+    let text = asked.text.to_vec(alloc)?;
+    let mut input = MemoryInput::new(alloc, text, asked.given.max(1), asked.reads.to_vec(alloc)?);
+    let mut output = MemoryOutput::new(alloc, asked.taken.max(1), asked.writes.to_vec(alloc)?);
+    let status = arena_calls(
+        alloc,
+        words.as_slice(),
+        &mut arena,
+        chunks,
+        &mut input,
+        &mut output,
+    );
+    let text = output.bytes().to_vec(alloc)?;
+    Ok(Ended { status, text })
+}
+
+// With ample memory.
+fn run(alloc: Global, asked: &Asked) -> Result<Ended, Fail> {
+    run_over(alloc, &mut MemoryChunks::new(alloc, 1 << 30), asked)
+}
+
+fn ends_so(
+    rt: &impl Abort,
+    alloc: Global,
+    asked: &Asked,
+    wanted: (u8, u64, &[u8]),
+) -> Result<(), Fail> {
+    let ended = run(alloc, asked)?;
+    assert!(rt;
+        ended.is(wanted),
+        "{:?} for {:?}",
+        ended.status,
+        asked.words
+    );
+    Ok(())
+}
+
+// No read and no write fails.
+const CALLS: Asked<'static> = Asked {
+    words: &["calls"],
+    text: b"",
+    given: 4096,
+    reads: &[],
+    taken: 4096,
+    writes: &[],
+};

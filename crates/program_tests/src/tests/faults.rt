@@ -1,0 +1,232 @@
+// Scripts and sources on two workers, where reads and writes fail.
+use super::{Asked, words};
+use arena_calls::{MemoryInput, MemoryOutput};
+use arena_chunks::{Arena, ChunkSource, MemoryChunks};
+use arena_pool::MemoryMaker;
+use arena_program::arena_main;
+use arena_script::Engine;
+use script_workers::Starved;
+use std::alloc::Global;
+use std::process::Abort;
+use std::sync::Wait;
+use std::test::Fail;
+use std::thread::Threads;
+
+// The exit status, what was written, the numbers of the scripts or the sources that were starved, by a source that has refused,
+// and the bytes of the arena at hand.
+#[derive(Drop)]
+struct Ended {
+    code: u8,
+    text: Vec<u8>,
+    starved: Vec<u32>,
+    allocated: u64,
+}
+
+impl Ended {
+    // So many bytes of these lines were written, and these were starved. The arena at hand is never used.
+    fn is(&self, (code, lines, written, starved): (u8, &str, usize, &[u32])) -> bool {
+        self.code == code
+            && self.text.len() == written
+            && lines.as_bytes().starts_with(self.text.as_slice())
+            && self.starved.as_slice() == starved
+            && self.allocated == 0
+    }
+}
+
+// The numbers of those that were refused.
+fn refused<C: ChunkSource + Drop>(
+    alloc: Global,
+    starved: Vec<(u32, Starved<C>)>,
+) -> Result<Vec<u32>, Fail> {
+    let mut numbers = Vec::new(alloc);
+    for (number, shown) in starved {
+        if let Starved::Refused(_) = shown {
+            numbers.push(number)?;
+        }
+    }
+    Ok(numbers)
+}
+
+// Runs over arenas with a budget of bytes.
+fn run<R: Threads + Wait + Sync>(
+    rt: &R,
+    alloc: Global,
+    budget: u64,
+    asked: &Asked,
+) -> Result<Ended, Fail> {
+    let words = words(alloc, asked.words)?;
+    let text = asked.text.to_vec(alloc)?;
+    let mut arena = Arena::<1>::new(alloc);
+    let mut chunks = MemoryChunks::new(alloc, 1 << 30);
+    let mut input = MemoryInput::new(alloc, text, asked.given.max(1), asked.reads.to_vec(alloc)?);
+    let mut output = MemoryOutput::new(alloc, asked.taken.max(1), asked.writes.to_vec(alloc)?);
+    let mut starved = Vec::new(alloc);
+    let status = arena_main(
+        rt,
+        alloc,
+        words.as_slice(),
+        &mut arena,
+        &mut chunks,
+        &mut input,
+        &mut output,
+        MemoryMaker::new(alloc, budget),
+        &Engine,
+        &mut starved,
+    );
+    Ok(Ended {
+        code: status.code(),
+        text: output.bytes().to_vec(alloc)?,
+        starved: refused(alloc, starved)?,
+        allocated: arena.allocated_bytes(),
+    })
+}
+
+fn ends_so<R: Threads + Wait + Sync + Abort>(
+    rt: &R,
+    alloc: Global,
+    budget: u64,
+    asked: &Asked,
+    wanted: (u8, &str, usize, &[u32]),
+) -> Result<(), Fail> {
+    let ended = run(rt, alloc, budget, asked)?;
+    assert!(rt;
+        ended.is(wanted),
+        "reads {:?}, writes {:?}",
+        asked.reads,
+        asked.writes
+    );
+    Ok(())
+}
+
+// Reads give 30 bytes of 61, so the fourth one meets the end; writes take 7 bytes of 81.
+const SCRIPTS: Asked<'static> = Asked {
+    words: &["scripts", "2"],
+    text: b"script\nlist 1\npush 1 1\nscript\nlist 1\nscript\n\nlist 1\npush 1 1\n",
+    given: 30,
+    reads: &[],
+    taken: 7,
+    writes: &[],
+};
+
+// Where no arena may have a chunk, each script that asks for bytes is starved.
+const STARVED_SCRIPTS: &str =
+    "script 0\ndone\nended refused\nscript 1\ndone\nended done\nscript 2\ndone\nended refused\n";
+
+// A source with two findings, and one that is no program. Reads give one byte of 35.
+const SOURCES: Asked<'static> = Asked {
+    words: &["lint", "2"],
+    text: b"let a = 1;\n{\nlet a = b;\n}\n%%\na + ;\n",
+    given: 1,
+    reads: &[],
+    taken: 7,
+    writes: &[],
+};
+
+const REPORTS: &str = "source 0\nundefined b\nshadowed a\nsource 1\nsyntax error at 4\n";
+
+const STARVED_REPORTS: &str = "source 0\nrefused\nsource 1\nsyntax error at 4\n";
+
+// The reads and the writes that fail, the status, how many bytes were written, and which were starved.
+type Fault = (&'static [u64], &'static [u64], u8, usize, &'static [u32]);
+
+const OF_SCRIPTS: &[Fault] = &[
+    (&[1], &[], 4, 0, &[]),
+    (&[3], &[], 4, 0, &[]),
+    (&[4], &[], 4, 0, &[]),
+    (&[5], &[], 0, 81, &[0, 2]),
+    (&[], &[1], 5, 0, &[0, 2]),
+    (&[], &[2], 5, 7, &[0, 2]),
+    (&[], &[12], 5, 77, &[0, 2]),
+    (&[], &[13], 0, 81, &[0, 2]),
+];
+
+const OF_SOURCES: &[Fault] = &[
+    (&[36], &[], 4, 0, &[]),
+    (&[], &[1], 5, 0, &[0]),
+    (&[], &[2], 5, 7, &[0]),
+    (&[], &[7], 5, 42, &[0]),
+    (&[], &[8], 0, 44, &[0]),
+];
+
+// What is starved is told where writes fail.
+#[test]
+fn starved_where_reads_and_writes_fail(rt: HostRuntime) -> Result<(), Fail> {
+    for (plain, lines, faults) in [
+        (SCRIPTS, STARVED_SCRIPTS, OF_SCRIPTS),
+        (SOURCES, STARVED_REPORTS, OF_SOURCES),
+    ] {
+        for (reads, writes, code, written, starved) in faults {
+            let asked = Asked {
+                reads,
+                writes,
+                ..plain
+            };
+            ends_so(
+                &rt,
+                rt.alloc(),
+                0,
+                &asked,
+                (*code, lines, *written, starved),
+            )?;
+        }
+    }
+    Ok(())
+}
+
+// The sources have 35 bytes, so the 36th read meets the end.
+#[test]
+fn each_read_of_sources_fails_in_turn(rt: HostRuntime) -> Result<(), Fail> {
+    for n in 1..=37 {
+        let asked = Asked {
+            reads: &[n],
+            ..SOURCES
+        };
+        let (code, written) = if n <= 36 { (4, 0) } else { (0, 59) };
+        ends_so(
+            &rt,
+            rt.alloc(),
+            1 << 20,
+            &asked,
+            (code, REPORTS, written, &[]),
+        )?;
+    }
+    Ok(())
+}
+
+// The lines of the reports have 59 bytes, which take nine writes.
+#[test]
+fn each_write_of_reports_fails_in_turn(rt: HostRuntime) -> Result<(), Fail> {
+    for n in 1..=10u64 {
+        let asked = Asked {
+            writes: &[n],
+            ..SOURCES
+        };
+        let (code, written) = if n <= 9 {
+            (5, 7 * (n as usize - 1))
+        } else {
+            (0, 59)
+        };
+        ends_so(
+            &rt,
+            rt.alloc(),
+            1 << 20,
+            &asked,
+            (code, REPORTS, written, &[]),
+        )?;
+    }
+    Ok(())
+}
+
+#[test]
+fn the_longest_input_and_one_byte_more(rt: HostRuntime) -> Result<(), Fail> {
+    for (size, code) in [(16_777_216, 0), (16_777_217, 6)] {
+        let feeds = vec![in rt.alloc(); b'\n'; size]?;
+        let asked = Asked {
+            text: feeds.as_slice(),
+            given: 1 << 20,
+            ..SCRIPTS
+        };
+        ends_so(&rt, rt.alloc(), 1 << 20, &asked, (code, "", 0, &[]))?;
+    }
+    Ok(())
+}

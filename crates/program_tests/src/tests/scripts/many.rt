@@ -1,0 +1,159 @@
+// A thousand objects of all kinds: each is made, changed and copied, then let go while its copy is shown, and at last all copies
+// are let go.
+use super::engine::{fixed, refusing, run};
+use arena_chunks::{Allocator, MemoryChunks};
+use placement::OutOfMemory;
+use plain_scripts::PlainScripts;
+use script_rules::{Command, Ended, Outcome, Script, ScriptReply};
+use std::alloc::Global;
+use std::test::Fail;
+
+const OBJECTS: u32 = 1000;
+
+// Five objects, one of each kind, cost 24 + 24, 36 + 36, 15 + 15, 256 + 256 and 15 + 15 with their copies. Both have 4, 1, 8, 8
+// and 8 bytes at least.
+const COST: u64 = 200 * (48 + 72 + 30 + 512 + 30);
+
+const LEAST: u64 = 200 * 2 * (4 + 1 + 8 + 8 + 8);
+
+// How a name gets an object of a kind, which has one item then.
+fn made(name: u32) -> [Command; 2] {
+    match name % 5 {
+        0 => [
+            Command::MakeList { name },
+            Command::Push { name, value: name },
+        ],
+        1 => [Command::MakeText { name }, Command::Byte { name, byte: 97 }],
+        2 => [
+            Command::MakeBits { name, capacity: 64 },
+            Command::SetBit { name, bit: 63 },
+        ],
+        3 => [
+            Command::MakeMap { name },
+            Command::Bind {
+                name,
+                key: name,
+                value: 7,
+            },
+        ],
+        _ => [
+            Command::MakeValue { name, value: 9 },
+            Command::Store { name, value: 5 },
+        ],
+    }
+}
+
+fn many(alloc: Global) -> Result<Script, OutOfMemory> {
+    let mut script = Script::new(alloc);
+    for name in 0..OBJECTS {
+        let [make, change] = made(name);
+        script.push(make)?;
+        script.push(change)?;
+        script.push(Command::CopyTo {
+            name,
+            other: name + OBJECTS,
+        })?;
+    }
+    for name in 0..OBJECTS {
+        script.push(Command::DropName { name })?;
+        script.push(Command::Show {
+            name: name + OBJECTS,
+        })?;
+    }
+    for name in OBJECTS..2 * OBJECTS {
+        script.push(Command::DropName { name })?;
+    }
+    Ok(script)
+}
+
+// How many replies tell numbers, bytes, a printed set, and one number.
+fn shown(outcome: &Outcome) -> (u64, u64, u64, u64) {
+    let (mut lists, mut texts, mut sets, mut values) = (0u64, 0u64, 0u64, 0u64);
+    for reply in outcome.replies.as_slice() {
+        match reply {
+            ScriptReply::Numbers(_) => lists = lists.saturating_add(1),
+            ScriptReply::Bytes(_) => texts = texts.saturating_add(1),
+            ScriptReply::Printed(_) => sets = sets.saturating_add(1),
+            ScriptReply::Number(_) => values = values.saturating_add(1),
+            _ => {}
+        }
+    }
+    (lists, texts, sets, values)
+}
+
+// What the commands cost together.
+fn sum_of(costs: &[u64]) -> u64 {
+    let mut sum = 0u64;
+    for cost in costs {
+        sum = sum.saturating_add(*cost);
+    }
+    sum
+}
+
+// Three commands for each object, two and one. Lists and maps are shown as numbers.
+#[test]
+fn a_thousand_objects(rt: HostRuntime) -> Result<(), Fail> {
+    let alloc = rt.alloc();
+    let script = many(alloc)?;
+    let plain = PlainScripts::run(alloc, &script)?;
+    assert_eq!(rt; sum_of(plain.costs.as_slice()), COST);
+    let growing = Allocator::new(alloc, MemoryChunks::new(alloc, 1 << 20));
+    let one = run(&rt, alloc, growing, &script, plain.replies.as_slice());
+    assert_eq!(rt; one.ended, Ended::Done);
+    assert_eq!(rt; one.replies.len(), 6000);
+    assert_eq!(rt; plain.replies.len(), 6000);
+    assert_eq!(rt; shown(&one), (400, 200, 200, 200));
+    assert!(rt; LEAST <= one.used && one.used <= COST, "{} bytes", one.used);
+    for step in [0u16, 1, 10, 100, 700, 8650] {
+        let two = run(
+            &rt,
+            alloc,
+            fixed(alloc, step)?,
+            &script,
+            plain.replies.as_slice(),
+        );
+        let is_full = 16 * (step as u64) < LEAST;
+        let wanted = if is_full { Ended::Full } else { Ended::Done };
+        assert!(rt;
+            two.ended == wanted,
+            "ended {:?} in {step} times 16",
+            two.ended
+        );
+    }
+    Ok(())
+}
+
+// Done with all replies, or refused before. One request alone that is refused does no harm, unless it is the first.
+fn goes_as_far(outcome: &Outcome, from: u64, count: u64) -> bool {
+    let told = outcome.replies.len();
+    match outcome.ended {
+        Ended::Done => told == 6000 && from > 1,
+        Ended::Refused if from > 1 => told < 6000 && count > 1,
+        Ended::Refused => told == 1,
+        _ => false,
+    }
+}
+
+// All requests from one on, and one alone. The first command takes nothing of the arena, and the second a block in the first chunk,
+// for which there is one request. A later chunk is asked for in two sizes.
+#[test]
+fn a_thousand_objects_and_refusals(rt: HostRuntime) -> Result<(), Fail> {
+    let alloc = rt.alloc();
+    let script = many(alloc)?;
+    let plain = PlainScripts::run(alloc, &script)?;
+    for count in [500u64, 1] {
+        let mut before = 1;
+        for from in 1..10u64 {
+            let a = refusing(alloc, from, count)?;
+            let outcome = run(&rt, alloc, a, &script, plain.replies.as_slice());
+            let told = outcome.replies.len();
+            assert!(rt;
+                goes_as_far(&outcome, from, count) && before <= told,
+                "{count} from {from} on: {told} replies, {:?}",
+                outcome.ended
+            );
+            before = told;
+        }
+    }
+    Ok(())
+}
