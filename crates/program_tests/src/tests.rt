@@ -7,10 +7,11 @@ mod scripts;
 
 use placement::Bytes;
 use std::alloc::Global;
+use std::process::Abort;
 use std::test::Fail;
 
 // Words and an input. A read gives and a write takes at most so many bytes, but always one, and the listed ones fail.
-#[derive(Clone, Copy)]
+#[derive(Drop)]
 struct Asked<'a> {
     words: &'a [&'a str],
     text: &'a [u8],
@@ -26,4 +27,9 @@ fn words(alloc: Global, list: &[&str]) -> Result<Vec<Bytes>, Fail> {
         words.push(Bytes::of(alloc, word.as_bytes())?)?;
     }
     Ok(words)
+}
+
+// It is so of this row.
+fn holds(rt: &impl Abort, is_so: bool, row: &str) {
+    assert!(rt; is_so, "{row:?}");
 }

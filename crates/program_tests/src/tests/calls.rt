@@ -4,15 +4,15 @@ mod generated;
 mod refused;
 mod replies;
 
-use super::{Asked, words};
-use arena_calls::{MemoryInput, MemoryOutput, Status, arena_calls};
-use arena_chunks::{Arena, ChunkSource, MemoryChunks};
+use super::{Asked, holds, words};
+use arena_calls::{Input, MemoryInput, MemoryOutput, Output, Status, arena_calls};
+use arena_chunks::{Arena, Bytes, ChunkSource, MemoryChunks};
 use std::alloc::Global;
 use std::process::Abort;
 use std::test::Fail;
 
 // How a run ended, and what it wrote.
-#[derive(Drop, Debug)]
+#[derive(Drop)]
 struct Ended {
     status: Status,
     text: Vec<u8>,
@@ -29,21 +29,24 @@ impl Ended {
     }
 }
 
-// Runs over a new arena and a source.
+// Does what words ask for, over a new arena and a source.
+fn serve<C: ChunkSource, I: Input, O: Output>(
+    alloc: Global,
+    words: &[Bytes],
+    chunks: &mut C,
+    input: &mut I,
+    output: &mut O,
+) -> Status {
+    let mut arena = Arena::<1>::new(alloc);
+    arena_calls(alloc, words, &mut arena, chunks, input, output)
+}
+
 fn run_over<C: ChunkSource>(alloc: Global, chunks: &mut C, asked: &Asked) -> Result<Ended, Fail> {
     let words = words(alloc, asked.words)?;
-    let mut arena = Arena::<1>::new(alloc);
     let text = asked.text.to_vec(alloc)?;
     let mut input = MemoryInput::new(alloc, text, asked.given.max(1), asked.reads.to_vec(alloc)?);
     let mut output = MemoryOutput::new(alloc, asked.taken.max(1), asked.writes.to_vec(alloc)?);
-    let status = arena_calls(
-        alloc,
-        words.as_slice(),
-        &mut arena,
-        chunks,
-        &mut input,
-        &mut output,
-    );
+    let status = serve(alloc, words.as_slice(), chunks, &mut input, &mut output);
     let text = output.bytes().to_vec(alloc)?;
     Ok(Ended { status, text })
 }
@@ -58,14 +61,10 @@ fn ends_so(
     alloc: Global,
     asked: &Asked,
     wanted: (u8, u64, &[u8]),
+    row: &str,
 ) -> Result<(), Fail> {
     let ended = run(alloc, asked)?;
-    assert!(rt;
-        ended.is(wanted),
-        "{:?} for {:?}",
-        ended.status,
-        asked.words
-    );
+    holds(rt, ended.is(wanted), row);
     Ok(())
 }
 

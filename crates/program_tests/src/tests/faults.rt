@@ -1,5 +1,5 @@
 // Scripts and sources on two workers, where reads and writes fail.
-use super::{Asked, words};
+use super::{Asked, holds, words};
 use arena_calls::{MemoryInput, MemoryOutput};
 use arena_chunks::{Arena, ChunkSource, MemoryChunks};
 use arena_pool::MemoryMaker;
@@ -89,12 +89,7 @@ fn ends_so<R: Threads + Wait + Sync + Abort>(
     wanted: (u8, &str, usize, &[u32]),
 ) -> Result<(), Fail> {
     let ended = run(rt, alloc, budget, asked)?;
-    assert!(rt;
-        ended.is(wanted),
-        "reads {:?}, writes {:?}",
-        asked.reads,
-        asked.writes
-    );
+    holds(rt, ended.is(wanted), wanted.1);
     Ok(())
 }
 
@@ -149,28 +144,28 @@ const OF_SOURCES: &[Fault] = &[
 ];
 
 // What is starved is told where writes fail.
-#[test]
-fn starved_where_reads_and_writes_fail(rt: HostRuntime) -> Result<(), Fail> {
-    for (plain, lines, faults) in [
-        (SCRIPTS, STARVED_SCRIPTS, OF_SCRIPTS),
-        (SOURCES, STARVED_REPORTS, OF_SOURCES),
-    ] {
-        for (reads, writes, code, written, starved) in faults {
-            let asked = Asked {
-                reads,
-                writes,
-                ..plain
-            };
-            ends_so(
-                &rt,
-                rt.alloc(),
-                0,
-                &asked,
-                (*code, lines, *written, starved),
-            )?;
-        }
+fn starved_so<R: Threads + Wait + Sync + Abort>(
+    rt: &R,
+    alloc: Global,
+    asked: &Asked,
+    lines: &str,
+    faults: &[Fault],
+) -> Result<(), Fail> {
+    for (reads, writes, code, written, starved) in faults {
+        let asked = Asked {
+            reads,
+            writes,
+            ..*asked
+        };
+        ends_so(rt, alloc, 0, &asked, (*code, lines, *written, starved))?;
     }
     Ok(())
+}
+
+#[test]
+fn starved_where_reads_and_writes_fail(rt: HostRuntime) -> Result<(), Fail> {
+    starved_so(&rt, rt.alloc(), &SCRIPTS, STARVED_SCRIPTS, OF_SCRIPTS)?;
+    starved_so(&rt, rt.alloc(), &SOURCES, STARVED_REPORTS, OF_SOURCES)
 }
 
 // The sources have 35 bytes, so the 36th read meets the end.

@@ -1,4 +1,5 @@
 // The program whole, by its words.
+use super::holds;
 use arena_calls::{MemoryInput, MemoryOutput, program_chunks};
 use arena_chunks::Arena;
 use arena_program::{program_maker, run_program};
@@ -89,7 +90,7 @@ type Row = (
     &'static str,
 );
 
-const CALLS: [Row; 18] = [
+const CALLS: &[Row] = &[
     (&["arena_run", "calls"], "used\n", &[], 0, "number 0\n", ""),
     (&["", "calls"], "", &[], 0, "", ""),
     (
@@ -159,7 +160,7 @@ const CALLS: [Row; 18] = [
     (&["arena_run", "call"], "used\n", &[17], 1, "", USAGE),
 ];
 
-const SCRIPTS: [Row; 14] = [
+const SCRIPTS: &[Row] = &[
     (
         &["arena_run", "scripts", "1"],
         FIRST,
@@ -247,7 +248,7 @@ const SCRIPTS: [Row; 14] = [
 ];
 
 // Words that ask for nothing.
-const NOTHING: [&[&str]; 17] = [
+const NOTHING: &[&[&str]] = &[
     &["", "scripts", "01"],
     &["", "scripts", "65"],
     &["", "scripts", "1 "],
@@ -267,16 +268,32 @@ const NOTHING: [&[&str]; 17] = [
     &["", "scripts", "1", "--help"],
 ];
 
+fn ends_so<R: Threads + Wait + Sync + Abort>(
+    rt: &R,
+    alloc: Global,
+    args: io::Result<Args>,
+    input: &str,
+    fail: &[u64],
+    wanted: (u8, &str, &str),
+) -> Result<(), Fail> {
+    let ended = run_words(rt, alloc, args, input, fail)?;
+    holds(rt, ended.is(wanted), input);
+    Ok(())
+}
+
 #[test]
 fn programs_by_their_words(rt: HostRuntime) -> Result<(), Fail> {
-    let alloc = rt.alloc();
-    for rows in [CALLS.as_slice(), SCRIPTS.as_slice()] {
+    for rows in [CALLS, SCRIPTS] {
         for (words, input, fail, status, text, messages) in rows {
-            let ended = run_words(&rt, alloc, Ok(args(alloc, words)?), input, fail)?;
-            assert!(rt;
-                ended.is((*status, text, messages)),
-                "{words:?} {input:?} {fail:?}"
-            );
+            let args = args(rt.alloc(), words)?;
+            ends_so(
+                &rt,
+                rt.alloc(),
+                Ok(args),
+                input,
+                fail,
+                (*status, text, messages),
+            )?;
         }
     }
     Ok(())
@@ -284,22 +301,24 @@ fn programs_by_their_words(rt: HostRuntime) -> Result<(), Fail> {
 
 #[test]
 fn words_that_ask_for_nothing(rt: HostRuntime) -> Result<(), Fail> {
-    let alloc = rt.alloc();
     for words in NOTHING {
-        let ended = run_words(&rt, alloc, Ok(args(alloc, words)?), FIRST, &[])?;
-        assert!(rt; ended.is((1, "", USAGE)), "{words:?}");
+        let args = args(rt.alloc(), words)?;
+        ends_so(&rt, rt.alloc(), Ok(args), FIRST, &[], (1, "", USAGE))?;
     }
     Ok(())
 }
 
 #[test]
 fn words_that_are_not_told(rt: HostRuntime) -> Result<(), Fail> {
-    for (kind, status, messages) in [
-        (io::ErrorKind::OutOfMemory, 3, "out of memory\n"),
-        (io::ErrorKind::InvalidData, 1, USAGE),
-    ] {
-        let ended = run_words(&rt, rt.alloc(), Err(io::Error::from(kind)), "used\n", &[])?;
-        assert!(rt; ended.is((status, "", messages)));
-    }
-    Ok(())
+    let error = io::Error::from(io::ErrorKind::OutOfMemory);
+    ends_so(
+        &rt,
+        rt.alloc(),
+        Err(error),
+        "used\n",
+        &[],
+        (3, "", "out of memory\n"),
+    )?;
+    let error = io::Error::from(io::ErrorKind::InvalidData);
+    ends_so(&rt, rt.alloc(), Err(error), "used\n", &[], (1, "", USAGE))
 }

@@ -3,13 +3,14 @@ mod engine;
 mod many;
 mod tables;
 
+use super::holds;
 use plain_scripts::PlainScripts;
 use script_lines::{parse_scripts, put_outcome};
 use script_rules::{Ended, Outcome, Replies, Script};
 use std::alloc::Global;
 use std::process::Abort;
 use std::test::Fail;
-use tables::{A_RUN, Row, TABLES};
+use tables::{A_RUN, Row, tables};
 
 // The script of a table's lines.
 fn script_of(alloc: Global, rows: &[Row]) -> Result<Script, Fail> {
@@ -42,7 +43,8 @@ fn told(rt: &impl Abort, alloc: Global, rows: &[Row], replies: Replies) -> Resul
     };
     let mut text = Vec::new(alloc);
     put_outcome(&mut text, 0, &outcome)?;
-    assert_eq!(rt; text.as_slice(), text_of(alloc, rows)?.as_slice());
+    let wanted = text_of(alloc, rows)?;
+    holds(rt, text.as_slice() == wanted.as_slice(), "replies");
     Ok(outcome.replies)
 }
 
@@ -52,7 +54,7 @@ fn plain(rt: &impl Abort, alloc: Global, rows: &[Row], script: &Script) -> Resul
     let mut replies = Replies::new(alloc);
     for (command, (line, _, cost)) in script.as_slice().iter().zip(rows) {
         let answered = machine.step(alloc, command)?;
-        assert!(rt; answered.cost == *cost, "cost of {line}");
+        holds(rt, answered.cost == *cost, line);
         replies.push(answered.reply)?;
     }
     told(rt, alloc, rows, replies)
@@ -60,21 +62,30 @@ fn plain(rt: &impl Abort, alloc: Global, rows: &[Row], script: &Script) -> Resul
 
 #[test]
 fn each_command_has_its_reply_and_its_cost(rt: HostRuntime) -> Result<(), Fail> {
-    for rows in TABLES {
+    for (_, rows) in tables() {
         let script = script_of(rt.alloc(), rows)?;
         let _ = plain(&rt, rt.alloc(), rows, &script)?;
     }
     Ok(())
 }
 
-// The same script twice, each time from no objects.
+// What a whole run answers and costs, from no objects.
+fn runs_so(
+    rt: &impl Abort,
+    alloc: Global,
+    script: &Script,
+    rows: &[Row],
+    costs: &[u64],
+) -> Result<(), Fail> {
+    let run = PlainScripts::run(alloc, script)?;
+    holds(rt, run.costs.as_slice() == costs, "costs");
+    let _ = told(rt, alloc, rows, run.replies)?;
+    Ok(())
+}
+
 #[test]
 fn a_whole_run(rt: HostRuntime) -> Result<(), Fail> {
     let script = script_of(rt.alloc(), A_RUN)?;
-    for _ in 0..2 {
-        let run = PlainScripts::run(rt.alloc(), &script)?;
-        let _ = told(&rt, rt.alloc(), A_RUN, run.replies)?;
-        assert!(rt; run.costs.as_slice() == [0, 24, 0].as_slice());
-    }
-    Ok(())
+    runs_so(&rt, rt.alloc(), &script, A_RUN, &[0, 24, 0])?;
+    runs_so(&rt, rt.alloc(), &script, A_RUN, &[0, 24, 0])
 }

@@ -1,13 +1,16 @@
 // How runs end where reads and writes fail, and what inputs and outputs do.
-use super::{Asked, CALLS, ends_so};
-use crate::tests::words;
-use arena_calls::{MemoryOutput, Output, Status, StdInput, StdOutput, arena_calls};
-use arena_chunks::{Arena, MemoryChunks};
+ghost use Rattle.std.specs.Prelude.{◌<◌, length};
+
+use super::{Asked, CALLS, ends_so, holds, serve, words};
+use arena_calls::{MemoryOutput, Output, Status, StdInput, StdOutput};
+use arena_chunks::{Bytes, MemoryChunks};
+use std::alloc::Global;
+use std::process::Abort;
 use std::test::Fail;
 
 // The reads and the writes that fail, the status, and what was written. Reads give 2 bytes of 4, so the third one meets the
 // end, and a fourth one never comes; writes take 4 bytes of 9.
-const FAULTS: [(&[u64], &[u64], u8, &str); 8] = [
+const FAULTS: &[(&[u64], &[u64], u8, &str)] = &[
     (&[1], &[], 4, ""),
     (&[2], &[], 4, ""),
     (&[3], &[], 4, ""),
@@ -29,7 +32,13 @@ fn each_read_and_each_write_fails_in_turn(rt: HostRuntime) -> Result<(), Fail> {
             writes,
             ..CALLS
         };
-        ends_so(&rt, rt.alloc(), &asked, (code, 0, written.as_bytes()))?;
+        ends_so(
+            &rt,
+            rt.alloc(),
+            &asked,
+            (*code, 0, written.as_bytes()),
+            written,
+        )?;
     }
     Ok(())
 }
@@ -56,23 +65,17 @@ fn by_bytes<'a>(reads: &'a [u64], writes: &'a [u64]) -> Asked<'a> {
 fn each_byte_fails_in_turn(rt: HostRuntime) -> Result<(), Fail> {
     let (reads, replies) = (LINES.len() as u64 + 1, REPLIES.as_bytes());
     for n in 1..=reads {
-        ends_so(&rt, rt.alloc(), &by_bytes(&[n], &[]), (4, 0, b""))?;
+        let fail = [n];
+        ends_so(&rt, rt.alloc(), &by_bytes(&fail, &[]), (4, 0, b""), "")?;
     }
     for n in 0..replies.len() {
-        ends_so(
-            &rt,
-            rt.alloc(),
-            &by_bytes(&[], &[n as u64 + 1]),
-            (5, 0, &replies[..n]),
-        )?;
+        let fail = [n as u64 + 1];
+        let wanted = (5, 0, &replies[..n]);
+        ends_so(&rt, rt.alloc(), &by_bytes(&[], &fail), wanted, "")?;
     }
-    let behind = replies.len() as u64 + 1;
-    ends_so(
-        &rt,
-        rt.alloc(),
-        &by_bytes(&[reads + 1], &[behind]),
-        (0, 0, replies),
-    )
+    let behind = ([reads + 1], [replies.len() as u64 + 1]);
+    let asked = by_bytes(&behind.0, &behind.1);
+    ends_so(&rt, rt.alloc(), &asked, (0, 0, replies), REPLIES)
 }
 
 #[test]
@@ -84,9 +87,16 @@ fn the_longest_input_and_one_byte_more(rt: HostRuntime) -> Result<(), Fail> {
             given: 1 << 20,
             ..CALLS
         };
-        ends_so(&rt, rt.alloc(), &asked, (code, 0, b""))?;
+        ends_so(&rt, rt.alloc(), &asked, (code, 0, b""), "")?;
     }
     Ok(())
+}
+
+// A write takes so many bytes, or fails.
+fn takes(rt: &impl Abort, output: &mut MemoryOutput, piece: &[u8], wanted: Option<usize>)
+    requires { 0 < length piece.now }
+{
+    holds(rt, output.write(piece).ok() == wanted, "write");
 }
 
 // With ample memory only the listed write fails, which no contract can say.
@@ -94,31 +104,32 @@ fn the_longest_input_and_one_byte_more(rt: HostRuntime) -> Result<(), Fail> {
 fn only_the_listed_write_fails(rt: HostRuntime) -> Result<(), Fail> {
     let alloc = rt.alloc();
     let mut output = MemoryOutput::new(alloc, 2, vec![in alloc; 2]?);
-    assert!(rt; matches!(output.write(b"abc"), Ok(2)));
-    assert!(rt; output.write(b"abc").is_err());
-    assert!(rt; matches!(output.write(b"c"), Ok(1)));
-    assert_eq!(rt; output.bytes(), b"abc".as_slice());
+    takes(&rt, &mut output, b"abc", Some(2));
+    takes(&rt, &mut output, b"abc", None);
+    takes(&rt, &mut output, b"c", Some(1));
+    holds(&rt, output.bytes() == b"abc".as_slice(), "written");
     Ok(())
+}
+
+// What calls over a reader and a writer of std write.
+fn piped(alloc: Global, words: &[Bytes], text: &[u8], written: &mut Vec<u8>) -> Status {
+    let mut input = StdInput::new(text);
+    let mut output = StdOutput::new(written);
+    let mut chunks = MemoryChunks::new(alloc, 1 << 30);
+    serve(alloc, words, &mut chunks, &mut input, &mut output)
 }
 
 #[test]
 fn over_a_reader_and_a_writer_of_std(rt: HostRuntime) -> Result<(), Fail> {
     let alloc = rt.alloc();
-    let mut text = Vec::new(alloc);
-    let mut input = StdInput::new(b"used\nallocated\n".as_slice());
-    let mut output = StdOutput::new(&mut text);
-    let mut arena = Arena::<1>::new(alloc);
-    let mut chunks = MemoryChunks::new(alloc, 1 << 30);
-    let status = arena_calls(
-        alloc,
-        words(alloc, &["calls"])?.as_slice(),
-        &mut arena,
-        &mut chunks,
-        &mut input,
-        &mut output,
+    let words = words(alloc, &["calls"])?;
+    let mut written = Vec::new(alloc);
+    let status = piped(alloc, words.as_slice(), b"used\nallocated\n", &mut written);
+    holds(&rt, status.code() == 0, "status");
+    holds(
+        &rt,
+        written.as_slice() == b"number 0\nnumber 0\n".as_slice(),
+        "written",
     );
-    drop(output);
-    assert!(rt; matches!(status, Status::Done));
-    assert_eq!(rt; text.as_slice(), b"number 0\nnumber 0\n".as_slice());
     Ok(())
 }

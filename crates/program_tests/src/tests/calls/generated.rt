@@ -1,5 +1,5 @@
 // Calls from a number, and what their replies come to.
-use super::{Asked, CALLS, ends_so};
+use super::{Asked, CALLS, ends_so, holds};
 use arena_calls::{Draws, parse_calls};
 use std::test::Fail;
 
@@ -33,15 +33,19 @@ fn first_calls_of_a_start(rt: HostRuntime) -> Result<(), Fail> {
     for (start, count, lines) in FIRST {
         let mut draws = Draws::new(alloc, *start);
         let told = parse_calls(alloc, lines.as_bytes())?;
-        assert_eq!(rt; told.len(), *count);
+        holds(&rt, told.len() == *count, lines);
         for (i, wanted) in told.iter().enumerate() {
-            assert!(rt; draws.call(i) == *wanted, "call {i} from {start}");
+            holds(&rt, draws.call(i) == *wanted, lines);
         }
     }
     Ok(())
 }
 
 // The words, and the eight lines.
+fn rows() -> &'static [(&'static [&'static str], &'static str)] {
+    ROWS
+}
+
 const ROWS: &[(&[&str], &str)] = &[
     (
         &["gen", "0", "0"],
@@ -81,18 +85,22 @@ const ROWS: &[(&[&str], &str)] = &[
 // The input isn't read: its first read would fail.
 #[test]
 fn summaries_that_the_rules_give(rt: HostRuntime) -> Result<(), Fail> {
-    for (words, lines) in ROWS {
+    for (words, lines) in rows() {
         let asked = Asked {
             words,
             reads: &[1],
             ..CALLS
         };
-        ends_so(&rt, rt.alloc(), &asked, (0, 0, lines.as_bytes()))?;
+        ends_so(&rt, rt.alloc(), &asked, (0, 0, lines.as_bytes()), lines)?;
     }
     Ok(())
 }
 
 // Words that ask for nothing.
+fn others() -> &'static [&'static [&'static str]] {
+    OTHERS
+}
+
 const OTHERS: &[&[&str]] = &[
     &[""],
     &["call"],
@@ -116,29 +124,32 @@ const OTHERS: &[&[&str]] = &[
 
 #[test]
 fn other_words_are_usage(rt: HostRuntime) -> Result<(), Fail> {
-    for words in OTHERS {
+    for words in others() {
         let asked = Asked {
             words,
             text: b"used",
             reads: &[1],
             ..CALLS
         };
-        ends_so(&rt, rt.alloc(), &asked, (1, 0, b""))?;
+        ends_so(&rt, rt.alloc(), &asked, (1, 0, b""), "")?;
     }
     Ok(())
 }
 
+// The write that fails, and what was written.
+const FIRST_PARTS: &[(u64, &str)] = &[(1, ""), (2, "call"), (3, "calls 1\n")];
+
 #[test]
 fn a_failed_write_leaves_a_first_part(rt: HostRuntime) -> Result<(), Fail> {
-    for (number, written) in [(1, ""), (2, "call"), (3, "calls 1\n")] {
+    for (number, written) in FIRST_PARTS {
         let asked = Asked {
             words: &["gen", "0", "1"],
             reads: &[1],
             taken: 4,
-            writes: &[number],
+            writes: &[*number],
             ..CALLS
         };
-        ends_so(&rt, rt.alloc(), &asked, (5, 0, written.as_bytes()))?;
+        ends_so(&rt, rt.alloc(), &asked, (5, 0, written.as_bytes()), written)?;
     }
     Ok(())
 }

@@ -1,9 +1,15 @@
 // Lines of calls and the replies that the rules give.
-use super::{Asked, CALLS, ends_so, run_over};
+use super::{Asked, CALLS, ends_so, holds, run_over};
 use arena_chunks::RefusingChunks;
+use std::alloc::Global;
+use std::process::Abort;
 use std::test::Fail;
 
 // Lines of calls, and the replies that the rules give.
+fn rows() -> &'static [(&'static str, &'static str)] {
+    ROWS
+}
+
 const ROWS: &[(&str, &str)] = &[
     // no calls
     ("", ""),
@@ -106,12 +112,12 @@ const ROWS: &[(&str, &str)] = &[
 
 #[test]
 fn replies_that_the_rules_give(rt: HostRuntime) -> Result<(), Fail> {
-    for (calls, replies) in ROWS {
+    for (calls, replies) in rows() {
         let asked = Asked {
             text: calls.as_bytes(),
             ..CALLS
         };
-        ends_so(&rt, rt.alloc(), &asked, (0, 0, replies.as_bytes()))?;
+        ends_so(&rt, rt.alloc(), &asked, (0, 0, replies.as_bytes()), calls)?;
     }
     Ok(())
 }
@@ -141,20 +147,28 @@ const REFUSING: &[(&[u64], &str, &str, &[(u64, u64)])] = &[
     ),
 ];
 
+fn refused_so(
+    rt: &impl Abort,
+    alloc: Global,
+    refuse: &[u64],
+    (calls, replies): (&str, &str),
+    requests: &[(u64, u64)],
+) -> Result<(), Fail> {
+    let mut chunks = RefusingChunks::new(alloc, refuse.to_vec(alloc)?);
+    let asked = Asked {
+        text: calls.as_bytes(),
+        ..CALLS
+    };
+    let ended = run_over(alloc, &mut chunks, &asked)?;
+    holds(rt, ended.is((0, 0, replies.as_bytes())), calls);
+    holds(rt, chunks.requests() == Some(requests), calls);
+    Ok(())
+}
+
 #[test]
 fn replies_where_requests_are_refused(rt: HostRuntime) -> Result<(), Fail> {
     for (refuse, calls, replies, requests) in REFUSING {
-        let mut chunks = RefusingChunks::new(rt.alloc(), refuse.to_vec(rt.alloc())?);
-        let asked = Asked {
-            text: calls.as_bytes(),
-            ..CALLS
-        };
-        let ended = run_over(rt.alloc(), &mut chunks, &asked)?;
-        assert!(rt; ended.is((0, 0, replies.as_bytes())), "{calls:?}");
-        assert!(rt;
-            matches!(chunks.requests(), Some(told) if told == *requests),
-            "{calls:?}"
-        );
+        refused_so(&rt, rt.alloc(), refuse, (calls, replies), requests)?;
     }
     Ok(())
 }

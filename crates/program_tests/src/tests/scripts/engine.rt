@@ -3,8 +3,9 @@
 ghost use Rattle.std.specs.Prelude.{◌≡◌, IfOk};
 ghost use Rattle.placement.specs.State.{used_bytes};
 
-use super::tables::{Row, TABLES};
+use super::tables::{Row, tables};
 use super::{plain, script_of};
+use crate::tests::holds;
 use arena_chunks::{Allocator, ChunkSource, MemoryChunks, RefusingChunks};
 use arena_script::run_script;
 use placement::OutOfMemory;
@@ -49,12 +50,7 @@ pub(super) fn run<C: ChunkSource + Drop>(
     requires { used_bytes a.memory.state ≡ 0 }
 {
     let outcome = run_script(alloc, &mut a, script);
-    assert!(rt;
-        are_first(&outcome, replies),
-        "{} replies, {:?}",
-        outcome.replies.len(),
-        outcome.ended
-    );
+    holds(rt, are_first(&outcome, replies), "first replies");
     outcome
 }
 
@@ -74,28 +70,6 @@ pub(super) fn fixed(alloc: Global, step: u16) -> Result<Allocator<MemoryChunks>,
     Ok(a)
 }
 
-#[test]
-fn each_table_is_served_in_an_arena_that_grows(rt: HostRuntime) -> Result<(), Fail> {
-    let alloc = rt.alloc();
-    for rows in TABLES {
-        let cost = cost_of(rows, rows.len());
-        if cost > MOST_BYTES {
-            continue;
-        }
-        let script = script_of(alloc, rows)?;
-        let replies = plain(&rt, alloc, rows, &script)?;
-        let a = Allocator::new(alloc, MemoryChunks::new(alloc, 4 * MOST_BYTES));
-        let outcome = run(&rt, alloc, a, &script, replies.as_slice());
-        assert!(rt;
-            outcome.ended == Ended::Done
-                && outcome.replies.len() == replies.len()
-                && outcome.used <= cost,
-            "{outcome:?}"
-        );
-    }
-    Ok(())
-}
-
 // Done with all replies, or full where the bytes are fewer than the first command that wasn't served has cost.
 fn goes_as_far(outcome: &Outcome, rows: &[Row], bytes: u64) -> bool {
     let served = outcome.replies.as_slice().len();
@@ -106,19 +80,37 @@ fn goes_as_far(outcome: &Outcome, rows: &[Row], bytes: u64) -> bool {
     }
 }
 
+#[test]
+fn each_table_is_served_in_an_arena_that_grows(rt: HostRuntime) -> Result<(), Fail> {
+    let alloc = rt.alloc();
+    for (name, rows) in tables() {
+        let cost = cost_of(rows, rows.len());
+        if cost > MOST_BYTES {
+            continue;
+        }
+        let script = script_of(alloc, rows)?;
+        let replies = plain(&rt, alloc, rows, &script)?;
+        let a = Allocator::new(alloc, MemoryChunks::new(alloc, 4 * MOST_BYTES));
+        let outcome = run(&rt, alloc, a, &script, replies.as_slice());
+        holds(
+            &rt,
+            goes_as_far(&outcome, rows, cost) && outcome.used <= cost,
+            name,
+        );
+    }
+    Ok(())
+}
+
 // From no bytes on, by 16, to past what the table costs: full or done, and done where its cost fits.
 #[test]
 fn each_table_is_served_as_far_as_the_bytes_go(rt: HostRuntime) -> Result<(), Fail> {
     let alloc = rt.alloc();
-    for rows in TABLES {
+    for (name, rows) in tables() {
         let script = script_of(alloc, rows)?;
         let replies = plain(&rt, alloc, rows, &script)?;
         for step in 0..96u16 {
             let outcome = run(&rt, alloc, fixed(alloc, step)?, &script, replies.as_slice());
-            assert!(rt;
-                goes_as_far(&outcome, rows, 16 * step as u64),
-                "{step}: {outcome:?}"
-            );
+            holds(&rt, goes_as_far(&outcome, rows, 16 * step as u64), name);
         }
     }
     Ok(())
@@ -141,28 +133,32 @@ pub(super) fn refusing(
     Ok(Allocator::new(alloc, RefusingChunks::new(alloc, refuse)))
 }
 
-// The first request that is refused, how many are, and whether the table is served nevertheless. A later one alone is followed by
-// one for a smaller chunk, which is granted.
-const REFUSALS: [(u64, u64); 7] = [(1, 0), (1, 1), (1, 2), (1, 3), (2, 1), (3, 1), (4, 1)];
+// The first request that is refused, and how many are.
+const REFUSALS: &[(u64, u64)] = &[(1, 0), (1, 1), (1, 2), (1, 3), (2, 1), (3, 1), (4, 1)];
+
+// A later one alone is followed by one for a smaller chunk, which is granted.
+fn may_end_so(ended: Ended, from: u64, count: u64) -> bool {
+    match ended {
+        Ended::Done => true,
+        Ended::Refused => count > 0 && from == 1,
+        _ => false,
+    }
+}
 
 // The first requests are refused, so many, or a later one alone: refused or done, with the first replies.
 #[test]
 fn each_table_is_served_as_far_as_chunks_are_granted(rt: HostRuntime) -> Result<(), Fail> {
     let alloc = rt.alloc();
-    for rows in TABLES {
+    for (name, rows) in tables() {
         if cost_of(rows, rows.len()) > MOST_BYTES {
             continue;
         }
         let script = script_of(alloc, rows)?;
         let replies = plain(&rt, alloc, rows, &script)?;
         for (from, count) in REFUSALS {
-            let a = refusing(alloc, from, count)?;
+            let a = refusing(alloc, *from, *count)?;
             let outcome = run(&rt, alloc, a, &script, replies.as_slice());
-            let may_be_refused = count > 0 && from == 1;
-            assert!(rt;
-                outcome.ended == Ended::Done || may_be_refused && outcome.ended == Ended::Refused,
-                "{count} from {from} on: {outcome:?}"
-            );
+            holds(&rt, may_end_so(outcome.ended, *from, *count), name);
         }
     }
     Ok(())

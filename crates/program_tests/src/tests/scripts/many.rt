@@ -1,6 +1,7 @@
 // A thousand objects of all kinds: each is made, changed and copied, then let go while its copy is shown, and at last all copies
 // are let go.
 use super::engine::{fixed, refusing, run};
+use crate::tests::holds;
 use arena_chunks::{Allocator, MemoryChunks};
 use placement::OutOfMemory;
 use plain_scripts::PlainScripts;
@@ -90,35 +91,43 @@ fn sum_of(costs: &[u64]) -> u64 {
     sum
 }
 
+// How many steps of 16 bytes an arena has, and how the script ends in it. All but the last have fewer than the least bytes, 11,600.
+const STILL: &[(u16, Ended)] = &[
+    (0, Ended::Full),
+    (1, Ended::Full),
+    (10, Ended::Full),
+    (100, Ended::Full),
+    (700, Ended::Full),
+    (8650, Ended::Done),
+];
+
 // Three commands for each object, two and one. Lists and maps are shown as numbers.
 #[test]
 fn a_thousand_objects(rt: HostRuntime) -> Result<(), Fail> {
     let alloc = rt.alloc();
     let script = many(alloc)?;
     let plain = PlainScripts::run(alloc, &script)?;
-    assert_eq!(rt; sum_of(plain.costs.as_slice()), COST);
+    holds(&rt, sum_of(plain.costs.as_slice()) == COST, "cost");
+    holds(
+        &rt,
+        plain.replies.len() == 6000,
+        "replies of the plain machine",
+    );
     let growing = Allocator::new(alloc, MemoryChunks::new(alloc, 1 << 20));
     let one = run(&rt, alloc, growing, &script, plain.replies.as_slice());
-    assert_eq!(rt; one.ended, Ended::Done);
-    assert_eq!(rt; one.replies.len(), 6000);
-    assert_eq!(rt; plain.replies.len(), 6000);
-    assert_eq!(rt; shown(&one), (400, 200, 200, 200));
-    assert!(rt; LEAST <= one.used && one.used <= COST, "{} bytes", one.used);
-    for step in [0u16, 1, 10, 100, 700, 8650] {
+    holds(&rt, one.ended == Ended::Done, "done");
+    holds(&rt, one.replies.len() == 6000, "all replies");
+    holds(&rt, shown(&one) == (400, 200, 200, 200), "what is shown");
+    holds(&rt, LEAST <= one.used && one.used <= COST, "bytes used");
+    for (step, ended) in STILL {
         let two = run(
             &rt,
             alloc,
-            fixed(alloc, step)?,
+            fixed(alloc, *step)?,
             &script,
             plain.replies.as_slice(),
         );
-        let is_full = 16 * (step as u64) < LEAST;
-        let wanted = if is_full { Ended::Full } else { Ended::Done };
-        assert!(rt;
-            two.ended == wanted,
-            "ended {:?} in {step} times 16",
-            two.ended
-        );
+        holds(&rt, two.ended == *ended, "in an arena that doesn't grow");
     }
     Ok(())
 }
@@ -147,11 +156,12 @@ fn a_thousand_objects_and_refusals(rt: HostRuntime) -> Result<(), Fail> {
             let a = refusing(alloc, from, count)?;
             let outcome = run(&rt, alloc, a, &script, plain.replies.as_slice());
             let told = outcome.replies.len();
-            assert!(rt;
-                goes_as_far(&outcome, from, count) && before <= told,
-                "{count} from {from} on: {told} replies, {:?}",
-                outcome.ended
+            holds(
+                &rt,
+                goes_as_far(&outcome, from, count),
+                "as far as chunks go",
             );
+            holds(&rt, before <= told, "no fewer replies");
             before = told;
         }
     }

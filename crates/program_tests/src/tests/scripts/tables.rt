@@ -3,18 +3,22 @@
 // A command's line, its reply's line, and its cost.
 pub(super) type Row = (&'static str, &'static str, u64);
 
-// Each from no objects.
-pub(super) const TABLES: &[&[Row]] = &[
-    LISTS,
-    TEXTS,
-    BITS,
-    MAPS_AND_VALUES,
-    A_LIST_AND_A_TEXT,
-    BITS_AND_A_MAP,
-    A_LARGE_SET,
-    OF_NAMES,
-    OF_KINDS,
-    OF_PLACES_AND_BYTES,
+// Tables by their names, each from no objects.
+pub(super) fn tables() -> &'static [(&'static str, &'static [Row])] {
+    TABLES
+}
+
+const TABLES: &[(&str, &[Row])] = &[
+    ("lists", LISTS),
+    ("texts", TEXTS),
+    ("bits", BITS),
+    ("maps and values", MAPS_AND_VALUES),
+    ("a list and a text", A_LIST_AND_A_TEXT),
+    ("bits and a map", BITS_AND_A_MAP),
+    ("a large set", A_LARGE_SET),
+    ("refusals of names", OF_NAMES),
+    ("refusals of kinds", OF_KINDS),
+    ("refusals of places and bytes", OF_PLACES_AND_BYTES),
 ];
 
 // Each command where it is served.
