@@ -1,10 +1,11 @@
 // Scripts and sources on two workers, where reads and writes fail.
 use super::{Asked, holds, words};
-use arena_calls::{MemoryInput, MemoryOutput};
+use arena_calls::{Input, MemoryInput, MemoryOutput, Output};
 use arena_chunks::{Arena, ChunkSource, MemoryChunks};
 use arena_pool::MemoryMaker;
 use arena_program::arena_main;
 use arena_script::Engine;
+use placement::Bytes;
 use script_workers::Starved;
 use std::alloc::Global;
 use std::process::Abort;
@@ -12,24 +13,19 @@ use std::sync::Wait;
 use std::test::Fail;
 use std::thread::Threads;
 
-// The exit status, what was written, the numbers of the scripts or the sources that were starved, by a source that has refused,
-// and the bytes of the arena at hand.
+// The exit status, the numbers of the scripts or the sources that were starved, by a source that has refused, and the bytes of the
+// arena at hand.
 #[derive(Drop)]
-struct Ended {
+struct Served {
     code: u8,
-    text: Vec<u8>,
     starved: Vec<u32>,
     allocated: u64,
 }
 
-impl Ended {
-    // So many bytes of these lines were written, and these were starved. The arena at hand is never used.
-    fn is(&self, (code, lines, written, starved): (u8, &str, usize, &[u32])) -> bool {
-        self.code == code
-            && self.text.len() == written
-            && lines.as_bytes().starts_with(self.text.as_slice())
-            && self.starved.as_slice() == starved
-            && self.allocated == 0
+impl Served {
+    // The arena at hand is never used.
+    fn is(&self, code: u8, starved: &[u32]) -> bool {
+        self.code == code && self.starved.as_slice() == starved && self.allocated == 0
     }
 }
 
@@ -47,40 +43,37 @@ fn refused<C: ChunkSource + Drop>(
     Ok(numbers)
 }
 
-// Runs over arenas with a budget of bytes.
-fn run<R: Threads + Wait + Sync>(
+// Does what words ask for, over arenas with a budget of bytes.
+fn serve<R: Threads + Wait + Sync, I: Input, O: Output>(
     rt: &R,
     alloc: Global,
+    words: &[Bytes],
     budget: u64,
-    asked: &Asked,
-) -> Result<Ended, Fail> {
-    let words = words(alloc, asked.words)?;
-    let text = asked.text.to_vec(alloc)?;
+    input: &mut I,
+    output: &mut O,
+) -> Result<Served, Fail> {
     let mut arena = Arena::<1>::new(alloc);
-    let mut chunks = MemoryChunks::new(alloc, 1 << 30);
-    let mut input = MemoryInput::new(alloc, text, asked.given.max(1), asked.reads.to_vec(alloc)?);
-    let mut output = MemoryOutput::new(alloc, asked.taken.max(1), asked.writes.to_vec(alloc)?);
     let mut starved = Vec::new(alloc);
     let status = arena_main(
         rt,
         alloc,
-        words.as_slice(),
+        words,
         &mut arena,
-        &mut chunks,
-        &mut input,
-        &mut output,
+        &mut MemoryChunks::new(alloc, 1 << 30),
+        input,
+        output,
         MemoryMaker::new(alloc, budget),
         &Engine,
         &mut starved,
     );
-    Ok(Ended {
+    Ok(Served {
         code: status.code(),
-        text: output.bytes().to_vec(alloc)?,
         starved: refused(alloc, starved)?,
         allocated: arena.allocated_bytes(),
     })
 }
 
+// So many bytes of these lines are written, and these are starved.
 fn ends_so<R: Threads + Wait + Sync + Abort>(
     rt: &R,
     alloc: Global,
@@ -88,8 +81,15 @@ fn ends_so<R: Threads + Wait + Sync + Abort>(
     asked: &Asked,
     wanted: (u8, &str, usize, &[u32]),
 ) -> Result<(), Fail> {
-    let ended = run(rt, alloc, budget, asked)?;
-    holds(rt, ended.is(wanted), wanted.1);
+    let (code, lines, count, starved) = wanted;
+    let words = words(alloc, asked.words)?;
+    let text = asked.text.to_vec(alloc)?;
+    let mut input = MemoryInput::new(alloc, text, asked.given.max(1), asked.reads.to_vec(alloc)?);
+    let mut output = MemoryOutput::new(alloc, asked.taken.max(1), asked.writes.to_vec(alloc)?);
+    let served = serve(rt, alloc, words.as_slice(), budget, &mut input, &mut output)?;
+    holds(rt, served.is(code, starved), lines);
+    holds(rt, output.bytes().len() == count, lines);
+    holds(rt, lines.as_bytes().starts_with(output.bytes()), lines);
     Ok(())
 }
 

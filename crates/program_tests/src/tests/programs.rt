@@ -1,6 +1,6 @@
 // The program whole, by its words.
 use super::holds;
-use arena_calls::{MemoryInput, MemoryOutput, program_chunks};
+use arena_calls::{Input, MemoryInput, MemoryOutput, Output, program_chunks};
 use arena_chunks::Arena;
 use arena_program::{program_maker, run_program};
 use arena_script::Engine;
@@ -28,6 +28,30 @@ impl Ended {
     }
 }
 
+// Runs over a new arena and its budget.
+fn serve<R: Threads + Wait + Sync, I: Input, O: Output, E: Output>(
+    rt: &R,
+    alloc: Global,
+    args: io::Result<Args>,
+    input: &mut I,
+    output: &mut O,
+    messages: &mut E,
+) -> ExitCode {
+    run_program(
+        rt,
+        alloc,
+        args,
+        &mut Arena::<1>::new(alloc),
+        &mut program_chunks(alloc),
+        input,
+        output,
+        messages,
+        program_maker(alloc),
+        &Engine,
+        &mut Vec::new(alloc),
+    )
+}
+
 fn run_words<R: Threads + Wait + Sync>(
     rt: &R,
     alloc: Global,
@@ -35,26 +59,11 @@ fn run_words<R: Threads + Wait + Sync>(
     text: &str,
     fail: &[u64],
 ) -> Result<Ended, Fail> {
-    let mut arena = Arena::<1>::new(alloc);
-    let mut chunks = program_chunks(alloc);
     let text = text.as_bytes().to_vec(alloc)?;
     let mut input = MemoryInput::new(alloc, text, 4096, Vec::new(alloc));
     let mut output = MemoryOutput::new(alloc, 4096, fail.to_vec(alloc)?);
     let mut messages = MemoryOutput::new(alloc, 7, fail.to_vec(alloc)?);
-    let mut starved = Vec::new(alloc);
-    let status = run_program(
-        rt,
-        alloc,
-        args,
-        &mut arena,
-        &mut chunks,
-        &mut input,
-        &mut output,
-        &mut messages,
-        program_maker(alloc),
-        &Engine,
-        &mut starved,
-    );
+    let status = serve(rt, alloc, args, &mut input, &mut output, &mut messages);
     Ok(Ended {
         status,
         text: output.bytes().to_vec(alloc)?,

@@ -3,7 +3,7 @@
 ghost use Rattle.std.specs.Prelude.{◌≡◌, IfOk};
 ghost use Rattle.placement.specs.State.{used_bytes};
 
-use super::tables::{Row, tables};
+use super::tables::tables;
 use super::{plain, script_of};
 use crate::tests::holds;
 use arena_chunks::{Allocator, ChunkSource, MemoryChunks, RefusingChunks};
@@ -17,13 +17,13 @@ use std::test::Fail;
 // A table that costs more isn't served in arenas that grow, since tests have no such memory.
 const MOST_BYTES: u64 = 1 << 20;
 
-// What the first rows cost, so many.
-fn cost_of(rows: &[Row], count: usize) -> u64 {
-    let mut cost = 0u64;
-    for (_, _, more) in rows.iter().take(count) {
-        cost = cost.saturating_add(*more);
+// What the first commands cost, so many.
+pub(super) fn cost_of(costs: &[u64], count: usize) -> u64 {
+    let mut sum = 0u64;
+    for cost in costs.iter().take(count) {
+        sum = sum.saturating_add(*cost);
     }
-    cost
+    sum
 }
 
 // Whether an outcome's replies are the first ones of these.
@@ -71,11 +71,11 @@ pub(super) fn fixed(alloc: Global, step: u16) -> Result<Allocator<MemoryChunks>,
 }
 
 // Done with all replies, or full where the bytes are fewer than the first command that wasn't served has cost.
-fn goes_as_far(outcome: &Outcome, rows: &[Row], bytes: u64) -> bool {
+fn goes_as_far(outcome: &Outcome, costs: &[u64], bytes: u64) -> bool {
     let served = outcome.replies.as_slice().len();
     match outcome.ended {
-        Ended::Done => served == rows.len(),
-        Ended::Full => bytes < cost_of(rows, served.saturating_add(1)),
+        Ended::Done => served == costs.len(),
+        Ended::Full => bytes < cost_of(costs, served.saturating_add(1)),
         _ => false,
     }
 }
@@ -83,19 +83,19 @@ fn goes_as_far(outcome: &Outcome, rows: &[Row], bytes: u64) -> bool {
 #[test]
 fn each_table_is_served_in_an_arena_that_grows(rt: HostRuntime) -> Result<(), Fail> {
     let alloc = rt.alloc();
-    for (name, rows) in tables() {
-        let cost = cost_of(rows, rows.len());
+    for table in tables() {
+        let cost = cost_of(table.costs, table.costs.len());
         if cost > MOST_BYTES {
             continue;
         }
-        let script = script_of(alloc, rows)?;
-        let replies = plain(&rt, alloc, rows, &script)?;
+        let script = script_of(alloc, table)?;
+        let replies = plain(&rt, alloc, table, &script)?;
         let a = Allocator::new(alloc, MemoryChunks::new(alloc, 4 * MOST_BYTES));
         let outcome = run(&rt, alloc, a, &script, replies.as_slice());
         holds(
             &rt,
-            goes_as_far(&outcome, rows, cost) && outcome.used <= cost,
-            name,
+            goes_as_far(&outcome, table.costs, cost) && outcome.used <= cost,
+            table.script,
         );
     }
     Ok(())
@@ -105,12 +105,16 @@ fn each_table_is_served_in_an_arena_that_grows(rt: HostRuntime) -> Result<(), Fa
 #[test]
 fn each_table_is_served_as_far_as_the_bytes_go(rt: HostRuntime) -> Result<(), Fail> {
     let alloc = rt.alloc();
-    for (name, rows) in tables() {
-        let script = script_of(alloc, rows)?;
-        let replies = plain(&rt, alloc, rows, &script)?;
+    for table in tables() {
+        let script = script_of(alloc, table)?;
+        let replies = plain(&rt, alloc, table, &script)?;
         for step in 0..96u16 {
             let outcome = run(&rt, alloc, fixed(alloc, step)?, &script, replies.as_slice());
-            holds(&rt, goes_as_far(&outcome, rows, 16 * step as u64), name);
+            holds(
+                &rt,
+                goes_as_far(&outcome, table.costs, 16 * step as u64),
+                table.script,
+            );
         }
     }
     Ok(())
@@ -149,16 +153,16 @@ fn may_end_so(ended: Ended, from: u64, count: u64) -> bool {
 #[test]
 fn each_table_is_served_as_far_as_chunks_are_granted(rt: HostRuntime) -> Result<(), Fail> {
     let alloc = rt.alloc();
-    for (name, rows) in tables() {
-        if cost_of(rows, rows.len()) > MOST_BYTES {
+    for table in tables() {
+        if cost_of(table.costs, table.costs.len()) > MOST_BYTES {
             continue;
         }
-        let script = script_of(alloc, rows)?;
-        let replies = plain(&rt, alloc, rows, &script)?;
+        let script = script_of(alloc, table)?;
+        let replies = plain(&rt, alloc, table, &script)?;
         for (from, count) in REFUSALS {
             let a = refusing(alloc, *from, *count)?;
             let outcome = run(&rt, alloc, a, &script, replies.as_slice());
-            holds(&rt, may_end_so(outcome.ended, *from, *count), name);
+            holds(&rt, may_end_so(outcome.ended, *from, *count), table.script);
         }
     }
     Ok(())

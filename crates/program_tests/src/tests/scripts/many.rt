@@ -1,6 +1,6 @@
 // A thousand objects of all kinds: each is made, changed and copied, then let go while its copy is shown, and at last all copies
 // are let go.
-use super::engine::{fixed, refusing, run};
+use super::engine::{cost_of, fixed, refusing, run};
 use crate::tests::holds;
 use arena_chunks::{Allocator, MemoryChunks};
 use placement::OutOfMemory;
@@ -18,36 +18,36 @@ const COST: u64 = 200 * (48 + 72 + 30 + 512 + 30);
 const LEAST: u64 = 200 * 2 * (4 + 1 + 8 + 8 + 8);
 
 // How a name gets an object of a kind, which has one item then.
-fn made(name: u32) -> [Command; 2] {
+fn made(name: u32) -> (Command, Command) {
     match name % 5 {
-        0 => [
+        0 => (
             Command::MakeList { name },
             Command::Push { name, value: name },
-        ],
-        1 => [Command::MakeText { name }, Command::Byte { name, byte: 97 }],
-        2 => [
+        ),
+        1 => (Command::MakeText { name }, Command::Byte { name, byte: 97 }),
+        2 => (
             Command::MakeBits { name, capacity: 64 },
             Command::SetBit { name, bit: 63 },
-        ],
-        3 => [
+        ),
+        3 => (
             Command::MakeMap { name },
             Command::Bind {
                 name,
                 key: name,
                 value: 7,
             },
-        ],
-        _ => [
+        ),
+        _ => (
             Command::MakeValue { name, value: 9 },
             Command::Store { name, value: 5 },
-        ],
+        ),
     }
 }
 
 fn many(alloc: Global) -> Result<Script, OutOfMemory> {
     let mut script = Script::new(alloc);
     for name in 0..OBJECTS {
-        let [make, change] = made(name);
+        let (make, change) = made(name);
         script.push(make)?;
         script.push(change)?;
         script.push(Command::CopyTo {
@@ -82,15 +82,6 @@ fn shown(outcome: &Outcome) -> (u64, u64, u64, u64) {
     (lists, texts, sets, values)
 }
 
-// What the commands cost together.
-fn sum_of(costs: &[u64]) -> u64 {
-    let mut sum = 0u64;
-    for cost in costs {
-        sum = sum.saturating_add(*cost);
-    }
-    sum
-}
-
 // How many steps of 16 bytes an arena has, and how the script ends in it. All but the last have fewer than the least bytes, 11,600.
 const STILL: &[(u16, Ended)] = &[
     (0, Ended::Full),
@@ -107,7 +98,7 @@ fn a_thousand_objects(rt: HostRuntime) -> Result<(), Fail> {
     let alloc = rt.alloc();
     let script = many(alloc)?;
     let plain = PlainScripts::run(alloc, &script)?;
-    holds(&rt, sum_of(plain.costs.as_slice()) == COST, "cost");
+    holds(&rt, cost_of(plain.costs.as_slice(), 6000) == COST, "cost");
     holds(
         &rt,
         plain.replies.len() == 6000,
