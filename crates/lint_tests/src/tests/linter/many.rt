@@ -5,22 +5,27 @@ use arena_pool::PoolKind;
 use std::alloc::Global;
 use std::test::*;
 
+// Puts a source, and the lines of its report.
+fn put_source(alloc: Global, i: u32, input: &mut Vec<u8>, lines: &mut Vec<u8>) -> Result<(), Fail> {
+    lines.extend_from_slice(format!(in alloc; "source {i}\n")?.as_bytes())?;
+    if i % 3 == 2 {
+        input.extend_from_slice(b"a + ;\n")?;
+        lines.extend_from_slice(b"syntax error at 4\n")?;
+    } else {
+        input.extend_from_slice(format!(in alloc; "let a{i} = b{i};\na{i};\n")?.as_bytes())?;
+        lines.extend_from_slice(format!(in alloc; "undefined b{i}\n")?.as_bytes())?;
+    }
+    Ok(())
+}
+
 // Ten thousand sources, of which each third is no program, and the lines of their reports.
 fn ten_thousand(alloc: Global) -> Result<(Vec<u8>, Vec<u8>), Fail> {
     let mut input = Vec::new(alloc);
     let mut lines = Vec::new(alloc);
-    for i in 0..10_000u32 {
-        if i > 0 {
-            input.extend_from_slice(b"%%\n")?;
-        }
-        lines.extend_from_slice(format!(in alloc; "source {i}\n")?.as_bytes())?;
-        if i % 3 == 2 {
-            input.extend_from_slice(b"a + ;\n")?;
-            lines.extend_from_slice(b"syntax error at 4\n")?;
-        } else {
-            input.extend_from_slice(format!(in alloc; "let a{i} = b{i};\na{i};\n")?.as_bytes())?;
-            lines.extend_from_slice(format!(in alloc; "undefined b{i}\n")?.as_bytes())?;
-        }
+    put_source(alloc, 0, &mut input, &mut lines)?;
+    for i in 1..10_000 {
+        input.extend_from_slice(b"%%\n")?;
+        put_source(alloc, i, &mut input, &mut lines)?;
     }
     Ok((input, lines))
 }

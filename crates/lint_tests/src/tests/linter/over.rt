@@ -98,6 +98,16 @@ fn put_all<C: ChunkSource>(
     Ok(Told { text, starved })
 }
 
+fn count_starved<C: ChunkSource>(all: &[Linted<C>]) -> u64 {
+    let mut starved = 0u64;
+    for linted in all {
+        if linted.starved.is_some() {
+            starved = starved.saturating_add(1);
+        }
+    }
+    starved
+}
+
 // Afterwards each arena of the pool was given back, but for those of starved sources.
 fn lint_with<
     K: ChunkMaker + Drop + Send,
@@ -121,9 +131,8 @@ fn lint_with<
         Linter::Parts => lint_parts(rt, alloc, pool, workers, gate, &sources),
     };
     let all = linted.ok().expect(rt, "reports");
-    let starved = all.iter().filter(|linted| linted.starved.is_some()).count();
     let counts = pool.counts(rt);
-    assert!(rt; counts.lent == 0 && counts.given_up == starved as u64);
+    assert!(rt; counts.lent == 0 && counts.given_up == count_starved(&all));
     Ok(all)
 }
 

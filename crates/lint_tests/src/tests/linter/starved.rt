@@ -126,10 +126,10 @@ fn all_requests_from_one_on_are_refused(rt: HostRuntime) -> Result<(), Fail> {
 }
 
 // Which requests are refused, from this one on, and of which sources the source of chunks is handed back.
-const HANDED_BACK: &[(u64, [bool; 4])] = &[
-    (1, [true, false, false, true]),
-    (2, [true, false, false, false]),
-    (20, [false, false, false, false]),
+const HANDED_BACK: &[(u64, &[bool])] = &[
+    (1, &[true, false, false, true]),
+    (2, &[true, false, false, false]),
+    (20, &[false, false, false, false]),
 ];
 
 // A source of chunks that is handed back tells each of its requests, and that it refused all from this one on. No other is handed
@@ -152,7 +152,7 @@ fn handed_back<R: Threads + Wait + Abort + Sync>(
     alloc: Global,
     over: Over,
     first: u64,
-    wanted: [bool; 4],
+    wanted: &[bool],
 ) -> Result<(), Fail> {
     let input = text_of(rt, alloc, INPUT);
     let maker = RefusingMaker {
@@ -161,13 +161,13 @@ fn handed_back<R: Threads + Wait + Abort + Sync>(
         count: 100,
     };
     let all = linted_over(rt, alloc, over, maker, &NoGate, &input)?;
-    same_at(rt, first, all.len(), 4);
+    same_at(rt, first, all.len(), wanted.len());
     for (linted, is_back) in all.iter().zip(wanted) {
         same_at(
             rt,
             (over.linter, first),
             tells(rt, &linted.starved, first),
-            is_back,
+            *is_back,
         );
     }
     Ok(())
@@ -177,7 +177,7 @@ fn handed_back<R: Threads + Wait + Abort + Sync>(
 fn starved_sources_tell_their_requests(rt: HostRuntime) -> Result<(), Fail> {
     for linter in LINTERS {
         for (first, wanted) in HANDED_BACK {
-            handed_back(&rt, rt.alloc(), Over { linter, ..ALONE }, *first, *wanted)?;
+            handed_back(&rt, rt.alloc(), Over { linter, ..ALONE }, *first, wanted)?;
         }
     }
     Ok(())

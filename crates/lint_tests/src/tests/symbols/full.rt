@@ -244,6 +244,24 @@ fn intern<C: ChunkSource>(
     40
 }
 
+// How many calls were refused until all texts had their numbers.
+fn intern_each<C: ChunkSource>(
+    rt: &impl Abort,
+    texts: &mut Texts<C>,
+    names: &[String],
+    refusal: AllocError,
+) -> u32 {
+    let mut n = 0u32;
+    let mut refusals = 0u32;
+    for name in names {
+        let refused = intern(rt, texts, names, (n, name.as_str()), refusal);
+        refusals = refusals.saturating_add(refused);
+        n = n.saturating_add(1);
+    }
+    has_first(rt, texts, names, n);
+    refusals
+}
+
 // The texts have 100,000 bytes, more than the first two chunks, and no block of the interner has more than 16,320.
 #[test]
 fn texts_refused_chunks(rt: HostRuntime) -> Result<(), Fail> {
@@ -252,13 +270,8 @@ fn texts_refused_chunks(rt: HostRuntime) -> Result<(), Fail> {
         let source = refusing(rt.alloc(), u64::from(first), 30);
         let mut texts = Texts::new(Allocator::new(rt.alloc(), source));
         let refusal = AllocError::AllocErr { refused: first };
-        let mut refusals = 0u32;
-        for (n, name) in (0..100u32).zip(names.iter()) {
-            let refused = intern(&rt, &mut texts, &names, (n, name.as_str()), refusal);
-            refusals = refusals.saturating_add(refused);
-        }
-        has_first(&rt, &texts, &names, 100);
-        are_told(&rt, first, refusals);
+        are_told(&rt, first, intern_each(&rt, &mut texts, &names, refusal));
+        same_at(&rt, first, texts.len(), 100);
     }
     Ok(())
 }

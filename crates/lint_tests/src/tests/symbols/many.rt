@@ -6,16 +6,20 @@ use std::alloc::Global;
 use std::process::Abort;
 use std::test::Fail;
 
+fn numbered(rt: &impl Abort, alloc: Global, texts: &mut Texts<MemoryChunks>) -> Result<(), Fail> {
+    for n in 0..1_000_000 {
+        let text = format!(in alloc; "name {n}")?;
+        same_at(rt, n, texts.intern(text.as_str()), Ok(n));
+    }
+    same_at(rt, 0, texts.len(), 1_000_000);
+    Ok(())
+}
+
 #[test]
 fn a_million_texts(rt: HostRuntime) -> Result<(), Fail> {
     let mut texts = Texts::new(ample(rt.alloc()));
-    for _ in 0..2u32 {
-        for n in 0..1_000_000u32 {
-            let text = format!(in rt.alloc(); "name {n}")?;
-            assert!(rt; texts.intern(text.as_str()) == Ok(n));
-        }
-        same_at(&rt, 0, texts.len(), 1_000_000);
-    }
+    numbered(&rt, rt.alloc(), &mut texts)?;
+    numbered(&rt, rt.alloc(), &mut texts)?;
     same_at(&rt, 0, texts.text(999_999), Some("name 999999"));
     Ok(())
 }
@@ -30,18 +34,26 @@ fn megabyte(alloc: Global, last: char) -> Result<String, Fail> {
     Ok(text)
 }
 
+fn interned(rt: &impl Abort, texts: &mut Texts<MemoryChunks>, n: u32, text: &str) {
+    same_at(rt, n, texts.intern(text), Ok(n));
+    same_at(rt, n, texts.text(n), Some(text));
+}
+
+fn all_interned(rt: &impl Abort, texts: &mut Texts<MemoryChunks>, one: &str, other: &str) {
+    for _ in 0..2u32 {
+        interned(rt, texts, 0, one);
+        interned(rt, texts, 1, other);
+        interned(rt, texts, 2, "");
+    }
+    same_at(rt, 3, texts.len(), 3);
+}
+
 #[test]
 fn long_texts(rt: HostRuntime) -> Result<(), Fail> {
-    let mut texts = Texts::new(ample(rt.alloc()));
     let one = megabyte(rt.alloc(), 'y')?;
     let other = megabyte(rt.alloc(), 'z')?;
-    for _ in 0..2u32 {
-        for (n, text) in (0..3u32).zip([one.as_str(), other.as_str(), ""]) {
-            same_at(&rt, n, texts.intern(text), Ok(n));
-            assert!(rt; texts.text(n) == Some(text));
-        }
-    }
-    same_at(&rt, 3, texts.len(), 3);
+    let mut texts = Texts::new(ample(rt.alloc()));
+    all_interned(&rt, &mut texts, one.as_str(), other.as_str());
     Ok(())
 }
 

@@ -44,14 +44,18 @@ impl TextsBeside {
         None
     }
 
-    fn intern(&mut self, rt: &impl Abort, text: String) -> Result<(), Fail> {
+    fn round(&mut self, rt: &impl Abort, text: String, interns: bool) -> Result<(), Fail> {
         let had = self.place_of(text.as_str());
         let number = had.unwrap_or(self.texts.len());
-        same_at(rt, number, self.texts.intern(text.as_str()), Ok(number));
-        same_at(rt, number, self.texts.text(number), Some(text.as_str()));
-        if had.is_none() {
-            self.plain.push(text)?;
+        same_at(rt, number, self.texts.find(text.as_str()), had);
+        if interns {
+            same_at(rt, number, self.texts.intern(text.as_str()), Ok(number));
+            same_at(rt, number, self.texts.text(number), Some(text.as_str()));
+            if had.is_none() {
+                self.plain.push(text)?;
+            }
         }
+        same_at(rt, number, self.texts.len() as usize, self.plain.len());
         Ok(())
     }
 
@@ -71,14 +75,9 @@ fn texts_beside_a_list(rt: HostRuntime) -> Result<(), Fail> {
         texts: Texts::new(ample(rt.alloc())),
         plain: Vec::new(rt.alloc()),
     };
-    for round in 0..3000u32 {
+    for _ in 0..3000u32 {
         let text = format!(in rt.alloc(); "{}", random.draw(500))?;
-        let found = both.texts.find(text.as_str());
-        same_at(&rt, round, found, both.place_of(text.as_str()));
-        if random.draw(3) > 0 {
-            both.intern(&rt, text)?;
-        }
-        same_at(&rt, round, both.texts.len() as usize, both.plain.len());
+        both.round(&rt, text, random.draw(3) > 0)?;
     }
     both.are_same(&rt);
     Ok(())
@@ -127,6 +126,26 @@ impl ScopesBeside {
         }
         Ok(())
     }
+
+    // Enters or leaves a scope, or puts a pair of an id and the round's number.
+    fn round(
+        &mut self,
+        rt: &impl Abort,
+        alloc: Global,
+        (round, id): (u32, u32),
+        (enters, leaves): (bool, bool),
+    ) -> Result<(), Fail> {
+        same_at(rt, round, self.nest.lookup(id), self.plain_lookup(id));
+        if enters {
+            self.enter(rt, alloc)?;
+        } else if leaves {
+            self.leave(rt);
+        } else {
+            self.define(rt, id, round)?;
+        }
+        same_at(rt, round, self.nest.depth() as usize, self.plain.len());
+        Ok(())
+    }
 }
 
 fn mix(rt: &impl Abort, alloc: Global, seed: u64, ids: u32, deeper: u32) -> Result<(), Fail> {
@@ -136,18 +155,10 @@ fn mix(rt: &impl Abort, alloc: Global, seed: u64, ids: u32, deeper: u32) -> Resu
         plain: Vec::new(alloc),
     };
     both.plain.push(BTreeMap::new(alloc))?;
-    for round in 0..3000u32 {
+    for round in 0..3000 {
         let id = random.draw(ids);
-        same_at(rt, round, both.nest.lookup(id), both.plain_lookup(id));
         let draw = random.draw(100);
-        if draw < deeper {
-            both.enter(rt, alloc)?;
-        } else if draw < 30 {
-            both.leave(rt);
-        } else {
-            both.define(rt, id, round)?;
-        }
-        same_at(rt, round, both.nest.depth() as usize, both.plain.len());
+        both.round(rt, alloc, (round, id), (draw < deeper, draw < 30))?;
     }
     Ok(())
 }

@@ -5,6 +5,7 @@ use super::kept::Both;
 use arena_symbols::{Call, Reply};
 use placement::Bytes;
 use std::alloc::Global;
+use std::process::Abort;
 use std::test::Fail;
 
 // What is answered, with a text in place of its bytes.
@@ -54,19 +55,33 @@ fn reply(alloc: Global, told: &Told) -> Result<Reply, Fail> {
     })
 }
 
-#[test]
-fn calls_in_a_list(rt: HostRuntime) -> Result<(), Fail> {
-    let mut both = Both::new(ample(rt.alloc()));
-    let mut calls = Vec::new(rt.alloc());
+fn is_told(alloc: Global, found: &Reply, told: &Told) -> Result<bool, Fail> {
+    Ok(*found == reply(alloc, told)?)
+}
+
+// The replies to all calls.
+fn replies(rt: &impl Abort, alloc: Global) -> Result<Vec<Reply>, Fail> {
+    let mut both = Both::new(ample(alloc));
+    let mut calls = Vec::new(alloc);
     for (call, _) in ROWS {
         calls.push(*call)?;
     }
-    let mut replies = Vec::new(rt.alloc());
-    let ran = both.run(rt.alloc(), calls.as_slice(), &mut replies);
-    same_at(&rt, 0, ran, Ok(()));
+    let mut replies = Vec::new(alloc);
+    same_at(
+        rt,
+        0,
+        both.run(alloc, calls.as_slice(), &mut replies),
+        Ok(()),
+    );
+    Ok(replies)
+}
+
+#[test]
+fn calls_in_a_list(rt: HostRuntime) -> Result<(), Fail> {
+    let replies = replies(&rt, rt.alloc())?;
     same_at(&rt, 0, replies.len(), ROWS.len());
     for (found, (call, told)) in replies.iter().zip(ROWS) {
-        assert!(rt; *found == reply(rt.alloc(), told)?, "{call:?}");
+        same_at(&rt, *call, is_told(rt.alloc(), found, told)?, true);
     }
     Ok(())
 }

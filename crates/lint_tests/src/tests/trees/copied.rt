@@ -2,7 +2,7 @@
 use super::super::{ample, fixed, refusing, same_at, text_of};
 use super::kept::KeptTree;
 use super::{SAMPLE, shown_copy};
-use arena_chunks::Allocator;
+use arena_chunks::{Allocator, ChunkSource, MemoryChunks};
 use arena_tree::TreeErr;
 use std::alloc::Global;
 use std::process::Abort;
@@ -64,13 +64,24 @@ fn small_arenas(rt: HostRuntime) {
     }
 }
 
+// A copy of the tree has this text.
+fn copied_as<D: ChunkSource + Drop>(
+    rt: &impl Abort,
+    alloc: Global,
+    kept: &KeptTree<MemoryChunks>,
+    b: Allocator<D>,
+    text: &[u8],
+) {
+    let out = kept.copied(rt, b).text(rt, alloc);
+    same_at(rt, 0, out.as_slice(), text);
+}
+
 #[test]
 fn folded_then_copied(rt: HostRuntime) {
     let mut kept = KeptTree::of(&rt, ample(rt.alloc()), SAMPLE);
     same_at(&rt, 0, kept.fold(), 2);
-    let copy = kept.copied(&rt, ample(rt.alloc()));
-    let out = copy.text(&rt, rt.alloc());
-    same_at(&rt, 0, out.as_slice(), b"let x = 1 + 6 + y;\n");
+    let b = ample(rt.alloc());
+    copied_as(&rt, rt.alloc(), &kept, b, b"let x = 1 + 6 + y;\n");
 }
 
 // The first chunk has room for the statement and its sum, and the list of 200 nodes needs another. Each has one tried size.
@@ -84,8 +95,7 @@ fn refusing_sources(rt: HostRuntime) {
             let wanted = Some(TreeErr::AllocErr { refused: 1 });
             same_at(&rt, refused, kept.refused_in(&mut b), wanted);
         }
-        let out = kept.copied(&rt, b).text(&rt, rt.alloc());
-        same_at(&rt, refused, out.as_slice(), text.as_slice());
+        copied_as(&rt, rt.alloc(), &kept, b, text.as_slice());
     }
 }
 
@@ -93,9 +103,7 @@ fn refusing_sources(rt: HostRuntime) {
 #[test]
 fn many_nodes(rt: HostRuntime) {
     let text = text_of(&rt, rt.alloc(), &[(b"1 + ", 99_997), (b"1;\n", 1)]);
-    let kept = KeptTree::of(&rt, ample(rt.alloc()), text.as_slice());
-    let copy = kept.copied(&rt, ample(rt.alloc()));
-    drop(kept);
+    let copy = KeptTree::of(&rt, ample(rt.alloc()), text.as_slice()).copied(&rt, ample(rt.alloc()));
     assert!(rt; copy.extent().0 <= 128 * 100_000);
     let out = copy.text(&rt, rt.alloc());
     assert!(rt; out.as_slice() == text.as_slice());
