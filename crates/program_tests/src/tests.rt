@@ -5,6 +5,7 @@ mod lines;
 mod programs;
 mod scripts;
 
+use arena_calls::{MemoryInput, MemoryOutput};
 use placement::Bytes;
 use std::alloc::Global;
 use std::process::Abort;
@@ -19,6 +20,13 @@ struct Asked<'a> {
     reads: &'a [u64],
     taken: u32,
     writes: &'a [u64],
+}
+
+fn streams(alloc: Global, asked: &Asked) -> Result<(MemoryInput, MemoryOutput), Fail> {
+    let text = asked.text.to_vec(alloc)?;
+    let (reads, writes) = (asked.reads.to_vec(alloc)?, asked.writes.to_vec(alloc)?);
+    let input = MemoryInput::new(alloc, text, asked.given.max(1), reads);
+    Ok((input, MemoryOutput::new(alloc, asked.taken.max(1), writes)))
 }
 
 fn words(alloc: Global, list: &[&str]) -> Result<Vec<Bytes>, Fail> {

@@ -4,8 +4,8 @@ mod generated;
 mod refused;
 mod replies;
 
-use super::{Asked, holds, words};
-use arena_calls::{Input, MemoryInput, MemoryOutput, Output, Status, arena_calls};
+use super::{Asked, holds, streams, words};
+use arena_calls::{Input, Output, Status, arena_calls};
 use arena_chunks::{Arena, Bytes, ChunkSource, MemoryChunks};
 use std::alloc::Global;
 use std::process::Abort;
@@ -43,9 +43,7 @@ fn serve<C: ChunkSource, I: Input, O: Output>(
 
 fn run_over<C: ChunkSource>(alloc: Global, chunks: &mut C, asked: &Asked) -> Result<Ended, Fail> {
     let words = words(alloc, asked.words)?;
-    let text = asked.text.to_vec(alloc)?;
-    let mut input = MemoryInput::new(alloc, text, asked.given.max(1), asked.reads.to_vec(alloc)?);
-    let mut output = MemoryOutput::new(alloc, asked.taken.max(1), asked.writes.to_vec(alloc)?);
+    let (mut input, mut output) = streams(alloc, asked)?;
     let status = serve(alloc, words.as_slice(), chunks, &mut input, &mut output);
     let text = output.bytes().to_vec(alloc)?;
     Ok(Ended { status, text })

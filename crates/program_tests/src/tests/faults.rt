@@ -1,6 +1,6 @@
 // Scripts and sources on two workers, where reads and writes fail.
-use super::{Asked, holds, words};
-use arena_calls::{Input, MemoryInput, MemoryOutput, Output};
+use super::{Asked, holds, streams, words};
+use arena_calls::{Input, Output};
 use arena_chunks::{Arena, ChunkSource, MemoryChunks};
 use arena_pool::MemoryMaker;
 use arena_program::arena_main;
@@ -73,6 +73,10 @@ fn serve<R: Threads + Wait + Sync, I: Input, O: Output>(
     })
 }
 
+fn is_front(written: &[u8], lines: &[u8], count: usize) -> bool {
+    written.len() == count && lines.starts_with(written)
+}
+
 // So many bytes of these lines are written, and these are starved.
 fn ends_so<R: Threads + Wait + Sync + Abort>(
     rt: &R,
@@ -83,13 +87,10 @@ fn ends_so<R: Threads + Wait + Sync + Abort>(
 ) -> Result<(), Fail> {
     let (code, lines, count, starved) = wanted;
     let words = words(alloc, asked.words)?;
-    let text = asked.text.to_vec(alloc)?;
-    let mut input = MemoryInput::new(alloc, text, asked.given.max(1), asked.reads.to_vec(alloc)?);
-    let mut output = MemoryOutput::new(alloc, asked.taken.max(1), asked.writes.to_vec(alloc)?);
+    let (mut input, mut output) = streams(alloc, asked)?;
     let served = serve(rt, alloc, words.as_slice(), budget, &mut input, &mut output)?;
     holds(rt, served.is(code, starved), lines);
-    holds(rt, output.bytes().len() == count, lines);
-    holds(rt, lines.as_bytes().starts_with(output.bytes()), lines);
+    holds(rt, is_front(output.bytes(), lines.as_bytes(), count), lines);
     Ok(())
 }
 

@@ -92,11 +92,8 @@ fn each_table_is_served_in_an_arena_that_grows(rt: HostRuntime) -> Result<(), Fa
         let replies = plain(&rt, alloc, table, &script)?;
         let a = Allocator::new(alloc, MemoryChunks::new(alloc, 4 * MOST_BYTES));
         let outcome = run(&rt, alloc, a, &script, replies.as_slice());
-        holds(
-            &rt,
-            goes_as_far(&outcome, table.costs, cost) && outcome.used <= cost,
-            table.script,
-        );
+        holds(&rt, goes_as_far(&outcome, table.costs, cost), table.script);
+        holds(&rt, outcome.used <= cost, table.script);
     }
     Ok(())
 }

@@ -7,6 +7,7 @@ use placement::OutOfMemory;
 use plain_scripts::PlainScripts;
 use script_rules::{Command, Ended, Outcome, Script, ScriptReply};
 use std::alloc::Global;
+use std::process::Abort;
 use std::test::Fail;
 
 const OBJECTS: u32 = 1000;
@@ -92,7 +93,20 @@ const STILL: &[(u16, Ended)] = &[
     (8650, Ended::Done),
 ];
 
+fn uses_at_most_the_cost(used: u64) -> bool {
+    LEAST <= used && used <= COST
+}
+
 // Three commands for each object, two and one. Lists and maps are shown as numbers.
+fn in_an_arena_that_grows(rt: &impl Abort, alloc: Global, script: &Script, plain: &[ScriptReply]) {
+    let growing = Allocator::new(alloc, MemoryChunks::new(alloc, 1 << 20));
+    let outcome = run(rt, alloc, growing, script, plain);
+    holds(rt, outcome.ended == Ended::Done, "done");
+    holds(rt, outcome.replies.len() == 6000, "all replies");
+    holds(rt, shown(&outcome) == (400, 200, 200, 200), "what is shown");
+    holds(rt, uses_at_most_the_cost(outcome.used), "bytes used");
+}
+
 #[test]
 fn a_thousand_objects(rt: HostRuntime) -> Result<(), Fail> {
     let alloc = rt.alloc();
@@ -104,21 +118,15 @@ fn a_thousand_objects(rt: HostRuntime) -> Result<(), Fail> {
         plain.replies.len() == 6000,
         "replies of the plain machine",
     );
-    let growing = Allocator::new(alloc, MemoryChunks::new(alloc, 1 << 20));
-    let one = run(&rt, alloc, growing, &script, plain.replies.as_slice());
-    holds(&rt, one.ended == Ended::Done, "done");
-    holds(&rt, one.replies.len() == 6000, "all replies");
-    holds(&rt, shown(&one) == (400, 200, 200, 200), "what is shown");
-    holds(&rt, LEAST <= one.used && one.used <= COST, "bytes used");
+    in_an_arena_that_grows(&rt, alloc, &script, plain.replies.as_slice());
     for (step, ended) in STILL {
-        let two = run(
+        let still = fixed(alloc, *step)?;
+        let outcome = run(&rt, alloc, still, &script, plain.replies.as_slice());
+        holds(
             &rt,
-            alloc,
-            fixed(alloc, *step)?,
-            &script,
-            plain.replies.as_slice(),
+            outcome.ended == *ended,
+            "in an arena that doesn't grow",
         );
-        holds(&rt, two.ended == *ended, "in an arena that doesn't grow");
     }
     Ok(())
 }
