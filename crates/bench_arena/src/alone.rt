@@ -57,51 +57,6 @@ pub enum Alone {
 }
 
 impl Alone {
-    /// The word that asks for the loop.
-    pub fn name(self) -> &'static str {
-        match self {
-            Alone::AllocWarm => "alloc_warm",
-            Alone::GrowAtCursor => "grow_at_cursor",
-            Alone::AllocAndReset => "reset_empty",
-            Alone::ResetChunks => "reset_chunks",
-            Alone::BoxNew => "box_new",
-            Alone::SliceCopy => "slice_copy",
-            Alone::StrCopy => "str_copy",
-            Alone::AllocFixed => "alloc_fixed",
-            Alone::VecPush => "vec_push",
-            Alone::VecPushReserved => "vec_push_reserved",
-            Alone::VecSum => "vec_sum",
-            Alone::VecSmall => "vec_small",
-            Alone::VecExtend => "vec_extend",
-            Alone::VecInsertFront => "vec_insert_front",
-            Alone::VecRetain => "vec_retain",
-            Alone::VecIter => "vec_iter",
-            Alone::Claim => "claim",
-            Alone::StringPushStr => "string_push_str",
-            Alone::StringPushByte => "string_push_byte",
-            Alone::StringPushStart => "string_push_start",
-            Alone::BitsetSet => "bitset_set",
-            Alone::BitsetSetAscending => "bitset_set_ascending",
-            Alone::BitsetContains => "bitset_contains",
-            Alone::BitsetOnes => "bitset_ones",
-            Alone::BitsetUnion => "bitset_union",
-            Alone::MapSmall => "map_small",
-            Alone::MapGet => "map_get",
-            Alone::MapRemove => "map_remove",
-            Alone::MapInsert => "map_insert",
-            Alone::MapIter => "map_iter",
-            Alone::MapWalked => "map_walked",
-            Alone::VecClone => "vec_clone",
-            Alone::MapClone => "map_clone",
-            Alone::InternNew => "intern_new",
-            Alone::InternKnown => "intern_known",
-            Alone::ScopeDefine => "scope_define",
-            Alone::ScopeLookup => "scope_lookup",
-            Alone::ScopeEnter => "scope_enter",
-            Alone::TreeParse => "tree_parse",
-        }
-    }
-
     /// How many calls the loop makes if no word tells.
     pub fn calls(self) -> u64
         ensures { 0 < result }
@@ -159,12 +114,12 @@ impl Alone {
         match self {
             Alone::AllocWarm => alloc_warm(rt, a, calls),
             Alone::GrowAtCursor => grow_at_cursor(rt, a, calls),
-            Alone::AllocAndReset => alloc_and_reset(rt, a, calls),
+            Alone::AllocAndReset => alloc_and_reset(rt, calls),
             Alone::ResetChunks => reset_chunks(rt, calls),
             Alone::BoxNew => box_new(rt, a, calls),
             Alone::SliceCopy => slice_copy(rt, a, calls),
             Alone::StrCopy => str_copy(rt, a, calls),
-            Alone::AllocFixed => alloc_fixed(rt, a, calls),
+            Alone::AllocFixed => alloc_fixed(rt, calls),
             Alone::VecPush => vec_push(rt, a, calls),
             Alone::VecPushReserved => vec_push_reserved(rt, a, calls),
             Alone::VecSum => vec_sum(rt, a, calls),
@@ -174,11 +129,11 @@ impl Alone {
             Alone::VecRetain => vec_retain(rt, a, calls),
             Alone::VecIter => vec_iter(rt, a, calls),
             Alone::Claim => claim(rt, calls),
-            Alone::StringPushStr => string_push_str(rt, a, calls),
-            Alone::StringPushByte => string_push_byte(rt, a, calls),
+            Alone::StringPushStr => string_push_str(rt, calls),
+            Alone::StringPushByte => string_push_byte(rt, calls),
             Alone::StringPushStart => string_push_start(rt, a, calls),
-            Alone::BitsetSet => bitset_set(rt, a, calls),
-            Alone::BitsetSetAscending => bitset_set_ascending(rt, a, calls),
+            Alone::BitsetSet => bitset_set(rt, calls),
+            Alone::BitsetSetAscending => bitset_set_ascending(rt, calls),
             Alone::BitsetContains => bitset_contains(rt, a, calls),
             Alone::BitsetOnes => bitset_ones(rt, a, calls),
             Alone::BitsetUnion => bitset_union(rt, a, calls),
@@ -194,7 +149,7 @@ impl Alone {
             Alone::InternKnown => intern_known(rt, a, calls),
             Alone::ScopeDefine => scope_define(rt, a, calls),
             Alone::ScopeLookup => scope_lookup(rt, a, calls),
-            Alone::ScopeEnter => scope_enter(rt, a, calls),
+            Alone::ScopeEnter => scope_enter(rt, calls),
             Alone::TreeParse => tree_parse(rt, a, calls),
         }
     }

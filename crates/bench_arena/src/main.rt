@@ -26,65 +26,58 @@ enum Loop {
     ClaimThreads,
 }
 
-impl Loop {
-    const ALL: [Loop; 44] = [
-        Loop::Alone(Alone::AllocWarm),
-        Loop::Alone(Alone::GrowAtCursor),
-        Loop::Alone(Alone::AllocAndReset),
-        Loop::Alone(Alone::ResetChunks),
-        Loop::ReadOlder,
-        Loop::WriteOlder,
-        Loop::Alone(Alone::BoxNew),
-        Loop::Alone(Alone::SliceCopy),
-        Loop::Alone(Alone::StrCopy),
-        Loop::Alone(Alone::AllocFixed),
-        Loop::Alone(Alone::VecPush),
-        Loop::Alone(Alone::VecPushReserved),
-        Loop::Alone(Alone::VecSum),
-        Loop::Alone(Alone::VecSmall),
-        Loop::Alone(Alone::VecExtend),
-        Loop::Alone(Alone::VecInsertFront),
-        Loop::Alone(Alone::VecRetain),
-        Loop::Alone(Alone::VecIter),
-        Loop::PoolGet,
-        Loop::PoolGetThreads,
-        Loop::Alone(Alone::Claim),
-        Loop::ClaimThreads,
-        Loop::Alone(Alone::StringPushStr),
-        Loop::Alone(Alone::StringPushByte),
-        Loop::Alone(Alone::StringPushStart),
-        Loop::Alone(Alone::BitsetSet),
+// The loops in the order in which they are timed, each with the word that asks for it.
+const LOOPS: &[(&str, Loop)] = &[
+    ("alloc_warm", Loop::Alone(Alone::AllocWarm)),
+    ("grow_at_cursor", Loop::Alone(Alone::GrowAtCursor)),
+    ("reset_empty", Loop::Alone(Alone::AllocAndReset)),
+    ("reset_chunks", Loop::Alone(Alone::ResetChunks)),
+    ("read_older", Loop::ReadOlder),
+    ("write_older", Loop::WriteOlder),
+    ("box_new", Loop::Alone(Alone::BoxNew)),
+    ("slice_copy", Loop::Alone(Alone::SliceCopy)),
+    ("str_copy", Loop::Alone(Alone::StrCopy)),
+    ("alloc_fixed", Loop::Alone(Alone::AllocFixed)),
+    ("vec_push", Loop::Alone(Alone::VecPush)),
+    ("vec_push_reserved", Loop::Alone(Alone::VecPushReserved)),
+    ("vec_sum", Loop::Alone(Alone::VecSum)),
+    ("vec_small", Loop::Alone(Alone::VecSmall)),
+    ("vec_extend", Loop::Alone(Alone::VecExtend)),
+    ("vec_insert_front", Loop::Alone(Alone::VecInsertFront)),
+    ("vec_retain", Loop::Alone(Alone::VecRetain)),
+    ("vec_iter", Loop::Alone(Alone::VecIter)),
+    ("pool_get", Loop::PoolGet),
+    ("pool_get_threads", Loop::PoolGetThreads),
+    ("claim", Loop::Alone(Alone::Claim)),
+    ("claim_threads", Loop::ClaimThreads),
+    ("string_push_str", Loop::Alone(Alone::StringPushStr)),
+    ("string_push_byte", Loop::Alone(Alone::StringPushByte)),
+    ("string_push_start", Loop::Alone(Alone::StringPushStart)),
+    ("bitset_set", Loop::Alone(Alone::BitsetSet)),
+    (
+        "bitset_set_ascending",
         Loop::Alone(Alone::BitsetSetAscending),
-        Loop::Alone(Alone::BitsetContains),
-        Loop::Alone(Alone::BitsetOnes),
-        Loop::Alone(Alone::BitsetUnion),
-        Loop::Alone(Alone::MapSmall),
-        Loop::Alone(Alone::MapGet),
-        Loop::Alone(Alone::MapRemove),
-        Loop::Alone(Alone::MapInsert),
-        Loop::Alone(Alone::MapIter),
-        Loop::Alone(Alone::MapWalked),
-        Loop::Alone(Alone::VecClone),
-        Loop::Alone(Alone::MapClone),
-        Loop::Alone(Alone::InternNew),
-        Loop::Alone(Alone::InternKnown),
-        Loop::Alone(Alone::ScopeDefine),
-        Loop::Alone(Alone::ScopeLookup),
-        Loop::Alone(Alone::ScopeEnter),
-        Loop::Alone(Alone::TreeParse),
-    ];
+    ),
+    ("bitset_contains", Loop::Alone(Alone::BitsetContains)),
+    ("bitset_ones", Loop::Alone(Alone::BitsetOnes)),
+    ("bitset_union", Loop::Alone(Alone::BitsetUnion)),
+    ("map_small", Loop::Alone(Alone::MapSmall)),
+    ("map_get", Loop::Alone(Alone::MapGet)),
+    ("map_remove", Loop::Alone(Alone::MapRemove)),
+    ("map_insert", Loop::Alone(Alone::MapInsert)),
+    ("map_iter", Loop::Alone(Alone::MapIter)),
+    ("map_walked", Loop::Alone(Alone::MapWalked)),
+    ("vec_clone", Loop::Alone(Alone::VecClone)),
+    ("map_clone", Loop::Alone(Alone::MapClone)),
+    ("intern_new", Loop::Alone(Alone::InternNew)),
+    ("intern_known", Loop::Alone(Alone::InternKnown)),
+    ("scope_define", Loop::Alone(Alone::ScopeDefine)),
+    ("scope_lookup", Loop::Alone(Alone::ScopeLookup)),
+    ("scope_enter", Loop::Alone(Alone::ScopeEnter)),
+    ("tree_parse", Loop::Alone(Alone::TreeParse)),
+];
 
-    fn name(self) -> &'static str {
-        match self {
-            Loop::Alone(each) => each.name(),
-            Loop::ReadOlder => "read_older",
-            Loop::WriteOlder => "write_older",
-            Loop::PoolGet => "pool_get",
-            Loop::PoolGetThreads => "pool_get_threads",
-            Loop::ClaimThreads => "claim_threads",
-        }
-    }
-
+impl Loop {
     fn calls(self) -> u64
         ensures { 0 < result }
     {
@@ -132,10 +125,10 @@ impl Loop {
 
 fn run<R: Threads + Wait + Sync>(rt: &HostRuntime, threads: &R) -> Result<(), Failed> {
     let asked = Asked::read(rt)?;
-    for each in Loop::ALL {
-        if let Some(runs) = asked.runs_of(each.name(), each.calls()) {
+    for (name, each) in LOOPS {
+        if let Some(runs) = asked.runs_of(name, each.calls()) {
             let best = each.best(rt, threads, runs, asked.chunks)?;
-            tell(rt, each.name(), runs, best)?;
+            tell(rt, name, runs, best)?;
         }
     }
     Ok(())

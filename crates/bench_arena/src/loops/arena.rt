@@ -83,8 +83,7 @@ pub fn grow_at_cursor(
     clock.stop(rt, number)
 }
 
-/// One block of eight bytes, and a reset, which keeps the first chunk.
-pub fn alloc_and_reset(
+fn reset_often(
     rt: &HostRuntime,
     a: &mut Allocator<MemoryChunks>,
     calls: u64,
@@ -98,6 +97,17 @@ pub fn alloc_and_reset(
         a.reset();
     }
     clock.stop(rt, number)
+}
+
+/// One block of eight bytes, and a reset, which keeps the first chunk.
+pub fn alloc_and_reset(rt: &HostRuntime, calls: u64) -> Result<Timed, Failed> {
+    let mut a = new_allocator(rt);
+    reset_often(rt, &mut a, calls)
+}
+
+// Layouts of blocks that take a chunk each.
+fn large_layouts() -> Result<[Layout; 3], Failed> {
+    Ok([layout(1, 1)?, layout(16320, 1)?, layout(32640, 1)?])
 }
 
 // Places these, resets, and answers how many bytes there are then.
@@ -116,7 +126,7 @@ fn new_and_reset(rt: &HostRuntime, layouts: &[Layout; 3]) -> Result<u64, Failed>
 
 /// A new arena of three chunks, of which a reset frees two.
 pub fn reset_chunks(rt: &HostRuntime, calls: u64) -> Result<Timed, Failed> {
-    let layouts = [layout(1, 1)?, layout(16320, 1)?, layout(32640, 1)?];
+    let layouts = large_layouts()?;
     let clock = Clock::start(rt);
     let mut number: u64 = 0;
     for _ in 0..calls {

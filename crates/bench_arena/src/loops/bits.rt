@@ -3,7 +3,7 @@ ghost use Rattle.std.specs.Prelude.{◌≡◌, ◌<◌, IfOk, IsTrue};
 ghost use Rattle.arena_chunks.specs.Frame.{AreBlocksApart};
 ghost use Rattle.arena_bits.specs.Sets.{IsSetIn};
 
-use super::{Clock, Failed, Timed};
+use super::{Clock, Failed, Timed, new_allocator};
 use arena_bits::BitSet;
 use arena_chunks::{Allocator, MemoryChunks};
 use arena_items::laws::frame_law;
@@ -58,8 +58,7 @@ fn count(a: &Allocator<MemoryChunks>, set: &BitSet) -> u64
     set.ones(a).count() as u64
 }
 
-/// Numbers put into a set, in scattered order.
-pub fn bitset_set(
+fn set_scattered(
     rt: &HostRuntime,
     a: &mut Allocator<MemoryChunks>,
     calls: u64,
@@ -77,8 +76,13 @@ pub fn bitset_set(
     })
 }
 
-/// Numbers put into a set, ascending.
-pub fn bitset_set_ascending(
+/// Numbers put into a set, in scattered order.
+pub fn bitset_set(rt: &HostRuntime, calls: u64) -> Result<Timed, Failed> {
+    let mut a = new_allocator(rt);
+    set_scattered(rt, &mut a, calls)
+}
+
+fn set_ascending(
     rt: &HostRuntime,
     a: &mut Allocator<MemoryChunks>,
     calls: u64,
@@ -93,6 +97,12 @@ pub fn bitset_set_ascending(
         number: count(a, &set),
         ..timed
     })
+}
+
+/// Numbers put into a set, ascending.
+pub fn bitset_set_ascending(rt: &HostRuntime, calls: u64) -> Result<Timed, Failed> {
+    let mut a = new_allocator(rt);
+    set_ascending(rt, &mut a, calls)
 }
 
 /// Numbers that are asked for, in scattered order. A third are there.

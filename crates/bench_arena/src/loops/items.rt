@@ -1,11 +1,56 @@
 // Loops over values.
-use super::batches::{BATCH, batches};
-use super::{Clock, Failed, Timed};
+use super::batches::BATCH;
+use super::{Clock, Failed, Timed, new_allocator};
 use arena_chunks::{Allocator, MemoryChunks};
 use arena_items::{ArenaItems, Box};
 
 // How many numbers are copied at once.
 const COPIED: u64 = 1024;
+
+// The values that are placed in a chunk that is reset before it is full.
+#[derive(Clone, Copy)]
+enum Values {
+    Boxes,
+    Slices,
+    Texts,
+}
+
+impl Values {
+    // Places so many values, and adds up what is read of them.
+    fn round(
+        self,
+        a: &mut Allocator<MemoryChunks>,
+        source: &[u32; COPIED as usize],
+        values: u64,
+    ) -> Result<u64, Failed> {
+        let number = match self {
+            Values::Boxes => boxes(a, values)?,
+            Values::Slices => slices(a, source, values / COPIED)?,
+            Values::Texts => texts(a, values)?,
+        };
+        a.reset();
+        Ok(number)
+    }
+
+    fn time(
+        self,
+        rt: &HostRuntime,
+        a: &mut Allocator<MemoryChunks>,
+        calls: u64,
+    ) -> Result<Timed, Failed> {
+        let mut source = [0; COPIED as usize];
+        for i in 0..COPIED {
+            source[i as usize] = i as u32;
+        }
+        let clock = Clock::start(rt);
+        let mut number: u64 = 0;
+        for _ in 0..calls / BATCH {
+            number = number.wrapping_add(self.round(a, &source, BATCH)?);
+        }
+        number = number.wrapping_add(self.round(a, &source, calls % BATCH)?);
+        clock.stop(rt, number)
+    }
+}
 
 fn boxes(a: &mut Allocator<MemoryChunks>, values: u64) -> Result<u64, Failed> {
     let mut number: u64 = 0;
@@ -44,7 +89,7 @@ pub fn box_new(
     a: &mut Allocator<MemoryChunks>,
     calls: u64,
 ) -> Result<Timed, Failed> {
-    batches(rt, a, calls, boxes)
+    Values::Boxes.time(rt, a, calls)
 }
 
 /// Numbers that are copied 1,024 at a time. A call is one number.
@@ -53,18 +98,7 @@ pub fn slice_copy(
     a: &mut Allocator<MemoryChunks>,
     calls: u64,
 ) -> Result<Timed, Failed> {
-    let mut source = [0; COPIED as usize];
-    for i in 0..COPIED {
-        source[i as usize] = i as u32;
-    }
-    let clock = Clock::start(rt);
-    let mut number: u64 = 0;
-    for _ in 0..calls / BATCH {
-        number = number.wrapping_add(slices(a, &source, BATCH / COPIED)?);
-        a.reset();
-    }
-    number = number.wrapping_add(slices(a, &source, calls % BATCH / COPIED)?);
-    clock.stop(rt, number)
+    Values::Slices.time(rt, a, calls)
 }
 
 /// Texts of ten bytes.
@@ -73,18 +107,19 @@ pub fn str_copy(
     a: &mut Allocator<MemoryChunks>,
     calls: u64,
 ) -> Result<Timed, Failed> {
-    batches(rt, a, calls, texts)
+    Values::Texts.time(rt, a, calls)
 }
 
-/// Boxed numbers in memory that wasn't used before.
-pub fn alloc_fixed(
-    rt: &HostRuntime,
-    a: &mut Allocator<MemoryChunks>,
-    calls: u64,
-) -> Result<Timed, Failed> {
+fn fixed(rt: &HostRuntime, a: &mut Allocator<MemoryChunks>, calls: u64) -> Result<Timed, Failed> {
     let clock = Clock::start(rt);
     for i in 0..calls {
         a.alloc(i)?;
     }
     clock.stop(rt, a.used_bytes())
+}
+
+/// Boxed numbers in memory that wasn't used before.
+pub fn alloc_fixed(rt: &HostRuntime, calls: u64) -> Result<Timed, Failed> {
+    let mut a = new_allocator(rt);
+    fixed(rt, &mut a, calls)
 }

@@ -4,7 +4,7 @@ ghost use Rattle.arena_symbols.specs.Names.{IsInternerIn};
 ghost use Rattle.arena_symbols.specs.Tables.{entry_item, IsTableIn};
 
 use super::maps::key;
-use super::{Clock, Failed, Timed, count};
+use super::{Clock, Failed, Timed, count, new_allocator};
 use arena_chunks::{Allocator, MemoryChunks};
 use arena_symbols::{Scopes, Symbols};
 use std::alloc::{self, Global};
@@ -129,15 +129,16 @@ fn nested(a: &mut Allocator<MemoryChunks>, scopes: &mut Scopes, n: u32) -> Resul
     Ok(number)
 }
 
-/// Scopes begun and ended, in each of which four ids hide those outside. A call is one scope.
-pub fn scope_enter(
-    rt: &HostRuntime,
-    a: &mut Allocator<MemoryChunks>,
-    calls: u64,
-) -> Result<Timed, Failed> {
+fn entered(rt: &HostRuntime, a: &mut Allocator<MemoryChunks>, calls: u64) -> Result<Timed, Failed> {
     let n = count(calls)?;
     let mut scopes = defined(a, FEW)?;
     let clock = Clock::start(rt);
     let number = nested(a, &mut scopes, n)?;
     clock.stop(rt, number)
+}
+
+/// Scopes begun and ended, in each of which four ids hide those outside. A call is one scope.
+pub fn scope_enter(rt: &HostRuntime, calls: u64) -> Result<Timed, Failed> {
+    let mut a = new_allocator(rt);
+    entered(rt, &mut a, calls)
 }

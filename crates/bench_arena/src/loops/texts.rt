@@ -1,6 +1,6 @@
 // Loops over texts.
 use super::batches::batches;
-use super::{Clock, Failed, Timed};
+use super::{Clock, Failed, Timed, new_allocator};
 use arena_chunks::{Allocator, MemoryChunks};
 use arena_text::StringBuilder;
 
@@ -14,12 +14,7 @@ fn sizes(text: StringBuilder) -> u64 {
     text.len().wrapping_add(text.capacity())
 }
 
-/// Texts of seven bytes put at the end.
-pub fn string_push_str(
-    rt: &HostRuntime,
-    a: &mut Allocator<MemoryChunks>,
-    calls: u64,
-) -> Result<Timed, Failed> {
+fn pieces(rt: &HostRuntime, a: &mut Allocator<MemoryChunks>, calls: u64) -> Result<Timed, Failed> {
     let clock = Clock::start(rt);
     let mut text = StringBuilder::new_in();
     for _ in 0..calls {
@@ -28,18 +23,25 @@ pub fn string_push_str(
     clock.stop(rt, sizes(text))
 }
 
-/// Bytes put at the end.
-pub fn string_push_byte(
-    rt: &HostRuntime,
-    a: &mut Allocator<MemoryChunks>,
-    calls: u64,
-) -> Result<Timed, Failed> {
+/// Texts of seven bytes put at the end.
+pub fn string_push_str(rt: &HostRuntime, calls: u64) -> Result<Timed, Failed> {
+    let mut a = new_allocator(rt);
+    pieces(rt, &mut a, calls)
+}
+
+fn letters(rt: &HostRuntime, a: &mut Allocator<MemoryChunks>, calls: u64) -> Result<Timed, Failed> {
     let clock = Clock::start(rt);
     let mut text = StringBuilder::new_in();
     for i in 0..calls {
         text.push_ascii_byte(a, (i % 128) as u8)?;
     }
     clock.stop(rt, sizes(text))
+}
+
+/// Bytes put at the end.
+pub fn string_push_byte(rt: &HostRuntime, calls: u64) -> Result<Timed, Failed> {
+    let mut a = new_allocator(rt);
+    letters(rt, &mut a, calls)
 }
 
 // Puts bytes in front of one another, 64 in a text, and adds up the lengths.

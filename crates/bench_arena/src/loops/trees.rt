@@ -56,6 +56,12 @@ fn draw(seed: &mut u64, below: u64) -> u64
     *seed / 7 % below
 }
 
+// Puts the digits of a number.
+fn put_number(alloc: Global, text: &mut Vec<u8>, number: u64) -> Result<(), alloc::AllocError> {
+    text.extend_from_slice(format!(in alloc; "{number}")?.as_bytes())?;
+    Ok(())
+}
+
 // Puts a statement with names and numbers.
 fn put_statement(
     alloc: Global,
@@ -66,13 +72,10 @@ fn put_statement(
     for b in statement.as_bytes() {
         match *b {
             b'v' => {
-                let name = draw(seed, 400);
-                text.extend_from_slice(format!(in alloc; "v{name}")?.as_bytes())?;
+                text.push(b'v')?;
+                put_number(alloc, text, draw(seed, 400))?;
             }
-            b'#' => {
-                let number = draw(seed, 100_000);
-                text.extend_from_slice(format!(in alloc; "{number}")?.as_bytes())?;
-            }
+            b'#' => put_number(alloc, text, draw(seed, 100_000))?,
             other => text.push(other)?,
         }
     }
