@@ -1,5 +1,5 @@
-//! Tests of scripts by the plain machine and by the engine: worked examples of the rules, each command with each of its
-//! refusals.
+//! Tests of the program by its words: calls and their endings, lines of scripts and of outcomes, and scripts by the plain machine
+//! and by the engine. With two proved callers.
 #![tactic(auto)]
 
 #[cfg(test)]
