@@ -75,17 +75,15 @@ fn begun<const M: usize>(
     Stage::of(alloc, name, Arena::with_min_align(alloc), chunks)
 }
 
-// Takes all steps of the tables.
-pub(super) fn all_hold<const M: usize>(rt: &impl Abort, alloc: Global, tables: &[&[Step]])
+// Takes all steps of a table.
+pub(super) fn all_hold<const M: usize>(rt: &impl Abort, alloc: Global, steps: &[Step])
     requires { IsTrue (is_min_align M) }
 {
-    for steps in tables {
-        let mut stage = begun::<M>(rt, alloc, "no case", &[]);
-        for step in *steps {
-            match *step {
-                Step::Case(name, refuse) => stage = begun(rt, alloc, name, refuse),
-                _ => stage.take(rt, step),
-            }
+    let mut stage = begun::<M>(rt, alloc, "no case", &[]);
+    for step in steps {
+        match *step {
+            Step::Case(name, refuse) => stage = begun(rt, alloc, name, refuse),
+            _ => stage.take(rt, step),
         }
     }
 }
