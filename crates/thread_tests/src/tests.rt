@@ -1,0 +1,72 @@
+// What tests of pools and of workers share.
+ghost use Rattle.std.specs.Prelude.{◌≡◌, None};
+ghost use Rattle.arena_pool.specs.Names.{IsBlankOf};
+ghost use Rattle.arena_pool.specs.declared.kind.PoolKind.{PoolKind};
+
+mod pools;
+mod workers;
+
+use arena_pool::{AllocatorPool, ChunkMaker, PoolKind, PoolName};
+use std::alloc::Global;
+use std::fmt::Display;
+use std::process::Abort;
+use std::sync::ledger::Blank;
+use std::test::*;
+
+/// What pool is made: of what kind, with what limit, and with how many arenas at first.
+#[derive(Clone, Copy)]
+struct Plan {
+    kind: PoolKind,
+    limit: Option<u64>,
+    arenas: u32,
+}
+
+// A plan of so many arenas without a limit.
+fn unlimited(kind: PoolKind, arenas: u32) -> Plan
+    ensures kind { result.kind ≡ kind }
+    ensures limit { result.limit ≡ None }
+{
+    let limit = None;
+    Plan {
+        kind,
+        limit,
+        arenas,
+    }
+}
+
+// A pool that is named, as planned.
+fn pool_of<K: ChunkMaker + Drop, L: PoolName, R: Abort>(
+    rt: &R,
+    alloc: Global,
+    plan: Plan,
+    maker: K,
+    blank: Blank,
+) -> AllocatorPool<K, L>
+    requires blank { IsBlankOf L.name L.parts blank }
+    requires kind { L.kind ≡ plan.kind }
+    requires limit { L.limit ≡ plan.limit }
+{
+    let pool = match (plan.kind, plan.limit) {
+        (PoolKind::Standard, None) => AllocatorPool::new(alloc, plan.arenas, maker, blank),
+        (PoolKind::Standard, Some(limit)) => {
+            AllocatorPool::new_with_limit(alloc, plan.arenas, limit, maker, blank)
+        }
+        (PoolKind::FixedSize { bytes }, limit) => {
+            assert!(rt; bytes % 16 == 0 && bytes >= 48 && limit.is_none());
+            AllocatorPool::new_fixed_size(alloc, plan.arenas, bytes, maker, blank)
+        }
+    };
+    pool.ok().expect(rt, "a pool")
+}
+
+// Fails the test, and says what was wanted, unless it is so.
+fn holds(rt: &impl Abort, so: bool, what: &str) {
+    assert!(rt; so, "{what}");
+}
+
+// An error says this text.
+fn says<E: Display>(rt: &impl Abort, alloc: Global, error: &E, text: &str) -> Result<(), Fail> {
+    let said = format!(in alloc; "{error}")?;
+    assert!(rt; said.as_str() == text);
+    Ok(())
+}

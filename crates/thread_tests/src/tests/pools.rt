@@ -1,0 +1,99 @@
+// What tests of pools share.
+ghost use Rattle.std.specs.Prelude.{◌≡◌};
+ghost use Rattle.arena_pool.specs.Kinds.{IsOfKind};
+ghost use Rattle.arena_pool.specs.declared.kind.PoolKind.{PoolKind};
+
+mod books;
+mod claims;
+mod guards;
+mod loans;
+mod owners;
+mod threads;
+
+use arena_chunks::{Allocator, ChunkSource};
+use arena_place::Layout;
+use arena_pool::laws::kinds;
+use arena_pool::{Counts, OutOfMemory, PoolKind};
+use std::process::Abort;
+use std::sync::Wait;
+use std::sync::atomic::{AtomicU64, Ordering};
+use std::test::*;
+use std::thread;
+
+/// How many bytes a borrower writes.
+const MARKED: u64 = 32;
+
+/// Arenas over regions in which 64 bytes have a place.
+const SMALL: PoolKind = PoolKind::FixedSize { bytes: 112 };
+
+// The four counts, in the order made, stored, lent, given up.
+type All = (u64, u64, u64, u64);
+
+// The counts are these.
+fn are_counts(rt: &impl Abort, counts: Counts, all: All) {
+    let Counts {
+        made,
+        stored,
+        lent,
+        given_up,
+    } = counts;
+    assert_eq!(rt; (made, stored, lent, given_up), all);
+}
+
+/// What threads send through arenas.
+const VALUES: [u64; 8] = [3, 1, 4, 1, 5, 9, 2, 6];
+
+// All values came back.
+fn are_values(rt: &impl Abort, back: Result<Vec<Option<u64>>, OutOfMemory>) {
+    let back = back.ok().expect(rt, "results");
+    let are_same = back
+        .iter()
+        .zip(&VALUES)
+        .all(|(one, value)| *one == Some(*value));
+    assert!(rt; are_same && back.len() == VALUES.len());
+}
+
+// A nine came back.
+fn is_nine(rt: &impl Abort, back: Option<u32>) {
+    assert_eq!(rt; back, Some(9));
+}
+
+// Comes back once a stage is reached.
+fn wait_until<R: Wait>(rt: &R, stage: &AtomicU64, least: u64) {
+    for _ in rt.forever() {
+        if stage.load(Ordering::SeqCst) >= least {
+            break;
+        }
+        thread::yield_now();
+    }
+}
+
+// Whether an arena has a place for a block of so many bytes.
+#[tactic(auto, using(arena_pool::proofs::Layers::kind_laws))]
+fn places<C: ChunkSource>(a: &mut Allocator<C>, size: u64) -> bool
+    ensures { (kind : PoolKind) → IsOfKind kind a.old.memory.state → IsOfKind kind a.new.memory.state }
+{
+    kinds();
+    match Layout::new(size, 1) {
+        Some(layout) => a.alloc_layout(layout).is_ok(),
+        None => false,
+    }
+}
+
+// Whether an arena begins with nothing used, and a block in it still holds its own bytes once other threads had a turn.
+#[tactic(auto, using(arena_pool::proofs::Layers::kind_laws))]
+fn marks<C: ChunkSource>(a: &mut Allocator<C>, mark: u8) -> bool
+    ensures { (kind : PoolKind) → IsOfKind kind a.old.memory.state → IsOfKind kind a.new.memory.state }
+{
+    kinds();
+    let is_unused = a.used_bytes() == 0;
+    let Some(layout) = Layout::new(MARKED, 1) else {
+        return false;
+    };
+    let Ok(block) = a.alloc_layout(layout) else {
+        return false;
+    };
+    a.write(block, 0, &[mark; MARKED as usize]);
+    thread::yield_now();
+    a.read(block).iter().all(|b| *b == mark) && is_unused
+}

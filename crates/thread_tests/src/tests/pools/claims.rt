@@ -1,0 +1,107 @@
+// Words that are claimed, by one seat after another and by many threads at once.
+ghost use Rattle.std.specs.Prelude.{◌≡◌, ◌≤◌, All, IfOk};
+
+use arena_pool::{ClaimErr, ClaimSeat, Claims};
+use example_collections::{claim_all, claim_by_two};
+use std::alloc::Global;
+use std::process::Abort;
+use std::test::*;
+use std::thread;
+use std::thread::Threads;
+
+const WORKERS: usize = 64;
+
+const WORDS: u32 = 10_000;
+
+// Claims one word after another. Before each a new seat looks at every word, tries the last one, and is joined: whether
+// by none of these calls any word was claimed, or let go.
+fn one_after_another(claims: &Claims, seat: ClaimSeat, words: u32) -> bool
+    requires seat { seat.table ≡ claims.now }
+    requires words { words ≤ claims.now.words }
+{
+    let mut seat = seat;
+    for word in 0..words {
+        let mut other = claims.split(&mut seat);
+        for look in 0..words {
+            if claims.is_claimed(&mut other, look) != (look < word) {
+                return false;
+            }
+        }
+        if word > 0 && claims.claim(&mut other, word - 1) {
+            return false;
+        }
+        claims.join(&mut seat, other);
+        if !claims.claim(&mut seat, word) {
+            return false;
+        }
+    }
+    true
+}
+
+#[test]
+fn words_are_claimed_alone(rt: HostRuntime) {
+    for words in [1, 2, 9] {
+        let made = Claims::new(rt.alloc(), words);
+        let (claims, seat) = made.ok().expect(&rt, "claims");
+        assert!(rt; one_after_another(&claims, seat, words));
+    }
+}
+
+// A seat for each worker.
+fn seats(alloc: Global, claims: &Claims, seat: ClaimSeat) -> Result<Vec<ClaimSeat>, ClaimErr>
+    requires { seat.table ≡ claims.now }
+    ensures { IfOk result (λ all. All (λ s. s.table ≡ claims.now) all.items) }
+{
+    let mut seat = seat;
+    let mut all = Vec::with_capacity(alloc, WORKERS)?;
+    for _i in 1..WORKERS {
+        all.push_reserved(claims.split(&mut seat));
+    }
+    all.push_reserved(seat);
+    Ok(all)
+}
+
+// Each worker goes through all words. What each of them claimed.
+fn crowd<R: Threads + Abort + Sync>(rt: &R, alloc: Global) -> Vec<Result<Vec<u32>, ClaimErr>> {
+    let (claims, seat) = Claims::new(alloc, WORDS).ok().expect(rt, "claims");
+    let seats = seats(alloc, &claims, seat).ok().expect(rt, "seats");
+    let claimed = thread::map_vec(
+        rt,
+        seats,
+        &|seat: ClaimSeat| -> Result<Vec<u32>, ClaimErr>
+            requires { (seat.table ≡ claims) × (WORDS ≤ claims.words) }
+        {
+            let mut seat = seat;
+            claim_all(alloc, &claims, &mut seat, WORDS)
+        },
+    );
+    claimed.ok().expect(rt, "words")
+}
+
+// Counts words. Whether all of them have counts.
+fn count(counts: &mut [u8], words: &[u32]) -> bool {
+    for word in words {
+        let Some(count) = counts.get_mut(*word as usize) else {
+            return false;
+        };
+        *count = count.saturating_add(1);
+    }
+    true
+}
+
+#[test]
+fn threads_claim_each_word_once(rt: HostRuntime) {
+    let mut counts = vec![in rt.alloc(); 0u8; WORDS as usize].expect(&rt, "counts");
+    for claimed in crowd(&rt, rt.alloc()) {
+        let words = claimed.ok().expect(&rt, "words");
+        assert!(rt; count(&mut counts, &words));
+    }
+    assert!(rt; counts.iter().all(|count| *count == 1));
+}
+
+#[test]
+fn two_threads_claim_all_words(rt: HostRuntime) {
+    let shared_out = claim_by_two(&rt, rt.alloc(), WORDS);
+    let (ours, theirs) = shared_out.ok().expect(&rt, "words");
+    assert_eq!(rt; ours.len().saturating_add(theirs.len()), WORDS as usize);
+}

@@ -1,0 +1,210 @@
+// Many threads over one pool.
+ghost use Rattle.std.specs.Prelude.{◌≡◌};
+ghost use Rattle.arena_pool.specs.Names.{IsBlankOf};
+
+use super::{SMALL, VALUES, are_counts, are_values, marks, wait_until};
+use crate::tests::{Plan, holds, pool_of, unlimited};
+use arena_pool::{AllocatorPool, ChunkMaker, Counts, MOST_LENT, MemoryMaker, PoolKind, PoolName};
+use example_collections::{over_fixed, over_limited, over_standard};
+use std::alloc::Global;
+use std::marker::Brand;
+use std::process::Abort;
+use std::sync::Wait;
+use std::sync::atomic::{AtomicU64, Ordering};
+use std::sync::ledger::Blank;
+use std::test::*;
+use std::thread;
+use std::thread::{Threads, join};
+
+/// So many threads, each of which borrows so many times: 10,048 times in all.
+const WORKERS: usize = 64;
+
+const ROUNDS: usize = 157;
+
+// Borrows an arena, marks it, and gives it back, or up. Whether nothing of another borrower was seen.
+fn borrow<K: ChunkMaker, L: PoolName, R: Wait>(
+    rt: &R,
+    pool: &AllocatorPool<K, L>,
+    mark: u8,
+    gives_up: bool,
+) -> bool {
+    let Ok(mut guard) = pool.get(rt) else {
+        return false;
+    };
+    let intact = marks(guard.parts_mut(), mark);
+    if gives_up {
+        let _ = guard.give_up(rt);
+    } else {
+        guard.put_back(rt);
+    }
+    intact
+}
+
+// Borrows an arena so often; the last may be given up. Whether nothing of another borrower was ever seen.
+fn work<K: ChunkMaker, L: PoolName, R: Wait>(
+    rt: &R,
+    pool: &AllocatorPool<K, L>,
+    mark: u8,
+    gives_up_last: bool,
+) -> bool {
+    (0..ROUNDS).all(|round| borrow(rt, pool, mark, gives_up_last && round == ROUNDS - 1))
+}
+
+// All threads over a pool. The first `givers` give up their last one.
+fn all_work<K: ChunkMaker + Send, L: PoolName + Send + Sync, R: Threads + Wait + Abort + Sync>(
+    rt: &R,
+    alloc: Global,
+    pool: &AllocatorPool<K, L>,
+    givers: usize,
+) {
+    let intact = thread::map_indices(
+        rt,
+        alloc,
+        WORKERS,
+        &|i| work(rt, pool, (i % 256) as u8, i < givers),
+    );
+    assert!(rt; intact.expect(rt, "results").iter().all(|one| *one));
+}
+
+// In the end so many were given up, by those who borrowed them or by the limit. A fixed pool made no more. A standard one made as many
+// as were lent at once, and one for each that was given up.
+fn are_at_rest(rt: &impl Abort, plan: Plan, given_up: u64, counts: Counts) {
+    let arenas = u64::from(plan.arenas);
+    let most = (arenas + WORKERS as u64).saturating_add(given_up);
+    assert_eq!(rt; (counts.lent, counts.given_up), (0, given_up));
+    assert!(rt; counts.made == arenas || plan.kind == PoolKind::Standard && counts.made <= most);
+}
+
+fn crowd<L: PoolName + Send + Sync, R: Threads + Wait + Abort + Sync>(
+    rt: &R,
+    alloc: Global,
+    plan: Plan,
+    givers: usize,
+    given_up: u64,
+    blank: Blank,
+)
+    requires blank { IsBlankOf L.name L.parts blank }
+    requires kind { L.kind ≡ plan.kind }
+    requires limit { L.limit ≡ plan.limit }
+{
+    let pool = pool_of::<_, L, R>(rt, alloc, plan, MemoryMaker::new(alloc, 1 << 20), blank);
+    let arenas = u64::from(plan.arenas);
+    are_counts(rt, pool.counts(rt), (arenas, arenas, 0, 0));
+    all_work(rt, alloc, &pool, givers);
+    are_at_rest(rt, plan, given_up, pool.counts(rt));
+}
+
+// The kind and the limit of each pool, its arenas at first, who gives up, and how many are given up.
+const CROWDS: &[(PoolKind, Option<u64>, u32, usize, u64)] = &[
+    (SMALL, None, 1, 0, 0),
+    (SMALL, None, 4, 3, 3),
+    (SMALL, None, 64, 63, 63),
+    (PoolKind::Standard, None, 1, 32, 32),
+    (PoolKind::Standard, None, 4, 32, 32),
+    (PoolKind::Standard, None, 64, 32, 32),
+    // Each arena comes back with one chunk of 16320 bytes.
+    (PoolKind::Standard, Some(16320), 4, 32, 32),
+    (
+        PoolKind::Standard,
+        Some(16319),
+        4,
+        32,
+        (WORKERS * ROUNDS) as u64,
+    ),
+];
+
+#[test]
+fn crowds(rt: HostRuntime) {
+    for (kind, limit, arenas, givers, given_up) in CROWDS {
+        let plan = Plan {
+            kind: *kind,
+            limit: *limit,
+            arenas: *arenas,
+        };
+        let blank = Blank::new(MOST_LENT);
+        crowd::<Brand, _>(&rt, rt.alloc(), plan, *givers, *given_up, blank);
+    }
+}
+
+// Gives other threads many turns.
+fn yields() {
+    for _ in 0..1000 {
+        thread::yield_now();
+    }
+}
+
+// Holds the only arena for a while, and says so before it goes back.
+fn hold<K: ChunkMaker, L: PoolName, R: Wait>(
+    rt: &R,
+    pool: &AllocatorPool<K, L>,
+    stage: &AtomicU64,
+) -> bool {
+    let Ok(guard) = pool.get(rt) else {
+        return false;
+    };
+    stage.store(1, Ordering::SeqCst);
+    yields();
+    stage.store(2, Ordering::SeqCst);
+    guard.put_back(rt);
+    true
+}
+
+// Asks for the arena while it is held. Whether it came once it was given back, and not before.
+fn wait_for<K: ChunkMaker, L: PoolName, R: Wait>(
+    rt: &R,
+    pool: &AllocatorPool<K, L>,
+    stage: &AtomicU64,
+) -> bool {
+    wait_until(rt, stage, 1);
+    let Ok(guard) = pool.get_wait(rt) else {
+        return false;
+    };
+    let given_back = stage.load(Ordering::SeqCst) == 2;
+    guard.put_back(rt);
+    given_back
+}
+
+// One thread holds the pool's only arena, and another waits for it.
+fn hold_and_wait<K: ChunkMaker + Send, L: PoolName + Send + Sync, R: Threads + Wait + Sync>(
+    rt: &R,
+    pool: &AllocatorPool<K, L>,
+) -> bool {
+    let stage = AtomicU64::new(0);
+    let (held, waited) = join(rt, || hold(rt, pool, &stage), || wait_for(rt, pool, &stage));
+    held && waited
+}
+
+fn one_waits<L: PoolName + Send + Sync, R: Threads + Wait + Abort + Sync>(
+    rt: &R,
+    alloc: Global,
+    plan: Plan,
+    blank: Blank,
+)
+    requires blank { IsBlankOf L.name L.parts blank }
+    requires kind { L.kind ≡ plan.kind }
+    requires limit { L.limit ≡ plan.limit }
+{
+    let pool = pool_of::<_, L, R>(rt, alloc, plan, MemoryMaker::new(alloc, 1 << 20), blank);
+    holds(rt, hold_and_wait(rt, &pool), "an arena that was given back");
+}
+
+#[test]
+fn a_borrower_waits_until_another_gives_back(rt: HostRuntime) {
+    let plan = unlimited(PoolKind::FixedSize { bytes: 48 }, 1);
+    one_waits::<Brand, _>(&rt, rt.alloc(), plan, Blank::new(MOST_LENT));
+}
+
+#[test]
+fn values_through_arenas(rt: HostRuntime) {
+    for arenas in [1, 4] {
+        are_values(&rt, over_fixed(&rt, rt.alloc(), arenas, 64, &VALUES));
+        are_values(
+            &rt,
+            over_standard(&rt, rt.alloc(), arenas, 1 << 20, &VALUES),
+        );
+        are_values(
+            &rt,
+            over_limited(&rt, rt.alloc(), arenas, 0, 1 << 20, &VALUES),
+        );
+    }
+}

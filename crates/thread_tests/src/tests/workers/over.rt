@@ -1,0 +1,93 @@
+// Scripts over a pool, and over one that is made for them.
+ghost use Rattle.std.specs.Prelude.{◌≡◌};
+ghost use Rattle.std.specs.List.{AllZip};
+ghost use Rattle.arena_pool.specs.Names.{IsBlankOf};
+ghost use Rattle.script_workers.specs.Serving.{IsServedAlone};
+
+use crate::tests::{Plan, pool_of};
+use arena_pool::{AllocatorPool, ChunkMaker, Counts, MOST_LENT, PoolName};
+use arena_script::Job;
+use script_rules::Script;
+use script_workers::{Gate, Served, run_scripts};
+use std::alloc::Global;
+use std::marker::Brand;
+use std::process::Abort;
+use std::sync::Wait;
+use std::sync::ledger::Blank;
+use std::test::*;
+use std::thread::Threads;
+
+// What comes of each script, and the pool's counts then.
+pub(super) fn over_pool<
+    R: Threads + Wait + Abort + Sync,
+    K: ChunkMaker + Drop + Send,
+    L: PoolName + Send + Sync,
+    G: Gate + Sync,
+    J: Job<K::Chunks> + Sync,
+>(
+    rt: &R,
+    alloc: Global,
+    pool: &AllocatorPool<K, L>,
+    workers: u32,
+    gate: &G,
+    job: &J,
+    scripts: &[Script],
+) -> (Vec<Served<K::Chunks>>, Counts)
+    ensures { AllZip (IsServedAlone K.Chunks.source L.kind J.worked) scripts.now result.0.items }
+{
+    assert!(rt; workers > 0 && workers <= 64 && scripts.len() < 1 << 20);
+    let ran = run_scripts(rt, alloc, pool, workers, gate, job, scripts);
+    let all = ran.ok().expect(rt, "outcomes");
+    assert_eq!(rt; all.len(), scripts.len());
+    (all, pool.counts(rt))
+}
+
+/// What comes of scripts over a new pool as planned, each by itself, and the pool's counts then. It waits without end where there
+/// are scripts, and the pool is a fixed one without an arena.
+pub(super) fn over_new<
+    R: Threads + Wait + Abort + Sync,
+    K: ChunkMaker + Drop + Send,
+    G: Gate + Sync,
+    J: Job<K::Chunks> + Sync,
+>(
+    rt: &R,
+    alloc: Global,
+    plan: Plan,
+    maker: K,
+    workers: u32,
+    gate: &G,
+    job: &J,
+    scripts: &[Script],
+) -> (Vec<Served<K::Chunks>>, Counts)
+    ensures { AllZip (IsServedAlone K.Chunks.source plan.kind J.worked) scripts.now result.0.items }
+{
+    let blank = Blank::new(MOST_LENT);
+    over_named::<Brand, R, K, G, J>(rt, alloc, plan, maker, blank, workers, gate, job, scripts)
+}
+
+// The pool is named by L, which stands in no type of the signature.
+fn over_named<
+    L: PoolName + Send + Sync,
+    R: Threads + Wait + Abort + Sync,
+    K: ChunkMaker + Drop + Send,
+    G: Gate + Sync,
+    J: Job<K::Chunks> + Sync,
+>(
+    rt: &R,
+    alloc: Global,
+    plan: Plan,
+    maker: K,
+    blank: Blank,
+    workers: u32,
+    gate: &G,
+    job: &J,
+    scripts: &[Script],
+) -> (Vec<Served<K::Chunks>>, Counts)
+    requires blank { IsBlankOf L.name L.parts blank }
+    requires kind { L.kind ≡ plan.kind }
+    requires limit { L.limit ≡ plan.limit }
+    ensures { AllZip (IsServedAlone K.Chunks.source plan.kind J.worked) scripts.now result.0.items }
+{
+    let pool = pool_of::<K, L, R>(rt, alloc, plan, maker, blank);
+    over_pool(rt, alloc, &pool, workers, gate, job, scripts)
+}
