@@ -9,7 +9,9 @@ use arena_pool::{
     ChunkMaker, FixedSizeAllocatorPool, MOST_LENT, MemoryMaker, OutOfMemory, PoolName,
     StandardAllocatorPool,
 };
-use example_collections::{all_through_fixed, all_through_standard, through_fixed, through_standard};
+use example_collections::{
+    all_through_fixed, all_through_standard, through_fixed, through_standard,
+};
 use std::alloc::Global;
 use std::marker::Brand;
 use std::process::Abort;
