@@ -30,7 +30,6 @@ pub use convert::{FromIn, IntoIn};
 pub use dummy::Dummy;
 pub use ids::CloneInSemanticIds;
 pub use keys::CloneKey;
-pub use numbers::Scalar;
 pub use origin::Origin;
 pub use replace_with::ReplaceWith;
 pub use semantic_id::SemanticId;

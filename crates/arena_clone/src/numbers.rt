@@ -7,12 +7,9 @@ use crate::clone_in::CloneIn;
 use crate::ids::CloneInSemanticIds;
 use crate::origin::Origin;
 use arena_chunks::{Allocator, ChunkSource};
-use arena_items::{Grown, Item};
+use arena_items::Grown;
 
-/// A type whose values are their own copies.
-pub trait Scalar: Item {}
-
-impl<N: Scalar> CloneIn for N {
+impl CloneIn for bool {
     ghost kind = { plain };
 
     ghost lawful = { plain_lawful };
@@ -31,30 +28,249 @@ impl<N: Scalar> CloneIn for N {
     }
 }
 
-impl Scalar for bool {}
+impl CloneIn for char {
+    ghost kind = { plain };
 
-impl Scalar for char {}
+    ghost lawful = { plain_lawful };
 
-impl Scalar for u8 {}
+    fn is_flat(_ids: CloneInSemanticIds) -> bool {
+        true
+    }
 
-impl Scalar for u16 {}
+    fn copy_of<O: Origin<D>, D: ChunkSource>(
+        &self,
+        _ids: CloneInSemanticIds,
+        _from: &O,
+        _to: &mut Allocator<D>,
+    ) -> Grown<Self> {
+        Ok(*self)
+    }
+}
 
-impl Scalar for u32 {}
+impl CloneIn for u8 {
+    ghost kind = { plain };
 
-impl Scalar for u64 {}
+    ghost lawful = { plain_lawful };
 
-impl Scalar for u128 {}
+    fn is_flat(_ids: CloneInSemanticIds) -> bool {
+        true
+    }
 
-impl Scalar for usize {}
+    fn copy_of<O: Origin<D>, D: ChunkSource>(
+        &self,
+        _ids: CloneInSemanticIds,
+        _from: &O,
+        _to: &mut Allocator<D>,
+    ) -> Grown<Self> {
+        Ok(*self)
+    }
+}
 
-impl Scalar for i8 {}
+impl CloneIn for u16 {
+    ghost kind = { plain };
 
-impl Scalar for i16 {}
+    ghost lawful = { plain_lawful };
 
-impl Scalar for i32 {}
+    fn is_flat(_ids: CloneInSemanticIds) -> bool {
+        true
+    }
 
-impl Scalar for i64 {}
+    fn copy_of<O: Origin<D>, D: ChunkSource>(
+        &self,
+        _ids: CloneInSemanticIds,
+        _from: &O,
+        _to: &mut Allocator<D>,
+    ) -> Grown<Self> {
+        Ok(*self)
+    }
+}
 
-impl Scalar for i128 {}
+impl CloneIn for u32 {
+    ghost kind = { plain };
 
-impl Scalar for isize {}
+    ghost lawful = { plain_lawful };
+
+    fn is_flat(_ids: CloneInSemanticIds) -> bool {
+        true
+    }
+
+    fn copy_of<O: Origin<D>, D: ChunkSource>(
+        &self,
+        _ids: CloneInSemanticIds,
+        _from: &O,
+        _to: &mut Allocator<D>,
+    ) -> Grown<Self> {
+        Ok(*self)
+    }
+}
+
+impl CloneIn for u64 {
+    ghost kind = { plain };
+
+    ghost lawful = { plain_lawful };
+
+    fn is_flat(_ids: CloneInSemanticIds) -> bool {
+        true
+    }
+
+    fn copy_of<O: Origin<D>, D: ChunkSource>(
+        &self,
+        _ids: CloneInSemanticIds,
+        _from: &O,
+        _to: &mut Allocator<D>,
+    ) -> Grown<Self> {
+        Ok(*self)
+    }
+}
+
+impl CloneIn for u128 {
+    ghost kind = { plain };
+
+    ghost lawful = { plain_lawful };
+
+    fn is_flat(_ids: CloneInSemanticIds) -> bool {
+        true
+    }
+
+    fn copy_of<O: Origin<D>, D: ChunkSource>(
+        &self,
+        _ids: CloneInSemanticIds,
+        _from: &O,
+        _to: &mut Allocator<D>,
+    ) -> Grown<Self> {
+        Ok(*self)
+    }
+}
+
+impl CloneIn for usize {
+    ghost kind = { plain };
+
+    ghost lawful = { plain_lawful };
+
+    fn is_flat(_ids: CloneInSemanticIds) -> bool {
+        true
+    }
+
+    fn copy_of<O: Origin<D>, D: ChunkSource>(
+        &self,
+        _ids: CloneInSemanticIds,
+        _from: &O,
+        _to: &mut Allocator<D>,
+    ) -> Grown<Self> {
+        Ok(*self)
+    }
+}
+
+impl CloneIn for i8 {
+    ghost kind = { plain };
+
+    ghost lawful = { plain_lawful };
+
+    fn is_flat(_ids: CloneInSemanticIds) -> bool {
+        true
+    }
+
+    fn copy_of<O: Origin<D>, D: ChunkSource>(
+        &self,
+        _ids: CloneInSemanticIds,
+        _from: &O,
+        _to: &mut Allocator<D>,
+    ) -> Grown<Self> {
+        Ok(*self)
+    }
+}
+
+impl CloneIn for i16 {
+    ghost kind = { plain };
+
+    ghost lawful = { plain_lawful };
+
+    fn is_flat(_ids: CloneInSemanticIds) -> bool {
+        true
+    }
+
+    fn copy_of<O: Origin<D>, D: ChunkSource>(
+        &self,
+        _ids: CloneInSemanticIds,
+        _from: &O,
+        _to: &mut Allocator<D>,
+    ) -> Grown<Self> {
+        Ok(*self)
+    }
+}
+
+impl CloneIn for i32 {
+    ghost kind = { plain };
+
+    ghost lawful = { plain_lawful };
+
+    fn is_flat(_ids: CloneInSemanticIds) -> bool {
+        true
+    }
+
+    fn copy_of<O: Origin<D>, D: ChunkSource>(
+        &self,
+        _ids: CloneInSemanticIds,
+        _from: &O,
+        _to: &mut Allocator<D>,
+    ) -> Grown<Self> {
+        Ok(*self)
+    }
+}
+
+impl CloneIn for i64 {
+    ghost kind = { plain };
+
+    ghost lawful = { plain_lawful };
+
+    fn is_flat(_ids: CloneInSemanticIds) -> bool {
+        true
+    }
+
+    fn copy_of<O: Origin<D>, D: ChunkSource>(
+        &self,
+        _ids: CloneInSemanticIds,
+        _from: &O,
+        _to: &mut Allocator<D>,
+    ) -> Grown<Self> {
+        Ok(*self)
+    }
+}
+
+impl CloneIn for i128 {
+    ghost kind = { plain };
+
+    ghost lawful = { plain_lawful };
+
+    fn is_flat(_ids: CloneInSemanticIds) -> bool {
+        true
+    }
+
+    fn copy_of<O: Origin<D>, D: ChunkSource>(
+        &self,
+        _ids: CloneInSemanticIds,
+        _from: &O,
+        _to: &mut Allocator<D>,
+    ) -> Grown<Self> {
+        Ok(*self)
+    }
+}
+
+impl CloneIn for isize {
+    ghost kind = { plain };
+
+    ghost lawful = { plain_lawful };
+
+    fn is_flat(_ids: CloneInSemanticIds) -> bool {
+        true
+    }
+
+    fn copy_of<O: Origin<D>, D: ChunkSource>(
+        &self,
+        _ids: CloneInSemanticIds,
+        _from: &O,
+        _to: &mut Allocator<D>,
+    ) -> Grown<Self> {
+        Ok(*self)
+    }
+}
