@@ -69,7 +69,7 @@ fn wait_until<R: Wait>(rt: &R, stage: &AtomicU64, least: u64) {
 }
 
 // Whether an arena has a place for a block of so many bytes.
-#[tactic(auto, using(arena_pool::proofs::Layers::kind_laws))]
+#[tactic(auto, using(arena_pool::proofs::Layers::placed_of_kind))]
 fn places<C: ChunkSource>(a: &mut Allocator<C>, size: u64) -> bool
     ensures { (kind : PoolKind) → IsOfKind kind a.old.memory.state → IsOfKind kind a.new.memory.state }
 {
@@ -81,11 +81,10 @@ fn places<C: ChunkSource>(a: &mut Allocator<C>, size: u64) -> bool
 }
 
 // Whether an arena begins with nothing used, and a block in it still holds its own bytes once other threads had a turn.
-#[tactic(auto, using(arena_pool::proofs::Layers::kind_laws))]
+#[tactic(auto, using(arena_pool::proofs::Layers::placed_of_kind, arena_pool::proofs::Layers::wrote_of_kind))]
 fn marks<C: ChunkSource>(a: &mut Allocator<C>, mark: u8) -> bool
     ensures { (kind : PoolKind) → IsOfKind kind a.old.memory.state → IsOfKind kind a.new.memory.state }
 {
-    kinds();
     let is_unused = a.used_bytes() == 0;
     let Some(layout) = Layout::new(MARKED, 1) else {
         return false;

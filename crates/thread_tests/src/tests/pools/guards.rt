@@ -9,7 +9,6 @@ use super::{All, SMALL, are_counts, is_nine, marks, places};
 use crate::tests::{Plan, holds, pool_of, unlimited};
 use arena_chunks::{Allocator, ChunkSource};
 use arena_place::Layout;
-use arena_pool::laws::kinds;
 use arena_pool::{
     AllocatorGuard, AllocatorPool, ChunkMaker, MOST_LENT, MemoryMaker, PoolKind, PoolName,
 };
@@ -59,11 +58,9 @@ fn id_of<K: ChunkMaker, L: PoolName>(guard: &AllocatorGuard<'_, K, L>) -> Option
 }
 
 // Whether an arena has so many bytes, and places for a block that is marked and for a further one.
-#[tactic(auto, using(arena_pool::proofs::Layers::kind_laws))]
 fn has_places<C: ChunkSource>(a: &mut Allocator<C>, row: &Borrow) -> bool
     ensures { (kind : PoolKind) → IsOfKind kind a.old.memory.state → IsOfKind kind a.new.memory.state }
 {
-    kinds();
     let is_large = a.capacity() == row.capacity;
     let is_marked = marks(a, 1);
     let is_placed = places(a, row.further);
@@ -182,11 +179,10 @@ fn borrows(rt: HostRuntime) {
 }
 
 // Leaves a byte in an arena's first block. What stood there, which is what an earlier borrower left.
-#[tactic(auto, using(arena_pool::proofs::Layers::kind_laws))]
+#[tactic(auto, using(arena_pool::proofs::Layers::placed_of_kind, arena_pool::proofs::Layers::wrote_of_kind))]
 fn leave<C: ChunkSource>(a: &mut Allocator<C>, mark: u8) -> Option<u8>
     ensures { (kind : PoolKind) → IsOfKind kind a.old.memory.state → IsOfKind kind a.new.memory.state }
 {
-    kinds();
     let block = a.alloc_layout(Layout::new(1, 1)?).ok()?;
     let left = a.read(block).first().copied();
     a.write(block, 0, &[mark]);
