@@ -119,6 +119,7 @@ fn fixed(rt: &HostRuntime, a: &mut Allocator<MemoryChunks>, calls: u64) -> Resul
 }
 
 /// Boxed numbers in memory that wasn't used before.
+#[inline(never)]
 pub fn alloc_fixed(rt: &HostRuntime, calls: u64) -> Result<Timed, Failed> {
     let mut a = new_allocator(rt);
     fixed(rt, &mut a, calls)

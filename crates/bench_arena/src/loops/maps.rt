@@ -4,7 +4,7 @@ ghost use Rattle.arena_hash.specs.Contents.{kind};
 ghost use Rattle.arena_hash.specs.Maps.{IsMapIn};
 
 use super::batches::batches;
-use super::{Clock, Failed, Timed, count};
+use super::{Clock, Failed, Timed, count, new_allocator};
 use arena_chunks::{Allocator, MemoryChunks};
 use arena_hash::{ArenaKey, FxHasher, HashMap, KeyHasher};
 use arena_items::Item;
@@ -42,12 +42,7 @@ pub fn map_insert(
     clock.stop(rt, map.len() as u64)
 }
 
-/// Keys looked up, of which half are there.
-pub fn map_get(
-    rt: &HostRuntime,
-    a: &mut Allocator<MemoryChunks>,
-    calls: u64,
-) -> Result<Timed, Failed> {
+fn got(rt: &HostRuntime, a: &mut Allocator<MemoryChunks>, calls: u64) -> Result<Timed, Failed> {
     let n = count(calls)?;
     let map = filled(a, n)?;
     let clock = Clock::start(rt);
@@ -60,12 +55,14 @@ pub fn map_get(
     clock.stop(rt, number)
 }
 
-/// Keys taken out.
-pub fn map_remove(
-    rt: &HostRuntime,
-    a: &mut Allocator<MemoryChunks>,
-    calls: u64,
-) -> Result<Timed, Failed> {
+/// Keys looked up, of which half are there.
+#[inline(never)]
+pub fn map_get(rt: &HostRuntime, calls: u64) -> Result<Timed, Failed> {
+    let mut a = new_allocator(rt);
+    got(rt, &mut a, calls)
+}
+
+fn removed(rt: &HostRuntime, a: &mut Allocator<MemoryChunks>, calls: u64) -> Result<Timed, Failed> {
     let n = count(calls)?;
     let mut map = filled(a, n)?;
     let clock = Clock::start(rt);
@@ -76,6 +73,13 @@ pub fn map_remove(
         }
     }
     clock.stop(rt, number)
+}
+
+/// Keys taken out.
+#[inline(never)]
+pub fn map_remove(rt: &HostRuntime, calls: u64) -> Result<Timed, Failed> {
+    let mut a = new_allocator(rt);
+    removed(rt, &mut a, calls)
 }
 
 // Puts keys into new maps of eight, and adds up their lengths.

@@ -95,8 +95,7 @@ pub fn scope_define(
     clock.stop(rt, scopes.pairs.len() as u64)
 }
 
-/// Ids looked up, of which half are there.
-pub fn scope_lookup(
+fn looked_up(
     rt: &HostRuntime,
     a: &mut Allocator<MemoryChunks>,
     calls: u64,
@@ -111,6 +110,13 @@ pub fn scope_lookup(
         }
     }
     clock.stop(rt, number)
+}
+
+/// Ids looked up, of which half are there.
+#[inline(never)]
+pub fn scope_lookup(rt: &HostRuntime, calls: u64) -> Result<Timed, Failed> {
+    let mut a = new_allocator(rt);
+    looked_up(rt, &mut a, calls)
 }
 
 // Scopes begun and ended, in each of which some ids hide those outside; the pairs that they had, counted.
@@ -138,6 +144,7 @@ fn entered(rt: &HostRuntime, a: &mut Allocator<MemoryChunks>, calls: u64) -> Res
 }
 
 /// Scopes begun and ended, in each of which four ids hide those outside. A call is one scope.
+#[inline(never)]
 pub fn scope_enter(rt: &HostRuntime, calls: u64) -> Result<Timed, Failed> {
     let mut a = new_allocator(rt);
     entered(rt, &mut a, calls)

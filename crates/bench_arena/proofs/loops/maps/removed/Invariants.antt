@@ -3,7 +3,7 @@ use Rattle.arena_hash.specs.Maps.{IsMapIn}
 use Rattle.arena_hash.specs.contracts.hasher.FxHasherKeyHasher.TheImpl as hasher
 use Rattle.arena_hash.specs.contracts.key.U32ArenaKey.TheImpl as key
 use Rattle.arena_items.specs.contracts.numbers.unsigned.U32Item.TheImpl as item
-use Rattle.bench_arena.proofs.loops.maps.map_remove.Given as goal
+use Rattle.bench_arena.proofs.loops.maps.removed.Given as goal
 
 abbrev pub invariant-loop-i : goal.invariant-loop-i
 invariant-loop-i l = IsMapIn (kind item.ghosts key.ghosts.key item.ghosts hasher.ghosts.hash_of) l.a.memory l.map
