@@ -36,8 +36,8 @@ pub use vec::{
 // How many bytes a loop's chunks may have together.
 const BUDGET: u64 = 1 << 30;
 
-/// An arena with no chunk. Most loops are lent an arena, which is cheaper to prove. A loop that the compiler makes slower then has one of
-/// its own.
+/// An arena with no chunk. Most loops are lent an arena, which is cheaper to prove. A loop that is slower then has one of its own, and is
+/// compiled apart from the others where that is faster.
 pub fn new_allocator(rt: &HostRuntime) -> Allocator<MemoryChunks> {
     Allocator::new(rt.alloc(), MemoryChunks::new(rt.alloc(), BUDGET))
 }

@@ -100,7 +100,6 @@ fn reset_often(
 }
 
 /// One block of eight bytes, and a reset, which keeps the first chunk.
-#[inline(never)]
 pub fn alloc_and_reset(rt: &HostRuntime, calls: u64) -> Result<Timed, Failed> {
     let mut a = new_allocator(rt);
     reset_often(rt, &mut a, calls)

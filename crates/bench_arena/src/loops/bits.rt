@@ -77,7 +77,6 @@ fn set_scattered(
 }
 
 /// Numbers put into a set, in scattered order.
-#[inline(never)]
 pub fn bitset_set(rt: &HostRuntime, calls: u64) -> Result<Timed, Failed> {
     let mut a = new_allocator(rt);
     set_scattered(rt, &mut a, calls)
@@ -101,7 +100,6 @@ fn set_ascending(
 }
 
 /// Numbers put into a set, ascending.
-#[inline(never)]
 pub fn bitset_set_ascending(rt: &HostRuntime, calls: u64) -> Result<Timed, Failed> {
     let mut a = new_allocator(rt);
     set_ascending(rt, &mut a, calls)

@@ -56,7 +56,6 @@ fn got(rt: &HostRuntime, a: &mut Allocator<MemoryChunks>, calls: u64) -> Result<
 }
 
 /// Keys looked up, of which half are there.
-#[inline(never)]
 pub fn map_get(rt: &HostRuntime, calls: u64) -> Result<Timed, Failed> {
     let mut a = new_allocator(rt);
     got(rt, &mut a, calls)
@@ -76,7 +75,6 @@ fn removed(rt: &HostRuntime, a: &mut Allocator<MemoryChunks>, calls: u64) -> Res
 }
 
 /// Keys taken out.
-#[inline(never)]
 pub fn map_remove(rt: &HostRuntime, calls: u64) -> Result<Timed, Failed> {
     let mut a = new_allocator(rt);
     removed(rt, &mut a, calls)

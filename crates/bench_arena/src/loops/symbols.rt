@@ -113,7 +113,6 @@ fn looked_up(
 }
 
 /// Ids looked up, of which half are there.
-#[inline(never)]
 pub fn scope_lookup(rt: &HostRuntime, calls: u64) -> Result<Timed, Failed> {
     let mut a = new_allocator(rt);
     looked_up(rt, &mut a, calls)

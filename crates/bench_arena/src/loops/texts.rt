@@ -24,7 +24,6 @@ fn pieces(rt: &HostRuntime, a: &mut Allocator<MemoryChunks>, calls: u64) -> Resu
 }
 
 /// Texts of seven bytes put at the end.
-#[inline(never)]
 pub fn string_push_str(rt: &HostRuntime, calls: u64) -> Result<Timed, Failed> {
     let mut a = new_allocator(rt);
     pieces(rt, &mut a, calls)
