@@ -1,7 +1,8 @@
 // Allocators: arenas with their sources.
 use super::{ample, has, layout, reads, refusing, same};
-use arena_chunks::{Allocator, ArenaErr};
-use std::test::Fail;
+use arena_chunks::{Allocator, ArenaErr, RefusingChunks};
+use std::alloc::Global;
+use std::process::Abort;
 
 #[test]
 fn values_and_texts_until_a_reset(rt: HostRuntime) {
@@ -28,24 +29,33 @@ const REFUSED: &[(u64, u32)] = &[(10, 1), (1 << 63, 0)];
 
 const TOLD: &[(u64, u64)] = &[(64, 16), (64, 16)];
 
+// No allocator of this capacity is made, and the source comes back.
+fn not_made(
+    rt: &impl Abort,
+    alloc: Global,
+    chunks: RefusingChunks,
+    (capacity, refused): (u64, u32),
+) -> RefusingChunks {
+    match Allocator::with_capacity(alloc, chunks, capacity) {
+        Err((e, back)) => {
+            same(rt, e, ArenaErr::AllocErr { refused });
+            back
+        }
+        Ok(_) => panic!(rt; "an allocator"),
+    }
+}
+
 // An allocator of a capacity hands its source back where there is none.
 #[test]
-fn allocators_of_a_capacity(rt: HostRuntime) -> Result<(), Fail> {
-    let mut chunks = refusing(rt.alloc(), &[1])?;
-    for &(capacity, refused) in REFUSED {
-        match Allocator::with_capacity(rt.alloc(), chunks, capacity) {
-            Err((e, back)) => {
-                same(&rt, e, ArenaErr::AllocErr { refused });
-                chunks = back;
-            }
-            Ok(_) => return Err(Fail::from("an allocator")),
-        }
+fn allocators_of_a_capacity(rt: HostRuntime) {
+    let alloc = rt.alloc();
+    let mut chunks = refusing(alloc, &[1]).expect(&rt, "memory");
+    for row in REFUSED {
+        chunks = not_made(&rt, alloc, chunks, *row);
     }
-    let Ok(a) = Allocator::with_capacity(rt.alloc(), chunks, 10) else {
-        return Err(Fail::from("an allocator"));
-    };
+    let made = Allocator::with_capacity(alloc, chunks, 10);
+    let a = made.ok().expect(&rt, "an allocator");
     same(&rt, (a.data_end(), a.capacity()), (4160, 64));
     let (_, chunks) = a.into_parts();
     same(&rt, chunks.requests(), Some(TOLD));
-    Ok(())
 }

@@ -1,7 +1,9 @@
 // The engine beside the plain program of the definitions, which is told how many requests were refused in each call: tables
 // with every case of every call, and calls that are drawn.
-use super::runs::{Row, call, calls, replies_of};
-use std::test::Fail;
+use super::runs::{Row, calls, put_call, replies_of};
+use arena_chunks::Call;
+use std::alloc::Global;
+use std::process::Abort;
 
 // Every case of every call: names held and free, layouts good and bad, sizes of none, a place in the newest chunk and
 // none, requests granted at once, after a refusal and never, ranges within and past, blocks at the cursor and elsewhere.
@@ -176,24 +178,35 @@ fn short_drawn(kind: u64, name: u32) -> Row {
     }
 }
 
+// Calls that are drawn from a number on, and the number that is next.
+fn drawn_calls(rt: &impl Abort, alloc: Global, from: u64) -> (Vec<Call>, u64) {
+    let mut n = from;
+    let mut calls = Vec::new(alloc);
+    for _ in 0..200 {
+        n = n
+            .wrapping_mul(6_364_136_223_846_793_005)
+            .wrapping_add(1_442_695_040_888_963_407);
+        put_call(rt, alloc, &drawn(n >> 20), &mut calls);
+    }
+    (calls, n)
+}
+
 #[test]
-fn replies(rt: HostRuntime) -> Result<(), Fail> {
+fn replies(rt: HostRuntime) {
     for refuse in REFUSALS {
         for rows in TABLES {
-            let calls = calls(rt.alloc(), rows)?;
-            replies_of::<1>(&rt, rt.alloc(), calls.as_slice(), refuse)?;
+            let calls = calls(&rt, rt.alloc(), rows);
+            replies_of::<1>(&rt, rt.alloc(), calls.as_slice(), refuse);
         }
     }
+}
+
+#[test]
+fn replies_to_drawn_calls(rt: HostRuntime) {
     let mut n: u64 = 1;
     for refuse in REFUSALS {
-        let mut calls = Vec::new(rt.alloc());
-        for _ in 0..200 {
-            n = n
-                .wrapping_mul(6_364_136_223_846_793_005)
-                .wrapping_add(1_442_695_040_888_963_407);
-            calls.push(call(rt.alloc(), &drawn(n >> 20))?)?;
-        }
-        replies_of::<1>(&rt, rt.alloc(), calls.as_slice(), refuse)?;
+        let (calls, next) = drawn_calls(&rt, rt.alloc(), n);
+        replies_of::<1>(&rt, rt.alloc(), calls.as_slice(), refuse);
+        n = next;
     }
-    Ok(())
 }

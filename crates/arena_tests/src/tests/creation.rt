@@ -1,11 +1,10 @@
 // How arenas begin.
 use super::stage::Stage;
 use super::steps::Step;
-use super::{must, refusing, same_at};
+use super::{must, refusing, same, same_at};
 use arena_chunks::{Arena, ArenaErr, ChunkSource, MemoryChunks};
 use std::alloc::Global;
 use std::process::Abort;
-use std::test::Fail;
 
 // A capacity, and the bytes of the chunk that an arena of least alignment 1 begins with, or how many requests were refused.
 type Capacity = (u64, Result<u64, u32>);
@@ -73,24 +72,19 @@ const FROM_A_BUDGET: &[Capacity] = &[
 ];
 
 #[test]
-fn arenas_of_a_capacity(rt: HostRuntime) -> Result<(), Fail> {
+fn arenas_of_a_capacity(rt: HostRuntime) {
     let alloc = rt.alloc();
-    answers(
-        &rt,
-        alloc,
-        &mut MemoryChunks::new(alloc, 1 << 20),
-        CAPACITIES,
-    );
-    answers(
-        &rt,
-        alloc,
-        &mut MemoryChunks::new(alloc, 64 + 192),
-        FROM_A_BUDGET,
-    );
-    let mut chunks = refusing(alloc, &[1, 2, 4])?;
-    answers(&rt, alloc, &mut chunks, REFUSALS);
-    same_at(&rt, "requests", chunks.requests(), Some(TOLD));
-    Ok(())
+    let mut ample = MemoryChunks::new(alloc, 1 << 20);
+    answers(&rt, alloc, &mut ample, CAPACITIES);
+    let mut budget = MemoryChunks::new(alloc, 64 + 192);
+    answers(&rt, alloc, &mut budget, FROM_A_BUDGET);
+}
+
+#[test]
+fn arenas_of_a_capacity_that_is_refused(rt: HostRuntime) {
+    let mut chunks = refusing(rt.alloc(), &[1, 2, 4]).expect(&rt, "memory");
+    answers(&rt, rt.alloc(), &mut chunks, REFUSALS);
+    same(&rt, chunks.requests(), Some(TOLD));
 }
 
 // An arena made for 10 bytes has 64, and the next chunk follows the rule for growth.
@@ -121,44 +115,28 @@ fn takes<const M: usize>(
     let arena = arena.expect(rt, name);
     same_at(rt, name, arena.min_align(), M as u64);
     let chunks = refusing(alloc, &[]).expect(rt, "memory");
-    let mut stage = Stage::of(alloc, name, arena, chunks);
-    for step in steps {
-        stage.take(rt, step);
-    }
+    Stage::of(alloc, name, arena, chunks).take_all(rt, steps);
 }
 
 #[test]
-fn each_constructor(rt: HostRuntime) {
+fn each_constructor_of_a_capacity(rt: HostRuntime) {
     let alloc = rt.alloc();
-    let mut chunks = MemoryChunks::new(alloc, 1 << 20);
-    let arena = Arena::with_capacity(alloc, &mut chunks, 10);
-    takes(&rt, alloc, "with_capacity", arena, OF_10_BYTES);
-    let arena = Arena::try_with_capacity(alloc, &mut chunks, 10);
-    takes(&rt, alloc, "try_with_capacity", arena, OF_10_BYTES);
-    let arena = Arena::<16>::with_min_align_and_capacity(alloc, &mut chunks, 10);
-    takes(
-        &rt,
-        alloc,
-        "with_min_align_and_capacity",
-        arena,
-        OF_10_BYTES,
-    );
-    let arena = Arena::<8>::try_with_min_align_and_capacity(alloc, &mut chunks, 10);
-    takes(
-        &rt,
-        alloc,
-        "try_with_min_align_and_capacity",
-        arena,
-        OF_10_BYTES,
-    );
-    takes(&rt, alloc, "new", Ok(Arena::new(alloc)), EMPTY);
-    takes(
-        &rt,
-        alloc,
-        "by 16",
-        Ok(Arena::<16>::with_min_align(alloc)),
-        EMPTY,
-    );
+    let chunks = &mut MemoryChunks::new(alloc, 1 << 20);
+    let arena = Arena::with_capacity(alloc, chunks, 10);
+    takes::<1>(&rt, alloc, "of 1", arena, OF_10_BYTES);
+    let arena = Arena::try_with_capacity(alloc, chunks, 10);
+    takes::<1>(&rt, alloc, "try of 1", arena, OF_10_BYTES);
+    let arena = Arena::with_min_align_and_capacity(alloc, chunks, 10);
+    takes::<16>(&rt, alloc, "of 16", arena, OF_10_BYTES);
+    let arena = Arena::try_with_min_align_and_capacity(alloc, chunks, 10);
+    takes::<8>(&rt, alloc, "try of 8", arena, OF_10_BYTES);
+}
+
+#[test]
+fn each_constructor_of_an_empty_arena(rt: HostRuntime) {
+    let alloc = rt.alloc();
+    takes::<1>(&rt, alloc, "of 1", Ok(Arena::new(alloc)), EMPTY);
+    takes::<16>(&rt, alloc, "of 16", Ok(Arena::with_min_align(alloc)), EMPTY);
 }
 
 // The bytes of a region, and steps on an arena of least alignment 16 over it, whose source is never asked.
@@ -226,17 +204,19 @@ const REGIONS: &[(usize, &[Step])] = &[
     ),
 ];
 
-// Each vector is of sevens.
+// Takes the steps over a region of sevens.
+fn region(rt: &impl Abort, alloc: Global, size: usize, steps: &[Step]) {
+    must(rt, size, size % 16 == 0);
+    must(rt, size, size >= 48);
+    let bytes = vec![in alloc; 7; size].expect(rt, "memory");
+    let arena = Arena::<16>::from_raw_parts(alloc, bytes).expect(rt, "an arena");
+    must(rt, size, !arena.is_growing());
+    takes(rt, alloc, "a region", Ok(arena), steps);
+}
+
 #[test]
-fn regions(rt: HostRuntime) -> Result<(), Fail> {
-    let alloc = rt.alloc();
-    for &(size, steps) in REGIONS {
-        must(&rt, size, size % 16 == 0);
-        must(&rt, size, size >= 48);
-        let bytes = vec![in alloc; 7; size]?;
-        let arena = Arena::<16>::from_raw_parts(alloc, bytes).expect(&rt, "an arena");
-        must(&rt, size, !arena.is_growing());
-        takes(&rt, alloc, "a region", Ok(arena), steps);
+fn regions(rt: HostRuntime) {
+    for (size, steps) in REGIONS {
+        region(&rt, rt.alloc(), *size, steps);
     }
-    Ok(())
 }

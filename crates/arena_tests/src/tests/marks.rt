@@ -234,10 +234,9 @@ fn go_back(rt: &impl Abort, arena: &mut Arena<1>, mark: Checkpoint) {
     arena.rewind(mark);
 }
 
-// From the newest on each leaves as many bytes as there were. From the oldest on the first does, and no later one changes
-// that: those of newer chunks aren't accepted.
+// Each leaves as many bytes as there were.
 #[test]
-fn nested(rt: HostRuntime) {
+fn nested_from_the_newest_on(rt: HostRuntime) {
     let mut arena = Arena::new(rt.alloc());
     let mut marks = marked(&rt, rt.alloc(), &mut arena);
     for k in 0..DEEP {
@@ -245,6 +244,11 @@ fn nested(rt: HostRuntime) {
         go_back(&rt, &mut arena, mark);
         same(&rt, arena.used_bytes(), SIZE * (DEEP - k));
     }
+}
+
+// The first does, and no later one changes that: those of newer chunks aren't accepted.
+#[test]
+fn nested_from_the_oldest_on(rt: HostRuntime) {
     let mut arena = Arena::new(rt.alloc());
     for mark in &marked(&rt, rt.alloc(), &mut arena) {
         if mark.chunks == 1 {

@@ -169,15 +169,20 @@ fn higher(at: u64, place: Option<u64>) -> Option<u64> {
     at.checked_add(place?)
 }
 
+// The cases of a table, so many addresses higher.
+fn holds(rt: &impl Abort, table: &Table, at: u64) {
+    for &case in table.cases {
+        let (name, _, _, _, wanted) = case;
+        let addr = place_of(rt, at, table.min_align, case);
+        same_at(rt, (table.name, name, at), addr, higher(at, wanted));
+    }
+}
+
 #[test]
 fn where_they_are_placed(rt: HostRuntime) {
     for table in TABLES {
-        for &at in table.at {
-            for &case in table.cases {
-                let (name, _, _, _, wanted) = case;
-                let addr = place_of(&rt, at, table.min_align, case);
-                same_at(&rt, (table.name, name, at), addr, higher(at, wanted));
-            }
+        for at in table.at {
+            holds(&rt, table, *at);
         }
     }
 }

@@ -2,8 +2,9 @@
 use super::steps::Step;
 use super::{ample, held, layout, must, same};
 use arena_chunks::bumpalo_alloc::Alloc;
-use std::alloc::{AllocError, Global};
-use std::test::Fail;
+use arena_chunks::{Allocator, MemoryChunks};
+use std::alloc::Global;
+use std::process::Abort;
 
 pub(super) const SIZES: &[Step] = &[
     Step::Case("51 of 100 bytes", &[]),
@@ -48,36 +49,38 @@ pub(super) const SIZES: &[Step] = &[
 ];
 
 // So many bytes: 0 to 250, over and over.
-fn numbered(alloc: Global, size: usize) -> Result<Vec<u8>, AllocError> {
+fn numbered(rt: &impl Abort, alloc: Global, size: usize) -> Vec<u8> {
     let mut bytes = Vec::new(alloc);
     let mut byte: u8 = 0;
     for _ in 0..size {
-        bytes.push(byte)?;
+        bytes.push(byte).expect(rt, "memory");
         byte = if byte < 250 { byte + 1 } else { 0 };
     }
-    Ok(bytes)
+    bytes
 }
 
 // A size, and the address of the block that has it.
 const MOVED: &[(u64, u64)] = &[(24000, 29168), (48000, 70688)];
 
+// A block of these bytes is placed and grows twice. Another was placed after it.
+fn moves(rt: &impl Abort, a: &mut Allocator<MemoryChunks>, bytes: &[u8]) {
+    let mut block = Alloc::alloc(a, layout(rt, 12000, 4)).expect(rt, "a block");
+    same(rt, block.addr, 8416);
+    must(rt, block, block.size == bytes.len() as u64);
+    a.write(block, 0, bytes);
+    Alloc::alloc(a, layout(rt, 1000, 4)).expect(rt, "a block");
+    for &(size, addr) in MOVED {
+        block = held(rt, a, block);
+        block = a.realloc(block, size).expect(rt, "a block");
+        same(rt, (block.addr, block.size), (addr, size));
+        block = held(rt, a, block);
+        must(rt, block, a.read(block).starts_with(bytes));
+    }
+}
+
 // Each byte of a block is read again in the second and in the third chunk.
 #[test]
-fn bytes_through_three_chunks(rt: HostRuntime) -> Result<(), Fail> {
-    let mut a = ample(rt.alloc());
-    let mut block = Alloc::alloc(&mut a, layout(&rt, 12000, 4)).expect(&rt, "a block");
-    let bytes = numbered(rt.alloc(), 12000)?;
-    block = held(&rt, &a, block);
-    same(&rt, block.addr, 8416);
-    must(&rt, block, block.size == bytes.len() as u64);
-    a.write(block, 0, bytes.as_slice());
-    Alloc::alloc(&mut a, layout(&rt, 1000, 4)).expect(&rt, "a block");
-    for &(size, addr) in MOVED {
-        block = held(&rt, &a, block);
-        block = a.realloc(block, size).expect(&rt, "a block");
-        same(&rt, (block.addr, block.size), (addr, size));
-        block = held(&rt, &a, block);
-        must(&rt, block, a.read(block).starts_with(bytes.as_slice()));
-    }
-    Ok(())
+fn bytes_through_three_chunks(rt: HostRuntime) {
+    let bytes = numbered(&rt, rt.alloc(), 12000);
+    moves(&rt, &mut ample(rt.alloc()), bytes.as_slice());
 }

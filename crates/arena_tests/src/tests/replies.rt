@@ -1,8 +1,9 @@
 // Runs of calls with the replies that the rules give, and the blocks that are held afterwards.
 use super::runs::{Row, Run, Says, all_reply, calls};
 use super::same;
-use arena_chunks::{Arena, MemoryChunks, Ran, run_calls};
-use std::test::Fail;
+use arena_chunks::{Arena, Block, Call, MemoryChunks, Ran, run_calls};
+use std::alloc::Global;
+use std::process::Abort;
 
 const FAR: u64 = 1 << 62;
 
@@ -349,11 +350,11 @@ const GROWING_RUNS: &[Run] = &[
 ];
 
 #[test]
-fn of_runs(rt: HostRuntime) -> Result<(), Fail> {
-    all_reply::<1>(&rt, rt.alloc(), RUNS)?;
-    all_reply::<1>(&rt, rt.alloc(), GROWING_RUNS)?;
-    all_reply::<1>(&rt, rt.alloc(), MARKS)?;
-    all_reply::<16>(&rt, rt.alloc(), RUNS_BY_16)
+fn of_runs(rt: HostRuntime) {
+    all_reply::<1>(&rt, rt.alloc(), RUNS);
+    all_reply::<1>(&rt, rt.alloc(), GROWING_RUNS);
+    all_reply::<1>(&rt, rt.alloc(), MARKS);
+    all_reply::<16>(&rt, rt.alloc(), RUNS_BY_16);
 }
 
 // A block of each name that is held at the end: its generation, address, size and alignment.
@@ -379,20 +380,23 @@ const HELD: &[Held] = &[
     (7, 1, 20366, 50, 1),
 ];
 
-#[test]
-fn held_blocks(rt: HostRuntime) -> Result<(), Fail> {
-    let alloc = rt.alloc();
-    let calls = calls(alloc, HELD_CALLS)?;
+// The names and blocks that are held after the calls.
+fn held_after(rt: &impl Abort, alloc: Global, calls: &[Call]) -> Vec<(u32, Block)> {
     let mut arena = Arena::<1>::new(alloc);
     let mut chunks = MemoryChunks::new(alloc, 20000);
-    let Ok(Ran { held, .. }) = run_calls(alloc, &mut arena, &mut chunks, calls.as_slice()) else {
-        return Err(Fail::from("memory is ample"));
-    };
+    let ran = run_calls(alloc, &mut arena, &mut chunks, calls);
+    let Ran { held, .. } = ran.expect(rt, "memory is ample");
+    held
+}
+
+#[test]
+fn held_blocks(rt: HostRuntime) {
+    let calls = calls(&rt, rt.alloc(), HELD_CALLS);
+    let held = held_after(&rt, rt.alloc(), calls.as_slice());
     same(&rt, held.len(), HELD.len());
     for (held, wanted) in held.iter().zip(HELD) {
         let (name, block) = *held;
         let shown = (name, block.generation, block.addr, block.size, block.align);
         same(&rt, shown, *wanted);
     }
-    Ok(())
 }

@@ -7,7 +7,6 @@ use arena_chunks::{Arena, Bytes, Call, OutOfMemory, Ran, Reply, run_calls};
 use plain_machine::PlainMachine;
 use std::alloc::Global;
 use std::process::Abort;
-use std::test::Fail;
 
 // A call: the name, and what it has of a size, an alignment, a fill byte, an index and bytes, in this order.
 #[derive(Drop)]
@@ -40,7 +39,7 @@ pub(super) enum Says {
     OutOfRange,
 }
 
-pub(super) fn call(alloc: Global, row: &Row) -> Result<Call, OutOfMemory> {
+fn call(alloc: Global, row: &Row) -> Result<Call, OutOfMemory> {
     Ok(match *row {
         Row::Alloc(name, size, align, fill) => Call::Alloc {
             name,
@@ -76,12 +75,17 @@ fn short_call(row: &Row) -> Call {
     }
 }
 
-pub(super) fn calls(alloc: Global, rows: &[Row]) -> Result<Vec<Call>, Fail> {
+pub(super) fn calls(rt: &impl Abort, alloc: Global, rows: &[Row]) -> Vec<Call> {
     let mut calls = Vec::new(alloc);
     for row in rows {
-        calls.push(call(alloc, row)?)?;
+        put_call(rt, alloc, row, &mut calls);
     }
-    Ok(calls)
+    calls
+}
+
+pub(super) fn put_call(rt: &impl Abort, alloc: Global, row: &Row, calls: &mut Vec<Call>) {
+    let call = call(alloc, row).expect(rt, "memory");
+    calls.push(call).expect(rt, "memory");
 }
 
 fn reply(alloc: Global, says: &Says) -> Result<Reply, OutOfMemory> {
@@ -110,33 +114,45 @@ pub(super) fn replies_of<const M: usize>(
     alloc: Global,
     calls: &[Call],
     refuse: &[u64],
-) -> Result<Vec<Reply>, Fail>
+) -> Vec<Reply>
     requires { IsTrue (is_min_align M) }
 {
-    let mut chunks = refusing(alloc, refuse)?;
-    let mut arena = Arena::<M>::with_min_align(alloc);
-    let Ok(Ran { replies, .. }) = run_calls(alloc, &mut arena, &mut chunks, calls) else {
-        return Err(Fail::from("memory is ample"));
-    };
-    let refused = refused(alloc, replies.as_slice())?;
+    let replies = engine_replies::<M>(rt, alloc, calls, refuse);
+    let refused = refused(rt, alloc, replies.as_slice());
     let plain = PlainMachine::run(alloc, M as u64, calls, refused.as_slice());
-    let Ok(Some(plain)) = plain else {
-        return Err(Fail::from("the machine has this run"));
-    };
+    let plain = plain
+        .expect(rt, "memory")
+        .expect(rt, "the machine has this run");
     must(rt, refuse, replies.as_slice() == plain.as_slice());
-    Ok(replies)
+    replies
+}
+
+fn engine_replies<const M: usize>(
+    rt: &impl Abort,
+    alloc: Global,
+    calls: &[Call],
+    refuse: &[u64],
+) -> Vec<Reply>
+    requires { IsTrue (is_min_align M) }
+{
+    let mut chunks = refusing(alloc, refuse).expect(rt, "memory");
+    let mut arena = Arena::<M>::with_min_align(alloc);
+    let ran = run_calls(alloc, &mut arena, &mut chunks, calls);
+    let Ran { replies, .. } = ran.expect(rt, "memory is ample");
+    replies
 }
 
 // How many requests were refused in each call.
-fn refused(alloc: Global, replies: &[Reply]) -> Result<Vec<u32>, Fail> {
+fn refused(rt: &impl Abort, alloc: Global, replies: &[Reply]) -> Vec<u32> {
     let mut all = Vec::new(alloc);
     for reply in replies {
-        all.push(match reply {
+        let refused = match reply {
             Reply::Placed { refused, .. } | Reply::AllocErr { refused } => *refused,
             _ => 0,
-        })?;
+        };
+        all.push(refused).expect(rt, "memory");
     }
-    Ok(all)
+    all
 }
 
 // Calls in a row, each with its reply, where the requests of these numbers are refused.
@@ -146,22 +162,27 @@ pub(super) struct Run {
     pub(super) lines: &'static [(Row, Says)],
 }
 
-pub(super) fn all_reply<const M: usize>(
-    rt: &impl Abort,
-    alloc: Global,
-    runs: &[Run],
-) -> Result<(), Fail>
+pub(super) fn all_reply<const M: usize>(rt: &impl Abort, alloc: Global, runs: &[Run])
     requires { IsTrue (is_min_align M) }
 {
     for run in runs {
-        let mut calls = Vec::new(alloc);
-        for (row, _) in run.lines {
-            calls.push(call(alloc, row)?)?;
-        }
-        let replies = replies_of::<M>(rt, alloc, calls.as_slice(), run.refuse)?;
-        for (n, (given, (_, says))) in replies.iter().zip(run.lines).enumerate() {
-            must(rt, (run.name, n), *given == reply(alloc, says)?);
-        }
+        let calls = calls_of(rt, alloc, run);
+        let replies = replies_of::<M>(rt, alloc, calls.as_slice(), run.refuse);
+        are_replies(rt, alloc, replies.as_slice(), run);
     }
-    Ok(())
+}
+
+fn calls_of(rt: &impl Abort, alloc: Global, run: &Run) -> Vec<Call> {
+    let mut calls = Vec::new(alloc);
+    for (row, _) in run.lines {
+        put_call(rt, alloc, row, &mut calls);
+    }
+    calls
+}
+
+fn are_replies(rt: &impl Abort, alloc: Global, replies: &[Reply], run: &Run) {
+    for (n, (given, (_, says))) in replies.iter().zip(run.lines).enumerate() {
+        let wanted = reply(alloc, says).expect(rt, "memory");
+        must(rt, (run.name, n), *given == wanted);
+    }
 }

@@ -2,10 +2,9 @@
 ghost use Rattle.std.specs.Prelude.{◌≡◌, IfOk, replicate};
 
 use super::runs::{Row, calls};
-use super::{has, layout, placed, reads, same};
+use super::{has, layout, must, placed, reads, same};
 use arena_chunks::{Allocator, Arena, ArenaErr, ChunkSource, MemoryChunks, Ran, Reply, run_calls};
 use std::alloc::{AllocError, Global};
-use std::test::Fail;
 
 // Vectors of zeros, which have room for more, up to so many; all others it refuses.
 #[derive(Drop)]
@@ -69,36 +68,32 @@ const TWO: &[Row] = &[Row::Alloc(0, 1, 1, 0), Row::Alloc(0, 1, 1, 0)];
 
 // The count stands at its last value, so it tells no refusal; each answer does.
 #[test]
-fn a_count_that_stands(rt: HostRuntime) -> Result<(), Fail> {
+fn a_count_that_stands(rt: HostRuntime) {
     let alloc = rt.alloc();
     let mut chunks = Vectors {
         alloc,
         grants: 0,
         refused: u64::MAX,
     };
-    let calls = calls(alloc, TWO)?;
+    let calls = calls(&rt, alloc, TWO);
     let mut arena = Arena::<1>::new(alloc);
-    let Ok(Ran { replies, .. }) = run_calls(alloc, &mut arena, &mut chunks, calls.as_slice()) else {
-        return Err(Fail::from("memory is ample"));
-    };
+    let ran = run_calls(alloc, &mut arena, &mut chunks, calls.as_slice());
+    let Ran { replies, .. } = ran.expect(&rt, "memory is ample");
     same(&rt, replies.len(), 2);
     same(&rt, chunks.refused, u64::MAX);
     for reply in &replies {
-        assert!(rt; *reply == Reply::AllocErr { refused: 1 });
+        must(&rt, "a reply", *reply == Reply::AllocErr { refused: 1 });
     }
-    Ok(())
 }
 
 // Chunks of a gibibyte, of which little is used. To touch all bytes of one takes half a second, so that these would take longer
 // than a test may.
 #[test]
-fn chunks_that_are_not_touched_before_use(rt: HostRuntime) -> Result<(), Fail> {
+fn chunks_that_are_not_touched_before_use(rt: HostRuntime) {
     for _ in 0..1000 {
         let chunks = MemoryChunks::new(rt.alloc(), 1 << 31);
-        let Ok(mut a) = Allocator::with_capacity(rt.alloc(), chunks, 1 << 30) else {
-            return Err(Fail::from("an allocator"));
-        };
+        let made = Allocator::with_capacity(rt.alloc(), chunks, 1 << 30);
+        let mut a = made.ok().expect(&rt, "an allocator");
         a.alloc_str("hello").expect(&rt, "a text");
     }
-    Ok(())
 }

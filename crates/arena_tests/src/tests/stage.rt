@@ -44,6 +44,12 @@ impl<const M: usize> Stage<M> {
         }
     }
 
+    pub(super) fn take_all(&mut self, rt: &impl Abort, steps: &[Step]) {
+        for step in steps {
+            self.take(rt, step);
+        }
+    }
+
     // Takes a step. Here are those of many bytes.
     pub(super) fn take(&mut self, rt: &impl Abort, step: &Step) {
         self.at.1 = self.at.1.wrapping_add(1);

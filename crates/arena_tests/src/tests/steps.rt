@@ -75,15 +75,22 @@ fn begun<const M: usize>(
     Stage::of(alloc, name, Arena::with_min_align(alloc), chunks)
 }
 
+// Takes a step, or begins a case.
+fn take<const M: usize>(rt: &impl Abort, alloc: Global, stage: &mut Stage<M>, step: &Step)
+    requires { IsTrue (is_min_align M) }
+{
+    match *step {
+        Step::Case(name, refuse) => *stage = begun(rt, alloc, name, refuse),
+        _ => stage.take(rt, step),
+    }
+}
+
 // Takes all steps of a table.
 pub(super) fn all_hold<const M: usize>(rt: &impl Abort, alloc: Global, steps: &[Step])
     requires { IsTrue (is_min_align M) }
 {
     let mut stage = begun::<M>(rt, alloc, "no case", &[]);
     for step in steps {
-        match *step {
-            Step::Case(name, refuse) => stage = begun(rt, alloc, name, refuse),
-            _ => stage.take(rt, step),
-        }
+        take(rt, alloc, &mut stage, step);
     }
 }

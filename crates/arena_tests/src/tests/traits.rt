@@ -1,7 +1,9 @@
 // The traits of blocks, each over a new allocator.
-use super::{ample, has, held, layout, placed, reads, same};
+use super::{ample, has, held, layout, must, placed, reads, same};
 use arena_chunks::bumpalo_alloc::{Alloc as BumpaloAlloc, CannotReallocInPlace, Excess};
-use arena_chunks::{Alloc, ArenaErr, BlockAlloc};
+use arena_chunks::{Alloc, Allocator, ArenaErr, BlockAlloc, MemoryChunks};
+use arena_place::Layout;
+use std::process::Abort;
 
 const REFUSED: ArenaErr = ArenaErr::AllocErr { refused: 0 };
 
@@ -68,8 +70,7 @@ const NO_ARRAYS: &[(u64, u64, u64)] = &[
 ];
 
 #[test]
-fn elements_and_arrays(rt: HostRuntime) {
-    let byte = layout(&rt, 1, 1);
+fn elements_and_arrays_of_no_bytes(rt: HostRuntime) {
     let mut a = ample(rt.alloc());
     same(&rt, a.alloc_one(layout(&rt, 0, 1)), Err(REFUSED));
     for &(size, align, n) in NO_ARRAYS {
@@ -77,19 +78,30 @@ fn elements_and_arrays(rt: HostRuntime) {
         same(&rt, array, Err(REFUSED));
     }
     same(&rt, a.capacity(), 0);
+}
+
+// An array grows and is given back.
+fn arrays(rt: &impl Abort, a: &mut Allocator<MemoryChunks>, byte: Layout) {
+    let ten = a.alloc_array(byte, 10);
+    let ten = placed(rt, "alloc_array", a, ten, 20405);
+    must(rt, ten, ten.size == 10);
+    must(rt, ten, ten.align == 1);
+    same(rt, a.realloc_array(ten, byte, 10, 0), Err(REFUSED));
+    let ten = held(rt, a, ten);
+    let eleven = a.realloc_array(ten, byte, 10, 11);
+    let eleven = placed(rt, "realloc_array", a, eleven, 20404);
+    same(rt, a.dealloc_array(eleven, byte, 0), Err(REFUSED));
+    let eleven = held(rt, a, eleven);
+    same(rt, a.dealloc_array(eleven, byte, 11), Ok(()));
+}
+
+#[test]
+fn elements_and_arrays(rt: HostRuntime) {
+    let byte = layout(&rt, 1, 1);
+    let mut a = ample(rt.alloc());
     let one = a.alloc_one(byte);
     let one = placed(&rt, "alloc_one", &a, one, 20415);
-    let ten = a.alloc_array(byte, 10);
-    let ten = placed(&rt, "alloc_array", &a, ten, 20405);
-    same(&rt, ten.size, 10);
-    same(&rt, ten.align, 1);
-    same(&rt, a.realloc_array(ten, byte, 10, 0), Err(REFUSED));
-    let ten = held(&rt, &a, ten);
-    let eleven = a.realloc_array(ten, byte, 10, 11);
-    let eleven = placed(&rt, "realloc_array", &a, eleven, 20404);
-    same(&rt, a.dealloc_array(eleven, byte, 0), Err(REFUSED));
-    let eleven = held(&rt, &a, eleven);
-    same(&rt, a.dealloc_array(eleven, byte, 11), Ok(()));
+    arrays(&rt, &mut a, byte);
     let one = held(&rt, &a, one);
     a.dealloc_one(one);
     has(&rt, "afterwards", &a, 0, (2, 1));

@@ -2,9 +2,10 @@
 use super::calls::Wanted::{Placed, Refused, TooFew};
 use super::calls::{Call, Row, answers, asked, place, takes};
 use crate::tests::{ample, layout, refusing, same};
-use arena_chunks::{Allocator, MemoryChunks};
+use arena_chunks::{Allocator, MemoryChunks, RefusingChunks};
 use arena_items::{ArenaItems, ItemErr};
-use std::test::Fail;
+use std::alloc::Global;
+use std::process::Abort;
 
 const SEVEN: &[u8] = &[7, 0, 0, 0];
 
@@ -106,47 +107,59 @@ fn ample_memory(rt: HostRuntime) {
     }
 }
 
-#[test]
-fn a_fixed_arena(rt: HostRuntime) -> Result<(), Fail> {
-    let region = vec![in rt.alloc(); 0; 64]?;
-    let chunks = MemoryChunks::new(rt.alloc(), 1 << 20);
-    let Ok(mut a) = Allocator::from_raw_parts(rt.alloc(), region, chunks) else {
-        return Err(Fail::from("an allocator"));
-    };
+fn in_turn(rt: &impl Abort, a: &mut Allocator<MemoryChunks>) {
     for row in SIXTEEN {
-        takes(&rt, &mut a, row);
+        takes(rt, a, row);
     }
     for row in ROWS {
-        answers(&rt, &mut a, row, &Refused(0));
+        answers(rt, a, row, &Refused(0));
     }
     for row in TOO_MANY {
-        takes(&rt, &mut a, row);
+        takes(rt, a, row);
     }
-    Ok(())
 }
 
 #[test]
-fn refused_requests(rt: HostRuntime) -> Result<(), Fail> {
+fn a_fixed_arena(rt: HostRuntime) {
+    let region = vec![in rt.alloc(); 0; 64].expect(&rt, "memory");
+    let chunks = MemoryChunks::new(rt.alloc(), 1 << 20);
+    let made = Allocator::from_raw_parts(rt.alloc(), region, chunks);
+    in_turn(&rt, &mut made.ok().expect(&rt, "an allocator"));
+}
+
+fn refusing_allocator(rt: &impl Abort, alloc: Global, refuse: &[u64]) -> Allocator<RefusingChunks> {
+    Allocator::new(alloc, refusing(alloc, refuse).expect(rt, "memory"))
+}
+
+#[test]
+fn refused_requests(rt: HostRuntime) {
     for row in ROWS {
-        let mut a = Allocator::new(rt.alloc(), refusing(rt.alloc(), &[1])?);
+        let mut a = refusing_allocator(&rt, rt.alloc(), &[1]);
         answers(&rt, &mut a, row, &Refused(1));
         takes(&rt, &mut a, row);
-        asked(&rt, a, row.0, &[(16320, 16), (16320, 16)]);
-    }
-    // Beside a full chunk, twice its size is tried and then the least.
-    for row in ROWS {
-        let mut a = Allocator::new(rt.alloc(), refusing(rt.alloc(), &[2, 3])?);
-        let all = a.alloc_layout(layout(&rt, 16320, 1)).expect(&rt, "a block");
-        same(&rt, all.addr, 4096);
-        answers(&rt, &mut a, row, &Refused(2));
-        asked(&rt, a, row.0, &[(16320, 16), (32704, 16), (16320, 16)]);
+        asked(&rt, a, row.0, ASKED_TWICE);
     }
     for row in TOO_MANY {
-        let mut a = Allocator::new(rt.alloc(), refusing(rt.alloc(), &[])?);
+        let mut a = refusing_allocator(&rt, rt.alloc(), &[]);
         takes(&rt, &mut a, row);
         asked(&rt, a, row.0, &[]);
     }
-    Ok(())
+}
+
+const ASKED_TWICE: &[(u64, u64)] = &[(16320, 16), (16320, 16)];
+
+const ASKED_THRICE: &[(u64, u64)] = &[(16320, 16), (32704, 16), (16320, 16)];
+
+// Beside a full chunk, twice its size is tried and then the least.
+#[test]
+fn refused_requests_beside_a_full_chunk(rt: HostRuntime) {
+    for row in ROWS {
+        let mut a = refusing_allocator(&rt, rt.alloc(), &[2, 3]);
+        let all = a.alloc_layout(layout(&rt, 16320, 1)).expect(&rt, "a block");
+        same(&rt, all.addr, 4096);
+        answers(&rt, &mut a, row, &Refused(2));
+        asked(&rt, a, row.0, ASKED_THRICE);
+    }
 }
 
 const NO_CHUNK: &Row = &("no chunk yet", Call::FillIter(3, 2), TooFew(2, 12));
