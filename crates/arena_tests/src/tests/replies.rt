@@ -1,9 +1,6 @@
 // Runs of calls with the replies that the rules give, and the blocks that are held afterwards.
-use super::runs::{Row, Run, Says, all_reply, calls};
+use super::runs::{Row, Run, Says, all_reply, calls, held_after};
 use super::same;
-use arena_chunks::{Arena, Block, Call, MemoryChunks, Ran, run_calls};
-use std::alloc::Global;
-use std::process::Abort;
 
 const FAR: u64 = 1 << 62;
 
@@ -379,15 +376,6 @@ const HELD: &[Held] = &[
     (3, 1, 20355, 11, 1),
     (7, 1, 20366, 50, 1),
 ];
-
-// The names and blocks that are held after the calls.
-fn held_after(rt: &impl Abort, alloc: Global, calls: &[Call]) -> Vec<(u32, Block)> {
-    let mut arena = Arena::<1>::new(alloc);
-    let mut chunks = MemoryChunks::new(alloc, 20000);
-    let ran = run_calls(alloc, &mut arena, &mut chunks, calls);
-    let Ran { held, .. } = ran.expect(rt, "memory is ample");
-    held
-}
 
 #[test]
 fn held_blocks(rt: HostRuntime) {

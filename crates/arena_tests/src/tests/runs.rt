@@ -3,7 +3,7 @@ ghost use Rattle.std.specs.Prelude.{IsTrue};
 ghost use Rattle.placement.specs.State.{is_min_align};
 
 use super::{must, refusing};
-use arena_chunks::{Arena, Bytes, Call, OutOfMemory, Ran, Reply, run_calls};
+use arena_chunks::{Arena, Block, Bytes, Call, MemoryChunks, OutOfMemory, Ran, Reply, run_calls};
 use plain_machine::PlainMachine;
 use std::alloc::Global;
 use std::process::Abort;
@@ -185,4 +185,13 @@ fn are_replies(rt: &impl Abort, alloc: Global, replies: &[Reply], run: &Run) {
         let wanted = reply(alloc, says).expect(rt, "memory");
         must(rt, (run.name, n), *given == wanted);
     }
+}
+
+// The names and blocks that are held after the calls.
+pub(super) fn held_after(rt: &impl Abort, alloc: Global, calls: &[Call]) -> Vec<(u32, Block)> {
+    let mut arena = Arena::<1>::new(alloc);
+    let mut chunks = MemoryChunks::new(alloc, 20000);
+    let ran = run_calls(alloc, &mut arena, &mut chunks, calls);
+    let Ran { held, .. } = ran.expect(rt, "memory is ample");
+    held
 }
