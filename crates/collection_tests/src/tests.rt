@@ -1,7 +1,9 @@
 // Worked examples of the rules, one call of each function, and refusals in the midst. Most are tables of calls.
+mod bit_texts;
 mod bits;
 mod copies;
 mod maps;
+mod text_reads;
 mod texts;
 
 use arena_chunks::{Allocator, MemoryChunks};

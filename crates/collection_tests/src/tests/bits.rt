@@ -1,11 +1,10 @@
-// Calls on bit sets, and their texts and numbers then: worked examples, sets that are joined, full arenas.
+// Calls on bit sets, and their numbers then: sets that are joined, of some capacities, and in full arenas.
 ghost use Rattle.arena_bits.specs.Sets.{AreOneOrApart};
 
 use super::{ample, fixed, limited, same};
-use arena_bits::BitSet;
+use arena_bits::{BitSet, Ones};
 use arena_chunks::{Allocator, ChunkSource};
 use arena_items::AllocError;
-use std::alloc::Global;
 use std::process::Abort;
 
 // A call on a set.
@@ -29,7 +28,12 @@ fn apart(rt: &impl Abort, one: BitSet, other: BitSet)
 }
 
 // Puts another set's numbers into a set.
-fn join<C: ChunkSource>(rt: &impl Abort, a: &mut Allocator<C>, set: &mut BitSet, other: BitSet) {
+pub(super) fn join<C: ChunkSource>(
+    rt: &impl Abort,
+    a: &mut Allocator<C>,
+    set: &mut BitSet,
+    other: BitSet,
+) {
     assert!(rt; set.is_held(a) && other.is_held(a));
     apart(rt, other, *set);
     set.union(a, &other);
@@ -77,21 +81,9 @@ pub(super) fn set_of<C: ChunkSource>(
     set
 }
 
-// The set has this text, plain and in the debug form, and is empty where that has no 1.
-fn shows<C: ChunkSource>(
-    rt: &impl Abort,
-    alloc: Global,
-    a: &Allocator<C>,
-    set: &BitSet,
-    text: &str,
-) {
-    assert!(rt; set.is_held(a));
-    let plain = set.display(alloc, a).expect(rt, "memory");
-    same(rt, plain.as_slice(), text.as_bytes());
-    let whole = set.debug(alloc, a).expect(rt, "memory");
-    let expected = format!(in alloc; "BitSet(\"{text}\")").expect(rt, "memory");
-    same(rt, whole.as_slice(), expected.as_bytes());
-    same(rt, set.is_empty(a), !text.as_bytes().contains(&b'1'));
+// A walk has so many numbers to give at most.
+fn hints<C: ChunkSource>(rt: &impl Abort, ones: &Ones<'_, C>, most: u64) {
+    same(rt, ones.size_hint(), (0, Some(most as usize)));
 }
 
 // A walk gives these numbers, with its hints on the way, and a clone of it stays behind.
@@ -108,134 +100,16 @@ pub(super) fn walks<C: ChunkSource>(
     };
     let mut behind = 0;
     for number in numbers {
-        assert!(rt; behind <= *number && *number < set.capacity);
-        same(
-            rt,
-            ones.size_hint(),
-            (0, Some((set.capacity - behind) as usize)),
-        );
+        hints(rt, &ones, set.capacity.wrapping_sub(behind));
         same(rt, ones.next(), Some(*number));
-        behind = *number + 1;
+        behind = number.wrapping_add(1);
     }
-    assert!(rt; behind <= set.capacity);
-    same(
-        rt,
-        ones.size_hint(),
-        (0, Some((set.capacity - behind) as usize)),
-    );
+    hints(rt, &ones, set.capacity.wrapping_sub(behind));
     for _ in 0..2 {
         same(rt, ones.next(), None);
-        same(rt, ones.size_hint(), (0, Some(0)));
+        hints(rt, &ones, 0);
     }
-    assert!(rt; clone.count() == numbers.len());
-}
-
-// Sets of these capacities, and the text after each step.
-const CHANGES: &[(u64, &[(Step, &str)])] = &[
-    (
-        64,
-        &[
-            (Step::Clear, "00000000"),
-            (Step::Set(0), "00000001"),
-            (Step::Set(1), "00000011"),
-            (Step::Set(7), "10000011"),
-            (Step::Set(9), "00000010_10000011"),
-            (
-                Step::Set(63),
-                "10000000_00000000_00000000_00000000_00000000_00000000_00000010_10000011",
-            ),
-        ],
-    ),
-    (
-        65,
-        &[
-            (Step::Unset(64), "00000000"),
-            (Step::Set(0), "00000001"),
-            (Step::Set(1), "00000011"),
-            (Step::Set(7), "10000011"),
-            (Step::Set(8), "00000001_10000011"),
-            (Step::Set(15), "10000001_10000011"),
-            (
-                Step::Set(63),
-                "10000000_00000000_00000000_00000000_00000000_00000000_10000001_10000011",
-            ),
-            (
-                Step::Set(64),
-                "00000001_10000000_00000000_00000000_00000000_00000000_00000000_10000001_10000011",
-            ),
-        ],
-    ),
-    (
-        16,
-        &[
-            (Step::Set(0), "00000001"),
-            (Step::Set(1), "00000011"),
-            (Step::Set(7), "10000011"),
-            (Step::Set(8), "00000001_10000011"),
-            (Step::Unset(1), "00000001_10000001"),
-            (Step::Unset(1), "00000001_10000001"),
-            (Step::Unset(8), "10000001"),
-            (Step::Unset(0), "10000000"),
-            (Step::Unset(7), "00000000"),
-        ],
-    ),
-    (
-        128,
-        &[
-            (Step::Set(0), "00000001"),
-            (Step::Set(7), "10000001"),
-            (
-                Step::Set(64),
-                "00000001_00000000_00000000_00000000_00000000_00000000_00000000_00000000_10000001",
-            ),
-            (
-                Step::Set(127),
-                "10000000_00000000_00000000_00000000_00000000_00000000_00000000_\
-                 00000001_00000000_00000000_00000000_00000000_00000000_00000000_00000000_10000001",
-            ),
-            (Step::Clear, "00000000"),
-            (
-                Step::Set(42),
-                "00000100_00000000_00000000_00000000_00000000_00000000",
-            ),
-            (Step::Unset(42), "00000000"),
-        ],
-    ),
-    (
-        128,
-        &[
-            (
-                Step::Set(70),
-                "01000000_00000000_00000000_00000000_00000000_00000000_00000000_00000000_00000000",
-            ),
-            (Step::Unset(70), "00000000"),
-            (
-                Step::Set(100),
-                "00010000_00000000_00000000_00000000_00000000_00000000_00000000_\
-                 00000000_00000000_00000000_00000000_00000000_00000000",
-            ),
-            (Step::Unset(100), "00000000"),
-        ],
-    ),
-    (3, &[(Step::Set(0), "00000001"), (Step::Set(2), "00000101")]),
-];
-
-// A new set of this capacity, and its text after each step.
-fn changes(rt: &impl Abort, alloc: Global, capacity: u64, steps: &[(Step, &str)]) {
-    let mut a = ample(alloc);
-    let mut set = set_of(rt, &mut a, capacity, &[]);
-    assert!(rt; set.is_held(&a) && set.is_empty(&a) && set.capacity() == capacity);
-    for (step, text) in steps {
-        take(rt, &mut a, &mut set, step);
-        shows(rt, alloc, &a, &set, text);
-    }
-}
-
-#[test]
-fn texts_of_sets(rt: HostRuntime) {
-    for (capacity, steps) in CHANGES {
-        changes(&rt, rt.alloc(), *capacity, steps);
-    }
+    same(rt, clone.count(), numbers.len());
 }
 
 // Two sets: their capacities and numbers, and those of the first below its capacity once they are joined.
@@ -256,46 +130,66 @@ const JOINED: &[(u64, &[u64], u64, &[u64], &[u64])] = &[
     ),
 ];
 
+// The set has these numbers below its capacity, and is empty where that is told.
+pub(super) fn has<C: ChunkSource>(
+    rt: &impl Abort,
+    a: &Allocator<C>,
+    set: &BitSet,
+    numbers: &[u64],
+    nothing: bool,
+) {
+    walks(rt, a, set, numbers);
+    assert!(rt; set.is_held(a));
+    same(rt, set.is_empty(a), nothing);
+}
+
+// Clears a set and puts numbers into it.
+fn fill_again<C: ChunkSource>(
+    rt: &impl Abort,
+    a: &mut Allocator<C>,
+    set: &mut BitSet,
+    bits: &[u64],
+) {
+    take(rt, a, set, &Step::Clear);
+    put(rt, a, set, bits);
+    walks(rt, a, set, bits);
+}
+
 // Puts the numbers of one set into another, which is joined with itself, and then cleared and filled again.
-fn joins(rt: &impl Abort, alloc: Global, one: (u64, &[u64]), two: (u64, &[u64]), both: &[u64]) {
-    let mut a = ample(alloc);
-    let mut set = set_of(rt, &mut a, one.0, one.1);
-    let other = set_of(rt, &mut a, two.0, two.1);
-    for with in [other, set] {
-        join(rt, &mut a, &mut set, with);
-        walks(rt, &a, &set, both);
-        let nothing = both.is_empty() && (two.1.is_empty() || one.0 == 0);
-        assert!(rt; set.is_held(&a) && set.is_empty(&a) == nothing);
-        walks(rt, &a, &other, two.1);
-    }
-    for bits in [&[], one.1] {
-        take(rt, &mut a, &mut set, &Step::Clear);
-        put(rt, &mut a, &mut set, bits);
-        walks(rt, &a, &set, bits);
-    }
+fn joins<C: ChunkSource>(
+    rt: &impl Abort,
+    a: &mut Allocator<C>,
+    one: (u64, &[u64]),
+    two: (u64, &[u64]),
+    both: &[u64],
+) {
+    let mut set = set_of(rt, a, one.0, one.1);
+    let other = set_of(rt, a, two.0, two.1);
+    let nothing = both.is_empty() && (two.1.is_empty() || one.0 == 0);
+    join(rt, a, &mut set, other);
+    has(rt, a, &set, both, nothing);
+    walks(rt, a, &other, two.1);
+    let itself = set;
+    join(rt, a, &mut set, itself);
+    has(rt, a, &set, both, nothing);
+    walks(rt, a, &other, two.1);
+    fill_again(rt, a, &mut set, &[]);
+    fill_again(rt, a, &mut set, one.1);
 }
 
 #[test]
 fn sets_joined_and_cleared(rt: HostRuntime) {
     for (capacity, mine, other_capacity, theirs, both) in JOINED {
         let one = (*capacity, *mine);
-        joins(&rt, rt.alloc(), one, (*other_capacity, *theirs), both);
+        let two = (*other_capacity, *theirs);
+        joins(&rt, &mut ample(rt.alloc()), one, two, both);
     }
 }
 
-#[test]
-fn texts_of_some_sets(rt: HostRuntime) {
-    let mut a = ample(rt.alloc());
-    let mut set = set_of(&rt, &mut a, 16, &[0, 3, 8]);
-    let other = set_of(&rt, &mut a, 16, &[1, 3, 9]);
-    join(&rt, &mut a, &mut set, other);
-    shows(&rt, rt.alloc(), &a, &set, "00000011_00001011");
-    let none = set_of(&rt, &mut a, 0, &[]);
-    shows(&rt, rt.alloc(), &a, &none, "");
-}
-
 // A capacity, the number of words, numbers, and those below the capacity.
-const CAPACITIES: &[(u64, u64, &[u64], &[u64])] = &[
+type Row = (u64, u64, &'static [u64], &'static [u64]);
+
+const CAPACITIES: &[Row] = &[
     (0, 0, &[], &[]),
     (1, 1, &[0, 1, 63], &[0]),
     (3, 1, &[0, 2], &[0, 2]),
@@ -331,31 +225,31 @@ fn tells<C: ChunkSource>(
     assert!(rt; set.is_empty(a) == bits.is_empty());
 }
 
-// A capacity, the number of words, numbers, and those below the capacity.
-fn fills(rt: &impl Abort, alloc: Global, row: (u64, u64, &[u64], &[u64])) {
-    let (capacity, words, bits, below) = row;
-    let mut a = ample(alloc);
-    let mut set = set_of(rt, &mut a, capacity, &[]);
-    assert!(rt; set.capacity() == capacity && set.words.len() == words);
-    tells(rt, &a, &set, &[], &[]);
-    put(rt, &mut a, &mut set, bits);
-    walks(rt, &a, &set, below);
-    tells(rt, &a, &set, bits, below);
+// A set of a row's capacity, empty and with its numbers.
+fn fills<C: ChunkSource>(rt: &impl Abort, a: &mut Allocator<C>, row: &Row) {
+    let (capacity, words, bits, below) = *row;
+    let mut set = set_of(rt, a, capacity, &[]);
+    same(rt, set.capacity(), capacity);
+    same(rt, set.words.len(), words);
+    tells(rt, a, &set, &[], &[]);
+    put(rt, a, &mut set, bits);
+    walks(rt, a, &set, below);
+    tells(rt, a, &set, bits, below);
     same(rt, a.used_bytes(), words.wrapping_mul(8));
     // No handle of another block or number of words is held.
     let more = BitSet {
         capacity: capacity.wrapping_add(64),
         ..set
     };
-    assert!(rt; !more.is_held(&a));
+    same(rt, more.is_held(a), false);
     a.reset();
-    same(rt, set.is_held(&a), words == 0);
+    same(rt, set.is_held(a), words == 0);
 }
 
 #[test]
 fn sets_of_some_capacities(rt: HostRuntime) {
     for row in CAPACITIES {
-        fills(&rt, rt.alloc(), *row);
+        fills(&rt, &mut ample(rt.alloc()), row);
     }
 }
 
@@ -371,29 +265,32 @@ fn refused<C: ChunkSource>(rt: &impl Abort, a: &mut Allocator<C>, capacity: u64,
     same(rt, (a.used_bytes(), a.capacity()), used);
 }
 
+// Two sets take the place that there is.
+fn refuses<C: ChunkSource>(rt: &impl Abort, a: &mut Allocator<C>) {
+    let mut set = set_of(rt, a, 65, &[64]);
+    let other = set_of(rt, a, 100, &[1, 99]);
+    same(rt, a.used_bytes(), 32);
+    same(rt, a.capacity(), 32);
+    refused(rt, a, 1, 0);
+    refused(rt, a, u64::MAX, 0);
+    join(rt, a, &mut set, other);
+    walks(rt, a, &set, &[1, 64]);
+    walks(rt, a, &other, &[1, 99]);
+    let none = set_of(rt, a, 0, &[]);
+    has(rt, a, &none, &[], true);
+    same(rt, a.used_bytes(), 32);
+}
+
 #[test]
 fn sets_refused(rt: HostRuntime) {
-    let mut a = fixed(&rt, rt.alloc(), 32);
-    let mut set = set_of(&rt, &mut a, 65, &[64]);
-    let other = set_of(&rt, &mut a, 100, &[1, 99]);
-    same(&rt, (a.used_bytes(), a.capacity()), (32, 32));
-    for capacity in &[1, u64::MAX] {
-        refused(&rt, &mut a, *capacity, 0);
-    }
-    join(&rt, &mut a, &mut set, other);
-    walks(&rt, &a, &set, &[1, 64]);
-    walks(&rt, &a, &other, &[1, 99]);
-    let none = set_of(&rt, &mut a, 0, &[]);
-    assert!(rt; none.is_held(&a) && none.is_empty(&a));
-    same(&rt, a.used_bytes(), 32);
+    refuses(&rt, &mut fixed(&rt, rt.alloc(), 32));
 }
 
 #[test]
 fn sets_refused_by_the_source(rt: HostRuntime) {
     let mut a = limited(rt.alloc(), 20_000);
-    for capacity in &[1 << 20, u64::MAX] {
-        refused(&rt, &mut a, *capacity, 1);
-    }
+    refused(&rt, &mut a, 1 << 20, 1);
+    refused(&rt, &mut a, u64::MAX, 1);
     let set = set_of(&rt, &mut a, 3, &[1]);
     walks(&rt, &a, &set, &[1]);
 }

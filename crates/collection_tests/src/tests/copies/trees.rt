@@ -95,17 +95,26 @@ fn a_copy_within(rt: HostRuntime) {
 }
 
 // The copy takes 352 bytes: 120 for the list, 64 and 32 for its lists of boxes, 40 for each of three boxes, and 8 for each text
-// with its padding. So the 22 smaller arenas are full, each at some block of the copy.
+// with its padding. So the 22 arenas of fewer 16 bytes are full, each at some block of the copy.
+fn fills_up<C: ChunkSource, D: ChunkSource>(
+    rt: &impl Abort,
+    source: Tree,
+    from: &Allocator<C>,
+    to: &mut Allocator<D>,
+    n: usize,
+) {
+    match try_copy(rt, &source, BY, from, to) {
+        Ok(copied) => assert!(rt; n >= 22 && is_tree(rt, to, copied)),
+        Err(e) => assert!(rt; n < 22 && e == AllocError::AllocErr { refused: 0 }),
+    }
+    assert!(rt; is_tree(rt, from, source));
+}
+
 #[test]
 fn a_copy_into_an_arena_that_fills_up(rt: HostRuntime) {
     let mut from = ample(rt.alloc());
     let source = tree(&rt, &mut from);
     for n in 0..33 {
-        let mut to = fixed(&rt, rt.alloc(), n * 16);
-        match try_copy(&rt, &source, BY, &from, &mut to) {
-            Ok(copied) => assert!(rt; n >= 22 && is_tree(&rt, &to, copied)),
-            Err(e) => assert!(rt; n < 22 && e == AllocError::AllocErr { refused: 0 }),
-        }
-        assert!(rt; is_tree(&rt, &from, source));
+        fills_up(&rt, source, &from, &mut fixed(&rt, rt.alloc(), n * 16), n);
     }
 }

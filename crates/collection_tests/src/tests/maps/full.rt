@@ -6,7 +6,6 @@ use arena_hash::FxHasher;
 use arena_items::AllocError;
 use std::alloc::Global;
 use std::process::Abort;
-use std::test::Fail;
 
 // The map has just the keys below n, each with itself as its value.
 fn has_below<C: ChunkSource>(rt: &impl Abort, map: &Fx<u32, u32, C>, n: u32) {
@@ -130,10 +129,10 @@ fn put_at_last<C: ChunkSource>(rt: &impl Abort, map: &mut Fx<u32, u32, C>, key: 
 
 // The source refuses all requests up to the fortieth.
 #[test]
-fn refused_chunks(rt: HostRuntime) -> Result<(), Fail> {
+fn refused_chunks(rt: HostRuntime) {
     let mut refuse = Vec::new(rt.alloc());
     for n in 1..40u64 {
-        refuse.push(n)?;
+        refuse.push(n).expect(&rt, "memory");
     }
     let chunks = RefusingChunks::new(rt.alloc(), refuse);
     let mut map = Kept::new(Allocator::new(rt.alloc(), chunks));
@@ -144,5 +143,4 @@ fn refused_chunks(rt: HostRuntime) -> Result<(), Fail> {
     }
     assert!(rt; 0 < refusals && refusals < 1000);
     has_below(&rt, &map, 600);
-    Ok(())
 }

@@ -4,7 +4,7 @@ ghost use Rattle.collection_tests.specs.Held.{IsKept};
 
 use super::Zero;
 use crate::tests::{ample, same, same_at};
-use arena_chunks::{Allocator, ChunkSource, MemoryChunks, Str};
+use arena_chunks::{Allocator, MemoryChunks, Str};
 use arena_hash::{ArenaKey, FxHasher, HashMap, KeyHasher};
 use arena_items::{Grown, Item};
 use arena_place::Layout;
