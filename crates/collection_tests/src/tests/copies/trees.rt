@@ -95,7 +95,7 @@ fn a_copy_within(rt: HostRuntime) {
 }
 
 // The copy takes 352 bytes: 120 for the list, 64 and 32 for its lists of boxes, 40 for each of three boxes, and 8 for each text
-// with its padding. So the 22 arenas of fewer 16 bytes are full, each at some block of the copy.
+// with its padding. So the 22 smaller arenas are full, each at some block of the copy.
 fn fills_up<C: ChunkSource, D: ChunkSource>(
     rt: &impl Abort,
     source: Tree,
