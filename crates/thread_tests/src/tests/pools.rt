@@ -1,5 +1,4 @@
 // What tests of pools share.
-ghost use Rattle.std.specs.Prelude.{◌≡◌};
 ghost use Rattle.arena_pool.specs.Kinds.{IsOfKind};
 ghost use Rattle.arena_pool.specs.declared.kind.PoolKind.{PoolKind};
 

@@ -1,5 +1,5 @@
 // Books, event by event.
-ghost use Rattle.std.specs.Prelude.{◌≡◌, ◌+◌};
+ghost use Rattle.std.specs.Prelude.{◌≡◌};
 ghost use Rattle.arena_pool.specs.Kinds.{HasId, IsOfKind};
 
 use super::{All, SMALL, are_counts, marks, places};

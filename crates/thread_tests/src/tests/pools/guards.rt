@@ -251,16 +251,25 @@ fn has_eight<K: ChunkMaker, L: PoolName>(guard: &mut AllocatorGuard<'_, K, L>) -
     guard.parts_mut().used_bytes() == 8 && is_placed
 }
 
+// An arena takes eight bytes, and is given up.
+fn takes_eight<K: ChunkMaker, L: PoolName, R: Wait + Abort>(
+    rt: &R,
+    guard: AllocatorGuard<'_, K, L>,
+) {
+    let mut guard = guard;
+    holds(rt, has_eight(&mut guard), "eight bytes");
+    let arena = guard.give_up(rt);
+    holds(rt, arena.used_bytes() == 8, "eight bytes still");
+}
+
 // Two arenas are made, of which one comes back.
 fn two_are_made<K: ChunkMaker, L: PoolName, R: Wait + Abort>(rt: &R, pool: &AllocatorPool<K, L>) {
     let first = lent(rt, pool);
-    holds(rt, id_of(&first).is_none(), "no id");
-    let mut second = lent(rt, pool);
+    let second = lent(rt, pool);
     has_counts(rt, pool, (2, 0, 2, 0));
-    holds(rt, has_eight(&mut second), "eight bytes");
+    holds(rt, id_of(&first).is_none(), "no id");
     first.put_back(rt);
-    let arena = second.give_up(rt);
-    holds(rt, arena.used_bytes() == 8, "eight bytes still");
+    takes_eight(rt, second);
     has_counts(rt, pool, (2, 1, 0, 1));
 }
 

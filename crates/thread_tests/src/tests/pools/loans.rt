@@ -6,8 +6,7 @@ ghost use Rattle.arena_pool.specs.declared.kind.PoolKind.TheVariants.{Standard, 
 use super::{VALUES, are_values, is_nine, marks};
 use crate::tests::holds;
 use arena_pool::{
-    ChunkMaker, FixedSizeAllocatorPool, MOST_LENT, MemoryMaker, OutOfMemory, PoolName,
-    StandardAllocatorPool,
+    ChunkMaker, FixedSizeAllocatorPool, MOST_LENT, MemoryMaker, PoolName, StandardAllocatorPool,
 };
 use example_collections::{
     all_through_fixed, all_through_standard, through_fixed, through_standard,

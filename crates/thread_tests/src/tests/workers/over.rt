@@ -1,5 +1,5 @@
 // Scripts over a pool, and over one that is made for them.
-ghost use Rattle.std.specs.Prelude.{◌≡◌};
+ghost use Rattle.std.specs.Prelude.{◌≡◌, ◌<◌, ◌≤◌, ◌^◌};
 ghost use Rattle.std.specs.List.{AllZip};
 ghost use Rattle.arena_pool.specs.Names.{IsBlankOf};
 ghost use Rattle.script_workers.specs.Serving.{IsServedAlone};
@@ -16,6 +16,14 @@ use std::sync::Wait;
 use std::sync::ledger::Blank;
 use std::test::*;
 use std::thread::Threads;
+
+// So many workers can run so many scripts.
+fn are_few(rt: &impl Abort, workers: u32, scripts: usize)
+    ensures workers { (0 < workers) × (workers ≤ 64) }
+    ensures scripts { scripts < 2 ^ 32 }
+{
+    assert!(rt; workers > 0 && workers <= 64 && scripts < 1 << 20);
+}
 
 // What comes of each script, and the pool's counts then.
 pub(super) fn over_pool<
@@ -35,10 +43,9 @@ pub(super) fn over_pool<
 ) -> (Vec<Served<K::Chunks>>, Counts)
     ensures { AllZip (IsServedAlone K.Chunks.source L.kind J.worked) scripts.now result.0.items }
 {
-    assert!(rt; workers > 0 && workers <= 64 && scripts.len() < 1 << 20);
+    are_few(rt, workers, scripts.len());
     let ran = run_scripts(rt, alloc, pool, workers, gate, job, scripts);
     let all = ran.ok().expect(rt, "outcomes");
-    assert_eq!(rt; all.len(), scripts.len());
     (all, pool.counts(rt))
 }
 
