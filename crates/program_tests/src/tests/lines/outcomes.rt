@@ -80,6 +80,11 @@ fn each_reply(rt: HostRuntime) {
         ScriptReply::Truth(false),
         "script 0\nfalse\nended done\n",
     );
+}
+
+#[test]
+fn each_refusal(rt: HostRuntime) {
+    let alloc = rt.alloc();
     says(
         &rt,
         alloc,
