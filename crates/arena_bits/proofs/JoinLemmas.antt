@@ -7,13 +7,13 @@ use Rattle.std.proofs.lemmas.Bool.Decides.{nat_tests}
 use Rattle.std.proofs.lemmas.Grind.{common_steps}
 use Rattle.std.proofs.lemmas.List.{get_or-set_same, get_or-set_other}
 use Rattle.std.proofs.lemmas.Nat.Bits.{bit_at_or, bit_at-lt}
-use Rattle.placement.specs.Machine.{splice}
+use Rattle.arena_rules.specs.Lists.{splice}
 use borrow.Rule.Slice.PartMut.{put_mid}
 use Rattle.arena_chunks.specs.Memory.{Memory, image, bytes_from}
 use Rattle.arena_chunks.specs.Source.{View}
 use Rattle.arena_chunks.specs.Frame.{AreBlocksApart, Stays}
 use Rattle.arena_chunks.specs.BlockCalls.{WritesBlock, EditsBlock}
-use Rattle.arena_chunks.specs.declared.block.Block.{Block}
+use Rattle.arena_store.specs.declared.block.Block.{Block}
 use Rattle.arena_chunks.proofs.Layers.{wrote_part, length-bytes, frame_then, frame_reflexive, frame_keeps_beside}
 use Rattle.arena_items.specs.Values.{bytes_of}
 use Rattle.arena_items.specs.Rows.{over}

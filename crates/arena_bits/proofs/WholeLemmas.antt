@@ -5,13 +5,13 @@ use Rattle.std.proofs.lemmas.Bool.{cases_lt}
 use Rattle.std.proofs.lemmas.Bool.Decides.{nat_tests}
 use Rattle.std.proofs.lemmas.List.{get_or_past, take-replicate, drop-replicate, length-replicate}
 use Rattle.std.proofs.lemmas.Nat.Bits.{bit_at-zero, bit_at-trailing_zeros}
-use Rattle.placement.specs.Rounding.{up, is_power_among, is_layout}
+use Rattle.arena_rules.specs.Rounding.{up, is_power_among, is_layout}
 use Rattle.arena_chunks.specs.Memory.{Memory, image}
 use Rattle.arena_chunks.specs.Source.{View, Source, view}
 use Rattle.arena_chunks.specs.Frame.{Frame}
 use Rattle.arena_chunks.specs.Answers.Answer.{Placed}
 use Rattle.arena_chunks.specs.BlockCalls.{PlacesBlock, EditsBlock}
-use Rattle.arena_chunks.specs.declared.block.Block.{Block}
+use Rattle.arena_store.specs.declared.block.Block.{Block}
 use Rattle.arena_chunks.proofs.Layers.{length-bytes, wrote_whole, places_written, frame_then}
 use Rattle.arena_items.specs.Values.{bytes_of}
 use Rattle.arena_items.specs.Room.{RoomAnswer, TakesRoom, SamePlaces}

@@ -4,10 +4,10 @@ use Rattle.std.specs.Prelude.{bit_or}
 use Rattle.std.proofs.lemmas.Option.{get_or_from_slice_get}
 use Rattle.std.proofs.lemmas.Nat.{from_le_bytes-to_le_bytes_8, or_lt}
 use Rattle.std.specs.Int.{from_le_bytes, to_le_bytes, w64}
-use Rattle.placement.specs.Machine.{splice}
+use Rattle.arena_rules.specs.Lists.{splice}
 use Rattle.arena_chunks.specs.Memory.{Memory, image, bytes_from}
 use Rattle.arena_chunks.specs.BlockCalls.{EditsBlock}
-use Rattle.arena_chunks.specs.declared.block.Block.{Block}
+use Rattle.arena_store.specs.declared.block.Block.{Block}
 use Rattle.arena_chunks.proofs.Layers.{wrote_part, bytes_within, length-bytes}
 use Rattle.arena_items.specs.Values.{elements, bytes_of}
 use Rattle.arena_items.proofs.Layers.{length-elements, elements-get, elements-set}

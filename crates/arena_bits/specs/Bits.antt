@@ -2,8 +2,8 @@
 use Rattle.std.specs.Prelude.{◌≡◌, ℕ, ◌/◌, ◌%◌, List, slice_index, Bool, ◌==◌, IsTrue}
 use Rattle.std.specs.Bool.{MatchBool}
 use Rattle.std.specs.Int.{bit_at}
-pub use Rattle.placement.specs.Bits.{Set, nothing, with_bit, without_bit, joined, below, words_for}
-unfoldable pub use Rattle.placement.specs.Bits.{members}
+pub use Rattle.arena_rules.specs.Bits.{Set, nothing, with_bit, without_bit, joined, below, words_for}
+unfoldable pub use Rattle.arena_rules.specs.Bits.{members}
 
 -- An answer whether a set is empty: it is, or here is a number of it.
 abbrev pub TellsEmpty : Bool → Set → Type 0

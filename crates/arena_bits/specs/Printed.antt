@@ -1,8 +1,8 @@
 -- The printed form of a set.
 use Rattle.std.specs.Prelude.{ℕ, List, ◌++◌, ◌==◌, codes}
 use Rattle.std.specs.Int.{bit_at}
-pub use Rattle.placement.specs.PrintedBits.{has_byte}
-unfoldable pub use Rattle.placement.specs.PrintedBits.{highest, digits, lower, printed}
+pub use Rattle.arena_rules.specs.PrintedBits.{has_byte}
+unfoldable pub use Rattle.arena_rules.specs.PrintedBits.{highest, digits, lower, printed}
 use Rattle.arena_bits.specs.Bits.{Set}
 
 -- the bits of a number

@@ -5,7 +5,7 @@ use Rattle.arena_chunks.specs.Memory.{Memory}
 use Rattle.arena_chunks.specs.Source.{View}
 use Rattle.arena_chunks.specs.Frame.{Frame, AreBlocksApart}
 use Rattle.arena_chunks.specs.BlockCalls.{PlacesBlock}
-use Rattle.arena_chunks.specs.declared.block.Block.{Block}
+use Rattle.arena_store.specs.declared.block.Block.{Block}
 use Rattle.arena_items.specs.Values.{bytes_of, elements, IsHeld}
 use Rattle.arena_items.specs.Room.{RoomAnswer, SamePlaces}
 use Rattle.arena_bits.specs.Bits.{Set, bits_of, words_for, joined, below}

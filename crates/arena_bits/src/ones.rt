@@ -10,7 +10,6 @@ ghost use Rattle.arena_bits.specs.Walks.{IsScan, Goes, Moves, words_in};
 use crate::set::BitSet;
 use crate::words::{first_word, word_at};
 use arena_chunks::{Allocator, ChunkSource};
-use std::alloc::AllocError;
 use std::marker::{Model, PhantomData};
 
 // A place in a walk over words: the first number of a word, what is left of the word, and the place after the
@@ -139,22 +138,6 @@ impl<'a, C: ChunkSource> Ones<'a, C> {
         let (bit, scan) = step(self.bytes, self.capacity, self.scan);
         self.scan = scan;
         bit
-    }
-}
-
-// A walk is a place in a list that is lent, and can be copied as std's walks over slices can: who looks ahead walks on with a copy.
-impl<'a, C: ChunkSource> Clone for Ones<'a, C> {
-    ghost is_clone = { λ walk copy. copy ≡ walk };
-
-    ghost is_infallible = { λ _. ⊤ };
-
-    fn clone(&self) -> Result<Ones<'a, C>, AllocError> {
-        Ok(Ones {
-            bytes: self.bytes,
-            capacity: self.capacity,
-            scan: self.scan,
-            of: PhantomData,
-        })
     }
 }
 

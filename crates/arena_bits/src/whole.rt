@@ -20,10 +20,7 @@ fn place_words<C: ChunkSource>(a: &mut Allocator<C>, count: u64) -> Grown<Block>
     requires { count ≤ 2 ^ 58 }
     ensures { RoomAnswer (λ b. b) result (PlacesBlock a.old a.new (count * 8) 8) }
 {
-    let Some(layout) = Layout::array(count, 8, 8) else {
-        unreachable!();
-    };
-    take_room(a, Block::empty(8), 0, layout)
+    take_room(a, Block::empty(8), 0, Layout::of(count * 8, 8))
 }
 
 // Joins the first words of a set with those of another, one by one.

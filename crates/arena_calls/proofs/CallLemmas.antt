@@ -2,9 +2,9 @@
 use Rattle.std.proofs.Common.{◌≡◌, ℕ, IsTrue, List, ◌++◌, Option, Some, None, refl, sym, ap, ◌∙◌, append_assoc, codes}
 use Rattle.std.proofs.lemmas.List.{append_cancel_left}
 use Rattle.std.proofs.lemmas.Option.{some_pair_parts}
-use Rattle.placement.specs.Grammar.{call_line}
-use Rattle.placement.specs.declared.calls.Call.{Call}
-use Rattle.placement.specs.declared.calls.Call.TheVariants.{Alloc, Grow}
+use Rattle.call_rules.specs.Grammar.{call_line}
+use Rattle.call_rules.specs.declared.calls.Call.{Call}
+use Rattle.call_rules.specs.declared.calls.Call.TheVariants.{Alloc, Grow}
 use Rattle.line_parts.specs.Reads.{is_word_end, ReadsFront}
 use Rattle.arena_calls.specs.Lines.{Placing, FitsPlacing, placing_fields, BeginsWith}
 

@@ -3,11 +3,11 @@ use Rattle.std.proofs.Common.{◌≡◌, ℕ, ◌+◌, ◌<◌, ◌≤◌, List,
 use Rattle.std.specs.Prelude.{slice_get}
 use Rattle.std.proofs.lemmas.Option.{slice_get_read}
 use Rattle.std.proofs.lemmas.List.FromFn.{length-map-range_with_len, get_or-map-range_with_len, take-map-range_with_len, map-range_with_len_more}
-use Rattle.placement.specs.State.{State, used_bytes, allocated_bytes}
-use Rattle.placement.specs.Generator.{call_at, seed_before, seed_behind, gen_calls}
-use Rattle.placement.specs.Summary.{Summary as Eight, summary_of, summary_text}
-use Rattle.placement.specs.declared.calls.Call.{Call}
-use Rattle.placement.specs.declared.calls.Reply.{Reply}
+use Rattle.arena_rules.specs.State.{State, used_bytes, allocated_bytes}
+use Rattle.call_rules.specs.Generator.{call_at, seed_before, seed_behind, gen_calls}
+use Rattle.call_rules.specs.Summary.{Summary as Eight, summary_of, summary_text}
+use Rattle.call_rules.specs.declared.calls.Call.{Call}
+use Rattle.call_rules.specs.declared.calls.Reply.{Reply}
 use Rattle.arena_calls.specs.Tallies.{IsTally}
 use Rattle.arena_calls.specs.declared.generator.tally.Tally.{Tally}
 

@@ -1,9 +1,9 @@
 -- Lines of calls, one after another.
 use Rattle.std.proofs.Common.{◌≡◌, ◌≢◌, ℕ, ◌+◌, true, false, List, [], ◌∷◌, ◌++◌, length, Some, None, refl, sym, ap, ◌∙◌, subst, arith, length-append}
 use Rattle.std.proofs.lemmas.Option.{some_pair_parts}
-use Rattle.placement.specs.Grammar.{lines_of, Fits, AreCalls, IsCall, IsRefused, IsFirstRefused, fields, hex, call_line}
-use Rattle.placement.specs.declared.calls.Call.{Call}
-use Rattle.placement.specs.declared.calls.Call.TheVariants.{Alloc, Grow, Shrink, Dealloc, Write, Read, Mark, Back, Reset, Used, Allocated}
+use Rattle.call_rules.specs.Grammar.{lines_of, Fits, AreCalls, IsCall, IsRefused, IsFirstRefused, fields, hex, call_line}
+use Rattle.call_rules.specs.declared.calls.Call.{Call}
+use Rattle.call_rules.specs.declared.calls.Call.TheVariants.{Alloc, Grow, Shrink, Dealloc, Write, Read, Mark, Back, Reset, Used, Allocated}
 use Rattle.line_parts.specs.Reads.{ReadsFront}
 use Rattle.line_parts.specs.Lines.{is_line_end, lines_behind, TakesLine, RefusesLine}
 use Rattle.line_parts.proofs.LineLemmas.{has_feed, plain, plain_fields, plain_hex, ended, first_line, word_ends, Progress}

@@ -1,10 +1,10 @@
 -- Which status there is where nothing fails, and where something failed.
 use Rattle.std.proofs.Common.{◌≡◌, ◌≢◌, ℕ, ◌+◌, ◌<◌, ◌≤◌, List, [], ◌++◌, length, get_or, Option, Some, None, Ok, Err, refl, sym, ap, ◌∙◌, subst, arith, inl, inr, length-append}
 use Rattle.std.specs.Prelude.{Result, ◌⊎◌}
-use Rattle.placement.specs.Grammar.{CallsOf, number}
-use Rattle.placement.specs.declared.calls.Call.{Call}
-use Rattle.placement.proofs.NumberLemmas.{read_front, read_number}
-use Rattle.placement.proofs.ReadingLemmas.{same_reading}
+use Rattle.call_rules.specs.Grammar.{CallsOf, number}
+use Rattle.call_rules.specs.declared.calls.Call.{Call}
+use Rattle.call_rules.proofs.NumberLemmas.{read_front, read_number}
+use Rattle.call_rules.proofs.ReadingLemmas.{same_reading}
 use Rattle.arena_calls.specs.Ends.{Ends, GenEnds, EndsBy, AsksGen, Outside, ReadsWhole, IsFaultless, status_of}
 use Rattle.arena_calls.specs.ReadAll.{limit, TakesFront, TakesWhole}
 use Rattle.arena_calls.specs.declared.status.Status.{Status}

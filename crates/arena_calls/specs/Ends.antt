@@ -1,16 +1,16 @@
 -- What each status says of the input, the output and the arena.
 use Rattle.std.specs.Prelude.{◌≡◌, ◌≢◌, ℕ, ◌+◌, ◌^◌, ◌<◌, ◌≤◌, List, [], ◌∷◌, length, codes, Option, ◌⊎◌, Result, Ok, Err}
-use Rattle.placement.specs.State.{State}
-use Rattle.placement.specs.Causes.{counted}
-use Rattle.placement.specs.Grammar.{CallsOf, number}
-use Rattle.placement.specs.Replies.{text_of}
-use Rattle.placement.specs.Generator.{gen_calls}
-use Rattle.placement.specs.Summary.{summary_of, summary_text}
-use Rattle.placement.specs.declared.calls.Call.{Call}
-use Rattle.placement.specs.declared.calls.Reply.{Reply}
+use Rattle.arena_rules.specs.State.{State}
+use Rattle.arena_rules.specs.Causes.{counted}
+use Rattle.call_rules.specs.Grammar.{CallsOf, number}
+use Rattle.call_rules.specs.Replies.{text_of}
+use Rattle.call_rules.specs.Generator.{gen_calls}
+use Rattle.call_rules.specs.Summary.{summary_of, summary_text}
+use Rattle.call_rules.specs.declared.calls.Call.{Call}
+use Rattle.call_rules.specs.declared.calls.Reply.{Reply}
 use Rattle.arena_chunks.specs.Source.{View}
 use Rattle.arena_chunks.specs.Runs.{Runs, RunsFirst}
-use Rattle.arena_chunks.specs.declared.block.Block.{Block}
+use Rattle.arena_store.specs.declared.block.Block.{Block}
 use Rattle.arena_calls.specs.Streams.{Writes, WritesPart}
 use Rattle.arena_calls.specs.ReadAll.{limit, TakesFront, TakesWhole}
 use Rattle.arena_calls.specs.declared.status.Status.{Status}

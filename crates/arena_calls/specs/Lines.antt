@@ -1,9 +1,9 @@
 -- What is read of a line of calls.
 use Rattle.std.specs.Prelude.{ℕ, nat_eq, IsTrue, List, ◌∷◌, []}
 use Rattle.std.specs.List.{starts_with}
-use Rattle.placement.specs.Grammar.{Fits, fields, call_line}
-use Rattle.placement.specs.declared.calls.Call.{Call}
-use Rattle.placement.specs.declared.calls.Call.TheVariants.{Alloc}
+use Rattle.call_rules.specs.Grammar.{Fits, fields, call_line}
+use Rattle.call_rules.specs.declared.calls.Call.{Call}
+use Rattle.call_rules.specs.declared.calls.Call.TheVariants.{Alloc}
 
 -- a name, a size, an alignment and a fill byte
 abbrev pub Placing : Type 0

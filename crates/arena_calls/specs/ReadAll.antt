@@ -1,7 +1,7 @@
 -- What was taken of an input that is to be read to its end.
 use Rattle.std.specs.Prelude.{◌≡◌, ℕ, ◌+◌, ◌≤◌, List, [], ◌++◌, length, Option, Some, IfSome, IsSomeAnd, Result, Ok, Err, Vec}
 use Rattle.std.specs.Global.{Global}
-use Rattle.placement.specs.Causes.{counted}
+use Rattle.arena_rules.specs.Causes.{counted}
 use Rattle.arena_calls.specs.declared.streams.all.ReadErr.{ReadErr}
 use Rattle.arena_calls.specs.declared.streams.all.ReadErr.TheVariants.{Failed, TooLong, OutOfMemory}
 

@@ -1,8 +1,8 @@
 -- What a tally is to the replies that were counted.
 use Rattle.std.specs.Prelude.{◌≡◌, List, length, sum}
-use Rattle.placement.specs.Statistics.{is_placed}
-use Rattle.placement.specs.Summary.{Summary as Eight, is_failed, is_named_refusal, count_of, bytes_read}
-use Rattle.placement.specs.declared.calls.Reply.{Reply}
+use Rattle.call_rules.specs.Counts.{is_placed}
+use Rattle.call_rules.specs.Summary.{Summary as Eight, is_failed, is_named_refusal, count_of, bytes_read}
+use Rattle.call_rules.specs.declared.calls.Reply.{Reply}
 use Rattle.arena_calls.specs.declared.generator.summary.Summary.{Summary}
 use Rattle.arena_calls.specs.declared.generator.tally.Tally.{Tally}
 

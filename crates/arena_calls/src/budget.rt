@@ -1,5 +1,5 @@
 // How much memory the program's arena may take.
-ghost use Rattle.std.specs.Prelude.{◌≡◌, ℕ};
+ghost use Rattle.std.specs.Prelude.{◌≡◌, ℕ, None};
 ghost use Rattle.arena_calls.specs.Budget.{budget};
 
 use arena_chunks::{ChunkSource, MemoryChunks};
@@ -25,9 +25,10 @@ impl Budgeted for MemoryChunks {
     }
 }
 
-/// The source of the program's chunks: memory, up to 1 GiB.
+/// The source of the program's chunks: memory, up to 1 GiB. It has refused nothing yet.
 pub fn program_chunks(alloc: Global) -> MemoryChunks
-    ensures { result.left ≡ budget }
+    ensures left { result.left ≡ budget }
+    ensures source { ⟦<MemoryChunks as ChunkSource>⟧.source result ≡ record { refusals = 0; asked = None } }
 {
     MemoryChunks::new(alloc, BUDGET)
 }

@@ -1,7 +1,7 @@
 // Laws of the statuses.
 ghost use Rattle.std.specs.Prelude.{◌≡◌, ◌≢◌, ◌<◌, ◌≤◌, ◌⊎◌, ℕ, List, Some, Result, length};
-ghost use Rattle.placement.specs.Grammar.{CallsOf};
-ghost use Rattle.placement.specs.declared.calls.Call.{Call};
+ghost use Rattle.call_rules.specs.Grammar.{CallsOf};
+ghost use Rattle.call_rules.specs.declared.calls.Call.{Call};
 ghost use Rattle.arena_calls.specs.Ends.{Ends, GenEnds, Outside, IsFaultless, status_of};
 ghost use Rattle.arena_calls.specs.ReadAll.{limit};
 ghost use Rattle.arena_calls.specs.declared.status.Status.{Status};

@@ -1,7 +1,7 @@
 // What a program over calls says beside its output.
 ghost use Rattle.std.specs.Prelude.{◌≡◌, OnOk, OnErr};
 ghost use Rattle.std.specs.Process.{exit_status};
-ghost use Rattle.placement.specs.Causes.{counted};
+ghost use Rattle.arena_rules.specs.Causes.{counted};
 ghost use Rattle.arena_calls.specs.Streams.{Writes, WritesPart};
 ghost use Rattle.arena_calls.specs.Ends.{code_of};
 ghost use Rattle.arena_calls.specs.Messages.{line_message, message_of, Explains};

@@ -1,14 +1,15 @@
 // Replies as the text of their lines.
-ghost use Rattle.std.specs.Prelude.{◌≡◌, ℕ, ◌+◌, ◌*◌, ◌-◌, ◌/◌, ◌++◌, ◌∷◌, [], ◌≤◌, false, OnOk, length, codes, vec_len, vec_capacity};
-ghost use Rattle.placement.specs.Grammar.{fields};
-ghost use Rattle.placement.specs.Replies.{reply_line, text_of};
+ghost use Rattle.std.specs.Prelude.{◌≡◌, ℕ, ◌+◌, ◌*◌, ◌-◌, ◌/◌, ◌++◌, ◌∷◌, [], ◌≤◌, false, IsOk, OnOk, length, codes, vec_len, vec_capacity};
+ghost use Rattle.call_rules.specs.Grammar.{fields};
+ghost use Rattle.call_rules.specs.Replies.{reply_line, text_of};
 ghost use Rattle.arena_chunks.specs.Replies.{has_bytes};
 
 use arena_chunks::Replies;
+use arena_rules::OutOfMemory;
+use call_rules::Reply;
 use itoa::Buffer;
 pub use line_parts::put;
 use line_parts::{make_room, put_field, put_hex};
-use placement::{OutOfMemory, Reply};
 use std::alloc::Global;
 
 // The most bytes that a line has with its feed, where the reply holds none: `placed`, a number of 64 bits,
@@ -79,6 +80,8 @@ impl Text {
         ensures same { self.new.bytes.items ≡ self.old.bytes.items }
         ensures room { OnOk result
             (vec_len self.new.bytes + more + 47 * lines ≤ vec_capacity self.new.bytes) }
+        ensures succeeds { vec_len self.old.bytes + more + 47 * lines ≤ vec_capacity self.old.bytes
+            → IsOk result }
     {
         let fixed = LONGEST.checked_mul(lines).ok_or(OutOfMemory)?;
         make_room(&mut self.bytes, fixed.checked_add(more).ok_or(OutOfMemory)?)

@@ -1,9 +1,9 @@
 -- Lists of blocks of which each lies apart from each of another list.
 use Rattle.std.proofs.Common.{zero, suc, List, [], ◌∷◌, ◌++◌, refl, subst, arith, ◌↔◌}
 use Rattle.std.specs.List.{Contains}
-use Rattle.arena_chunks.specs.Frame.{IsApart, AreAllApart}
-use Rattle.arena_chunks.specs.declared.block.Block.{Block}
-use Rattle.arena_chunks.proofs.FrameRules.{apart_both, apart_each}
+use Rattle.arena_core.specs.Frame.{IsApart, AreAllApart}
+use Rattle.arena_store.specs.declared.block.Block.{Block}
+use Rattle.arena_core.proofs.FrameRules.{apart_both, apart_each}
 
 -- from none
 pub all_from_none : (bs : List Block) → AreAllApart bs []

@@ -6,27 +6,27 @@ use Rattle.std.proofs.lemmas.Bool.{cases_Bool, cases_lt}
 use Rattle.std.proofs.lemmas.Bool.Decides.{nat_tests}
 use Rattle.std.proofs.lemmas.Option.{cond_some}
 use Rattle.std.proofs.lemmas.List.{length-map, length-take}
-use Rattle.placement.specs.Rounding.{up, is_layout, is_power}
-use Rattle.placement.specs.State.{State, Chunk, AreChunks, IsValid, top_of, cursor_of, newest_size, used_bytes, allocated_bytes}
-use Rattle.placement.specs.Search.{place, asked, requests, alloc_requests}
-use Rattle.placement.specs.Moves.{Outcome, Resizing, alloc, dealloc, resize, growing, growth, down_to, shrinking, shrink_step, stays, placed, fails}
-use Rattle.placement.specs.Moves.Resizing.{Stays, Moves, Anew, Refused as NotGrown}
-use Rattle.placement.specs.Requests.{resize_requests}
-use Rattle.placement.specs.Used.{unit_of}
-use Rattle.placement.specs.Asking.{IsRequestWithin, HasGrown, most_asked}
-use Rattle.placement.proofs.RoundingLemmas.{layout_power, up_close, power_positive, min_align_positive, min_align_le}
-use Rattle.placement.proofs.UsedResizeLemmas.{resize_stays, resize_moves, resize_refused}
-use Rattle.placement.proofs.AskedSizeLemmas.{all_requests, newest_short, one_chunk, asks_some}
-use Rattle.placement.proofs.AnySizeLemmas.{asks_any}
-use Rattle.placement.proofs.GrownLemmas.{grown_not, cursor_grown, dealloc_grown, alloc_grown, IsFailed, alloc_failed}
-use Rattle.placement.proofs.AskingLemmas.{asks_nothing, asks_by, refused_by}
-use Rattle.arena_chunks.specs.Memory.{Memory}
-use Rattle.arena_chunks.specs.Source.{View, IsAsked}
+use Rattle.arena_rules.specs.Rounding.{up, is_layout, is_power}
+use Rattle.arena_rules.specs.State.{State, Chunk, AreChunks, IsValid, top_of, cursor_of, newest_size, used_bytes, allocated_bytes}
+use Rattle.arena_rules.specs.Search.{place, asked, requests, alloc_requests}
+use Rattle.arena_rules.specs.Moves.{Outcome, Resizing, alloc, dealloc, resize, growing, growth, down_to, shrinking, shrink_step, stays, placed, fails}
+use Rattle.arena_rules.specs.Moves.Resizing.{Stays, Moves, Anew, Refused as NotGrown}
+use Rattle.arena_rules.specs.Moves.{resize_requests}
+use Rattle.arena_rules.specs.Used.{unit_of}
+use Rattle.arena_rules.specs.Asking.{IsRequestWithin, HasGrown, most_asked}
+use Rattle.arena_rules.proofs.RoundingLemmas.{layout_power, up_close, power_positive, min_align_positive, min_align_le}
+use Rattle.arena_rules.proofs.UsedResizeLemmas.{resize_stays, resize_moves, resize_refused}
+use Rattle.arena_rules.proofs.AskedSizeLemmas.{all_requests, newest_short, one_chunk, asks_some}
+use Rattle.arena_rules.proofs.AnySizeLemmas.{asks_any}
+use Rattle.arena_rules.proofs.GrownLemmas.{grown_not, cursor_grown, dealloc_grown, alloc_grown, IsFailed, alloc_failed}
+use Rattle.arena_rules.proofs.AskingLemmas.{asks_nothing, asks_by, refused_by}
+use Rattle.arena_store.specs.Memory.{Memory}
+use Rattle.arena_store.specs.Source.{View, IsAsked}
 use Rattle.arena_chunks.specs.Asking.{AsksWithin, IsRefusedBySource, IsFull}
-use Rattle.arena_chunks.specs.Answers.{Answer}
-use Rattle.arena_chunks.specs.Answers.Answer.{Placed, Refused, Wanting}
-use Rattle.arena_chunks.specs.BlockCalls.{PlacesBlock, ResizesBlock, GrowsBlock, ShrinksBlock, GivesBack, growing_of, shrinking_of}
-use Rattle.arena_chunks.specs.declared.block.Block.{Block}
+use Rattle.arena_core.specs.Answers.{Answer}
+use Rattle.arena_core.specs.Answers.Answer.{Placed, Refused, Wanting}
+use Rattle.arena_core.specs.BlockCalls.{PlacesBlock, ResizesBlock, GrowsBlock, ShrinksBlock, GivesBack, growing_of, shrinking_of}
+use Rattle.arena_store.specs.declared.block.Block.{Block}
 use Rattle.arena_chunks.proofs.UsedByCallLemmas.{anew_most, stays_used, grown_most}
 
 -- ---- What a call asks for

@@ -4,27 +4,28 @@ use Rattle.std.specs.Prelude.{◌==◌, ◌&&◌, nat_le, nat_lt}
 use Rattle.std.specs.FinMap as finite
 use Rattle.std.proofs.lemmas.Bool.{cases_eq, cases_lt, or_left, or_right}
 use Rattle.std.proofs.lemmas.Option.{same_Some}
-use Rattle.placement.specs.Rounding.{up, is_layout}
-use Rattle.placement.specs.State.{State, IsValid, is_used, is_range_used, AreApart}
-use Rattle.placement.specs.Back.{Point, accepts, KeepsMark}
-use Rattle.placement.specs.Blocks.{IsBlock, IsMovedBlock, padded_size}
-use Rattle.placement.specs.Machine.{Held, Contents, Marks, is_place_used, step, refused_of}
-use Rattle.placement.specs.declared.place.Place.{Place}
-use Rattle.placement.specs.declared.calls.Call.{Call}
-use Rattle.placement.specs.declared.calls.Reply.{Reply}
-use Rattle.placement.proofs.RoundingLemmas.{up_ge, up_same, up_least, min_align_positive}
-use Rattle.placement.proofs.UsedLemmas.{used_part}
-use Rattle.placement.proofs.ReturnLemmas.{used_filled}
-use Rattle.arena_chunks.specs.Memory.{Memory, Writes, image, bytes_from}
-use Rattle.arena_chunks.specs.Source.{Source, view}
-use Rattle.arena_chunks.specs.Frame.{IsApart, Frame}
+use Rattle.arena_rules.specs.Rounding.{up, is_layout}
+use Rattle.arena_rules.specs.State.{State, IsValid, is_used, is_range_used, AreApart}
+use Rattle.arena_rules.specs.Back.{Point, accepts, KeepsMark}
+use Rattle.arena_rules.specs.Blocks.{IsBlock, IsMovedBlock, padded_size}
+use Rattle.call_rules.specs.Machine.{Held, Contents, Marks, step, refused_of}
+use Rattle.arena_rules.specs.State.{is_place_used}
+use Rattle.arena_rules.specs.declared.place.Place.{Place}
+use Rattle.call_rules.specs.declared.calls.Call.{Call}
+use Rattle.call_rules.specs.declared.calls.Reply.{Reply}
+use Rattle.arena_rules.proofs.RoundingLemmas.{up_ge, up_same, up_least, min_align_positive}
+use Rattle.arena_rules.proofs.UsedLemmas.{used_part}
+use Rattle.arena_rules.proofs.ReturnLemmas.{used_filled}
+use Rattle.arena_store.specs.Memory.{Memory, Writes, image, bytes_from}
+use Rattle.arena_store.specs.Source.{Source, view}
+use Rattle.arena_core.specs.Frame.{IsApart, Frame}
 use Rattle.arena_chunks.specs.Runs.{HoldsBytes}
 use Rattle.arena_chunks.specs.Serving.{machine_of, Holds, IsBeside, Keeps, Asks, Serves}
-use Rattle.arena_chunks.specs.declared.block.Block.{Block}
+use Rattle.arena_store.specs.declared.block.Block.{Block}
 use Rattle.arena_chunks.proofs.HeldLemmas.{get-inserted, get-insert_other}
-use Rattle.arena_chunks.proofs.FrameLemmas.{apart_turned, beside_range}
-use Rattle.arena_chunks.proofs.BytesLemmas.{written_beside}
-use Rattle.arena_chunks.proofs.WrittenLemmas.{bytes_same}
+use Rattle.arena_core.proofs.FrameLemmas.{apart_turned, beside_range}
+use Rattle.arena_store.proofs.BytesLemmas.{written_beside}
+use Rattle.arena_core.proofs.WrittenLemmas.{bytes_same}
 
 -- ---- Beside a place
 

@@ -2,19 +2,19 @@
 use Rattle.std.proofs.Common.{◌≡◌, ℕ, ap, sym, subst, ◌∙◌, refl, IsTrue, Bool, Some, List, eq-eqb}
 use Rattle.std.specs.Prelude.{◌==◌, ◌&&◌}
 use Rattle.std.proofs.lemmas.Bool.{and_parts}
-use Rattle.placement.specs.State.{State, IsValid}
-use Rattle.placement.specs.Back.{accepts, KeepsMark}
-use Rattle.placement.specs.Moves.{Resizing, dealloc}
-use Rattle.placement.proofs.BackLemmas.{own_accepted}
-use Rattle.placement.proofs.MarkLemmas.{still_keeps, alloc_keeps, resize_keeps, dealloc_keeps_mark}
-use Rattle.arena_chunks.specs.Memory.{Memory}
-use Rattle.arena_chunks.specs.Source.{View}
-use Rattle.arena_chunks.specs.Answers.{Answer}
-use Rattle.arena_chunks.specs.Answers.Answer.{Placed, Refused, Wanting}
-use Rattle.arena_chunks.specs.BlockCalls.{PlacesBlock, ResizesBlock, GivesBack, WritesBlock}
-use Rattle.arena_chunks.specs.Checkpoints.{mark_at, checkpoint_of, is_accepted, KeepsCheckpoint}
-use Rattle.arena_chunks.specs.declared.block.Block.{Block}
-use Rattle.arena_chunks.specs.declared.arena.rewind.Checkpoint.{Checkpoint}
+use Rattle.arena_rules.specs.State.{State, IsValid}
+use Rattle.arena_rules.specs.Back.{accepts, KeepsMark}
+use Rattle.arena_rules.specs.Moves.{Resizing, dealloc}
+use Rattle.arena_rules.proofs.BackLemmas.{own_accepted}
+use Rattle.arena_rules.proofs.MarkLemmas.{still_keeps, alloc_keeps, resize_keeps, dealloc_keeps_mark}
+use Rattle.arena_store.specs.Memory.{Memory}
+use Rattle.arena_store.specs.Source.{View}
+use Rattle.arena_core.specs.Answers.{Answer}
+use Rattle.arena_core.specs.Answers.Answer.{Placed, Refused, Wanting}
+use Rattle.arena_core.specs.BlockCalls.{PlacesBlock, ResizesBlock, GivesBack, WritesBlock}
+use Rattle.arena_core.specs.Checkpoints.{mark_at, checkpoint_of, is_accepted, KeepsCheckpoint}
+use Rattle.arena_store.specs.declared.block.Block.{Block}
+use Rattle.arena_core.specs.declared.rewind.Checkpoint.{Checkpoint}
 
 pub and_intro : {a b : Bool} → IsTrue a → IsTrue b → IsTrue (a && b)
 and_intro first second = rw (first, second) refl

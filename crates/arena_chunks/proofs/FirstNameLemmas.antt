@@ -8,8 +8,8 @@ use Rattle.std.specs.FinMap.{get-empty, get-insert}
 use Rattle.std.proofs.lemmas.Bool.{cases_lt}
 use Rattle.std.proofs.lemmas.List.{length-set, get_or-set_same, get_or-set_other, drop_more}
 use Rattle.std.proofs.lemmas.Option.{none-some}
-use Rattle.placement.specs.Machine.{Held}
-use Rattle.placement.specs.declared.place.Place.{Place}
+use Rattle.call_rules.specs.Machine.{Held}
+use Rattle.arena_rules.specs.declared.place.Place.{Place}
 use Rattle.arena_chunks.specs.Names.{held_with, HoldsNoneBelow}
 use Rattle.arena_chunks.proofs.HeldLemmas.{agree, get-inserted, get-insert_other, get-removed, get-remove_other}
 

@@ -9,29 +9,30 @@ use Rattle.std.specs.Cmp.{nat_cmp_total}
 use Rattle.std.proofs.lemmas.Bool.{and_parts, cases_lt, cases_Bool, or_left, or_right}
 use Rattle.std.proofs.lemmas.List.{length-take-le, get_or-take}
 use Rattle.std.proofs.lemmas.Option.{none-some, same_Some}
-use Rattle.placement.specs.State.{State, IsValid, is_used, is_range_used}
-use Rattle.placement.specs.Back.{back, accepts, is_in_part, KeepsMark}
-use Rattle.placement.specs.Machine.{Held, Contents, is_place_used, is_left, mark_named, marks_to, step}
-use Rattle.placement.specs.Requests.{placed_anew}
-use Rattle.placement.specs.declared.place.Place.{Place}
-use Rattle.placement.specs.declared.calls.Call.TheVariants.{Back as GoBack}
-use Rattle.placement.specs.declared.calls.Reply.TheVariants.{Done}
-use Rattle.placement.proofs.MarkLemmas.{back_keeps}
-use Rattle.placement.proofs.MarkPartLemmas.{part_left, left_part}
-use Rattle.placement.proofs.ReturnLemmas.{used_filled}
-use Rattle.placement.proofs.UsedLemmas.{used_part}
-use Rattle.arena_chunks.specs.Memory.{Memory, image}
-use Rattle.arena_chunks.specs.Source.{Source, view}
-use Rattle.arena_chunks.specs.Checkpoints.{mark_at, is_accepted, sent_back, GoesBack}
+use Rattle.arena_rules.specs.State.{State, IsValid, is_used, is_range_used}
+use Rattle.arena_rules.specs.Back.{back, accepts, is_in_part, KeepsMark}
+use Rattle.call_rules.specs.Machine.{Held, Contents, is_left, mark_named, marks_to, step}
+use Rattle.arena_rules.specs.State.{is_place_used}
+use Rattle.call_rules.specs.Requests.{placed_anew}
+use Rattle.arena_rules.specs.declared.place.Place.{Place}
+use Rattle.call_rules.specs.declared.calls.Call.TheVariants.{Back as GoBack}
+use Rattle.call_rules.specs.declared.calls.Reply.TheVariants.{Done}
+use Rattle.arena_rules.proofs.MarkLemmas.{back_keeps}
+use Rattle.arena_rules.proofs.MarkPartLemmas.{part_left, left_part}
+use Rattle.arena_rules.proofs.ReturnLemmas.{used_filled}
+use Rattle.arena_rules.proofs.UsedLemmas.{used_part}
+use Rattle.arena_store.specs.Memory.{Memory, image}
+use Rattle.arena_store.specs.Source.{Source, view}
+use Rattle.arena_core.specs.Checkpoints.{mark_at, is_accepted, sent_back, GoesBack}
 use Rattle.arena_chunks.specs.Runs.{HoldsBytes}
 use Rattle.arena_chunks.specs.Marks.{Noted, named, marks_from, IsNoted, Lies, TracksMark, IsOlder, AreTracked, Tracks, KeepEntry, stands, LetsGo}
 use Rattle.arena_chunks.specs.Serving.{Holds, ServesRun}
 use Rattle.arena_chunks.specs.declared.runs.marks.Mark.{Mark}
-use Rattle.arena_chunks.proofs.AskedLemmas.{asked_none}
+use Rattle.arena_store.proofs.AskedLemmas.{asked_none}
 use Rattle.arena_chunks.proofs.CheckpointLemmas.{and_intro}
 use Rattle.arena_chunks.proofs.LogLemmas.{not_both}
 use Rattle.arena_chunks.proofs.MarkingLemmas.{lay}
-use Rattle.arena_chunks.proofs.WrittenLemmas.{bytes_same}
+use Rattle.arena_core.proofs.WrittenLemmas.{bytes_same}
 
 module _ {P : List Mark → Type 0} (more : (m : Mark) (older : List Mark) → P (m ∷ older) → P older) where
   -- what holds of marks and so of the older ones holds from a name's on

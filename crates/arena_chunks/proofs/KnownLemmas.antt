@@ -8,8 +8,8 @@ use Rattle.std.specs.Cmp.{unsigned_tied}
 use Rattle.std.specs.BTreeMap.{is_at}
 use Rattle.std.specs.BTreeSet.{BTreeSet, Updates, contains}
 use Rattle.std.proofs.lemmas.List.{reverse-append, take_more, take_all}
-use Rattle.placement.specs.Machine.{mark_named}
-use Rattle.arena_chunks.specs.Checkpoints.{mark_at}
+use Rattle.call_rules.specs.Machine.{mark_named}
+use Rattle.arena_core.specs.Checkpoints.{mark_at}
 use Rattle.arena_chunks.specs.Marks.{named, marks_from, Knows}
 use Rattle.arena_chunks.specs.declared.runs.marks.Mark.{Mark}
 

@@ -1,7 +1,7 @@
 -- The lemmas that a layer above cites: how frames compose, which blocks lie apart, what stands in a block after a call, how
 -- many bytes calls bring into use, and what they ask for.
-pub use Rattle.arena_chunks.proofs.FrameRules.{blocks_turned, apart_within, apart_empty, apart_both, apart_each, all_apart, pairwise_both}
-pub use Rattle.arena_chunks.proofs.FrameRules.{
+pub use Rattle.arena_core.proofs.FrameRules.{blocks_turned, apart_within, apart_empty, apart_both, apart_each, all_apart, pairwise_both}
+pub use Rattle.arena_core.proofs.FrameRules.{
   frame_reflexive,
   frame_then,
   frame_weaken,
@@ -31,8 +31,8 @@ pub use Rattle.arena_chunks.proofs.AskingLemmas.{
   shrunk_full,
   grown_used,
 }
-pub use Rattle.arena_chunks.proofs.BytesLemmas.{length-bytes, no_bytes}
-pub use Rattle.arena_chunks.proofs.RewindLemmas.{went_back}
+pub use Rattle.arena_store.proofs.BytesLemmas.{length-bytes, no_bytes}
+pub use Rattle.arena_core.proofs.RewindLemmas.{went_back}
 pub use Rattle.arena_chunks.proofs.CheckpointLemmas.{
   checkpoint_own,
   checkpoint_placed,
@@ -40,8 +40,8 @@ pub use Rattle.arena_chunks.proofs.CheckpointLemmas.{
   checkpoint_returned,
   checkpoint_written,
 }
-pub use Rattle.arena_chunks.proofs.WrittenLemmas.{bytes_same, bytes_within, take_bytes}
-pub use Rattle.arena_chunks.proofs.BlockCallLemmas.{
+pub use Rattle.arena_core.proofs.WrittenLemmas.{bytes_same, bytes_within, take_bytes}
+pub use Rattle.arena_core.proofs.BlockCallLemmas.{
   places_written,
   resizes_written,
   writes_block,
@@ -51,7 +51,7 @@ pub use Rattle.arena_chunks.proofs.BlockCallLemmas.{
   wrote_first,
   wrote_after,
 }
-pub use Rattle.arena_chunks.proofs.LayerLemmas.{
+pub use Rattle.arena_core.proofs.LayerLemmas.{
   readable_low,
   readable_high,
   readable_size,
@@ -60,7 +60,7 @@ pub use Rattle.arena_chunks.proofs.LayerLemmas.{
   frame_keeps_new,
   frame_keeps_beside,
 }
-pub use Rattle.arena_chunks.proofs.LayerLemmas.{
+pub use Rattle.arena_core.proofs.LayerLemmas.{
   placed_apart,
   placed_pairwise,
   placed_is_block,
@@ -69,7 +69,7 @@ pub use Rattle.arena_chunks.proofs.LayerLemmas.{
   returned_bytes,
   returned_plain,
 }
-pub use Rattle.arena_chunks.proofs.LayerLemmas.{wrote_part, wrote_whole, wrote_behind, wrote_readable, writes_more, writes_nothing}
+pub use Rattle.arena_core.proofs.LayerLemmas.{wrote_part, wrote_whole, wrote_behind, wrote_readable, writes_more, writes_nothing}
 pub use Rattle.arena_chunks.proofs.UsedByCallLemmas.{
   placed_least,
   placed_most,

@@ -6,12 +6,13 @@ use Rattle.std.specs.FinMap as finite
 use Rattle.std.proofs.lemmas.Bool.{cases_eq, cases_lt}
 use Rattle.std.proofs.lemmas.List.{length-map, length-append, take_at}
 use Rattle.std.proofs.lemmas.Option.{none-some, same_Some}
-use Rattle.placement.specs.State.{State, Chunk, cursor_of, is_range_used}
-use Rattle.placement.specs.Back.{Point}
-use Rattle.placement.specs.Machine.{Held, is_place_used, is_left}
-use Rattle.placement.specs.declared.place.Place.{Place}
-use Rattle.placement.proofs.ReturnLemmas.{used_filled}
-use Rattle.arena_chunks.specs.Checkpoints.{mark_at}
+use Rattle.arena_rules.specs.State.{State, Chunk, cursor_of, is_range_used}
+use Rattle.arena_rules.specs.Back.{Point}
+use Rattle.call_rules.specs.Machine.{Held, is_left}
+use Rattle.arena_rules.specs.State.{is_place_used}
+use Rattle.arena_rules.specs.declared.place.Place.{Place}
+use Rattle.arena_rules.proofs.ReturnLemmas.{used_filled}
+use Rattle.arena_core.specs.Checkpoints.{mark_at}
 use Rattle.arena_chunks.specs.Marks.{Noted, named, AreWithin, IsAtCursor, Notes, stands, LetsGo}
 use Rattle.arena_chunks.specs.Serving.{Holds}
 use Rattle.arena_chunks.specs.declared.runs.marks.Mark.{Mark}

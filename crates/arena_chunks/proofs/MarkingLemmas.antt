@@ -5,28 +5,28 @@ use Rattle.std.specs.List.{AllByRecursion}
 use Rattle.std.specs.FinMap as finite
 use Rattle.std.proofs.lemmas.Bool.{cases_eq, cases_lt}
 use Rattle.std.proofs.lemmas.List.{length-append, get_or_append_left, get_or_push}
-use Rattle.placement.specs.State.{State, IsValid, is_used, is_range_used}
-use Rattle.placement.specs.Back.{Point, mark_of, accepts, is_in_part, KeepsMark}
-use Rattle.placement.specs.Moves.{reset}
-use Rattle.placement.specs.Machine.{Held, Contents, mark_named, step, refused_of}
-use Rattle.placement.specs.Requests.{placed_anew}
-use Rattle.placement.specs.Statistics.{uncounted}
-use Rattle.placement.specs.declared.place.Place.{Place}
-use Rattle.placement.specs.declared.calls.Call.{Call}
-use Rattle.placement.specs.declared.calls.Call.TheVariants.{Mark as SetMark, Reset}
-use Rattle.placement.specs.declared.calls.Reply.{Reply}
-use Rattle.placement.specs.declared.calls.Reply.TheVariants.{Done}
-use Rattle.placement.proofs.BackLemmas.{is_mark, back_at_once, own_accepted}
-use Rattle.placement.proofs.MarkPartLemmas.{left_part, cursor_part}
-use Rattle.placement.proofs.ReturnLemmas.{used_filled}
-use Rattle.arena_chunks.specs.Memory.{Memory}
-use Rattle.arena_chunks.specs.Source.{Source, View, view}
-use Rattle.arena_chunks.specs.Checkpoints.{mark_at, checkpoint_of}
+use Rattle.arena_rules.specs.State.{State, IsValid, is_used, is_range_used}
+use Rattle.arena_rules.specs.Back.{Point, mark_of, accepts, is_in_part, KeepsMark}
+use Rattle.arena_rules.specs.Moves.{reset}
+use Rattle.call_rules.specs.Machine.{Held, Contents, mark_named, step, refused_of}
+use Rattle.call_rules.specs.Requests.{placed_anew}
+use Rattle.arena_rules.specs.Statistics.{uncounted}
+use Rattle.arena_rules.specs.declared.place.Place.{Place}
+use Rattle.call_rules.specs.declared.calls.Call.{Call}
+use Rattle.call_rules.specs.declared.calls.Call.TheVariants.{Mark as SetMark, Reset}
+use Rattle.call_rules.specs.declared.calls.Reply.{Reply}
+use Rattle.call_rules.specs.declared.calls.Reply.TheVariants.{Done}
+use Rattle.arena_rules.proofs.BackLemmas.{is_mark, back_at_once, own_accepted}
+use Rattle.arena_rules.proofs.MarkPartLemmas.{left_part, cursor_part}
+use Rattle.arena_rules.proofs.ReturnLemmas.{used_filled}
+use Rattle.arena_store.specs.Memory.{Memory}
+use Rattle.arena_store.specs.Source.{Source, View, view}
+use Rattle.arena_core.specs.Checkpoints.{mark_at, checkpoint_of}
 use Rattle.arena_chunks.specs.Runs.{HoldsBytes}
 use Rattle.arena_chunks.specs.Marks.{Noted, named, IsNoted, Lies, TracksMark, IsOlder, AreTracked, Tracks, KeepEntry, AreWithin, IsAtCursor, Notes}
 use Rattle.arena_chunks.specs.Serving.{machine_of, Holds, Asks, Serves, ServesRun}
 use Rattle.arena_chunks.specs.declared.runs.marks.Mark.{Mark}
-use Rattle.arena_chunks.proofs.AskedLemmas.{asked_none}
+use Rattle.arena_store.proofs.AskedLemmas.{asked_none}
 use Rattle.arena_chunks.proofs.ServingLemmas.{holds_none, no_bytes_held}
 use Rattle.arena_chunks.proofs.LogLemmas.{not_both}
 

@@ -5,11 +5,11 @@ use Rattle.std.specs.List.{AllByRecursion}
 use Rattle.std.proofs.lemmas.Bool.{cases_lt, cases_Bool, or_cases, or_left, or_right}
 use Rattle.std.proofs.lemmas.Bool.Decides.{nat_tests}
 use Rattle.std.proofs.lemmas.List.Sums.{sum_by-cons}
-use Rattle.placement.specs.State.{State, Chunk, data_end, used_length, used_bytes, is_used_by, is_range_used}
-use Rattle.arena_chunks.specs.Memory.{is_readable}
-use Rattle.arena_chunks.specs.Frame.{IsApart, ArePairwiseApart}
-use Rattle.arena_chunks.specs.declared.block.Block.{Block}
-use Rattle.arena_chunks.proofs.FrameRules.{is_filled}
+use Rattle.arena_rules.specs.State.{State, Chunk, data_end, used_length, used_bytes, is_used_by, is_range_used}
+use Rattle.arena_store.specs.Memory.{is_readable}
+use Rattle.arena_core.specs.Frame.{IsApart, ArePairwiseApart}
+use Rattle.arena_store.specs.declared.block.Block.{Block}
+use Rattle.arena_core.proofs.FrameRules.{is_filled}
 
 -- what is used of a chunk below an address, and from one on
 abbrev below : Chunk → ℕ → Chunk

@@ -10,7 +10,7 @@ use Rattle.std.specs.BTreeMap.{get, BTreeMap}
 use Rattle.std.proofs.lemmas.Cmp.{eq_by_cmp_equiv}
 use Rattle.std.proofs.lemmas.Map.Keys.{IsDistinct-from_sorted}
 use Rattle.std.proofs.lemmas.Map.Made.{update_all_none}
-use Rattle.placement.proofs.MapLemmas.{tree_get}
+use Rattle.call_rules.proofs.MapLemmas.{tree_get}
 
 -- a tree that takes another's entries in turn is the same finite map
 pub copied_tree : {X : Type 0} (m tree : BTreeMap ℕ X) → IsStrictlySortedBy nat_cmp (keys_of m.entries)

@@ -5,35 +5,37 @@ use Rattle.std.specs.Option.{is_none, option_and_then}
 use Rattle.std.specs.FinMap as finite
 use Rattle.std.proofs.lemmas.Bool.Decides.{nat_tests}
 use Rattle.std.proofs.lemmas.List.{length-replicate}
-use Rattle.placement.specs.Rounding.{is_layout}
-use Rattle.placement.specs.State.{IsValid}
-use Rattle.placement.specs.Back.{Point, accepts, KeepsMark}
-use Rattle.placement.specs.Blocks.{IsMovedBlock}
-use Rattle.placement.specs.Moves.{resize, grow, growing, shrink, shrinking}
-use Rattle.placement.specs.Moves.Resizing.{Anew}
-use Rattle.placement.specs.Statistics.{Statistics, call_statistics, is_placed}
-use Rattle.placement.specs.Requests.{placed_anew, resized_anew, takes_memory}
-use Rattle.placement.specs.Machine.{Machine, Held, Contents, Marks, at_name, gives_layout, step, refused_of}
-use Rattle.placement.specs.declared.place.Place.{Place}
-use Rattle.placement.specs.declared.calls.Call.TheVariants.{Grow, Shrink}
-use Rattle.placement.specs.declared.calls.Reply.{Reply}
-use Rattle.placement.specs.declared.calls.Reply.TheVariants.{Placed, AllocErr}
-use Rattle.placement.proofs.RoundingLemmas.{min_align_positive, layout_power}
-use Rattle.placement.proofs.MarkLemmas.{resize_keeps}
-use Rattle.placement.proofs.MoveLemmas.{grow_moved, shrink_moved}
-use Rattle.placement.proofs.PlacedLemmas.{resize_at_cursor, grow_at_cursor}
-use Rattle.arena_chunks.specs.Memory.{Memory, Writes, image, bytes_from}
-use Rattle.arena_chunks.specs.Source.{Source, View, view}
-use Rattle.arena_chunks.specs.Frame.{Frame}
-use Rattle.arena_chunks.specs.Answers.Answer.{Placed as PlacedAt, Refused, Wanting}
-use Rattle.arena_chunks.specs.BlockCalls.{ResizesAfter, WritesBlock}
-use Rattle.arena_chunks.specs.Runs.{HoldsBytes, block_at}
+use Rattle.arena_rules.specs.Rounding.{is_layout}
+use Rattle.arena_rules.specs.State.{IsValid}
+use Rattle.arena_rules.specs.Back.{Point, accepts, KeepsMark}
+use Rattle.arena_rules.specs.Blocks.{IsMovedBlock}
+use Rattle.arena_rules.specs.Moves.{resize, grow, growing, shrink, shrinking}
+use Rattle.arena_rules.specs.Moves.Resizing.{Anew}
+use Rattle.arena_rules.specs.Statistics.{Statistics}
+use Rattle.call_rules.specs.Counts.{call_statistics, is_placed}
+use Rattle.call_rules.specs.Requests.{placed_anew, resized_anew, takes_memory}
+use Rattle.call_rules.specs.Machine.{Machine, Held, Contents, Marks, at_name, gives_layout, step, refused_of}
+use Rattle.arena_rules.specs.declared.place.Place.{Place}
+use Rattle.call_rules.specs.declared.calls.Call.TheVariants.{Grow, Shrink}
+use Rattle.call_rules.specs.declared.calls.Reply.{Reply}
+use Rattle.call_rules.specs.declared.calls.Reply.TheVariants.{Placed, AllocErr}
+use Rattle.arena_rules.proofs.RoundingLemmas.{min_align_positive, layout_power}
+use Rattle.arena_rules.proofs.MarkLemmas.{resize_keeps}
+use Rattle.arena_rules.proofs.MoveLemmas.{grow_moved, shrink_moved}
+use Rattle.arena_rules.proofs.PlacedLemmas.{resize_at_cursor, grow_at_cursor}
+use Rattle.arena_store.specs.Memory.{Memory, Writes, image, bytes_from}
+use Rattle.arena_store.specs.Source.{Source, View, view}
+use Rattle.arena_core.specs.Frame.{Frame}
+use Rattle.arena_core.specs.Answers.Answer.{Placed as PlacedAt, Refused, Wanting}
+use Rattle.arena_core.specs.BlockCalls.{ResizesAfter, WritesBlock}
+use Rattle.arena_store.specs.Memory.{block_at}
+use Rattle.arena_chunks.specs.Runs.{HoldsBytes}
 use Rattle.arena_chunks.specs.Marks.{Noted, named, AreWithin, IsAtCursor}
 use Rattle.arena_chunks.specs.Serving.{machine_of, Holds, Serves, ServesNoting, resizing, is_wrong, way_of, ResizesFilling}
-use Rattle.arena_chunks.specs.declared.block.Block.{Block}
+use Rattle.arena_store.specs.declared.block.Block.{Block}
 use Rattle.arena_chunks.specs.declared.runs.marks.Mark.{Mark}
 use Rattle.arena_chunks.proofs.LogLemmas.{notes_still, inserted_at_cursor, inserted_within, noting, not_both}
-use Rattle.arena_chunks.proofs.WrittenLemmas.{bytes_filled, take_bytes}
+use Rattle.arena_core.proofs.WrittenLemmas.{bytes_filled, take_bytes}
 use Rattle.arena_chunks.proofs.ServingLemmas.{serves_placed, asks_still, serves_still, found_at}
 use Rattle.arena_chunks.proofs.ChangeLemmas.{IsChange, beside_apart, change_written, change_placed}
 

@@ -8,20 +8,21 @@ use Rattle.std.proofs.lemmas.Grind.{common_steps}
 use Rattle.std.proofs.lemmas.List.{map-append}
 use Rattle.std.proofs.lemmas.List.Folds.{list_any-append}
 use Rattle.std.proofs.lemmas.Option.{same_Some, none-some, option_and_then_some, slice_get_within}
-use Rattle.placement.specs.State.{IsValid}
-use Rattle.placement.specs.Machine.{Machine, Held, step, run_from, fresh, reply_first, refused_of, told, is_reset}
-use Rattle.placement.specs.Requests.{call_requests, requests_from, takes_memory}
-use Rattle.placement.specs.Statistics.{Statistics, call_statistics, statistics_from}
-use Rattle.placement.specs.declared.calls.Call.{Call}
-use Rattle.placement.specs.declared.calls.Reply.{Reply}
-use Rattle.placement.proofs.DoublingRunLemmas.{run_doubling}
-use Rattle.arena_chunks.specs.Source.{View}
+use Rattle.arena_rules.specs.State.{IsValid}
+use Rattle.call_rules.specs.Machine.{Machine, Held, step, run_from, fresh, reply_first, refused_of, told, is_reset}
+use Rattle.call_rules.specs.Requests.{call_requests, requests_from, takes_memory}
+use Rattle.arena_rules.specs.Statistics.{Statistics}
+use Rattle.call_rules.specs.Counts.{call_statistics, statistics_from}
+use Rattle.call_rules.specs.declared.calls.Call.{Call}
+use Rattle.call_rules.specs.declared.calls.Reply.{Reply}
+use Rattle.call_rules.proofs.DoublingRunLemmas.{run_doubling}
+use Rattle.arena_store.specs.Source.{View}
 use Rattle.arena_chunks.specs.Runs.{StandsFor, RunLeaves, Runs, RunsFirst, held_blocks}
 use Rattle.arena_chunks.specs.Serving.{machine_of, ServesRun, Wants}
 use Rattle.arena_chunks.specs.Running.{IsRunning, StaysAt, StaysBehind}
 use Rattle.arena_chunks.specs.Marks.{Noted, named}
-use Rattle.arena_chunks.specs.declared.block.Block.{Block}
-use Rattle.arena_chunks.proofs.AskedLemmas.{asked_none, asked_more}
+use Rattle.arena_store.specs.declared.block.Block.{Block}
+use Rattle.arena_store.proofs.AskedLemmas.{asked_none, asked_more}
 use Rattle.arena_chunks.proofs.ServingLemmas.{holds_none, no_bytes_held, none_kept}
 
 mapped : {A B P : Type 0} (f : A → B) → (o : Option A) (y : B) → option_map f o ≡ Some y → ((x : A) → o ≡ Some x → f x ≡ y → P) → P

@@ -8,38 +8,40 @@ use Rattle.std.specs.Ordering.{nat_cmp}
 use Rattle.std.proofs.lemmas.Bool.Decides.{nat_tests}
 use Rattle.std.proofs.lemmas.Option.{same_Some, none-some}
 use Rattle.std.proofs.lemmas.List.{length-replicate}
-use Rattle.placement.specs.Rounding.{is_layout}
-use Rattle.placement.specs.State.{State, IsValid}
-use Rattle.placement.specs.Back.{KeepsMark}
-use Rattle.placement.specs.Blocks.{padded_size}
-use Rattle.placement.specs.Moves.{dealloc}
-use Rattle.placement.specs.Requests.{placed_anew}
-use Rattle.placement.specs.Statistics.{call_statistics}
-use Rattle.placement.specs.Machine.{Held, Contents, Marks, Next, at_name, step, splice, refused_of}
-use Rattle.placement.specs.declared.place.Place.{Place}
-use Rattle.placement.specs.declared.calls.Call.{Call}
-use Rattle.placement.specs.declared.calls.Call.TheVariants.{Alloc, Dealloc, Write}
-use Rattle.placement.specs.declared.calls.Reply.{Reply}
-use Rattle.placement.specs.declared.calls.Reply.TheVariants.{Placed, Done, NoSuchName}
-use Rattle.placement.proofs.RoundingLemmas.{min_align_positive, layout_power}
-use Rattle.placement.proofs.MarkLemmas.{still_keeps, alloc_keeps, dealloc_keeps_mark}
-use Rattle.placement.proofs.MoveLemmas.{moved_anew}
-use Rattle.placement.proofs.PlacedLemmas.{alloc_at_cursor}
-use Rattle.arena_chunks.specs.Memory.{Memory, Writes, image, bytes_from, is_readable}
-use Rattle.arena_chunks.specs.Source.{Source, view}
-use Rattle.arena_chunks.specs.Frame.{IsApart, padded}
-use Rattle.arena_chunks.specs.Answers.Answer.{Placed as PlacedAt}
-use Rattle.arena_chunks.specs.BlockCalls.{PlacesAfter, GivesBack, WritesBlock}
-use Rattle.arena_chunks.specs.Runs.{HoldsBytes, block_at}
+use Rattle.arena_rules.specs.Rounding.{is_layout}
+use Rattle.arena_rules.specs.State.{State, IsValid}
+use Rattle.arena_rules.specs.Back.{KeepsMark}
+use Rattle.arena_rules.specs.Blocks.{padded_size}
+use Rattle.arena_rules.specs.Moves.{dealloc}
+use Rattle.call_rules.specs.Requests.{placed_anew}
+use Rattle.call_rules.specs.Counts.{call_statistics}
+use Rattle.call_rules.specs.Machine.{Held, Contents, Marks, Next, at_name, step, refused_of}
+use Rattle.arena_rules.specs.Lists.{splice}
+use Rattle.arena_rules.specs.declared.place.Place.{Place}
+use Rattle.call_rules.specs.declared.calls.Call.{Call}
+use Rattle.call_rules.specs.declared.calls.Call.TheVariants.{Alloc, Dealloc, Write}
+use Rattle.call_rules.specs.declared.calls.Reply.{Reply}
+use Rattle.call_rules.specs.declared.calls.Reply.TheVariants.{Placed, Done, NoSuchName}
+use Rattle.arena_rules.proofs.RoundingLemmas.{min_align_positive, layout_power}
+use Rattle.arena_rules.proofs.MarkLemmas.{still_keeps, alloc_keeps, dealloc_keeps_mark}
+use Rattle.arena_rules.proofs.MoveLemmas.{moved_anew}
+use Rattle.arena_rules.proofs.PlacedLemmas.{alloc_at_cursor}
+use Rattle.arena_store.specs.Memory.{Memory, Writes, image, bytes_from, is_readable}
+use Rattle.arena_store.specs.Source.{Source, view}
+use Rattle.arena_core.specs.Frame.{IsApart, padded}
+use Rattle.arena_core.specs.Answers.Answer.{Placed as PlacedAt}
+use Rattle.arena_core.specs.BlockCalls.{PlacesAfter, GivesBack, WritesBlock}
+use Rattle.arena_store.specs.Memory.{block_at}
+use Rattle.arena_chunks.specs.Runs.{HoldsBytes}
 use Rattle.arena_chunks.specs.Marks.{IsAtCursor}
 use Rattle.arena_chunks.specs.Serving.{machine_of, Holds, IsBeside, Keeps, Asks, Serves}
-use Rattle.arena_chunks.specs.declared.block.Block.{Block}
-use Rattle.arena_chunks.proofs.AskedLemmas.{asked_none}
+use Rattle.arena_store.specs.declared.block.Block.{Block}
+use Rattle.arena_store.proofs.AskedLemmas.{asked_none}
 use Rattle.arena_chunks.proofs.HeldLemmas.{get-inserted, get-insert_other, get-removed, get-remove_other}
 use Rattle.arena_chunks.proofs.LogLemmas.{inserted_at_cursor}
-use Rattle.arena_chunks.proofs.FrameLemmas.{apart_turned}
-use Rattle.arena_chunks.proofs.BytesLemmas.{no_bytes}
-use Rattle.arena_chunks.proofs.WrittenLemmas.{bytes_spliced, bytes_filled}
+use Rattle.arena_core.proofs.FrameLemmas.{apart_turned}
+use Rattle.arena_store.proofs.BytesLemmas.{no_bytes}
+use Rattle.arena_core.proofs.WrittenLemmas.{bytes_spliced, bytes_filled}
 use Rattle.arena_chunks.proofs.ChangeLemmas.{padded_empty, IsChange, change_written, change_placed, serves_changed}
 
 -- ---- Calls that change nothing, or give all blocks back

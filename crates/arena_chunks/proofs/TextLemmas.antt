@@ -4,13 +4,13 @@ use Rattle.std.specs.Prelude.{nat_le}
 use Rattle.std.specs.List.{flat_map}
 use Rattle.std.proofs.lemmas.Bool.Decides.{nat_tests}
 use Rattle.std.proofs.lemmas.List.{length-append, take_more, flat_map_more}
-use Rattle.placement.specs.Rounding.{up, is_power_among, is_layout}
-use Rattle.placement.specs.State.{IsValid}
-use Rattle.placement.proofs.RoundingLemmas.{up_same}
-use Rattle.arena_chunks.specs.Memory.{Memory, bytes_from}
-use Rattle.arena_chunks.specs.BlockCalls.{WritesBlock}
-use Rattle.arena_chunks.specs.declared.block.Block.{Block}
-use Rattle.arena_chunks.proofs.LayerLemmas.{writes_more, writes_nothing}
+use Rattle.arena_rules.specs.Rounding.{up, is_power_among, is_layout}
+use Rattle.arena_rules.specs.State.{IsValid}
+use Rattle.arena_rules.proofs.RoundingLemmas.{up_same}
+use Rattle.arena_store.specs.Memory.{Memory, bytes_from}
+use Rattle.arena_core.specs.BlockCalls.{WritesBlock}
+use Rattle.arena_store.specs.declared.block.Block.{Block}
+use Rattle.arena_core.proofs.LayerLemmas.{writes_more, writes_nothing}
 
 bytes_layout : (size : ℕ) → is_layout size 1 ≡ nat_le size (2 ^ 63 - 1)
 unfolding is_power_among

@@ -1,25 +1,25 @@
 -- How many bytes the calls on blocks bring into use, and how chunks grow by them.
 use Rattle.std.proofs.Common.{◌≡◌, ℕ, ◌+◌, ◌-◌, ◌%◌, ◌≤◌, Bool, false, Option, Some, None, List, [], ◌∷◌, map, sum, ap, refl, sym, subst, ◌∙◌, arith, IsTrue}
 use Rattle.std.specs.Prelude.{◌≢◌}
-use Rattle.placement.specs.Rounding.{is_layout}
-use Rattle.placement.specs.State.{State, Chunk, IsValid, FitsKind, cursor_of, newest_size, used_bytes, allocated_bytes}
-use Rattle.placement.specs.Search.{place}
-use Rattle.placement.specs.Moves.{Resizing, dealloc, grow, shrink, reset}
-use Rattle.placement.specs.Moves.Resizing.{Moves, Anew, Stays}
-use Rattle.placement.specs.Blocks.{padded_size}
-use Rattle.placement.specs.Used.{unit_of}
-use Rattle.placement.specs.Doubling.{IsDoubling, is_made_first, is_resize_made_first}
-use Rattle.placement.proofs.RoundingLemmas.{layout_power}
-use Rattle.placement.proofs.UsedBytesLemmas.{alloc_least, alloc_most, alloc_exact, alloc_exact_in_new}
-use Rattle.placement.proofs.UsedResizeLemmas.{grow_used, growth_least, growth_most, growth_exact, shrink_used, resize_stays, dealloc_used, dealloc_used_elsewhere, padded_exact}
-use Rattle.placement.proofs.DoublingLemmas.{alloc_doubling, resize_doubling, dealloc_doubling}
-use Rattle.placement.proofs.ResetLemmas.{reset_allocated}
-use Rattle.arena_chunks.specs.Memory.{Memory, is_readable}
-use Rattle.arena_chunks.specs.Source.{View}
-use Rattle.arena_chunks.specs.Answers.Answer.{Placed}
-use Rattle.arena_chunks.specs.BlockCalls.{place_of, PlacesBlock, PlacesAfter, ResizesBlock, ResizesAfter, GrowsBlock, ShrinksBlock, GivesBack, WritesBlock, growing_of, shrinking_of}
-use Rattle.arena_chunks.specs.declared.block.Block.{Block}
-use Rattle.arena_chunks.proofs.LayerLemmas.{readable_used}
+use Rattle.arena_rules.specs.Rounding.{is_layout}
+use Rattle.arena_rules.specs.State.{State, Chunk, IsValid, FitsKind, cursor_of, newest_size, used_bytes, allocated_bytes}
+use Rattle.arena_rules.specs.Search.{place}
+use Rattle.arena_rules.specs.Moves.{Resizing, dealloc, grow, shrink, reset}
+use Rattle.arena_rules.specs.Moves.Resizing.{Moves, Anew, Stays}
+use Rattle.arena_rules.specs.Blocks.{padded_size}
+use Rattle.arena_rules.specs.Used.{unit_of}
+use Rattle.arena_rules.specs.Doubling.{IsDoubling, is_made_first, is_resize_made_first}
+use Rattle.arena_rules.proofs.RoundingLemmas.{layout_power}
+use Rattle.arena_rules.proofs.UsedBytesLemmas.{alloc_least, alloc_most, alloc_exact, alloc_exact_in_new}
+use Rattle.arena_rules.proofs.UsedResizeLemmas.{grow_used, growth_least, growth_most, growth_exact, shrink_used, resize_stays, dealloc_used, dealloc_used_elsewhere, padded_exact}
+use Rattle.arena_rules.proofs.DoublingLemmas.{alloc_doubling, resize_doubling, dealloc_doubling}
+use Rattle.arena_rules.proofs.ResetLemmas.{reset_allocated}
+use Rattle.arena_store.specs.Memory.{Memory, is_readable}
+use Rattle.arena_store.specs.Source.{View}
+use Rattle.arena_core.specs.Answers.Answer.{Placed}
+use Rattle.arena_core.specs.BlockCalls.{place_of, PlacesBlock, PlacesAfter, ResizesBlock, ResizesAfter, GrowsBlock, ShrinksBlock, GivesBack, WritesBlock, growing_of, shrinking_of}
+use Rattle.arena_store.specs.declared.block.Block.{Block}
+use Rattle.arena_core.proofs.LayerLemmas.{readable_used}
 
 -- ---- A new block
 

@@ -1,8 +1,8 @@
 -- The blocks that names hold, where the places of the first names stand in a list.
 use Rattle.std.specs.Prelude.{◌≡◌, ℕ, ◌+◌, ◌<◌, Option, None, Some, List, [], ◌∷◌}
 use Rattle.std.specs.FinMap as finite
-use Rattle.placement.specs.Machine.{Held}
-use Rattle.placement.specs.declared.place.Place.{Place}
+use Rattle.call_rules.specs.Machine.{Held}
+use Rattle.arena_rules.specs.declared.place.Place.{Place}
 
 -- the places of the names from this one on, and what others hold
 abbrev pub held_with : ℕ → List (Option Place) → Held → Held

@@ -1,7 +1,7 @@
 -- A place is stored as its three numbers.
 use Rattle.std.specs.Prelude.{ℕ, refl}
 use Rattle.std.specs.Coded.{Coded, code_by, coded×, coded_ℕ}
-use Rattle.placement.specs.declared.place.Place.{Place}
+use Rattle.arena_rules.specs.declared.place.Place.{Place}
 
 abbrev pub place_code : Coded Place
 place_code =

@@ -1,7 +1,7 @@
 -- Replies by their length, and what takes them.
 use Rattle.std.specs.Prelude.{Bool, true, false, List, ◌++◌}
-use Rattle.placement.specs.declared.calls.Reply.{Reply}
-use Rattle.placement.specs.declared.calls.Reply.TheVariants.{Bytes}
+use Rattle.call_rules.specs.declared.calls.Reply.{Reply}
+use Rattle.call_rules.specs.declared.calls.Reply.TheVariants.{Bytes}
 
 -- a reply that holds the bytes of a block, and so may have any length
 abbrev pub has_bytes : Reply → Bool

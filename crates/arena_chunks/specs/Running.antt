@@ -1,16 +1,16 @@
 -- A run of calls over an arena, as far as it has come.
 use Rattle.std.specs.Prelude.{◌≡◌, ℕ, false, Some, List, [], ◌∷◌, ◌++◌, sum, take, length, slice_get}
 use Rattle.std.specs.List.{list_any}
-use Rattle.placement.specs.Machine.{Held, Contents, run, told, is_reset}
-use Rattle.placement.specs.Requests.{requests_of}
-use Rattle.placement.specs.Statistics.{statistics_of}
-use Rattle.placement.specs.declared.calls.Call.{Call}
-use Rattle.placement.specs.declared.calls.Reply.{Reply}
-use Rattle.arena_chunks.specs.Source.{View, IsAsked}
+use Rattle.call_rules.specs.Machine.{Held, Contents, run, told, is_reset}
+use Rattle.call_rules.specs.Requests.{requests_of}
+use Rattle.call_rules.specs.Counts.{statistics_of}
+use Rattle.call_rules.specs.declared.calls.Call.{Call}
+use Rattle.call_rules.specs.declared.calls.Reply.{Reply}
+use Rattle.arena_store.specs.Source.{View, IsAsked}
 use Rattle.arena_chunks.specs.Runs.{HoldsBytes, Runs, RunsFirst}
 use Rattle.arena_chunks.specs.Serving.{machine_of, Holds, Keeps}
 use Rattle.arena_chunks.specs.Marks.{Noted, named, Tracks, KeepEntry}
-use Rattle.arena_chunks.specs.declared.block.Block.{Block}
+use Rattle.arena_store.specs.declared.block.Block.{Block}
 
 -- The calls so far gave these replies: they are a run of the machine that the arena, the names' blocks and the marks now are. It
 -- asked for what the rules ask for, and what was in use at its entry is kept, unless all blocks were given back.

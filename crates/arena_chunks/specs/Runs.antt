@@ -2,23 +2,20 @@
 use Rattle.std.specs.Prelude.{◌≡◌, false, ℕ, ◌<◌, ◌≤◌, Some, IsTrue, List, map, sum, take, length, slice_get}
 use Rattle.std.specs.FinMap as finite
 use Rattle.std.specs.List.{list_any}
-use Rattle.placement.specs.State.{State, IsValid}
-use Rattle.placement.specs.Doubling.{IsDoubling, made_first}
-use Rattle.placement.specs.Machine.{Machine, Held, Contents, IsSound, run, told, is_reset}
-use Rattle.placement.specs.Requests.{requests_of, takes_memory}
-use Rattle.placement.specs.Statistics.{statistics_of}
-use Rattle.placement.specs.declared.place.Place.{Place}
-use Rattle.placement.specs.declared.calls.Call.{Call}
-use Rattle.placement.specs.declared.calls.Reply.{Reply}
-use Rattle.arena_chunks.specs.Memory.{Memory, KeepsUsed, image, bytes_from}
-use Rattle.arena_chunks.specs.Source.{View, IsAsked}
-use Rattle.arena_chunks.specs.declared.block.Block.{Block}
+use Rattle.arena_rules.specs.State.{State, IsValid}
+use Rattle.arena_rules.specs.Doubling.{IsDoubling}
+use Rattle.call_rules.specs.MadeFirst.{made_first}
+use Rattle.call_rules.specs.Machine.{Machine, Held, Contents, IsSound, run, told, is_reset}
+use Rattle.call_rules.specs.Requests.{requests_of, takes_memory}
+use Rattle.call_rules.specs.Counts.{statistics_of}
+use Rattle.arena_rules.specs.declared.place.Place.{Place}
+use Rattle.call_rules.specs.declared.calls.Call.{Call}
+use Rattle.call_rules.specs.declared.calls.Reply.{Reply}
+use Rattle.arena_store.specs.Memory.{Memory, KeepsUsed, image, bytes_from, block_at}
+use Rattle.arena_store.specs.Source.{View, IsAsked}
+use Rattle.arena_store.specs.declared.block.Block.{Block}
 use Rattle.arena_chunks.specs.declared.runs.run.Stopped.{Stopped}
 use Rattle.arena_chunks.specs.declared.runs.run.Stopped.TheVariants.{OutOfMemory}
-
--- the block of a generation at a place
-abbrev pub block_at : ℕ → Place → Block
-block_at generation place = record { generation = generation; addr = place.addr; size = place.size; align = place.align }
 
 -- the names and their blocks, by ascending name
 abbrev pub held_blocks : ℕ → Held → List (ℕ × Block)

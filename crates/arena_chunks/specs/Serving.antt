@@ -1,23 +1,24 @@
 -- What one call after another does to an arena and its names.
 use Rattle.std.specs.Prelude.{◌≡◌, ◌≢◌, ℕ, ◌-◌, nat_lt, Bool, false, Option, Some, None, replicate, IsTrue}
 use Rattle.std.specs.FinMap as finite
-use Rattle.placement.specs.State.{State, IsValid, is_used, AreApart}
-use Rattle.placement.specs.Back.{Point, accepts, KeepsMark}
-use Rattle.placement.specs.Blocks.{IsBlock, padded_size}
-use Rattle.placement.specs.Machine.{Machine, Held, Contents, Marks, step, refused_of, is_reset}
-use Rattle.placement.specs.Requests.{call_requests, takes_memory}
-use Rattle.placement.specs.Statistics.{call_statistics}
-use Rattle.placement.specs.Moves.{Resizing, growing, shrinking}
-use Rattle.placement.specs.declared.place.Place.{Place}
-use Rattle.placement.specs.declared.calls.Call.{Call}
-use Rattle.placement.specs.declared.calls.Call.TheVariants.{Grow, Shrink}
-use Rattle.placement.specs.declared.calls.Reply.{Reply}
-use Rattle.arena_chunks.specs.Memory.{Memory, KeepsUsed}
-use Rattle.arena_chunks.specs.Source.{View, view, IsAsked}
-use Rattle.arena_chunks.specs.Answers.{Answer, OnAnswer}
-use Rattle.arena_chunks.specs.BlockCalls.{ResizesAfter, WritesBlock}
-use Rattle.arena_chunks.specs.Runs.{HoldsBytes, block_at}
-use Rattle.arena_chunks.specs.declared.block.Block.{Block}
+use Rattle.arena_rules.specs.State.{State, IsValid, is_used, AreApart}
+use Rattle.arena_rules.specs.Back.{Point, accepts, KeepsMark}
+use Rattle.arena_rules.specs.Blocks.{IsBlock, padded_size}
+use Rattle.call_rules.specs.Machine.{Machine, Held, Contents, Marks, step, refused_of, is_reset}
+use Rattle.call_rules.specs.Requests.{call_requests, takes_memory}
+use Rattle.call_rules.specs.Counts.{call_statistics}
+use Rattle.arena_rules.specs.Moves.{Resizing, growing, shrinking}
+use Rattle.arena_rules.specs.declared.place.Place.{Place}
+use Rattle.call_rules.specs.declared.calls.Call.{Call}
+use Rattle.call_rules.specs.declared.calls.Call.TheVariants.{Grow, Shrink}
+use Rattle.call_rules.specs.declared.calls.Reply.{Reply}
+use Rattle.arena_store.specs.Memory.{Memory, KeepsUsed}
+use Rattle.arena_store.specs.Source.{View, view, IsAsked}
+use Rattle.arena_core.specs.Answers.{Answer, OnAnswer}
+use Rattle.arena_core.specs.BlockCalls.{ResizesAfter, WritesBlock}
+use Rattle.arena_store.specs.Memory.{block_at}
+use Rattle.arena_chunks.specs.Runs.{HoldsBytes}
+use Rattle.arena_store.specs.declared.block.Block.{Block}
 use Rattle.arena_chunks.specs.Marks.{Noted, named, Tracks, KeepEntry, Notes}
 
 -- the machine that an arena, its names, their bytes and some marks are

@@ -1,29 +1,28 @@
 // An arena with its source of chunks.
 ghost use Rattle.std.specs.Prelude.{◌≡◌, ◌+◌, ◌-◌, ◌*◌, ◌^◌, ◌%◌, ◌≤◌, [], ◌∷◌, Some, Ok, Err, IfOk, IfErr, IsOk, ℕ, List, IsTrue, length, take};
 ghost use Rattle.std.specs.Borrow.{sem};
-ghost use Rattle.placement.specs.State.{IsValid, used_bytes, allocated_bytes, top_of};
-ghost use Rattle.placement.specs.Moves.{reset};
-ghost use Rattle.placement.specs.Creation.{empty_state, fixed_state};
-ghost use Rattle.placement.specs.Statistics.{uncounted};
-ghost use Rattle.arena_chunks.specs.Memory.{is_readable, image, bytes_from};
-ghost use Rattle.arena_chunks.specs.Source.{View, view};
-ghost use Rattle.arena_chunks.specs.Answers.{answer_of};
-ghost use Rattle.arena_chunks.specs.Resizes.{NoneReadable};
-ghost use Rattle.arena_chunks.specs.Creating.{uncounted_memory, IsCreation, Creates};
-ghost use Rattle.arena_chunks.specs.BlockCalls.{PlacesBlock, WritesBlock, EditsBlock};
+ghost use Rattle.arena_rules.specs.State.{IsValid, used_bytes, allocated_bytes, top_of};
+ghost use Rattle.arena_rules.specs.Moves.{reset};
+ghost use Rattle.arena_rules.specs.Creation.{empty_state, fixed_state};
+ghost use Rattle.arena_rules.specs.Statistics.{uncounted};
+ghost use Rattle.arena_store.specs.Memory.{is_readable, image, bytes_from};
+ghost use Rattle.arena_store.specs.Source.{View, view};
+ghost use Rattle.arena_core.specs.Answers.{answer_of};
+ghost use Rattle.arena_core.specs.Resizes.{NoneReadable};
+ghost use Rattle.arena_core.specs.Creating.{uncounted_memory, IsCreation, Creates};
+ghost use Rattle.arena_core.specs.BlockCalls.{PlacesBlock, WritesBlock, EditsBlock};
 
 mod alloc;
 mod block_alloc;
 mod over_arena;
 mod text;
 
-use crate::arena::{Arena, Checkpoint, RawErr};
-use crate::block::{ArenaErr, Block};
-use crate::chunks::{ChunkSource, Edit};
 pub use alloc::Alloc;
 use arena_bases::Steps;
+use arena_core::{Arena, Checkpoint, RawErr};
 use arena_place::Layout;
 use arena_region::Region;
+use arena_store::{ArenaErr, Block, ChunkSource, Edit};
 pub use block_alloc::BlockAlloc;
 pub use over_arena::OverArena;
 use std::alloc::Global;
@@ -40,7 +39,7 @@ pub struct Allocator<C: ChunkSource> {
 }
 
 impl<C: ChunkSource> Model for Allocator<C> {
-    ghost use Rattle.arena_chunks.specs.Source.{View};
+    ghost use Rattle.arena_store.specs.Source.{View};
 
     ghost Value = { View };
 
@@ -48,9 +47,10 @@ impl<C: ChunkSource> Model for Allocator<C> {
 }
 
 impl<C: ChunkSource> Allocator<C> {
-    ghost use Rattle.arena_chunks.specs.Lends.{LendsBlockOf, with_block};
-    ghost use Rattle.arena_chunks.specs.Checkpoints.{checkpoint_of, is_accepted, sent_back, GoesBack};
-    ghost use Rattle.arena_chunks.specs.Finding.{chunk_number};
+    ghost use Rattle.arena_store.specs.Lends.{with_block};
+    ghost use Rattle.arena_chunks.specs.AllocatorLends.{LendsBlockOf};
+    ghost use Rattle.arena_core.specs.Checkpoints.{checkpoint_of, is_accepted, sent_back, GoesBack};
+    ghost use Rattle.arena_core.specs.Finding.{chunk_number};
 
     /// An allocator over an empty arena that grows. Takes no memory.
     pub fn new(alloc: Global, chunks: C) -> Allocator<C>
@@ -178,6 +178,7 @@ impl<C: ChunkSource> Allocator<C> {
     /// The number of the chunk that has an address, as the arena's `find_chunk` tells.
     pub fn find_chunk<L: Ledger>(&self, addr: u64, steps: &mut Steps<L>) -> Option<u64>
         ensures number { result ≡ chunk_number addr self.now.memory.state.chunks }
+        ensures rises { steps.old ≤ steps.new }
         ensures cost { 2 ^ (steps.new - steps.old) ≤ 2 * length self.now.memory.state.chunks + 1 }
     {
         self.arena.find_chunk(addr, steps)

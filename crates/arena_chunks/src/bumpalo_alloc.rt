@@ -1,13 +1,12 @@
 //! The allocator trait of the fork of bumpalo.
 ghost use Rattle.std.specs.Prelude.{◌≡◌, ◌*◌, ◌<◌, ◌≤◌, ◌↔◌, ◌&&◌, false, Some, is_some, IfSome, Ok, IfOk, IsErr, IsTrue, codes, replicate};
-ghost use Rattle.arena_chunks.specs.Memory.{is_readable, image, bytes_from};
-ghost use Rattle.arena_chunks.specs.Answers.{answer_of, answer_by};
-ghost use Rattle.arena_chunks.specs.BlockCalls.{PlacesBlock, GivesBack, Reallocates, Refuses, is_array};
+ghost use Rattle.arena_store.specs.Memory.{is_readable, image, bytes_from};
+ghost use Rattle.arena_core.specs.Answers.{answer_of, answer_by};
+ghost use Rattle.arena_core.specs.BlockCalls.{PlacesBlock, GivesBack, Reallocates, Refuses, is_array};
 
 use crate::allocator::{Allocator, OverArena};
-use crate::block::{ArenaErr, Block};
-use crate::chunks::ChunkSource;
 use arena_place::Layout;
+use arena_store::{ArenaErr, Block, ChunkSource};
 use std::error::Error;
 use std::fmt;
 
@@ -268,7 +267,7 @@ impl<C: ChunkSource> Alloc for Allocator<C> {
         self.arena.realloc(&mut self.chunks, block, new_size)
     }
 
-    #[tactic(auto, using(crate::proofs::BlockCallLemmas::places_written))]
+    #[tactic(auto, using(arena_core::proofs::BlockCallLemmas::places_written))]
     fn alloc_zeroed(&mut self, layout: Layout) -> Result<Block, ArenaErr> {
         let block = self.arena.alloc_layout(&mut self.chunks, layout)?;
         self.arena.fill(block, 0, 0);

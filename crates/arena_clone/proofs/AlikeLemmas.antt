@@ -53,27 +53,21 @@ module _ {T : Type 0} (kind : Kind T) (ids : CloneInSemanticIds) (a c : Memory) 
   pub lists_alike : (vs ws : List T) → AreAlike (row_of kind) ids a vs c ws ↔ AreListsAlike kind ids a vs c ws
   lists_alike vs ws = (lists_apart vs ws, lists_joined vs ws)
 
-module _ {K V S : Type 0} (k : MapTypes K V S) (keys : Kind K) (values : Kind V) (ids : CloneInSemanticIds) (a c : Memory) where
+module _ {K V S : Type 0} (k : MapTypes K V S) (is_default : S → Type 0) (keys : Kind K) (values : Kind V) (ids : CloneInSemanticIds)
+    (a c : Memory) where
   -- what is found under a content means what its value means
   found_means : (m : Memory) (o : Option (K × V))
       → of_some (λ (p : K × V). values.whole m p.1) o ≡ of_some (values.whole m) (value_of o)
   found_means m None = refl
   found_means m (Some p) = refl
 
-  -- Two maps mean what copies mean where they have one hasher, and what is found under each content does.
-  pub maps_alike : (v w : HashMap K V S) → AreAlike (map_of k keys values) ids a v c w ↔ AreMapsAlike k values ids a v c w
+  -- Two maps mean what copies mean where what is found under each content does.
+  pub maps_alike : (v w : HashMap K V S) → AreAlike (map_of k is_default keys values) ids a v c w ↔ AreMapsAlike k values ids a v c w
   maps_alike v w = (
-    (λ same. record {
-      hasher = ap (λ (is : S × (List ℕ → Option values.Whole)). is.0) same;
-      each = λ q. (found q).0 (sym (found_means c (map_in k c w q))
-          ∙ ap (λ (is : S × (List ℕ → Option values.Whole)). is.1 q) same
-          ∙ ap (of_some (values.by_ids ids)) (found_means a (map_in k a v q)));
-    }),
-    (λ alike i. (
-      alike.hasher i,
-      fun_ext (λ q. found_means c (map_in k c w q) ∙ (found q).1 (alike.each q)
-          ∙ ap (of_some (values.by_ids ids)) (sym (found_means a (map_in k a v q)))) i,
-    )),
+    (λ same q. (found q).0 (sym (found_means c (map_in k c w q)) ∙ ap (λ (is : List ℕ → Option values.Whole). is q) same
+        ∙ ap (of_some (values.by_ids ids)) (found_means a (map_in k a v q)))),
+    (λ alike. fun_ext (λ q. found_means c (map_in k c w q) ∙ (found q).1 (alike q)
+        ∙ ap (of_some (values.by_ids ids)) (sym (found_means a (map_in k a v q))))),
   )
     where
       found : (q : List ℕ) → AreAlike (option_of values) ids a (value_of (map_in k a v q)) c (value_of (map_in k c w q))
@@ -85,10 +79,10 @@ module _ {K V S : Type 0} (k : MapTypes K V S) (keys : Kind K) (values : Kind V)
   some_of f (Some x) = refl
 
   -- The same contents are keys of both then.
-  pub alike_keys : (v w : HashMap K V S) → AreAlike (map_of k keys values) ids a v c w
+  pub alike_keys : (v w : HashMap K V S) → AreAlike (map_of k is_default keys values) ids a v c w
       → (q : List ℕ) → has (map_in k a v) q ≡ has (map_in k c w) q
   alike_keys v w same q =
       sym (some_of (values.by_ids ids) (of_some (λ (p : K × V). values.whole a p.1) (map_in k a v q))
       ∙ some_of (λ (p : K × V). values.whole a p.1) (map_in k a v q))
-      ∙ ap (λ (is : S × (List ℕ → Option values.Whole)). is_some (is.1 q)) (sym same)
+      ∙ ap (λ (is : List ℕ → Option values.Whole). is_some (is q)) (sym same)
       ∙ some_of (λ (p : K × V). values.whole c p.1) (map_in k c w q)

@@ -3,7 +3,7 @@ use Rattle.std.proofs.Common.{ap, sym, refl, subst, ◌∙◌, List, [], ◌∷�
 use Rattle.std.specs.Prelude.{Result, IsPermutation}
 use Rattle.std.proofs.lemmas.List.Sorted.{IsPermutation-append_left}
 use Rattle.arena_chunks.specs.Source.{View}
-use Rattle.arena_chunks.specs.declared.block.Block.{Block}
+use Rattle.arena_store.specs.declared.block.Block.{Block}
 use Rattle.arena_items.specs.declared.item.Item.{Ghosts}
 use Rattle.arena_items.specs.declared.boxes.Box.{Box}
 use Rattle.arena_items.specs.declared.room.AllocError.{AllocError}

@@ -4,7 +4,7 @@ use Rattle.arena_chunks.specs.Memory.{Memory, image, bytes_from, is_readable}
 use Rattle.arena_chunks.specs.Source.{View, Source, view}
 use Rattle.arena_chunks.specs.Answers.Answer.{Placed}
 use Rattle.arena_chunks.specs.BlockCalls.{PlacesBlock, WritesBlock}
-use Rattle.arena_chunks.specs.declared.block.Block.{Block}
+use Rattle.arena_store.specs.declared.block.Block.{Block}
 use Rattle.arena_chunks.proofs.Layers.{length-bytes, places_written, wrote_whole}
 use Rattle.arena_items.specs.Values.{bytes_of}
 use Rattle.arena_items.proofs.Layers.{front_readable}

@@ -5,7 +5,7 @@ use Rattle.std.proofs.lemmas.List.Sorted.{IsPermutation-refl}
 use Rattle.arena_chunks.specs.Memory.{Memory, image, bytes_from, is_readable}
 use Rattle.arena_chunks.specs.Source.{View}
 use Rattle.arena_chunks.specs.BlockCalls.{WritesBlock}
-use Rattle.arena_chunks.specs.declared.block.Block.{Block}
+use Rattle.arena_store.specs.declared.block.Block.{Block}
 use Rattle.arena_chunks.proofs.Layers.{length-bytes, wrote_first, wrote_readable}
 use Rattle.arena_items.specs.Values.{bytes_of, elements}
 use Rattle.arena_items.proofs.Layers.{values_kept, wrote_same}

@@ -1,7 +1,7 @@
 -- What the laws say: blocks apart in either order.
 use Rattle.std.proofs.Common.{List, [], ◌∷◌}
 use Rattle.arena_chunks.specs.Frame.{IsApart, AreAllApart}
-use Rattle.arena_chunks.specs.declared.block.Block.{Block}
+use Rattle.arena_store.specs.declared.block.Block.{Block}
 use Rattle.arena_chunks.proofs.Layers.{blocks_turned}
 
 -- the first of the others, and the rest

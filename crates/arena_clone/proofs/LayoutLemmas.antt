@@ -2,10 +2,10 @@
 use Rattle.std.proofs.Common.{◌≡◌, ℕ, ◌+◌, ◌-◌, ◌^◌, ◌≤◌, refl, arith, true, IsTrue}
 use Rattle.std.specs.Prelude.{nat_le}
 use Rattle.std.proofs.lemmas.Bool.Decides.{nat_tests}
-use Rattle.placement.specs.Rounding.{up, is_power, is_power_among, is_layout}
-use Rattle.placement.specs.State.{State, IsValid}
+use Rattle.arena_rules.specs.Rounding.{up, is_power, is_power_among, is_layout}
+use Rattle.arena_rules.specs.State.{State, IsValid}
 use Rattle.arena_chunks.specs.Memory.{is_readable}
-use Rattle.arena_chunks.specs.declared.block.Block.{Block}
+use Rattle.arena_store.specs.declared.block.Block.{Block}
 pub use Rattle.arena_chunks.proofs.Layers.{readable_size}
 use Rattle.arena_items.specs.Layout.{IsAlign}
 use Rattle.arena_items.specs.Layout.IsAlign.{one, two, four, eight, sixteen}

@@ -135,11 +135,11 @@ pairs_copied : {K V S B : Type 0} {k : MapTypes K V S} {source new : Memory} {xs
 pairs_copied {k} {new} {ys} {w} f once holds = pairs_turned (content_in k.key new) f ys (pairs_in k new w)
     (subst (IsDistinct bytes_eq) (sym holds.contents) once) holds.held.once (sym holds.map_is)
 
-module _ {K V S : Type 0} (k : MapTypes K V S) (keys : Kind K) (values : Kind V) (ids : CloneInSemanticIds) (source : Memory) {old : View}
-    (h : HashMap K V S) (few : h.len < 2 ^ 32) where
+module _ {K V S : Type 0} (k : MapTypes K V S) (is_default : S → Type 0) (keys : Kind K) (values : Kind V) (ids : CloneInSemanticIds)
+    (source : Memory) {old : View} (h : HashMap K V S) (few : h.len < 2 ^ 32) where
   -- The table is refused,
   pub map_refused : {new : View} {err : AllocError} → PlacesMap {X = HashMap K V S} k (λ m. m) old new h.len (Err err)
-      → Copies (map_of k keys values) ids source old new h (Err err)
+      → Copies (map_of k is_default keys values) ids source old new h (Err err)
   map_refused {new} {err} places = record {
     blocks = [];
     placed = places_refused ((row_of (pair_of keys values)).asks source (pairs_in k source h))
@@ -163,13 +163,13 @@ module _ {K V S : Type 0} (k : MapTypes K V S) (keys : Kind K) (values : Kind V)
 
     -- or a pair,
     pub map_pair_refused : {err : AllocError} → PutsCopies k keys values ids source mid new e (pairs_in k source h) (Err err)
-        → Copies (map_of k keys values) ids source old new h (Err err)
+        → Copies (map_of k is_default keys values) ids source old new h (Err err)
     map_pair_refused {err} puts = record { blocks = e.table.block ∷ puts.row.blocks; placed = map_placed (Err err) puts; made = tt }
 
     -- or all are copied.
-    pub map_made : {w : HashMap K V S} → IsMapIn k source h → e.hasher ≡ h.hasher
+    pub map_made : {w : HashMap K V S} → IsMapIn k source h → is_default e.hasher
         → PutsCopies k keys values ids source mid new e (pairs_in k source h) (Ok w)
-        → Copies (map_of k keys values) ids source old new h (Ok w)
+        → Copies (map_of k is_default keys values) ids source old new h (Ok w)
     map_made {w} held hasher puts =
         let holds = puts.map in
         let row = puts.row.made in
@@ -188,14 +188,12 @@ module _ {K V S : Type 0} (k : MapTypes K V S) (keys : Kind K) (values : Kind V)
           placed = map_placed (Ok w) puts;
           made = record {
             held = (holds.held, all_in_order ((pair_of keys values).is_held new.memory) ys zs same row.held);
-            means = λ i. (
-              (holds.hasher ∙ hasher) i,
-              fun_ext (λ q.
-                  ap (λ (f : List ℕ → Option (K × V)). of_some (λ (p : K × V). values.whole new.memory p.1) (f q)) holds.map_is
-                  ∙ values_alike k keys values ids source new.memory q (pairs_in k source h) ys holds.contents row.means) i,
-            );
+            means = fun_ext (λ q.
+                ap (λ (f : List ℕ → Option (K × V)). of_some (λ (p : K × V). values.whole new.memory p.1) (f q)) holds.map_is
+                ∙ values_alike k keys values ids source new.memory q (pairs_in k source h) ys holds.contents row.means);
             trim = (
               copy_fits k places holds held.count,
+              subst is_default (sym holds.hasher) hasher,
               all_in_order ((pair_of keys values).is_trim new.memory) ys zs same row.trim,
             );
             deep = subst (λ b. IsPermutation (b ∷ flat_map deep zs) (e.table.block ∷ puts.row.blocks)) (sym holds.block) all;

@@ -3,16 +3,17 @@ use Rattle.std.proofs.Common.{◌≡◌, ℕ, ap, ◌∙◌, List, [], ◌∷◌
 use Rattle.std.specs.Prelude.{Result, slice_get}
 use Rattle.arena_chunks.specs.Memory.{Memory}
 use Rattle.arena_chunks.specs.Source.{View}
-use Rattle.arena_chunks.specs.declared.block.Block.{Block}
+use Rattle.arena_store.specs.declared.block.Block.{Block}
 use Rattle.arena_items.specs.FootprintLaws.{held_again}
 use Rattle.arena_items.specs.declared.room.AllocError.{AllocError}
 use Rattle.arena_hash.specs.Contents.{Kind as MapTypes}
+use Rattle.arena_hash.specs.Maps.{IsMapIn, pairs_in}
 use Rattle.arena_hash.specs.Slots.{items}
 use Rattle.arena_hash.specs.Tables.{slots_in, slots_of, IsTableHandle}
 use Rattle.arena_hash.specs.declared.map.HashMap.{HashMap}
-use Rattle.arena_clone.specs.Kinds.{Kind}
+use Rattle.arena_clone.specs.Kinds.{Kind, row_of}
 use Rattle.arena_clone.specs.KindLaws.{IsLawful}
-use Rattle.arena_clone.specs.MapKind.{pair_of, map_of}
+use Rattle.arena_clone.specs.MapKind.{pair_of}
 use Rattle.arena_clone.specs.MapLaws.{pair_lawful}
 use Rattle.arena_clone.specs.Copies.{Copies}
 use Rattle.arena_clone.specs.Origins.{IsKept, IsOrigin, AreBeside}
@@ -24,8 +25,9 @@ module _ {there : Memory → Memory} {is_beside : Block → List Block → Type 
     {k : MapTypes K V S} {keys : Kind K} {values : Kind V} {ids : CloneInSemanticIds} {old mid : View} {m w : HashMap K V S}
     (h : HashMap K V S) {i : ℕ}
     (puts : PutsFirst k keys values ids (there old.memory) old mid m (slots_in k.keys k.values (there old.memory) h.table) i w)
-    (held : (map_of k keys values).is_held (there old.memory) h)
-    (beside : AreBeside is_beside ((map_of k keys values).deep (there old.memory) h) (m.table.block ∷ [])) where
+    (held : IsMapIn k (there old.memory) h × (row_of (pair_of keys values)).is_held (there old.memory) (pairs_in k (there old.memory) h))
+    (beside : AreBeside is_beside (h.table.block ∷ (row_of (pair_of keys values)).deep (there old.memory) (pairs_in k (there old.memory) h))
+    (m.table.block ∷ [])) where
   abbrev slots : Memory → List (Option (K × V))
   slots memory = slots_in k.keys k.values (there memory) h.table
 

@@ -9,7 +9,7 @@ use Rattle.arena_chunks.specs.Memory.{Memory, is_readable}
 use Rattle.arena_chunks.specs.Source.{View}
 use Rattle.arena_chunks.specs.Frame.{Frame, ArePairwiseApart, Stays, AreAllApart}
 use Rattle.arena_chunks.specs.BlockCalls.{WritesBlock}
-use Rattle.arena_chunks.specs.declared.block.Block.{Block}
+use Rattle.arena_store.specs.declared.block.Block.{Block}
 use Rattle.arena_chunks.proofs.Layers.{apart_both, all_apart, pairwise_both, frame_reflexive, frame_then, frame_weaken, frame_beside, frame_keeps_all, wrote_readable}
 use Rattle.arena_items.specs.Values.{bytes_of, elements}
 use Rattle.arena_items.specs.declared.item.Item.{Ghosts}

@@ -20,8 +20,8 @@ pub record AreListsAlike {T : Type 0} (kind : Kind T) (ids : CloneInSemanticIds)
   pub lengths : length vs ≡ length ws
   pub each : (i : ℕ) (v w : T) → slice_get vs i ≡ Some v → slice_get ws i ≡ Some w → AreAlike kind ids a v c w
 
--- both have the same hasher, the same contents are keys of both, and the values of each are alike
-pub record AreMapsAlike {K V S : Type 0} (k : MapTypes K V S) (values : Kind V) (ids : CloneInSemanticIds) (a : Memory)
-    (v : HashMap K V S) (c : Memory) (w : HashMap K V S) : Type 0 where
-  pub hasher : w.hasher ≡ v.hasher
-  pub each : (q : List ℕ) → AreOptionsAlike values ids a (value_of (map_in k a v q)) c (value_of (map_in k c w q))
+-- the same contents are keys of both, and the values of each are alike
+abbrev pub AreMapsAlike : {K V S : Type 0} → MapTypes K V S → Kind V → CloneInSemanticIds → Memory → HashMap K V S → Memory
+    → HashMap K V S → Type 0
+AreMapsAlike k values ids a v c w =
+    (q : List ℕ) → AreOptionsAlike values ids a (value_of (map_in k a v q)) c (value_of (map_in k c w q))

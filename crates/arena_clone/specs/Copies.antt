@@ -3,13 +3,13 @@ use Rattle.std.specs.Prelude.{◌≡◌, List, [], Result, IfOk, IsPermutation}
 use Rattle.arena_chunks.specs.Memory.{Memory}
 use Rattle.arena_chunks.specs.Source.{View}
 use Rattle.arena_chunks.specs.Frame.{AreAllApart}
-use Rattle.arena_chunks.specs.declared.block.Block.{Block}
+use Rattle.arena_store.specs.declared.block.Block.{Block}
 use Rattle.arena_items.specs.declared.room.AllocError.{AllocError}
 use Rattle.arena_clone.specs.Asks.{Ask, PlacesAll, refusal}
 use Rattle.arena_clone.specs.Kinds.{Kind, AreAlike}
 use Rattle.arena_clone.specs.declared.ids.CloneInSemanticIds.{CloneInSemanticIds}
 
--- A value with this meaning that names just these blocks, at every depth and in whatever order, each with the room of a new one.
+-- A value with this meaning that names just these blocks, at every depth and in whatever order, and is as a new one at each.
 pub record IsMade {T : Type 0} (kind : Kind T) (meaning : kind.Whole) (new : Memory) (blocks : List Block) (w : T) : Type 0 where
   pub held : kind.is_held new w
   pub means : kind.whole new w ≡ meaning

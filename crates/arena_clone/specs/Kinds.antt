@@ -2,7 +2,7 @@
 use Rattle.std.specs.Prelude.{◌≡◌, ℕ, ◌*◌, ◌^◌, ◌<◌, ◌≤◌, Bool, true, false, ◌&&◌, Option, Some, None, IfSome, List, [], ◌∷◌, ◌++◌, map}
 use Rattle.std.specs.List.{AllByRecursion, flat_map}
 use Rattle.arena_chunks.specs.Memory.{Memory}
-use Rattle.arena_chunks.specs.declared.block.Block.{Block}
+use Rattle.arena_store.specs.declared.block.Block.{Block}
 use Rattle.arena_chunks.specs.declared.allocator.text.Str.{Str}
 use Rattle.arena_items.specs.declared.item.Item.{Ghosts}
 use Rattle.arena_items.specs.declared.boxes.Box.{Box}
@@ -35,7 +35,7 @@ pub record Kind (T : Type 0) : Type 1 where
   pub is_held : Memory → T → Type 0
   -- what a copy means, by whether it keeps semantic ids
   pub by_ids : CloneInSemanticIds → Whole → Whole
-  -- it has the room of a new one: the capacity of a vector is its length, and a map's table is that of a new map for its pairs
+  -- it is as a new one: the capacity of a vector is its length, and a map's table and hasher are those of a new map for its pairs
   pub is_trim : Memory → T → Type 0
   -- what a copy asks of its arena, for one block after another of those that it names
   pub asks : Memory → T → List Ask

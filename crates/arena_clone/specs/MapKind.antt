@@ -32,16 +32,16 @@ table_ask k (suc n) = Table (suc n) (slot_size k.keys.SIZE k.values.SIZE) (table
 abbrev pub IsTableFor : ℕ → ℕ → Type 0
 IsTableFor len slots = (len ≡ 0 → slots ≡ 0) × (0 < len → IsSlotsFor len slots)
 
--- A map is its hasher, and what stands under each content. A copy has the table of a new map for its pairs.
-abbrev pub map_of : {K V S : Type 0} → MapTypes K V S → Kind K → Kind V → Kind (HashMap K V S)
-map_of {K} {V} {S} k keys values = record {
-  Whole = S × (List ℕ → Option values.Whole);
-  whole = λ m h. (h.hasher, λ q. of_some (λ (p : K × V). values.whole m p.1) (map_in k m h q));
+-- A map is what stands under each content, whatever its hasher. A copy has the table and the hasher of a new map for its pairs.
+abbrev pub map_of : {K V S : Type 0} → MapTypes K V S → (S → Type 0) → Kind K → Kind V → Kind (HashMap K V S)
+map_of {K} {V} {S} k is_default keys values = record {
+  Whole = List ℕ → Option values.Whole;
+  whole = λ m h q. of_some (λ (p : K × V). values.whole m p.1) (map_in k m h q);
   deep = λ m h. h.table.block ∷ (row_of (pair_of keys values)).deep m (pairs_in k m h);
   is_small = (k.keys.SIZE ≤ 2 ^ 24) × (k.values.SIZE ≤ 2 ^ 24) × keys.is_small × values.is_small;
   is_held = λ m h. IsMapIn k m h × (row_of (pair_of keys values)).is_held m (pairs_in k m h);
-  by_ids = λ ids is. (is.0, λ q. of_some (values.by_ids ids) (is.1 q));
-  is_trim = λ m h. IsTableFor h.len h.table.slots × (row_of (pair_of keys values)).is_trim m (pairs_in k m h);
+  by_ids = λ ids is q. of_some (values.by_ids ids) (is q);
+  is_trim = λ m h. IsTableFor h.len h.table.slots × is_default h.hasher × (row_of (pair_of keys values)).is_trim m (pairs_in k m h);
   asks = λ m h. table_ask k h.len ∷ (row_of (pair_of keys values)).asks m (pairs_in k m h);
   is_flat = λ ids. false;
 }

@@ -5,7 +5,7 @@ use Rattle.std.specs.Prelude.{Bool, map, cond, bytes_eq}
 use Rattle.std.specs.List.{AllByRecursion, find}
 use Rattle.std.proofs.lemmas.Bool.{eq-eqb, or_left, false≢true}
 use Rattle.arena_chunks.specs.Memory.{Memory, is_readable, image}
-use Rattle.arena_chunks.specs.declared.block.Block.{Block}
+use Rattle.arena_store.specs.declared.block.Block.{Block}
 use Rattle.arena_chunks.proofs.Layers.{no_bytes}
 use Rattle.arena_items.specs.Footprint.{AreReadable, Agree}
 use Rattle.arena_items.specs.Values.{bytes_of}
@@ -67,7 +67,8 @@ module _ {K V S : Type 0} (k : MapTypes K V S) (keys : Kind K) (values : Kind V)
   abbrev meant : Memory → Option (K × V) → Option values.Whole
   meant m = of_some (λ (p : K × V). values.whole m p.1)
 
-  module _ (a c : Memory) (h : HashMap K V S) (agree : Agree a c ((map_of k keys values).deep a h)) where
+  module _ (a c : Memory) (h : HashMap K V S)
+      (agree : Agree a c (h.table.block ∷ (row_of (pair_of keys values)).deep a (pairs_in k a h))) where
     pairs_same : pairs_in k a h ≡ pairs_in k c h
     pairs_same = ap (λ bytes. items (slots_of k.keys k.values h.table.slots bytes)) agree.0
 
@@ -93,8 +94,8 @@ module _ {K V S : Type 0} (k : MapTypes K V S) (keys : Kind K) (values : Kind V)
         sym (ap (λ (is : Finite K V). meant c (is q)) (meaning-agree k a c h print_agree))
         ∙ found_same (λ p. bytes_eq (content_in k.key a p.0) q) (pairs_in k a h) agree.1
 
-  pub map_lawful : IsLawful (map_of k keys values)
-  map_lawful = record {
+  pub map_lawful : (is_default : S → Type 0) → IsLawful (map_of k is_default keys values)
+  map_lawful is_default = record {
     readable = λ m h held. (held.0.handle.place.readable, pairs_lawful.readable m (pairs_in k m h) held.1);
     held = λ a c h held agree readable. (
       held-agree k a c h (print_agree a c h agree) held.0 (readable.0, texts_readable a c (pairs_in k a h) readable.1),
@@ -103,14 +104,15 @@ module _ {K V S : Type 0} (k : MapTypes K V S) (keys : Kind K) (values : Kind V)
     );
     trim = λ a c h trim agree. (
       trim.0,
+      trim.1,
       subst ((row_of (pair_of keys values)).is_trim c) (pairs_same a c h agree)
-          (pairs_lawful.trim a c (pairs_in k a h) trim.1 agree.1),
+          (pairs_lawful.trim a c (pairs_in k a h) trim.2 agree.1),
     );
     deep = λ a c h agree. ap (λ bs. h.table.block ∷ bs) (ap ((row_of (pair_of keys values)).deep c) (sym (pairs_same a c h agree))
         ∙ pairs_lawful.deep a c (pairs_in k a h) agree.1);
-    whole = λ a c h agree i. (h.hasher, fun_ext (meanings a c h agree) i);
+    whole = λ a c h agree. fun_ext (meanings a c h agree);
     asks = λ a c h agree. ap (λ xs. table_ask k h.len ∷ xs) (ap ((row_of (pair_of keys values)).asks c) (sym (pairs_same a c h agree))
         ∙ pairs_lawful.asks a c (pairs_in k a h) agree.1);
-    kept = λ is i. (is.0, fun_ext (λ q. (option_lawful values two).kept (is.1 q)) i);
+    kept = λ is. fun_ext (λ q. (option_lawful values two).kept (is q));
     flat = λ ids moved. absurd (false≢true moved);
   }

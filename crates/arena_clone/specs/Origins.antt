@@ -3,7 +3,7 @@ use Rattle.std.specs.Prelude.{◌≡◌, List, [], IsTrue}
 use Rattle.std.specs.List.{AllByRecursion}
 use Rattle.arena_chunks.specs.Memory.{Memory, is_readable}
 use Rattle.arena_chunks.specs.Frame.{Frame, IsApart}
-use Rattle.arena_chunks.specs.declared.block.Block.{Block}
+use Rattle.arena_store.specs.declared.block.Block.{Block}
 use Rattle.arena_chunks.proofs.Layers.{frame_keeps}
 use Rattle.arena_items.specs.Values.{bytes_of}
 use Rattle.std.proofs.Common.{refl, sym}

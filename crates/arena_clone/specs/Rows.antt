@@ -3,7 +3,7 @@ use Rattle.std.specs.Prelude.{List, [], ◌∷◌, Result, OnOk, IsTrue}
 use Rattle.arena_chunks.specs.Memory.{Memory, is_readable}
 use Rattle.arena_chunks.specs.Source.{View}
 use Rattle.arena_chunks.specs.Frame.{Frame, ArePairwiseApart}
-use Rattle.arena_chunks.specs.declared.block.Block.{Block}
+use Rattle.arena_store.specs.declared.block.Block.{Block}
 use Rattle.arena_items.specs.declared.room.AllocError.{AllocError}
 use Rattle.arena_clone.specs.Asks.{AsksFor, refusal}
 use Rattle.arena_clone.specs.Kinds.{Kind, row_of}

@@ -1,6 +1,6 @@
 // New blocks, and new blocks with the bytes of others.
 ghost use Rattle.std.specs.Prelude.{◌≡◌, ◌^◌, ◌≤◌, IfOk, IsTrue};
-ghost use Rattle.placement.specs.Rounding.{is_layout};
+ghost use Rattle.arena_rules.specs.Rounding.{is_layout};
 ghost use Rattle.arena_chunks.specs.Memory.{is_readable, image, bytes_from};
 ghost use Rattle.arena_chunks.specs.BlockCalls.{PlacesBlock};
 ghost use Rattle.arena_items.specs.Room.{RoomAnswer};
@@ -18,10 +18,7 @@ pub(crate) fn place<C: ChunkSource>(a: &mut Allocator<C>, size: u64, align: u64)
     requires { IsTrue (is_layout size align) }
     ensures { RoomAnswer (λ b. b) result (PlacesBlock a.old a.new size align) }
 {
-    let Some(layout) = Layout::new(size, align) else {
-        unreachable!();
-    };
-    grown(a.alloc_layout(layout))
+    grown(a.alloc_layout(Layout::of(size, align)))
 }
 
 // A new block with the first bytes of another block.

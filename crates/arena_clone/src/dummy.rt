@@ -100,7 +100,7 @@ impl<T: Item> Dummy for Vec<T> {
     }
 }
 
-#[tactic(auto, unfolding(arena_chunks::specs::Memory::bytes_from))]
+#[tactic(auto, unfolding(arena_store::specs::Memory::bytes_from))]
 impl Dummy for Str {
     ghost kind = { text };
 

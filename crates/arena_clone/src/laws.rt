@@ -4,7 +4,7 @@ ghost use Rattle.std.specs.Prelude.{◌≡◌, ℕ, ◌+◌, ◌*◌, ◌≤◌,
 ghost use Rattle.arena_chunks.specs.Memory.{Memory};
 ghost use Rattle.arena_chunks.specs.Source.{View};
 ghost use Rattle.arena_chunks.specs.Frame.{Frame, AreAllApart};
-ghost use Rattle.arena_chunks.specs.declared.block.Block.{Block};
+ghost use Rattle.arena_store.specs.declared.block.Block.{Block};
 ghost use Rattle.arena_clone.specs.Asks.{Ask, AsksFor, vector_ask, text_ask};
 ghost use Rattle.arena_clone.specs.AskBytes.{have_layouts, least_bytes, most_bytes, used, BringsBytes};
 ghost use Rattle.arena_clone.specs.Asks.Ask.{Room};
@@ -46,15 +46,15 @@ pub fn alike_law<T: CloneIn + Item>()
         ↔ AreListsAlike T.kind ids a (vec_list T.Item a v) c (vec_list T.Item c w) }
 {}
 
-/// When two maps are alike by the rule for ids: both have the same hasher, the same contents are keys of both,
-/// and the values of each are alike. Then they have one length.
+/// When two maps are alike by the rule for ids, whatever hashers they have: the same contents are keys of both, and the values
+/// of each are alike. Then they have one length.
 pub fn maps_alike_law<K: CloneKey, V: CloneIn + Item, S: KeyHasher>()
     ensures alike { (ids : CloneInSemanticIds) (a c : Memory) (v w : HashMap K V S)
-        → AreAlike (map_of (kind K.Item K.key V.Item S.hash_of) K.kind V.kind) ids a v c w
+        → AreAlike (map_of (kind K.Item K.key V.Item S.hash_of) S.is_default K.kind V.kind) ids a v c w
         ↔ AreMapsAlike (kind K.Item K.key V.Item S.hash_of) V.kind ids a v c w }
     ensures lengths { (ids : CloneInSemanticIds) (a c : Memory) (v w : HashMap K V S)
         → IsMapIn (kind K.Item K.key V.Item S.hash_of) a v → IsMapIn (kind K.Item K.key V.Item S.hash_of) c w
-        → AreAlike (map_of (kind K.Item K.key V.Item S.hash_of) K.kind V.kind) ids a v c w → v.len ≡ w.len }
+        → AreAlike (map_of (kind K.Item K.key V.Item S.hash_of) S.is_default K.kind V.kind) ids a v c w → v.len ≡ w.len }
 {
     lengths_law::<K, V, S>();
 }
@@ -96,7 +96,7 @@ pub fn one_block_law<T: CloneIn + Item>()
 pub fn one_table_law<K: CloneKey, V: CloneIn + Item, S: KeyHasher>()
     ensures { ((m : Memory) (key : K) → K.kind.asks m key ≡ []) → ((m : Memory) (v : V) → V.kind.asks m v ≡ [])
         → (m : Memory) (h : HashMap K V S)
-        → (map_of (kind K.Item K.key V.Item S.hash_of) K.kind V.kind).asks m h
+        → (map_of (kind K.Item K.key V.Item S.hash_of) S.is_default K.kind V.kind).asks m h
         ≡ table_ask (kind K.Item K.key V.Item S.hash_of) h.len ∷ [] }
 {}
 

@@ -35,26 +35,20 @@ fn clone_pair<K: CloneIn + Item, V: CloneIn + Item, O: Origin<D>, D: ChunkSource
 }
 
 // Puts copies of a map's pairs into an empty map that has room for them.
-fn put_pairs<
-    K: CloneKey,
-    V: CloneIn + Item,
-    S: KeyHasher + Copy + Drop,
-    O: Origin<D>,
-    D: ChunkSource,
->(
+fn put_pairs<K: CloneKey, V: CloneIn + Item, S: KeyHasher, O: Origin<D>, D: ChunkSource>(
     map: &HashMap<K, V, S>,
     empty: HashMap<K, V, S>,
     ids: CloneInSemanticIds,
     from: &O,
     to: &mut Allocator<D>,
 ) -> Grown<HashMap<K, V, S>>
-    requires small { (map_of (kind K.Item K.key V.Item S.hash_of) K.kind V.kind).is_small }
-    requires held { (map_of (kind K.Item K.key V.Item S.hash_of) K.kind V.kind).is_held
+    requires small { (map_of (kind K.Item K.key V.Item S.hash_of) S.is_default K.kind V.kind).is_small }
+    requires held { (map_of (kind K.Item K.key V.Item S.hash_of) S.is_default K.kind V.kind).is_held
         (O.there from.now to.old.memory) map.now }
     requires empty { HoldsCopies (kind K.Item K.key V.Item S.hash_of)
         (O.there from.now to.old.memory) to.old.memory empty [] [] empty }
     requires room { map.now.len ≤ spare_of empty }
-    requires beside { AreBeside O.is_beside ((map_of (kind K.Item K.key V.Item S.hash_of) K.kind V.kind).deep
+    requires beside { AreBeside O.is_beside ((map_of (kind K.Item K.key V.Item S.hash_of) S.is_default K.kind V.kind).deep
         (O.there from.now to.old.memory) map.now) (empty.table.block ∷ []) }
     ensures { PutsCopies (kind K.Item K.key V.Item S.hash_of) K.kind V.kind ids
         (O.there from.now to.old.memory) to.old to.new empty
@@ -71,8 +65,8 @@ fn put_pairs<
     Ok(copy)
 }
 
-impl<K: CloneKey, V: CloneIn + Item, S: KeyHasher + Copy + Drop> CloneIn for HashMap<K, V, S> {
-    ghost kind = { map_of (kind K.Item K.key V.Item S.hash_of) K.kind V.kind };
+impl<K: CloneKey, V: CloneIn + Item, S: KeyHasher> CloneIn for HashMap<K, V, S> {
+    ghost kind = { map_of (kind K.Item K.key V.Item S.hash_of) S.is_default K.kind V.kind };
 
     ghost lawful = { map_lawful (kind
         (record {
@@ -90,7 +84,7 @@ impl<K: CloneKey, V: CloneIn + Item, S: KeyHasher + Copy + Drop> CloneIn for Has
           SIZE = V.SIZE;
           ALIGN = V.ALIGN;
         })
-        S.hash_of) K.kind V.kind K.keeps K.lawful V.lawful };
+        S.hash_of) K.kind V.kind K.keeps K.lawful V.lawful S.is_default };
 
     fn is_flat(_ids: CloneInSemanticIds) -> bool {
         false
@@ -105,7 +99,7 @@ impl<K: CloneKey, V: CloneIn + Item, S: KeyHasher + Copy + Drop> CloneIn for Has
         if is_copied_whole(self, ids) {
             return copy_table(self, from, to);
         }
-        let empty = HashMap::with_capacity_and_hasher_in(self.len as u64, self.hasher, to)?;
+        let empty = HashMap::with_capacity_in(self.len as u64, to)?;
         let copy = put_pairs::<K, V, S, O, D>(self, empty, ids, from, to)?;
         Ok(copy)
     }

@@ -3,7 +3,7 @@ ghost use Rattle.std.specs.Prelude.{◌≡◌, ◌≤◌, List, IsTrue};
 ghost use Rattle.arena_chunks.specs.Memory.{Memory, is_readable, image, bytes_from};
 ghost use Rattle.arena_chunks.specs.BlockCalls.{WritesBlock};
 ghost use Rattle.arena_chunks.specs.Frame.{IsApart};
-ghost use Rattle.arena_chunks.specs.declared.block.Block.{Block as Place};
+ghost use Rattle.arena_store.specs.declared.block.Block.{Block as Place};
 ghost use Rattle.arena_clone.specs.Origins.{IsOrigin, elsewhere, in_place};
 
 use arena_chunks::{Allocator, Block, ChunkSource};

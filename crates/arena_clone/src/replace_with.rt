@@ -2,15 +2,23 @@
 use crate::dummy::Dummy;
 use arena_items::{Box, BoxSlice, Item};
 use arena_vec::Vec;
+use core::mem;
 
 /// A value that can be replaced by one that is made of it.
-pub trait ReplaceWith: Dummy + Copy {
+pub trait ReplaceWith: Dummy {
     /// Puts what the closure makes of the value in its place. Nothing is placed in any arena but by the closure itself.
     final fn replace_with<F: FnOnce(Self) -> Self>(&mut self, replacer: F)
         requires { F.pre replacer self.old }
         ensures { F.post replacer self.old self.new }
     {
-        *self = replacer(*self);
+        mem::replace_with(
+            self,
+            replacer,
+            |value: Self, replacer: F| -> (Self, ())
+                requires { F.pre replacer value }
+                ensures { F.post replacer value result.0 }
+            { (replacer(value), ()) },
+        );
     }
 }
 

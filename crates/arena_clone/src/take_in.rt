@@ -7,9 +7,10 @@ use crate::dummy::Dummy;
 use arena_chunks::{Allocator, ChunkSource};
 use arena_items::{Box, BoxSlice, Grown, Item};
 use arena_vec::Vec;
+use std::mem;
 
 /// A value that can be taken, and leaves a dummy.
-pub trait TakeIn: Dummy + Item {
+pub trait TakeIn: Dummy {
     /// The value. A dummy stands in its place then.
     ///
     /// # Errors
@@ -19,9 +20,8 @@ pub trait TakeIn: Dummy + Item {
         requires { Self.kind.is_small }
         ensures { TakesOut Self.kind Self.meaning Self.asks a.old a.new self.old self.new result }
     {
-        let taken = *self;
-        *self = Self::dummy(a)?;
-        Ok(taken)
+        let dummy = Self::dummy(a)?;
+        Ok(mem::replace(self, dummy))
     }
 
     /// The value in a box. A dummy stands in its place then.
@@ -30,6 +30,8 @@ pub trait TakeIn: Dummy + Item {
     ///
     /// As of `dummy` and of `alloc`. The value stays in its place.
     final fn take_in_box<C: ChunkSource>(&mut self, a: &mut Allocator<C>) -> Grown<Box<Self>>
+    where
+        Self: Item,
         requires kind { Self.kind.is_small }
         requires small { Self.SIZE ≤ 2 ^ 24 }
         ensures { TakesBox Self.Item Self.kind Self.meaning Self.asks a.old a.new self.old self.new result }

@@ -4,13 +4,13 @@ use Rattle.std.specs.Prelude.{nat_lt, nat_le, ◌==◌, OnOk, OnErr, Result, if�
 use Rattle.std.proofs.lemmas.Bool.{and_parts}
 use Rattle.std.proofs.lemmas.Bool.Decides.{nat_tests}
 use Rattle.std.proofs.Math.Nat.{zero-mod}
-use Rattle.placement.specs.Rounding.{up, is_layout, is_power}
-use Rattle.placement.specs.State.{used_bytes}
+use Rattle.arena_rules.specs.Rounding.{up, is_layout, is_power}
+use Rattle.arena_rules.specs.State.{used_bytes}
 use Rattle.arena_chunks.specs.Source.{View}
 use Rattle.arena_chunks.specs.Answers.{Answer}
 use Rattle.arena_chunks.specs.Answers.Answer.{Placed}
 use Rattle.arena_chunks.specs.BlockCalls.{PlacesBlock}
-use Rattle.arena_chunks.specs.declared.block.Block.{Block}
+use Rattle.arena_store.specs.declared.block.Block.{Block}
 use Rattle.arena_chunks.proofs.Layers.{placed_most}
 use Rattle.arena_items.specs.Layout.{IsAlign, IsItemLayout}
 use Rattle.arena_items.specs.LayoutLaws.{IsAlign-bounds, up-is, plain_8, pair_layout}

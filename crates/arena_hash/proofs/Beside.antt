@@ -4,7 +4,7 @@ use Rattle.std.proofs.lemmas.Option.{none-some}
 use Rattle.std.specs.Prelude.{slice_get, IsTrue}
 use Rattle.arena_chunks.specs.Memory.{Memory, is_readable}
 use Rattle.arena_chunks.specs.Frame.{IsApart, AreAllApart}
-use Rattle.arena_chunks.specs.declared.block.Block.{Block}
+use Rattle.arena_store.specs.declared.block.Block.{Block}
 use Rattle.arena_items.specs.Footprint.{AreReadable}
 use Rattle.arena_hash.specs.Contents.{Kind}
 use Rattle.arena_hash.specs.Maps.{texts_in}

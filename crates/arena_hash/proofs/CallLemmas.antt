@@ -9,7 +9,7 @@ use Rattle.std.specs.Prelude.{slice_get, nat_lt, bytes_eq, is_some, if◌then◌
 use Rattle.arena_chunks.specs.Memory.{Memory}
 use Rattle.arena_chunks.specs.Source.{View}
 use Rattle.arena_chunks.specs.Frame.{Frame}
-use Rattle.arena_chunks.specs.declared.block.Block.{Block}
+use Rattle.arena_store.specs.declared.block.Block.{Block}
 use Rattle.arena_chunks.proofs.Layers.{frame_reflexive, frame_then, frame_weaken}
 use Rattle.arena_items.specs.Layout.{IsItemLayout}
 use Rattle.arena_items.specs.Room.{MakesRoom, SamePlaces, capacity_after}

@@ -2,7 +2,7 @@
 use Rattle.std.proofs.Common.{◌≡◌, ◌+◌, ◌*◌, ◌≤◌, ℕ, List, [], ◌∷◌, ◌++◌, length, refl, sym, ap, subst, ◌∙◌, arith, Ok, Err, Option, Some, None, IsTrue}
 use Rattle.std.proofs.lemmas.List.{length_push}
 use Rattle.std.specs.Iterator.{Yields}
-use Rattle.placement.specs.State.{used_bytes}
+use Rattle.arena_rules.specs.State.{used_bytes}
 use Rattle.arena_chunks.specs.Memory.{is_readable}
 use Rattle.arena_chunks.specs.Source.{View}
 use Rattle.arena_chunks.specs.Frame.{Frame}

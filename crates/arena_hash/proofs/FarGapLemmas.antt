@@ -4,7 +4,7 @@ use Rattle.std.proofs.Common.{replicate, sym, ap, subst, ◌∙◌, arith, Some,
 use Rattle.std.specs.Prelude.{slice_get, slice_index}
 use Rattle.std.proofs.Math.Nat.{mod-lt}
 use Rattle.std.proofs.lemmas.List.{set_split}
-use Rattle.placement.specs.Machine.{splice}
+use Rattle.arena_rules.specs.Lists.{splice}
 use Rattle.arena_chunks.specs.Memory.{Memory, image}
 use Rattle.arena_chunks.specs.BlockCalls.{EditsBlock}
 use Rattle.arena_chunks.proofs.Layers.{length-bytes, wrote_part}

@@ -12,7 +12,7 @@ use Rattle.arena_hash.specs.Policy.{most_pairs, next_slots}
 use Rattle.arena_hash.proofs.AccountLemmas.{answer-map}
 use Rattle.arena_chunks.specs.Memory.{Memory}
 use Rattle.arena_chunks.specs.Frame.{Frame, Stays}
-use Rattle.arena_chunks.specs.declared.block.Block.{Block}
+use Rattle.arena_store.specs.declared.block.Block.{Block}
 use Rattle.arena_chunks.proofs.Layers.{frame_keeps}
 use Rattle.arena_hash.specs.Contents.{Kind}
 use Rattle.arena_hash.specs.Tables.{slots_of, slots_in, IsReadBeside, IsTableIn}

@@ -3,7 +3,7 @@ use Rattle.std.proofs.Common.{◌≡◌, ℕ, ◌+◌, List, [], ◌∷◌, sym,
 use Rattle.arena_chunks.specs.Memory.{Memory, image, bytes_from}
 use Rattle.arena_chunks.specs.BlockCalls.{EditsBlock}
 use Rattle.arena_chunks.specs.Frame.{Frame, Stays}
-use Rattle.arena_chunks.specs.declared.block.Block.{Block}
+use Rattle.arena_store.specs.declared.block.Block.{Block}
 use Rattle.arena_chunks.proofs.Layers.{length-bytes, wrote_whole, frame_keeps}
 use Rattle.arena_hash.specs.Slots.{Has}
 use Rattle.arena_hash.specs.AgreeLaws.{ordered-agree, away-agree}

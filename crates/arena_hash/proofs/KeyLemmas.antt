@@ -4,7 +4,7 @@ use Rattle.std.proofs.lemmas.Option.{none-some, same_Some}
 use Rattle.std.specs.Prelude.{slice_get, slice_index_or, ◌↔◌}
 use Rattle.std.specs.List.{Contains}
 use Rattle.arena_chunks.specs.Memory.{Memory}
-use Rattle.arena_chunks.specs.declared.block.Block.{Block}
+use Rattle.arena_store.specs.declared.block.Block.{Block}
 use Rattle.arena_hash.specs.Contents.{Kind, content_in}
 use Rattle.arena_hash.specs.Maps.{IsMapIn, map_in, pairs_in, texts_in}
 use Rattle.arena_hash.specs.declared.map.HashMap.{HashMap}

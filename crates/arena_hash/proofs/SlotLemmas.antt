@@ -9,7 +9,7 @@ use Rattle.std.proofs.lemmas.List.{length-set, length-take, length-drop, take_at
 use Rattle.std.proofs.lemmas.List.{get_or-set_same, get_or-set_other}
 use Rattle.std.proofs.lemmas.Option.{none-some, same_Some, slice_get_within}
 use borrow.Rule.Slice.PartMut.{put_mid}
-use Rattle.placement.specs.Machine.{splice}
+use Rattle.arena_rules.specs.Lists.{splice}
 use Rattle.arena_items.specs.Values.{elements}
 use Rattle.arena_items.specs.declared.item.Item.{Ghosts}
 use Rattle.arena_items.proofs.Layers.{elements-get, elements-set, length-elements, rows_before}

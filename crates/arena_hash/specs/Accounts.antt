@@ -1,9 +1,9 @@
 -- What maps cost: the bytes that calls bring into use, by the two numbers of a map.
 use Rattle.std.specs.Prelude.{◌≡◌, ℕ, ◌+◌, ◌-◌, ◌*◌, ◌^◌, ◌<◌, ◌≤◌, Bool, false, IsTrue, Result, IsOk, OnOk, OnErr}
-use Rattle.placement.specs.State.{used_bytes}
+use Rattle.arena_rules.specs.State.{used_bytes}
 use Rattle.arena_chunks.specs.Source.{View}
 use Rattle.arena_chunks.specs.BlockCalls.{PlacesBlock}
-use Rattle.arena_chunks.specs.declared.block.Block.{Block}
+use Rattle.arena_store.specs.declared.block.Block.{Block}
 use Rattle.arena_items.specs.Room.{RoomAnswer, SamePlaces, Took}
 use Rattle.arena_items.specs.declared.room.AllocError.{AllocError}
 use Rattle.arena_hash.specs.Contents.{Kind}

@@ -1,7 +1,7 @@
 -- Keys, and their contents.
-use Rattle.std.specs.Prelude.{ℕ, List}
+use Rattle.std.specs.Prelude.{◌≡◌, ℕ, List}
 use Rattle.arena_chunks.specs.Memory.{Memory}
-use Rattle.arena_chunks.specs.declared.block.Block.{Block}
+use Rattle.arena_store.specs.declared.block.Block.{Block}
 use Rattle.arena_items.specs.declared.item.Item.{Ghosts}
 use Rattle.arena_items.specs.Values.{bytes_of}
 
@@ -30,6 +30,10 @@ pub record Kind (K V S : Type 0) : Type 1 where
   pub values : Ghosts V
   pub key : Key K
   pub hash : S → List ℕ → ℕ
+
+-- all hashers make the same of each content
+abbrev pub IsFixed : {S : Type 0} → (S → List ℕ → ℕ) → Type 0
+IsFixed {S} hash = (one other : S) (content : List ℕ) → hash one content ≡ hash other content
 
 abbrev pub kind : {K V S : Type 0} → Ghosts K → Key K → Ghosts V → (S → List ℕ → ℕ) → Kind K V S
 kind keys key values hash = record { keys = keys; values = values; key = key; hash = hash }

@@ -4,7 +4,7 @@ use Rattle.std.specs.Prelude.{drop, length, slice_index, if◌then◌else◌}
 use Rattle.std.specs.Int.{IsPowerOfTwo}
 use Rattle.arena_chunks.specs.Memory.{Memory, is_readable}
 use Rattle.arena_chunks.specs.Frame.{AreBlocksApart}
-use Rattle.arena_chunks.specs.declared.block.Block.{Block}
+use Rattle.arena_store.specs.declared.block.Block.{Block}
 use Rattle.arena_items.specs.declared.item.Item.{Ghosts}
 use Rattle.arena_items.specs.Values.{bytes_of, IsHeld, elements}
 use Rattle.arena_hash.specs.Contents.{Key, Kind, content_in}

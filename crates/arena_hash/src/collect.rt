@@ -26,7 +26,6 @@ impl<K: ArenaKey, V: Item, S: KeyHasher> HashMap<K, V, S> {
     ) -> Grown<HashMap<K, V, S>>
     where
         I: Drop,
-        S: Drop,
         requires keys_small { K.SIZE ≤ 2 ^ 24 }
         requires values_small { V.SIZE ≤ 2 ^ 24 }
         requires can { I.can_next iter }

@@ -11,7 +11,7 @@ use crate::map::HashMap;
 use crate::set::HashSet;
 use arena_items::{InArena, Item};
 
-impl<K: ArenaKey, V: Item, S: KeyHasher + Copy> InArena for HashMap<K, V, S> {
+impl<K: ArenaKey, V: Item, S: KeyHasher> InArena for HashMap<K, V, S> {
     ghost Meaning = { Finite K V };
 
     ghost footprint = { footprint (kind K.Item K.key V.Item S.hash_of) };
@@ -32,7 +32,7 @@ impl<K: ArenaKey, V: Item, S: KeyHasher + Copy> InArena for HashMap<K, V, S> {
         held-agree (kind ⟦<K as Item>⟧ K.key ⟦<V as Item>⟧ S.hash_of) a c m agree held readable };
 }
 
-impl<T: ArenaKey, S: KeyHasher + Copy> InArena for HashSet<T, S> {
+impl<T: ArenaKey, S: KeyHasher> InArena for HashSet<T, S> {
     ghost Meaning = { Finite T (Unit {0}) };
 
     ghost footprint = { λ a s. footprint (set_kind T.Item T.key S.hash_of) a s.map };

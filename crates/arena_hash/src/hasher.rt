@@ -1,18 +1,27 @@
 // Hashes of contents.
-ghost use Rattle.std.specs.Prelude.{◌≡◌, ℕ, ◌+◌, ◌<◌, ◌≤◌, List, take, drop, length};
+ghost use Rattle.std.specs.Prelude.{◌≡◌, ℕ, ◌+◌, ◌<◌, ◌≤◌, List, IsTrue, take, drop, length};
+ghost use Rattle.arena_hash.specs.Contents.{IsFixed};
 ghost use Rattle.arena_hash.specs.Fx.{spread, crossed, mixed, number_of, short_of, medium_of, joined, long_of, fx_of};
 
 use arena_items::Item;
 
 /// Hashes contents. Nothing is promised of a hash but that it is a function of the hasher and of the
 /// content. A map is right under every hasher; it is fast where few keys have one hash.
-pub trait KeyHasher: Default {
+pub trait KeyHasher: Default + Drop {
     // The hash of a content.
     ghost hash_of: { Self → List ℕ → ℕ };
 
     /// The hash.
     fn hash(&self, content: &[u8]) -> u64
         ensures { result ≡ hash_of self.now content.now };
+
+    /// Whether all hashers of the type make the same of each content, so that one may stand in another's place. A type that
+    /// doesn't say so may have a seed.
+    fn is_fixed() -> bool
+        ensures { IsTrue result → IsFixed hash_of }
+    {
+        false
+    }
 }
 
 /// A fixed hasher, by words of eight bytes. Its hashes may change from version to version. It has no secret:
@@ -119,6 +128,10 @@ fn long_of(content: &[u8]) -> u64
 
 impl KeyHasher for FxHasher {
     ghost hash_of = { λ h content. fx_of content };
+
+    fn is_fixed() -> bool {
+        true
+    }
 
     #[inline]
     fn hash(&self, content: &[u8]) -> u64 {

@@ -4,7 +4,7 @@ ghost use Rattle.std.specs.List.{Contains};
 ghost use Rattle.arena_chunks.specs.Memory.{Memory};
 ghost use Rattle.arena_chunks.specs.Frame.{Frame, AreAllApart};
 ghost use Rattle.arena_chunks.specs.Source.{View};
-ghost use Rattle.arena_chunks.specs.declared.block.Block.{Block};
+ghost use Rattle.arena_store.specs.declared.block.Block.{Block};
 ghost use Rattle.arena_items.specs.Costs.{Costs, farthest};
 ghost use Rattle.arena_items.specs.declared.room.AllocError.{AllocError};
 ghost use Rattle.arena_hash.specs.Accounts.{used, credit_of, unit_of};
@@ -32,10 +32,10 @@ pub fn bytes_law<K: ArenaKey, V: Item, S: KeyHasher>()
         ≤ unit_of (kind K.Item K.key V.Item S.hash_of) * pairs }
 {}
 
-/// The frame law of maps under every hasher, also of one that isn't `Copy`, whose maps and sets
-/// `arena_items::laws::frame_law` doesn't take. A call on some blocks leaves a map whose footprint lies apart from
-/// them: it is held, names the same blocks, means the same, its footprint lies apart from the blocks that the call has
-/// then, and searches of it end where they did. For a set take the law of its map, whose values are `()`.
+/// The frame law of maps, with what `arena_items::laws::frame_law` doesn't say, that searches end where they did. A call on
+/// some blocks leaves a map whose footprint lies apart from them: it is held, names the same blocks, means the same, its
+/// footprint lies apart from the blocks that the call has then, and so of searches. For a set take the law of its map,
+/// whose values are `()`.
 pub fn map_frame_law<K: ArenaKey, V: Item, S: KeyHasher>()
     ensures { (old new : Memory) (before after : List Block) (m : HashMap K V S) → Frame old new before after
         → IsMapIn (kind K.Item K.key V.Item S.hash_of) old m

@@ -33,7 +33,8 @@ pub type ArenaHashSet<T, S = FxHasher> = HashSet<T, S>;
 impl<T: ArenaKey, S: KeyHasher> HashSet<T, S> {
     /// An empty set with `S::default()` as its hasher. It places nothing.
     pub fn new_in() -> HashSet<T, S>
-        ensures { IsNew (set_kind T.Item T.key S.hash_of) result.map.hasher result.map }
+        ensures set { IsNew (set_kind T.Item T.key S.hash_of) result.map.hasher result.map }
+        ensures hasher { S.is_default result.map.hasher }
     {
         HashSet {
             map: HashMap::new_in(),
@@ -58,10 +59,10 @@ impl<T: ArenaKey, S: KeyHasher> HashSet<T, S> {
         capacity: u64,
         a: &mut Allocator<C>,
     ) -> Grown<HashSet<T, S>>
-    where
-        S: Drop,
         requires { T.SIZE ≤ 2 ^ 24 }
-        ensures { PlacesMap (set_kind T.Item T.key S.hash_of) (λ s. s.map) a.old a.new capacity result }
+        ensures placed { PlacesMap (set_kind T.Item T.key S.hash_of) (λ s. s.map)
+            a.old a.new capacity result }
+        ensures hasher { IfOk result (λ s. S.is_default s.map.hasher) }
     {
         let map = HashMap::with_capacity_in(capacity, a)?;
         Ok(HashSet { map })
@@ -77,8 +78,6 @@ impl<T: ArenaKey, S: KeyHasher> HashSet<T, S> {
         hasher: S,
         a: &mut Allocator<C>,
     ) -> Grown<HashSet<T, S>>
-    where
-        S: Drop,
         requires { T.SIZE ≤ 2 ^ 24 }
         ensures placed { PlacesMap (set_kind T.Item T.key S.hash_of) (λ s. s.map)
             a.old a.new capacity result }
@@ -99,7 +98,6 @@ impl<T: ArenaKey, S: KeyHasher> HashSet<T, S> {
     ) -> Grown<HashSet<T, S>>
     where
         I: Drop,
-        S: Drop,
         requires small { T.SIZE ≤ 2 ^ 24 }
         requires can { I.can_next iter }
         requires ends { IsFinite (I.remaining iter) }

@@ -74,9 +74,7 @@ impl<K: Item, V: Item> Table<K, V> {
         ensures err { OnErr result (a.new.memory ≡ a.old.memory) }
     {
         let size = slots * (pair_size::<K, V>() as u64 + 1);
-        let Some(layout) = Layout::new(size, table_align::<K, V>()) else {
-            unreachable!();
-        };
+        let layout = Layout::of(size, table_align::<K, V>());
         let block = grown(a.alloc_layout(layout))?;
         let table = Table {
             block,

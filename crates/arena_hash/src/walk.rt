@@ -162,8 +162,6 @@ impl<K: ArenaKey, V: Item, S: KeyHasher> HashMap<K, V, S> {
 
     /// The keys, each once, in an open order.
     pub fn into_keys<'a, C: ChunkSource>(self, a: &'a Allocator<C>) -> IntoKeys<'a, K, V, C>
-    where
-        S: Drop,
         requires keys_small { K.SIZE ≤ 2 ^ 24 }
         requires values_small { V.SIZE ≤ 2 ^ 24 }
         requires held { IsMapIn (kind K.Item K.key V.Item S.hash_of) a.now.memory self }
@@ -177,8 +175,6 @@ impl<K: ArenaKey, V: Item, S: KeyHasher> HashMap<K, V, S> {
 
     /// The value of each pair once, in an open order.
     pub fn into_values<'a, C: ChunkSource>(self, a: &'a Allocator<C>) -> IntoValues<'a, K, V, C>
-    where
-        S: Drop,
         requires keys_small { K.SIZE ≤ 2 ^ 24 }
         requires values_small { V.SIZE ≤ 2 ^ 24 }
         requires held { IsMapIn (kind K.Item K.key V.Item S.hash_of) a.now.memory self }

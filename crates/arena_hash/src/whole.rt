@@ -16,7 +16,8 @@ use arena_items::{AllocError, Grown, Item};
 impl<K: ArenaKey, V: Item, S: KeyHasher> HashMap<K, V, S> {
     /// An empty map with `S::default()` as its hasher. It places nothing.
     pub fn new_in() -> HashMap<K, V, S>
-        ensures { IsNew (kind K.Item K.key V.Item S.hash_of) result.hasher result }
+        ensures map { IsNew (kind K.Item K.key V.Item S.hash_of) result.hasher result }
+        ensures hasher { S.is_default result.hasher }
     {
         HashMap::with_hasher_in(S::default())
     }
@@ -41,11 +42,11 @@ impl<K: ArenaKey, V: Item, S: KeyHasher> HashMap<K, V, S> {
         capacity: u64,
         a: &mut Allocator<C>,
     ) -> Grown<HashMap<K, V, S>>
-    where
-        S: Drop,
         requires keys_small { K.SIZE ≤ 2 ^ 24 }
         requires values_small { V.SIZE ≤ 2 ^ 24 }
-        ensures { PlacesMap (kind K.Item K.key V.Item S.hash_of) (λ m. m) a.old a.new capacity result }
+        ensures placed { PlacesMap (kind K.Item K.key V.Item S.hash_of) (λ m. m)
+            a.old a.new capacity result }
+        ensures hasher { IfOk result (λ m. S.is_default m.hasher) }
     {
         HashMap::with_capacity_and_hasher_in(capacity, S::default(), a)
     }
@@ -61,8 +62,6 @@ impl<K: ArenaKey, V: Item, S: KeyHasher> HashMap<K, V, S> {
         hasher: S,
         a: &mut Allocator<C>,
     ) -> Grown<HashMap<K, V, S>>
-    where
-        S: Drop,
         requires keys_small { K.SIZE ≤ 2 ^ 24 }
         requires values_small { V.SIZE ≤ 2 ^ 24 }
         ensures placed { PlacesMap (kind K.Item K.key V.Item S.hash_of) (λ m. m)

@@ -4,16 +4,16 @@ use Rattle.std.specs.Prelude.{if◌then◌else◌}
 use Rattle.std.proofs.Math.Nat.{mul-le-mul_right}
 use Rattle.std.proofs.lemmas.Bool.Decides.{nat_tests}
 use Rattle.std.proofs.lemmas.Option.{cond_some}
-use Rattle.placement.specs.Rounding.{up, is_layout}
-use Rattle.placement.specs.State.{State, cursor_of, used_bytes}
-use Rattle.placement.specs.Moves.{Outcome, Resizing, placed, fails, growth, down_to}
-use Rattle.placement.specs.Moves.Resizing.{Stays, Moves, Anew, Refused}
-use Rattle.placement.proofs.RoundingLemmas.{up_same, up_mono, power_positive, layout_power, layout_fits}
-use Rattle.placement.proofs.UsedResizeLemmas.{growing_stays}
+use Rattle.arena_rules.specs.Rounding.{up, is_layout}
+use Rattle.arena_rules.specs.State.{State, cursor_of, used_bytes}
+use Rattle.arena_rules.specs.Moves.{Outcome, Resizing, placed, fails, growth, down_to}
+use Rattle.arena_rules.specs.Moves.Resizing.{Stays, Moves, Anew, Refused}
+use Rattle.arena_rules.proofs.RoundingLemmas.{up_same, up_mono, power_positive, layout_power, layout_fits}
+use Rattle.arena_rules.proofs.UsedResizeLemmas.{growing_stays}
 use Rattle.arena_chunks.specs.Source.{View}
 use Rattle.arena_chunks.specs.Answers.Answer.{Placed, Wanting, Refused as Denied}
 use Rattle.arena_chunks.specs.BlockCalls.{PlacesBlock, GrowsBlock, ResizesBlock, growing_of}
-use Rattle.arena_chunks.specs.declared.block.Block.{Block}
+use Rattle.arena_store.specs.declared.block.Block.{Block}
 use Rattle.arena_chunks.proofs.Layers.{placed_least, placed_most, grown_least, grown_most, anew_least, anew_most}
 use Rattle.arena_items.specs.Costs.{used, Brings}
 use Rattle.arena_items.specs.Room.{RoomAnswer, MakesRoom, TakesRoom, SamePlaces}

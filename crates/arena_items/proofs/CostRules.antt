@@ -1,17 +1,17 @@
 -- What calls cost: one that takes room, and one after another.
 use Rattle.std.proofs.Common.{◌≡◌, ℕ, ◌+◌, ◌-◌, ◌*◌, ◌^◌, ◌≤◌, ap, sym, ◌∙◌, subst, arith, IsTrue, false, Result, Ok, Err, inl, inr}
 use Rattle.std.specs.Prelude.{IsOk}
-use Rattle.placement.specs.Rounding.{is_layout}
-use Rattle.placement.specs.State.{used_bytes, allocated_bytes}
-use Rattle.placement.specs.Asking.{IsRefusedBySource}
-use Rattle.placement.proofs.AskingLemmas.{asks_more, asks_then, starved_by, starved_nearer, starved_after}
-use Rattle.placement.specs.Source.{Source}
+use Rattle.arena_rules.specs.Rounding.{is_layout}
+use Rattle.arena_rules.specs.State.{used_bytes, allocated_bytes}
+use Rattle.arena_rules.specs.Asking.{IsRefusedBySource}
+use Rattle.arena_rules.proofs.AskingLemmas.{asks_more, asks_then, starved_by, starved_nearer, starved_after}
+use Rattle.arena_rules.specs.Source.{Source}
 use Rattle.arena_chunks.specs.Source.{View}
 use Rattle.arena_chunks.specs.Asking.{AsksWithin}
 use Rattle.arena_chunks.specs.Answers.{Answer}
 use Rattle.arena_chunks.specs.Answers.Answer.{Placed, Wanting, Refused}
 use Rattle.arena_chunks.specs.BlockCalls.{PlacesBlock, growing_of}
-use Rattle.arena_chunks.specs.declared.block.Block.{Block}
+use Rattle.arena_store.specs.declared.block.Block.{Block}
 use Rattle.arena_chunks.proofs.Layers.{asks_same, asks_placed, asks_resized, placed_starved, placed_full}
 use Rattle.arena_items.specs.Costs.{used, Costs, Covers, farthest}
 use Rattle.arena_items.specs.Room.{MakesRoom, TakesRoom, SamePlaces}

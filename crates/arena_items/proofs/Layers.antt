@@ -3,12 +3,12 @@ use Rattle.std.proofs.Common.{◌≡◌, ℕ, ◌+◌, ◌*◌, ◌^◌, ◌<◌
 use Rattle.std.specs.Prelude.{slice_get}
 use Rattle.std.proofs.lemmas.Bool.Decides.{nat_tests}
 use Rattle.std.specs.Array.{FillsFrom}
-use Rattle.placement.specs.Rounding.{up}
+use Rattle.arena_rules.specs.Rounding.{up}
 use Rattle.arena_chunks.specs.Memory.{Memory}
 use Rattle.arena_chunks.specs.Source.{View}
 use Rattle.arena_chunks.specs.Answers.Answer.{Placed}
 use Rattle.arena_chunks.specs.Frame.{Frame, IsApart}
-use Rattle.arena_chunks.specs.declared.block.Block.{Block}
+use Rattle.arena_store.specs.declared.block.Block.{Block}
 use Rattle.arena_chunks.proofs.Layers.{frame_keeps}
 use Rattle.arena_items.specs.Layout.{IsItemLayout, option_size, pair_size, second_at}
 use Rattle.arena_items.specs.LayoutLaws.{IsAlign-bounds, up-is, pair_layout}

@@ -4,17 +4,17 @@ use Rattle.std.specs.Prelude.{nat_le, min, OnErr}
 use Rattle.std.proofs.Math.Nat.{mul-le-mul_left}
 use Rattle.std.proofs.lemmas.Bool.{eq-eqb, or_left}
 use Rattle.std.proofs.lemmas.Bool.Decides.{nat_tests}
-use Rattle.placement.specs.State.{State}
-use Rattle.placement.specs.Rounding.{up, is_layout}
+use Rattle.arena_rules.specs.State.{State}
+use Rattle.arena_rules.specs.Rounding.{up, is_layout}
 use Rattle.arena_chunks.specs.Memory.{Memory, image, bytes_from, is_readable}
 use Rattle.arena_chunks.specs.Source.{View}
 use Rattle.arena_chunks.specs.Answers.{Answer, answer_by, answer_of}
 use Rattle.arena_chunks.specs.Answers.Answer.{Placed, Refused, Wanting}
 use Rattle.arena_chunks.specs.BlockCalls.{WritesBlock}
 use Rattle.arena_chunks.specs.Frame.{Frame}
-use Rattle.arena_chunks.specs.declared.block.Block.{Block}
-use Rattle.arena_chunks.specs.declared.block.ArenaErr.{ArenaErr}
-use Rattle.arena_chunks.specs.declared.block.ArenaErr.TheVariants.{AllocErr as NoPlace, OutOfMemory as NoTable}
+use Rattle.arena_store.specs.declared.block.Block.{Block}
+use Rattle.arena_store.specs.declared.block.ArenaErr.{ArenaErr}
+use Rattle.arena_store.specs.declared.block.ArenaErr.TheVariants.{AllocErr as NoPlace, OutOfMemory as NoTable}
 use Rattle.arena_chunks.proofs.Layers.{empty_before, take_bytes, in_use}
 use Rattle.arena_items.specs.Layout.{IsItemLayout}
 use Rattle.arena_items.specs.LayoutLaws.{IsAlign-bounds, up-is}

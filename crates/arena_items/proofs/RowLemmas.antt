@@ -4,10 +4,10 @@ use Rattle.std.specs.Prelude.{slice_get}
 use Rattle.std.proofs.lemmas.Grind.{common_steps}
 use Rattle.std.proofs.lemmas.List.{take_at, drop_at, length-drop}
 use Rattle.std.proofs.Math.Nat.{add-mul, mul-le-mul_right}
-use Rattle.placement.specs.Machine.{splice}
+use Rattle.arena_rules.specs.Lists.{splice}
 use Rattle.arena_chunks.specs.Memory.{Memory, image, bytes_from}
 use Rattle.arena_chunks.specs.BlockCalls.{WritesBlock}
-use Rattle.arena_chunks.specs.declared.block.Block.{Block}
+use Rattle.arena_store.specs.declared.block.Block.{Block}
 use Rattle.arena_chunks.proofs.Layers.{length-bytes, bytes_within, wrote_part}
 use Rattle.arena_items.specs.Values.{elements, bytes_of}
 use Rattle.arena_items.specs.Rows.{over}

@@ -1,10 +1,10 @@
 -- What it costs to take room for a collection.
 use Rattle.std.specs.Prelude.{◌≡◌, ℕ, ◌+◌, ◌-◌, ◌^◌, ◌≤◌, true, false, Result, Err, OnOk, OnErr, IsTrue}
-use Rattle.placement.specs.Rounding.{is_layout}
-use Rattle.placement.specs.State.{used_bytes}
+use Rattle.arena_rules.specs.Rounding.{is_layout}
+use Rattle.arena_rules.specs.State.{used_bytes}
 use Rattle.arena_chunks.specs.Source.{View}
 use Rattle.arena_chunks.specs.Asking.{AsksWithin, IsStarved, IsFull}
-use Rattle.arena_chunks.specs.declared.block.Block.{Block}
+use Rattle.arena_store.specs.declared.block.Block.{Block}
 use Rattle.arena_items.specs.declared.room.AllocError.{AllocError}
 use Rattle.arena_items.specs.declared.room.AllocError.TheVariants.{AllocErr}
 

@@ -1,9 +1,9 @@
 -- Blocks whose bytes mean something.
 use Rattle.std.specs.Prelude.{◌≡◌, List, IsTrue}
 use Rattle.std.specs.List.{AllByRecursion}
-use Rattle.placement.specs.State.{State}
+use Rattle.arena_rules.specs.State.{State}
 use Rattle.arena_chunks.specs.Memory.{Memory, is_readable}
-use Rattle.arena_chunks.specs.declared.block.Block.{Block}
+use Rattle.arena_store.specs.declared.block.Block.{Block}
 use Rattle.arena_items.specs.Values.{bytes_of}
 
 -- each of the blocks may be read

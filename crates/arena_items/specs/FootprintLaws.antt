@@ -1,9 +1,9 @@
 -- What a handle needs of an arena, again.
 use Rattle.std.proofs.Common.{◌≡◌, ℕ, List, [], ◌∷◌, ◌++◌, IsTrue}
 use Rattle.std.specs.List.{AllByRecursion}
-use Rattle.placement.specs.State.{State}
+use Rattle.arena_rules.specs.State.{State}
 use Rattle.arena_chunks.specs.Memory.{Memory, is_readable}
-use Rattle.arena_chunks.specs.declared.block.Block.{Block}
+use Rattle.arena_store.specs.declared.block.Block.{Block}
 use Rattle.arena_items.specs.Footprint.{AreReadable, Agree}
 use Rattle.arena_items.specs.Values.{IsHeld, bytes_of}
 

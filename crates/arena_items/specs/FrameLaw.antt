@@ -1,9 +1,9 @@
 -- What a call on other blocks leaves of a value.
 use Rattle.std.specs.Prelude.{◌≡◌, ℕ, List, IsTrue}
-use Rattle.placement.specs.State.{State, is_range_used}
+use Rattle.arena_rules.specs.State.{State, is_range_used}
 use Rattle.arena_chunks.specs.Memory.{Memory}
 use Rattle.arena_chunks.specs.Frame.{AreAllApart}
-use Rattle.arena_chunks.specs.declared.block.Block.{Block}
+use Rattle.arena_store.specs.declared.block.Block.{Block}
 use Rattle.arena_items.specs.declared.values.InArena.{Ghosts}
 
 -- After a call that has other blocks then, the value is held, names the same blocks and means the same, and its blocks lie apart

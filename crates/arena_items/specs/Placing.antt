@@ -1,13 +1,13 @@
 -- What calls that place values answer.
 use Rattle.std.specs.Prelude.{◌≡◌, ℕ, ◌*◌, ◌<◌, Result, Ok, Err, Option, false, IsTrue, List, [], length}
 use Rattle.std.specs.Iterator.{Drains}
-use Rattle.placement.specs.Rounding.{is_layout}
+use Rattle.arena_rules.specs.Rounding.{is_layout}
 use Rattle.arena_chunks.specs.Source.{View}
 use Rattle.arena_chunks.specs.Answers.{Answer}
 use Rattle.arena_chunks.specs.Answers.Answer.{Placed, Refused, Wanting}
 use Rattle.arena_chunks.specs.Frame.{Frame}
 use Rattle.arena_chunks.specs.BlockCalls.{PlacesBlock, Refuses, GivesBack}
-use Rattle.arena_chunks.specs.declared.block.Block.{Block}
+use Rattle.arena_store.specs.declared.block.Block.{Block}
 use Rattle.arena_items.specs.declared.placing.ItemErr.{ItemErr}
 use Rattle.arena_items.specs.declared.placing.ItemErr.TheVariants.{AllocErr, OutOfMemory, TooFew}
 

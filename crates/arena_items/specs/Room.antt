@@ -4,9 +4,9 @@ use Rattle.arena_chunks.specs.Source.{View}
 use Rattle.arena_chunks.specs.Answers.{Answer}
 use Rattle.arena_chunks.specs.Answers.Answer.{Placed, Refused, Wanting}
 use Rattle.arena_chunks.specs.BlockCalls.{PlacesBlock, GrowsBlock}
-use Rattle.arena_chunks.specs.declared.block.Block.{Block}
-use Rattle.arena_chunks.specs.declared.block.ArenaErr.{ArenaErr}
-use Rattle.arena_chunks.specs.declared.block.ArenaErr.TheVariants.{AllocErr as NoPlace, OutOfMemory as NoTable}
+use Rattle.arena_store.specs.declared.block.Block.{Block}
+use Rattle.arena_store.specs.declared.block.ArenaErr.{ArenaErr}
+use Rattle.arena_store.specs.declared.block.ArenaErr.TheVariants.{AllocErr as NoPlace, OutOfMemory as NoTable}
 use Rattle.arena_items.specs.declared.placing.ItemErr.{ItemErr}
 use Rattle.arena_items.specs.declared.placing.ItemErr.TheVariants.{AllocErr as NotPlaced, OutOfMemory as NoMemory, TooFew}
 use Rattle.arena_items.specs.declared.room.Growth.{Growth}

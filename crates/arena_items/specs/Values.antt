@@ -1,8 +1,8 @@
 -- What the handles of values need of an arena, and what they mean there.
 use Rattle.std.specs.Prelude.{◌≡◌, ℕ, zero, suc, ◌*◌, List, [], ◌∷◌, take, drop, IsTrue}
-use Rattle.placement.specs.State.{State}
+use Rattle.arena_rules.specs.State.{State}
 use Rattle.arena_chunks.specs.Memory.{Memory, image, is_readable, bytes_from}
-use Rattle.arena_chunks.specs.declared.block.Block.{Block}
+use Rattle.arena_store.specs.declared.block.Block.{Block}
 use Rattle.arena_chunks.specs.declared.allocator.text.Str.{Str}
 use Rattle.arena_items.specs.declared.item.Item.{Ghosts}
 use Rattle.arena_items.specs.declared.boxes.Box.{Box}

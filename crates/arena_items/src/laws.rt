@@ -1,14 +1,14 @@
 // What calls leave of the values that they don't work on, and where new values lie. Each law is a call that does nothing:
 // made in a body, it gives its facts there.
 ghost use Rattle.std.specs.Prelude.{◌≡◌, ◌≢◌, ℕ, ◌<◌, ◌≤◌, List, [], ◌∷◌, IsTrue};
-ghost use Rattle.placement.specs.State.{State, IsValid};
+ghost use Rattle.arena_rules.specs.State.{State, IsValid};
 ghost use Rattle.arena_chunks.specs.Memory.{Memory, is_readable};
 ghost use Rattle.arena_chunks.specs.Source.{View};
 ghost use Rattle.arena_chunks.specs.Answers.Answer.{Placed};
 ghost use Rattle.arena_chunks.specs.Checkpoints.{GoesBack};
 ghost use Rattle.arena_chunks.specs.Frame.{Frame, AreAllApart};
 ghost use Rattle.arena_chunks.specs.BlockCalls.{PlacesBlock};
-ghost use Rattle.arena_chunks.specs.declared.block.Block.{Block};
+ghost use Rattle.arena_store.specs.declared.block.Block.{Block};
 ghost use Rattle.arena_items.specs.Footprint.{Agree, AreReadable};
 ghost use Rattle.arena_items.specs.FrameLaw.{StaysHeld, StaysInUse};
 
@@ -40,7 +40,7 @@ pub fn meaning_law<V: InArena>()
 {}
 
 /// A new block of some bytes has another address than every block of some bytes that was readable before. No readable block
-/// of some bytes lies below 4096, so none at `Address::DUMMY`.
+/// of some bytes lies below 4096, so none at `Address::DUMMY`, which is 0.
 pub fn address_law()
     ensures new { (old new : Memory) (b c : Block) → Frame old new [] (b ∷ [])
         → IsTrue (is_readable old.state c) → 0 < b.size → 0 < c.size → b.addr ≢ c.addr }
@@ -49,6 +49,7 @@ pub fn address_law()
         → IsTrue (is_readable old.memory.state c) → 0 < b.size → 0 < c.size → b.addr ≢ c.addr }
     ensures low { (state : State) (b : Block) → IsValid state → IsTrue (is_readable state b) → 0 < b.size
         → 4096 ≤ b.addr }
+    ensures zero { Address.DUMMY.0 ≡ 0 }
     ensures dummy { (state : State) (b : Block) → IsValid state → IsTrue (is_readable state b) → 0 < b.size
         → b.addr ≢ Address.DUMMY.0 }
 {}

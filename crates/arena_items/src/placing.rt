@@ -46,10 +46,7 @@ pub(crate) fn layout_of<T: Item>() -> Layout
     ensures size { result.size ≡ T.SIZE }
     ensures align { result.align ≡ T.ALIGN }
 {
-    match Layout::new(T::SIZE, T::ALIGN) {
-        Some(layout) => layout,
-        None => unreachable!(),
-    }
+    Layout::of(T::SIZE, T::ALIGN)
 }
 
 // What the arena answered, as calls on values tell it.

@@ -6,7 +6,7 @@ ghost use Rattle.std.specs.List.{All};
 ghost use Rattle.arena_chunks.specs.Source.{View};
 ghost use Rattle.arena_chunks.specs.Answers.Answer.{Placed};
 ghost use Rattle.arena_chunks.specs.BlockCalls.{PlacesBlock};
-ghost use Rattle.arena_chunks.specs.declared.block.Block.{Block};
+ghost use Rattle.arena_store.specs.declared.block.Block.{Block};
 ghost use Rattle.arena_items.specs.Placing.{PlacesArray, EndsEarly, Abandons};
 ghost use Rattle.arena_items.specs.Typed.{PlacesBox, PlacesSlice, PlacesSliceOr};
 

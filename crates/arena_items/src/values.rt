@@ -2,7 +2,7 @@
 ghost use Rattle.std.specs.Prelude.{◌≡◌, ℕ, List, [], ◌∷◌, ◌++◌, IsTrue, refl};
 ghost use Rattle.std.proofs.Common.{ap};
 ghost use Rattle.arena_chunks.specs.Memory.{Memory, is_readable};
-ghost use Rattle.arena_chunks.specs.declared.block.Block.{Block};
+ghost use Rattle.arena_store.specs.declared.block.Block.{Block};
 ghost use Rattle.arena_items.specs.Footprint.{AreReadable, Agree};
 ghost use Rattle.arena_items.specs.Values.{elements, IsBoxIn, box_value, IsSliceIn, slice_list, IsTextIn, text_bytes};
 ghost use Rattle.arena_items.specs.FootprintLaws.{held_readable, held_again, readable_both, readable_parts, agree_parts};
@@ -13,7 +13,7 @@ use crate::slices::BoxSlice;
 use arena_chunks::Str;
 
 /// A value that names blocks of an arena: one, as a handle does, or several, or by its case one or another.
-pub trait InArena: Copy {
+pub trait InArena {
     // What values of the type mean.
     ghost Meaning: { Type 0 };
 

@@ -1,5 +1,5 @@
 -- What comes of work on a lent arena, where the work is a source, is what comes of the source alone.
-use Rattle.std.proofs.Common.{ℕ, inl, inr, List, length, refl, ap, arith}
+use Rattle.std.proofs.Common.{ℕ, inl, inr, List, [], ◌∷◌, map, length, refl, ap, arith}
 use Rattle.std.specs.List.{AllZip}
 use Rattle.arena_chunks.specs.Source.{Source, View}
 use Rattle.arena_pool.specs.Kinds.{IsOfKind}
@@ -11,16 +11,15 @@ use Rattle.arena_workers.proofs.KindLemmas.{kind_kept as still_of_kind}
 use Rattle.arena_workers.proofs.StarvedLemmas.{too_small, standard, shown}
 use Rattle.lint_reports.specs.declared.report.FileReport.{FileReport}
 use Rattle.arena_lint.specs.Linting.{lint_bytes}
-use Rattle.arena_lint.specs.All.{IsLintedAlone, is_refused, lint_terms}
-use Rattle.arena_lint.proofs.KnowLemmas.{zip_weaker}
+use Rattle.arena_lint.specs.All.{IsLintedAlone, linted, is_refused, lint_terms}
 
 -- An arena that keeps its kind is of the pool's still.
 pub kind_kept : (old new : View) → KeepsKind old.memory new.memory → (kind : PoolKind) → IsOfKind kind old.memory.state
     → IsOfKind kind new.memory.state
 kind_kept old new keeps = still_of_kind old.memory.state new.memory.state keeps.is_growing keeps.allocated
 
-module _ {C : Type 0} (source : C → Source) (kind : PoolKind) (bytes : List ℕ) (linted : Served FileReport C) where
-  alone : IsServed source kind lint_terms bytes linted → IsLintedAlone source kind bytes linted
+module _ {C : Type 0} (source : C → Source) (kind : PoolKind) (bytes : List ℕ) (served : Served FileReport C) where
+  alone : IsServed source kind lint_terms bytes served → IsLintedAlone source kind bytes (linted served)
   alone (inr none) = record {
     reports = rw none.unserved tt;
     stopped = rw none.unserved (inr refl);
@@ -35,11 +34,13 @@ module _ {C : Type 0} (source : C → Source) (kind : PoolKind) (bytes : List �
     refused = λ e. (
       standard source kind done.old done.new done.unused done.low most (ran.refused e).starved,
       shown source kind done.old done.new done.unused done.low most most (omega arith) (ran.refused e).asks (ran.refused e).starved
-          linted.starved (done.refused (ap is_refused e)),
+          served.starved (done.refused (ap is_refused e)),
     );
     other = λ other. done.other (grind (arith, other));
   }
 
 pub all_alone : {C : Type 0} (source : C → Source) (kind : PoolKind) (sources : List (List ℕ)) (all : List (Served FileReport C))
-    → AllZip (IsServed source kind lint_terms) sources all → AllZip (IsLintedAlone source kind) sources all
-all_alone source kind = zip_weaker (IsServed source kind lint_terms) (IsLintedAlone source kind) (alone source kind)
+    → AllZip (IsServed source kind lint_terms) sources all → AllZip (IsLintedAlone source kind) sources (map linted all)
+all_alone source kind [] [] h = tt
+all_alone source kind (bytes ∷ sources) (served ∷ all) h = (alone source kind bytes served h.0, all_alone source kind sources all h.1)
+all_alone source kind _ _ h = absurd h

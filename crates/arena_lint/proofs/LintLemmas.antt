@@ -1,12 +1,12 @@
 -- The report of one text.
 use Rattle.std.proofs.Common.{◌≡◌, ℕ, ◌+◌, ◌^◌, ◌≤◌, List, [], ◌∷◌, length, refl, sym, ap, ◌∙◌, true, false, Bool, Ok, Err, Some, None, arith}
 use Rattle.std.specs.Prelude.{Option, IfNone}
-use Rattle.placement.specs.State.{used_bytes}
-use Rattle.placement.proofs.AskingLemmas.{asks_more}
+use Rattle.arena_rules.specs.State.{used_bytes}
+use Rattle.arena_rules.proofs.AskingLemmas.{asks_more}
 use Rattle.arena_chunks.specs.Memory.{Memory}
 use Rattle.arena_chunks.specs.Source.{View}
 use Rattle.arena_chunks.specs.Frame.{AreAllApart}
-use Rattle.arena_chunks.specs.declared.block.Block.{Block}
+use Rattle.arena_store.specs.declared.block.Block.{Block}
 use Rattle.arena_chunks.specs.Asking.{AsksWithin, IsStarved, IsFull}
 use Rattle.arena_chunks.proofs.Layers.{all_of_both}
 use Rattle.arena_items.specs.Costs.{used}

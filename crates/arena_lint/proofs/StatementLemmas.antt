@@ -5,7 +5,7 @@ use Rattle.std.specs.Str.{IsUtf8}
 use Rattle.std.proofs.lemmas.List.{append_assoc}
 use Rattle.arena_chunks.specs.Memory.{Memory}
 use Rattle.arena_chunks.specs.Frame.{AreAllApart}
-use Rattle.arena_chunks.specs.declared.block.Block.{Block}
+use Rattle.arena_store.specs.declared.block.Block.{Block}
 use Rattle.arena_chunks.proofs.Layers.{all_of_both, frame_keeps_all}
 use Rattle.arena_items.specs.Footprint.{AreReadable, Agree}
 use Rattle.arena_items.specs.Values.{IsTextIn, text_bytes}

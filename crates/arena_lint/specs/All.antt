@@ -7,6 +7,7 @@ use Rattle.arena_tree.specs.Parsing.{IsProgramText}
 use Rattle.arena_workers.specs.Working.{Terms}
 use Rattle.arena_workers.specs.Starving.{IsTooSmall, ShowsStarved}
 use Rattle.arena_workers.specs.declared.served.Served.{Served}
+use Rattle.arena_lint.specs.declared.parts.Linted.{Linted}
 use Rattle.lint_reports.specs.Reports.{Reports, said}
 use Rattle.lint_reports.specs.declared.report.FileReport.{FileReport}
 use Rattle.lint_reports.specs.declared.report.FileReport.TheVariants.{Checked, Syntax, TooDeep, NumberTooBig, Full, Refused, OutOfMemory}
@@ -15,14 +16,13 @@ use Rattle.arena_lint.specs.Linting.{Lints, lint_bytes}
 -- What comes of a text alone, over a pool of this kind: its one report. A report that says nothing of the text comes of programs alone, or
 -- of want of memory before the text was begun. It is `Full` only where the pool's arenas have fewer bytes than it may take, and `Refused`
 -- only over a standard pool, exactly where what shows why is there.
-pub record IsLintedAlone {C : Type 0} (source : C → Source) (kind : PoolKind) (bytes : List ℕ) (linted : Served FileReport C)
-    : Type 0 where
-  pub reports : Reports bytes linted.outcome
-  pub stopped : IfNone (said linted.outcome) (IsProgramText bytes ⊎ (linted.outcome ≡ OutOfMemory))
-  pub full : linted.outcome ≡ Full → IsTooSmall kind (lint_bytes (length bytes))
-  pub refused : linted.outcome ≡ Refused
+pub record IsLintedAlone {C : Type 0} (source : C → Source) (kind : PoolKind) (bytes : List ℕ) (linted : Linted C) : Type 0 where
+  pub reports : Reports bytes linted.report
+  pub stopped : IfNone (said linted.report) (IsProgramText bytes ⊎ (linted.report ≡ OutOfMemory))
+  pub full : linted.report ≡ Full → IsTooSmall kind (lint_bytes (length bytes))
+  pub refused : linted.report ≡ Refused
       → (kind ≡ Standard) × IsSomeAnd linted.starved (ShowsStarved source (lint_bytes (length bytes)))
-  pub other : linted.outcome ≢ Refused → linted.starved ≡ None
+  pub other : linted.report ≢ Refused → linted.starved ≡ None
 
 abbrev pub is_refused : FileReport → Bool
 is_refused (Checked findings) = false
@@ -32,6 +32,10 @@ is_refused (NumberTooBig at) = false
 is_refused Full = false
 is_refused Refused = true
 is_refused OutOfMemory = false
+
+-- what came of a text as work
+abbrev pub linted : {C : Type 0} → Served FileReport C → Linted C
+linted served = record { report = served.outcome; starved = served.starved }
 
 -- texts as work on lent arenas
 abbrev pub lint_terms : Terms (List ℕ) FileReport

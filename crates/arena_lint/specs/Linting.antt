@@ -3,7 +3,7 @@ use Rattle.std.specs.Prelude.{◌≡◌, ℕ, ◌+◌, ◌*◌, ◌≤◌, Bool,
 use Rattle.arena_chunks.specs.Source.{View}
 use Rattle.arena_chunks.specs.Asking.{AsksWithin, IsFull}
 use Rattle.arena_items.specs.Costs.{used}
-use Rattle.placement.specs.Asking.{IsStarvedWithin}
+use Rattle.arena_rules.specs.Asking.{IsStarvedWithin}
 use Rattle.arena_tree.specs.Parsing.{IsProgramText}
 use Rattle.arena_tree.specs.Spending.{KeepsKind}
 use Rattle.arena_tree.specs.declared.tree.TreeErr.{TreeErr}

@@ -11,10 +11,11 @@ ghost use Rattle.arena_lint.specs.Knowing.{Knows};
 ghost use Rattle.arena_lint.specs.Rooms.{HasExpr, ListHasExprs, AreNamed};
 
 use arena_chunks::{Allocator, ChunkSource, Str};
+use arena_rules::OutOfMemory;
 use arena_tree::{Kind, Node, kids};
 use arena_vec::Vec;
+use call_rules::Bytes;
 use lint_reports::{FindKind, Findings};
-use placement::{Bytes, OutOfMemory};
 use std::alloc::Global;
 use std::str;
 

@@ -1,19 +1,25 @@
 // Parts of one input over one pool.
-ghost use Rattle.std.specs.Prelude.{◌≡◌, ◌<◌, ◌≤◌, ◌^◌, All, length, IfOk};
+ghost use Rattle.std.specs.Prelude.{◌≡◌, ◌<◌, ◌≤◌, ◌^◌, All, length, map, IfOk};
 ghost use Rattle.std.specs.List.{AllZip};
-ghost use Rattle.arena_lint.specs.All.{IsLintedAlone, is_refused};
+ghost use Rattle.arena_lint.specs.All.{IsLintedAlone, linted, is_refused};
 
 use crate::lint::lint_one;
 use arena_chunks::{Allocator, ChunkSource};
 use arena_pool::{AllocatorPool, ChunkMaker, OutOfMemory, PoolName};
-use arena_workers::{Gate, Work, run_all};
+use arena_workers::{Gate, Served, Starved, Work, run_all};
 use lint_reports::{FileReport, Source};
 use std::alloc::Global;
 use std::sync::Wait;
 use std::thread::Threads;
 
-/// What came of a source: its report, and what shows that it was starved, exactly where the report is `Refused`.
-pub type Linted<C> = arena_workers::Served<FileReport, C>;
+/// What came of a source.
+#[derive(Drop)]
+pub struct Linted<C: ChunkSource> {
+    /// What is said of it.
+    pub report: FileReport,
+    /// What shows that it was starved, exactly where the report is `Refused`.
+    pub starved: Option<Starved<C>>,
+}
 
 /// Why no source has a report.
 #[derive(Clone, Copy, PartialEq, Eq, Debug, thiserror::Error)]
@@ -58,6 +64,25 @@ impl<'a, C: ChunkSource> Work<C> for Linting<'a> {
     }
 }
 
+// What came of each source, by the names of the linter.
+fn with_names<C: ChunkSource + Drop>(
+    alloc: Global,
+    all: Vec<Served<FileReport, C>>,
+) -> Result<Vec<Linted<C>>, OutOfMemory>
+    ensures { IfOk result (λ v. v.items ≡ map linted all.items) }
+{
+    let mut each = Vec::with_capacity(alloc, all.len()).map_err(|_| OutOfMemory)?;
+    for served in all {
+        let Served {
+            outcome: report,
+            starved,
+        } = served;
+        each.push(Linted { report, starved })
+            .map_err(|_| OutOfMemory)?;
+    }
+    Ok(each)
+}
+
 /// As `lint_all`, of sources that are parts of one input, of which no byte is copied.
 ///
 /// # Errors
@@ -83,5 +108,6 @@ pub fn lint_parts<
     ensures { IfOk result (λ all. AllZip (IsLintedAlone K.Chunks.source L.kind) sources.now all.items) }
 {
     let work = Linting { of: &[] };
-    Ok(run_all(rt, alloc, pool, workers, gate, &work, sources)?)
+    let all = run_all(rt, alloc, pool, workers, gate, &work, sources)?;
+    Ok(with_names(alloc, all)?)
 }

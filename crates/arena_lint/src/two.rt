@@ -1,6 +1,6 @@
 // A caller of the linter.
 ghost use Rattle.std.specs.Prelude.{◌≡◌, ◌≢◌, ◌^◌, ◌≤◌, length, false};
-ghost use Rattle.placement.specs.State.{allocated_bytes};
+ghost use Rattle.arena_rules.specs.State.{allocated_bytes};
 ghost use Rattle.arena_items.specs.Costs.{used};
 ghost use Rattle.lint_reports.specs.Reports.{Reports};
 ghost use Rattle.arena_lint.specs.Linting.{lint_bytes};
@@ -12,7 +12,8 @@ use lint_reports::FileReport;
 use std::alloc::Global;
 
 /// Lints two texts one after another on an arena that doesn't grow, with a reset between them. Each has its own report, whatever
-/// the other defines; and whatever the first took, the second has all bytes of the arena.
+/// the other defines; and whatever the first took, the second has all bytes of the arena. `Full` is told only of a text for which the
+/// arena has too few bytes, and `Refused` of none.
 pub fn lint_two<C: ChunkSource>(
     alloc: Global,
     a: &mut Allocator<C>,
@@ -24,6 +25,8 @@ pub fn lint_two<C: ChunkSource>(
     requires small { length first.now ≤ 2 ^ 24 }
     requires small_too { length second.now ≤ 2 ^ 24 }
     ensures first { Reports first.now result.0 }
+    ensures first_full { lint_bytes (length first.now) ≤ allocated_bytes a.old.memory.state → result.0 ≢ FileReport.Full }
+    ensures first_never { result.0 ≢ FileReport.Refused }
     ensures second { Reports second.now result.1 }
     ensures full { lint_bytes (length second.now) ≤ allocated_bytes a.old.memory.state → result.1 ≢ FileReport.Full }
     ensures never { result.1 ≢ FileReport.Refused }

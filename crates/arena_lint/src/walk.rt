@@ -18,10 +18,11 @@ ghost use Rattle.arena_lint.specs.Steps.{Finds, Enters, IsNotEmpty};
 use crate::names::{Known, all_names};
 use arena_chunks::{Allocator, ChunkSource, Str};
 use arena_items::{AllocError, Grown};
+use arena_rules::OutOfMemory;
 use arena_tree::{Kind, Node, kids};
 use arena_vec::Vec;
+use call_rules::Bytes;
 use lint_reports::{FindKind, Findings};
-use placement::{Bytes, OutOfMemory};
 use std::alloc::Global;
 use std::str;
 

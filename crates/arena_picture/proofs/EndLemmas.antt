@@ -2,14 +2,15 @@
 use Rattle.std.proofs.Common.{◌≡◌, ℕ, ◌∙◌, ◌<◌, List, length, take, take_all, Some, None, subst, sym, arith}
 use Rattle.std.specs.FinMap as finite
 use Rattle.std.proofs.lemmas.Option.{slice_get_past}
-use Rattle.placement.specs.State.{State, IsValid}
-use Rattle.placement.specs.Machine.{run, told}
-use Rattle.placement.specs.declared.place.Place.{Place}
-use Rattle.placement.specs.declared.calls.Call.{Call}
-use Rattle.placement.specs.declared.calls.Reply.{Reply}
+use Rattle.arena_rules.specs.State.{State, IsValid}
+use Rattle.call_rules.specs.Machine.{run, told}
+use Rattle.arena_rules.specs.declared.place.Place.{Place}
+use Rattle.call_rules.specs.declared.calls.Call.{Call}
+use Rattle.call_rules.specs.declared.calls.Reply.{Reply}
 use Rattle.arena_chunks.specs.Source.{View}
-use Rattle.arena_chunks.specs.Runs.{Runs, RunsFirst, RunLeaves, block_at}
-use Rattle.arena_chunks.specs.declared.block.Block.{Block}
+use Rattle.arena_chunks.specs.Memory.{block_at}
+use Rattle.arena_chunks.specs.Runs.{Runs, RunsFirst, RunLeaves}
+use Rattle.arena_store.specs.declared.block.Block.{Block}
 use Rattle.arena_calls.specs.Ends.{Outside, IsWritten}
 use Rattle.arena_picture.specs.Ends.{picture_of, HasPlace, RunsToPicture}
 use Rattle.arena_picture.proofs.PlaceLemmas.{stands_in, range_used}

@@ -3,12 +3,12 @@ use Rattle.std.proofs.Common.{◌≡◌, ℕ, ◌+◌, ◌-◌, ◌<◌, ◌≤�
 use Rattle.std.specs.Prelude.{◌==◌}
 use Rattle.std.proofs.lemmas.Bool.{or_cases}
 use Rattle.std.proofs.lemmas.Bool.Decides.{nat_tests}
-use Rattle.placement.specs.State.{State, Chunk, AreChunks, data_end, is_used_by, is_range_used}
-use Rattle.placement.specs.Machine.{is_place_used}
-use Rattle.placement.specs.declared.place.Place.{Place}
-use Rattle.placement.proofs.UsedLemmas.{used_under}
+use Rattle.arena_rules.specs.State.{State, Chunk, AreChunks, data_end, is_used_by, is_range_used}
+use Rattle.arena_rules.specs.State.{is_place_used}
+use Rattle.arena_rules.specs.declared.place.Place.{Place}
+use Rattle.arena_rules.proofs.UsedLemmas.{used_under}
 use Rattle.arena_chunks.specs.Walks.{told_chunk}
-use Rattle.arena_chunks.specs.declared.block.Block.{Block}
+use Rattle.arena_store.specs.declared.block.Block.{Block}
 use Rattle.arena_picture.specs.Shapes.{has_block, place_from, StandsIn}
 
 -- the chunk in whose used part a block lies has it, and one that begins behind it doesn't

@@ -2,8 +2,8 @@
 use Rattle.std.proofs.Common.{◌≡◌, ℕ, ◌+◌, ◌≤◌, List, [], ◌∷◌, ◌++◌, length, map, take, drop, take_all, refl, ap, sym, ◌∙◌}
 use Rattle.std.proofs.lemmas.Grind.{flat_map-append}
 use Rattle.std.proofs.lemmas.List.{append-nil, drop_all}
-use Rattle.arena_chunks.specs.declared.block.Block.{Block}
-use Rattle.arena_chunks.specs.declared.arena.iter.Chunk.{Chunk}
+use Rattle.arena_store.specs.declared.block.Block.{Block}
+use Rattle.arena_core.specs.declared.iter.Chunk.{Chunk}
 use Rattle.arena_picture.specs.declared.shapes.Shape.{Shape}
 use Rattle.arena_picture.specs.Shapes.{chunk_shapes, block_shape, shapes_of, shown_block, shown_blocks}
 

@@ -5,8 +5,8 @@ use Rattle.std.specs.Prelude.{◌==◌, nat_le, decimal}
 use Rattle.std.specs.List.{flat_map}
 use Rattle.std.proofs.lemmas.Bool.Decides.{nat_tests}
 use Rattle.std.proofs.lemmas.List.{append-nil, drop_all}
-use Rattle.arena_chunks.specs.declared.block.Block.{Block}
-use Rattle.arena_chunks.specs.declared.arena.iter.Chunk.{Chunk}
+use Rattle.arena_store.specs.declared.block.Block.{Block}
+use Rattle.arena_core.specs.declared.iter.Chunk.{Chunk}
 use Rattle.arena_picture.specs.declared.shapes.Shape.{Shape}
 use Rattle.arena_picture.specs.Text.{filled, label_template, label_text, shape_text, em_of, head_template, foot_template, svg_text}
 

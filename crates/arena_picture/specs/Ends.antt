@@ -1,13 +1,14 @@
 -- What each status says of the picture.
 use Rattle.std.specs.Prelude.{◌≡◌, ℕ, ◌<◌, List, map, Some}
 use Rattle.std.specs.FinMap as finite
-use Rattle.placement.specs.State.{State}
-use Rattle.placement.specs.declared.place.Place.{Place}
-use Rattle.placement.specs.declared.calls.Call.{Call}
-use Rattle.placement.specs.declared.calls.Reply.{Reply}
-use Rattle.arena_chunks.specs.Runs.{Runs, block_at}
+use Rattle.arena_rules.specs.State.{State}
+use Rattle.arena_rules.specs.declared.place.Place.{Place}
+use Rattle.call_rules.specs.declared.calls.Call.{Call}
+use Rattle.call_rules.specs.declared.calls.Reply.{Reply}
+use Rattle.arena_chunks.specs.Memory.{block_at}
+use Rattle.arena_chunks.specs.Runs.{Runs}
 use Rattle.arena_chunks.specs.Walks.{told_chunk}
-use Rattle.arena_chunks.specs.declared.block.Block.{Block}
+use Rattle.arena_store.specs.declared.block.Block.{Block}
 use Rattle.arena_calls.specs.Ends.{Outside, IsWritten, EndsWith}
 use Rattle.arena_calls.specs.declared.status.Status.{Status}
 use Rattle.arena_picture.specs.Shapes.{shapes_of, place_from, StandsIn}

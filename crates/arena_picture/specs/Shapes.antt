@@ -1,8 +1,8 @@
 -- What a picture shows, and where.
 use Rattle.std.specs.Prelude.{◌≡◌, ℕ, ◌+◌, ◌-◌, ◌≤◌, Bool, ◌&&◌, nat_le, if◌then◌else◌, List, [], ◌∷◌, ◌++◌, map, length}
 use Rattle.std.specs.List.{flat_map}
-use Rattle.arena_chunks.specs.declared.block.Block.{Block}
-use Rattle.arena_chunks.specs.declared.arena.iter.Chunk as arena
+use Rattle.arena_store.specs.declared.block.Block.{Block}
+use Rattle.arena_core.specs.declared.iter.Chunk as arena
 use Rattle.arena_picture.specs.declared.shapes.Shape as shape
 
 -- The chunk has all addresses of the block. Where it has none, its address may be the data end.

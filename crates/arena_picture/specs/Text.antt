@@ -1,8 +1,8 @@
 -- Shapes as SVG. A byte is a user unit wide, in each row alike. Heights are in `em`; a row has 18.
 use Rattle.std.specs.Prelude.{ℕ, ◌+◌, ◌-◌, ◌*◌, ◌/◌, ◌==◌, nat_le, max, if◌then◌else◌, List, [], ◌∷◌, ◌++◌, length, codes, decimal}
 use Rattle.std.specs.List.{flat_map}
-use Rattle.arena_chunks.specs.declared.block.Block.{Block}
-use Rattle.arena_chunks.specs.declared.arena.iter.Chunk.{Chunk}
+use Rattle.arena_store.specs.declared.block.Block.{Block}
+use Rattle.arena_core.specs.declared.iter.Chunk.{Chunk}
 use Rattle.arena_picture.specs.declared.shapes.Shape as shape
 
 -- a text with the next number in place of each `$`

@@ -1,7 +1,7 @@
 // What the program draws, says and answers.
 ghost use Rattle.std.specs.Prelude.{◌≡◌, []};
 ghost use Rattle.std.specs.Process.{exit_status};
-ghost use Rattle.placement.specs.Creation.{empty_state};
+ghost use Rattle.arena_rules.specs.Creation.{empty_state};
 ghost use Rattle.arena_chunks.specs.Source.{view};
 ghost use Rattle.arena_chunks.specs.Creating.{uncounted_memory};
 ghost use Rattle.arena_calls.specs.Budget.{budget};

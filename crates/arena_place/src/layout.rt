@@ -1,6 +1,6 @@
 // The size and the alignment of a block.
 ghost use Rattle.std.specs.Prelude.{◌≡◌, ◌*◌, IsTrue, is_some, IfSome};
-ghost use Rattle.placement.specs.Rounding.{is_layout};
+ghost use Rattle.arena_rules.specs.Rounding.{is_layout};
 
 use crate::rounding::round_up_to;
 
@@ -39,6 +39,16 @@ impl Layout {
         } else {
             None
         }
+    }
+
+    /// The layout of this size and alignment, which are one.
+    #[inline(always)]
+    pub const fn of(size: u64, align: u64) -> Layout
+        requires { IsTrue (is_layout size align) }
+        ensures size { result.size ≡ size }
+        ensures align { result.align ≡ align }
+    {
+        Layout { size, align }
     }
 
     /// The layout of `n` elements of this size in a row, or none where there is no such layout.

@@ -1,6 +1,8 @@
 //! Layouts, and where a bump arena places blocks and chunks. Every call is pure and takes no memory.
 #![tactic(auto)]
 
+ghost use Rattle.std.specs.Prelude.{◌≡◌};
+
 mod layout;
 mod placing;
 mod rounding;
@@ -32,3 +34,15 @@ pub const RAW_MIN_SIZE: u64 = CHUNK_FOOTER_SIZE;
 
 /// The size of a region that an arena is made over is a multiple of this, as its address would be.
 pub const RAW_MIN_ALIGN: u64 = CHUNK_ALIGN;
+
+/// The numbers that the constants stand for.
+pub fn constants()
+    ensures chunk_align { CHUNK_ALIGN ≡ 16 }
+    ensures chunk_footer_size { CHUNK_FOOTER_SIZE ≡ 48 }
+    ensures overhead { OVERHEAD ≡ 64 }
+    ensures typical_page_size { TYPICAL_PAGE_SIZE ≡ 4096 }
+    ensures first_allocation_goal { FIRST_ALLOCATION_GOAL ≡ 16384 }
+    ensures default_chunk_size { DEFAULT_CHUNK_SIZE_WITHOUT_FOOTER ≡ 16320 }
+    ensures raw_min_size { RAW_MIN_SIZE ≡ 48 }
+    ensures raw_min_align { RAW_MIN_ALIGN ≡ 16 }
+{}

@@ -1,9 +1,9 @@
 // The place of a block, and the size and base of a chunk.
 ghost use Rattle.std.specs.Prelude.{◌≡◌, ◌≢◌, ◌+◌, ◌-◌, ◌%◌, ◌^◌, ◌<◌, ◌≤◌, ◌↔◌, IsTrue, IfSome, max};
 ghost use Rattle.std.specs.Option.{SomeIff, option_map_or};
-ghost use Rattle.placement.specs.Rounding.{is_power};
-ghost use Rattle.placement.specs.State.{is_min_align};
-ghost use Rattle.placement.specs.Search.{place_below, rounded_size, size_for, next_base};
+ghost use Rattle.arena_rules.specs.Rounding.{is_power};
+ghost use Rattle.arena_rules.specs.State.{is_min_align};
+ghost use Rattle.arena_rules.specs.Search.{place_below, rounded_size, size_for, next_base};
 
 use crate::layout::Layout;
 use crate::rounding::{round_down_to, round_up_to, round_up_to_unchecked};

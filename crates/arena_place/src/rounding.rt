@@ -1,7 +1,7 @@
 // Rounding to a multiple of a power of two.
 ghost use Rattle.std.specs.Prelude.{◌≡◌, ◌+◌, ◌-◌, ◌%◌, ◌^◌, ◌<◌, ◌≤◌, ◌↔◌, IsTrue};
 ghost use Rattle.std.specs.Option.{SomeIff};
-ghost use Rattle.placement.specs.Rounding.{up, down, is_power};
+ghost use Rattle.arena_rules.specs.Rounding.{up, down, is_power};
 
 /// The greatest multiple of the divisor at or below `n`.
 #[inline(always)]

@@ -1,15 +1,15 @@
 -- The calls on an arena keep its kind.
 use Rattle.std.proofs.Common.{◌≡◌, ℕ, ◌*◌, inl, inr, Result, Ok, Err, List, [], ◌∷◌, sym, ◌∙◌, subst}
 use Rattle.std.proofs.lemmas.Bool.{cases_Bool}
-use Rattle.placement.specs.Rounding.{is_layout}
-use Rattle.placement.specs.Moves.{Resizing}
+use Rattle.arena_rules.specs.Rounding.{is_layout}
+use Rattle.arena_rules.specs.Moves.{Resizing}
 use Rattle.arena_chunks.specs.Memory.{Memory}
 use Rattle.arena_chunks.specs.Source.{View}
 use Rattle.arena_chunks.specs.Frame.{Frame, padded}
 use Rattle.arena_chunks.specs.Answers.{Answer}
 use Rattle.arena_chunks.specs.Answers.Answer.{Placed, Refused, Wanting}
 use Rattle.arena_chunks.specs.BlockCalls.{PlacesAfter, PlacesBlock, ResizesAfter, ResizesBlock, GivesBack, WritesBlock}
-use Rattle.arena_chunks.specs.declared.block.Block.{Block}
+use Rattle.arena_store.specs.declared.block.Block.{Block}
 use Rattle.arena_items.specs.Placing.{Answers, PlacesArray}
 use Rattle.arena_items.specs.declared.boxes.Box.{Box}
 use Rattle.arena_items.specs.declared.slices.BoxSlice.{BoxSlice}

@@ -2,11 +2,11 @@
 use Rattle.std.proofs.Common.{◌≡◌, ℕ, ◌-◌, ◌≤◌, false, not, Option, None, Some, List, [], ◌∷◌, length, take, replicate, refl, ap, sym, ◌∙◌, subst, arith}
 use Rattle.std.proofs.lemmas.Bool.Decides.{nat_tests}
 use Rattle.std.proofs.lemmas.List.{length-replicate, take-replicate}
-use Rattle.placement.specs.State.{State, IsValid}
-use Rattle.placement.specs.Moves.{reset}
-use Rattle.placement.specs.Creation.{fixed_state}
-use Rattle.placement.proofs.CreationLemmas.{growing_valid}
-use Rattle.placement.proofs.ResetLemmas.{reset_valid, reset_used}
+use Rattle.arena_rules.specs.State.{State, IsValid}
+use Rattle.arena_rules.specs.Moves.{reset}
+use Rattle.arena_rules.specs.Creation.{fixed_state}
+use Rattle.arena_rules.proofs.CreationLemmas.{growing_valid}
+use Rattle.arena_rules.proofs.ResetLemmas.{reset_valid, reset_used}
 use Rattle.arena_chunks.specs.Memory.{Memory}
 use Rattle.arena_chunks.specs.Source.{View, Source, view}
 use Rattle.arena_chunks.specs.Creating.{uncounted_memory}

@@ -4,8 +4,8 @@ use Rattle.std.proofs.lemmas.Bool.{cases_Bool}
 use Rattle.std.proofs.lemmas.Bool.Decides.{nat_tests}
 use Rattle.std.proofs.lemmas.List.{length-append, same_from_push}
 use Rattle.std.proofs.lemmas.List.Elements.{All-push, All-pop}
-use Rattle.placement.specs.State.{IsValid, allocated_bytes}
-use Rattle.placement.specs.Moves.{reset}
+use Rattle.arena_rules.specs.State.{IsValid, allocated_bytes}
+use Rattle.arena_rules.specs.Moves.{reset}
 use Rattle.arena_chunks.specs.Source.{View}
 use Rattle.arena_pool.specs.declared.kind.PoolKind.{PoolKind}
 use Rattle.arena_pool.specs.declared.kind.PoolKind.TheVariants.{Standard, FixedSize}

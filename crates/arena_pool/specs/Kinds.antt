@@ -1,9 +1,9 @@
 -- The two kinds of arenas that pools have, and arenas as they are stored and lent.
 use Rattle.std.specs.Prelude.{◌≡◌, ℕ, ◌-◌, ◌≤◌, ◌%◌, Bool, true, false, not, nat_le, IsTrue, Option, None, Some, is_some, IfSome, [], take}
-use Rattle.placement.specs.State.{State, IsValid, used_bytes, allocated_bytes}
-use Rattle.placement.specs.Moves.{reset}
-use Rattle.placement.specs.Creation.{empty_state, fixed_state}
-use Rattle.placement.specs.Statistics.{uncounted}
+use Rattle.arena_rules.specs.State.{State, IsValid, used_bytes, allocated_bytes}
+use Rattle.arena_rules.specs.Moves.{reset}
+use Rattle.arena_rules.specs.Creation.{empty_state, fixed_state}
+use Rattle.arena_rules.specs.Statistics.{uncounted}
 use Rattle.arena_chunks.specs.Memory.{Memory}
 use Rattle.arena_chunks.specs.Source.{Source, View}
 use Rattle.arena_chunks.specs.Creating.{zeroed_memory}

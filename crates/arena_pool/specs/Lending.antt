@@ -4,7 +4,7 @@ use Rattle.std.specs.Borrow.{Lends, MutBor, Fml, RattleType}
 use mir.Syntax.{named}
 use Rattle.arena_chunks.specs.Source.{View}
 use Rattle.arena_chunks.specs.contracts.allocator.Allocator.{the_row as arena_row}
-use Rattle.arena_chunks.specs.declared.chunks.source.ChunkSource.{Ghosts as SourceGhosts}
+use Rattle.arena_store.specs.declared.source.ChunkSource.{Ghosts as SourceGhosts}
 use Rattle.std.specs.declared.sync.ledger.Ledger.{Ghosts as LedgerGhosts}
 use Rattle.arena_pool.specs.Pool.{Pooled}
 use Rattle.arena_pool.specs.declared.name.PoolName.{Ghosts as NameGhosts}

@@ -1,7 +1,7 @@
 -- A pool of arenas, and its events.
 use Rattle.std.specs.Prelude.{◌≡◌, ℕ, ◌+◌, ◌-◌, ◌^◌, ◌<◌, ◌⊎◌, IsTrue, Option, None, Result, Ok, Err, List, [], ◌∷◌, ◌++◌, map, length, All, Bool, ◌&&◌, ◌||◌, nat_lt, not, if◌then◌else◌}
 use Rattle.std.specs.List.{range_with_len}
-use Rattle.placement.specs.State.{allocated_bytes}
+use Rattle.arena_rules.specs.State.{allocated_bytes}
 use Rattle.arena_chunks.specs.Source.{View}
 use Rattle.arena_pool.specs.Kinds.{is_fixed, first_id, HasId, HasLimit, is_within, IsWithin, IsUnused, IsNew, reset_view}
 use Rattle.arena_pool.specs.declared.kind.PoolKind.{PoolKind}

@@ -4,15 +4,15 @@ ghost use Rattle.std.specs.Prelude.{◌≡◌, ℕ, ◌+◌, ◌-◌, ◌^◌, �
 ghost use mathlib.Core.Option.{some};
 ghost use lib.ListN.{get_elem?};
 ghost use Rattle.atomic_table.specs.Table.{State as TableState};
-ghost use Rattle.placement.specs.State.{State, IsValid, allocated_bytes};
-ghost use Rattle.placement.specs.Moves.{reset, Resizing};
+ghost use Rattle.arena_rules.specs.State.{State, IsValid, allocated_bytes};
+ghost use Rattle.arena_rules.specs.Moves.{reset, Resizing};
 ghost use Rattle.arena_chunks.specs.Memory.{Memory};
 ghost use Rattle.arena_chunks.specs.Source.{View};
 ghost use Rattle.arena_chunks.specs.Frame.{Frame};
 ghost use Rattle.arena_chunks.specs.Answers.{Answer};
 ghost use Rattle.arena_chunks.specs.BlockCalls.{PlacesBlock, ResizesBlock, GivesBack, WritesBlock};
 ghost use Rattle.arena_chunks.specs.Resizes.{NoneReadable};
-ghost use Rattle.arena_chunks.specs.declared.block.Block.{Block};
+ghost use Rattle.arena_store.specs.declared.block.Block.{Block};
 ghost use Rattle.arena_items.specs.Placing.{Answers, PlacesArray};
 ghost use Rattle.arena_items.specs.declared.boxes.Box.{Box};
 ghost use Rattle.arena_items.specs.declared.slices.BoxSlice.{BoxSlice};

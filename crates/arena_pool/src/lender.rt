@@ -1,6 +1,6 @@
 // What lies under a pool's lock.
 ghost use Rattle.std.specs.Prelude.{◌≡◌, IfOk, OnErr, IsOk, IsTrue, Ok, Err};
-ghost use Rattle.placement.specs.State.{allocated_bytes};
+ghost use Rattle.arena_rules.specs.State.{allocated_bytes};
 ghost use Rattle.arena_pool.specs.Kinds.{is_fixed, IsUnused, IsWithin};
 ghost use Rattle.arena_pool.specs.Pool.{Gets, can_take, keep, give_up};
 

@@ -45,10 +45,7 @@ impl<A: Drop + Send> Packing<A> for InBoxes {
     fn pack(alloc: Global, value: A) -> Result<Box<A, Global>, OutOfMemory>
         ensures { IfOk result (λ p. p.value ≡ value) }
     {
-        match Box::new(alloc, value) {
-            Ok(packed) => Ok(packed),
-            Err(_) => Err(OutOfMemory),
-        }
+        Ok(Box::new(alloc, value)?)
     }
 }
 

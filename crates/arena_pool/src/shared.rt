@@ -1,7 +1,7 @@
 // A stock of arenas under a lock, whoever lends them.
 ghost use Rattle.std.specs.Prelude.{◌≡◌, IfOk, IsOk, IsTrue};
 ghost use Rattle.std.specs.Sync.Mutex.{mutex_guard_value};
-ghost use Rattle.placement.specs.State.{allocated_bytes};
+ghost use Rattle.arena_rules.specs.State.{allocated_bytes};
 ghost use Rattle.arena_pool.specs.Kinds.{is_fixed, IsUnused, IsWithin};
 ghost use Rattle.arena_pool.specs.Names.{IsBlankOf};
 ghost use Rattle.arena_pool.specs.Pool.{can_take};

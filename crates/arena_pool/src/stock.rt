@@ -1,6 +1,6 @@
 // The arenas that a pool stores, however it packs them, and its counts.
 ghost use Rattle.std.specs.Prelude.{◌≡◌, ◌+◌, ◌<◌, IfOk};
-ghost use Rattle.placement.specs.State.{allocated_bytes};
+ghost use Rattle.arena_rules.specs.State.{allocated_bytes};
 ghost use Rattle.arena_pool.specs.Kinds.{is_fixed, is_within, HasId, HasLimit, HasRegions, IsNew, IsUnused, IsWithin};
 ghost use Rattle.arena_pool.specs.Pool.{Begins, Gets, LendsStored, IsPool, IsPooled, store, keep, give_up};
 
@@ -62,9 +62,7 @@ fn new_arena<K: ChunkMaker>(
     match kind {
         PoolKind::Standard => Ok(Allocator::new(alloc, maker.make())),
         PoolKind::FixedSize { bytes } => {
-            let Ok(region) = Region::zeros(alloc, bytes as usize) else {
-                return Err(OutOfMemory);
-            };
+            let region = Region::zeros(alloc, bytes as usize)?;
             Ok(Allocator::from_region(alloc, region, maker.make()))
         }
     }
@@ -100,9 +98,7 @@ impl<K: ChunkMaker, P: Packing<Allocator<K::Chunks>>> Stock<K, P> {
         ensures { IfOk result (Begins kind limit count) }
     {
         let mut maker = maker;
-        let Ok(mut stack) = Vec::with_capacity(alloc, count as usize) else {
-            return Err(OutOfMemory);
-        };
+        let mut stack = Vec::with_capacity(alloc, count as usize)?;
         for i in 0..count {
             let arena = new_packed::<K, P>(alloc, kind, &mut maker)?;
             stack.push_reserved(Stored {

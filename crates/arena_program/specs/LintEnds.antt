@@ -3,12 +3,11 @@ use Rattle.std.specs.Prelude.{◌≡◌, ℕ, ◌+◌, ◌≤◌, List, ◌++◌
 use Rattle.std.specs.List.{AllZip}
 use Rattle.arena_chunks.specs.Source.{Source}
 use Rattle.arena_pool.specs.declared.kind.PoolKind.TheVariants.{Standard}
-use Rattle.arena_workers.specs.declared.served.Served.{Served}
 use Rattle.arena_workers.specs.declared.served.Starved.{Starved}
 use Rattle.lint_reports.specs.Reports.{text_of_reports}
 use Rattle.lint_reports.specs.Sources.{sources}
-use Rattle.lint_reports.specs.declared.report.FileReport.{FileReport}
 use Rattle.arena_lint.specs.All.{IsLintedAlone}
+use Rattle.arena_lint.specs.declared.parts.Linted.{Linted}
 use Rattle.arena_calls.specs.Streams.{Writes, WritesPart}
 use Rattle.arena_calls.specs.ReadAll.{limit, TakesFront}
 use Rattle.arena_calls.specs.Ends.{Outside, HasNoFault, HasReadFault, HasWriteFault, ReadsWhole}
@@ -18,10 +17,10 @@ use Rattle.arena_program.specs.ScriptEnds.{starved_of, IsUnrun}
 
 -- what came of each source
 abbrev pub Reported : Type 0 → Type 0
-Reported C = List (Served FileReport C)
+Reported C = List (Linted C)
 
 abbrev pub text_of_linted : {C : Type 0} → Reported C → List ℕ
-text_of_linted all = text_of_reports (map (λ linted. linted.outcome) all)
+text_of_linted all = text_of_reports (map (λ linted. linted.report) all)
 
 -- The whole input was read, and this came of each of its sources, in order, as of that source alone over a standard pool. What shows that
 -- sources were starved was gained.
@@ -30,7 +29,7 @@ pub record RunsSources {C : Type 0} (source : C → Source) (old new : Outside) 
   pub bytes : List ℕ
   pub whole : ReadsWhole old new bytes
   pub alone : AllZip (IsLintedAlone source Standard) (sources bytes) all
-  pub gained : after ≡ before ++ starved_of 0 all
+  pub gained : after ≡ before ++ starved_of (λ linted. linted.starved) 0 all
   pub arena : new.arena ≡ old.arena
 
 -- The arena at hand is never touched. `before` and `after` are what was held, and is held then, of what shows that sources were starved.

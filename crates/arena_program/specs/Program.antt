@@ -7,7 +7,7 @@ use Rattle.std.specs.declared.io.Error.{Error}
 use Rattle.std.specs.declared.io.ErrorKind.{ErrorKind}
 use Rattle.std.specs.declared.io.ErrorKind.TheVariants.{OutOfMemory as NoMemory}
 use Rattle.std.specs.declared.vec.IntoIter.{IntoIter}
-use Rattle.placement.specs.Causes.{counted}
+use Rattle.arena_rules.specs.Causes.{counted}
 use Rattle.arena_calls.specs.Streams.{Writes, WritesPart}
 use Rattle.arena_calls.specs.Ends.{Outside}
 use Rattle.arena_chunks.specs.Source.{Source}

@@ -35,9 +35,9 @@ shown i None = []
 shown i (Some starved) = (i, starved) ∷ []
 
 -- the same of each, the first of which has this number
-abbrev pub starved_of : {Outcome C : Type 0} → ℕ → List (Served Outcome C) → List (ℕ × Starved C)
-starved_of i [] = []
-starved_of i (served ∷ all) = shown i served.starved ++ starved_of (i + 1) all
+abbrev pub starved_of : {S C : Type 0} → (S → Option (Starved C)) → ℕ → List S → List (ℕ × Starved C)
+starved_of starved i [] = []
+starved_of starved i (served ∷ all) = shown i (starved served) ++ starved_of starved (i + 1) all
 
 abbrev pub text_of_served : {C : Type 0} → All C → List ℕ
 text_of_served all = text_of_outcomes (map (λ served. served.outcome) all)
@@ -54,7 +54,7 @@ pub record RunsScripts {C : Type 0} (promise : Promise C) (old new : Outside) (b
   pub scripts : List (List Command)
   pub lines : ScriptsOf bytes (Ok scripts)
   pub alone : AllZip promise scripts all
-  pub gained : after ≡ before ++ starved_of 0 all
+  pub gained : after ≡ before ++ starved_of (λ served. served.starved) 0 all
   pub arena : new.arena ≡ old.arena
 
 -- nothing was run or written, and nothing gained

@@ -1,7 +1,7 @@
 // What the program prints and answers.
 ghost use Rattle.std.specs.Prelude.{◌≡◌, []};
 ghost use Rattle.std.specs.Process.{exit_status};
-ghost use Rattle.placement.specs.Creation.{empty_state};
+ghost use Rattle.arena_rules.specs.Creation.{empty_state};
 ghost use Rattle.arena_chunks.specs.Source.{view};
 ghost use Rattle.arena_chunks.specs.Creating.{uncounted_memory};
 ghost use Rattle.arena_calls.specs.Budget.{budget};
@@ -142,6 +142,7 @@ pub fn run_program<
 ) -> ExitCode
     requires new { arena.old ≡ uncounted_memory (empty_state 1) [] }
     requires budget { C.left chunks.old ≡ budget }
+    requires unrefused { (C.source chunks.old).refusals ≡ 0 }
     requires budgets { K.each maker ≡ maker_budget }
     requires none { starved.old.items ≡ [] }
     ensures { (status : Status) × (exit_status result ≡ code_of status)

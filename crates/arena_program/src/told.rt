@@ -4,46 +4,66 @@ ghost use Rattle.arena_program.specs.ScriptEnds.{shown, starved_of};
 ghost use Rattle.arena_program.specs.Told.{text_from};
 
 use arena_chunks::{ChunkSource, OutOfMemory};
+use arena_lint::Linted;
 use arena_workers::{Served, Starved};
-use lint_reports::{FileReport, put_report};
+use lint_reports::put_report;
 use script_lines::put_outcome;
 use script_rules::Outcome;
 use std::alloc::Global;
 
-/// An outcome that has a text by its number.
-pub trait Tells {
-    ghost use Rattle.std.specs.Prelude.{ℕ, List, ◌≡◌, ◌++◌, OnOk};
+/// What came of a piece of work, which has a text by its number, and may have what shows that it was starved.
+pub trait Tells<C: ChunkSource> {
+    ghost use Rattle.std.specs.Prelude.{ℕ, List, Option, ◌≡◌, ◌++◌, OnOk};
+    ghost use Rattle.arena_workers.specs.declared.served.Starved.{Starved};
 
-    // The text of the outcome of this number.
+    // The text of what came of the piece of this number.
     ghost text: { ℕ → Self → List ℕ };
+
+    // What shows that it was starved, if something does.
+    ghost starved: { Self → Option (Starved C) };
 
     /// Puts it at the end.
     fn put(&self, out: &mut Vec<u8>, i: u64) -> Result<(), OutOfMemory>
         ensures { OnOk result (out.new.items ≡ out.old.items ++ text i self.now) };
+
+    /// What shows that it was starved; the rest is let go.
+    fn into_starved(self) -> Option<Starved<C>>
+        ensures { result ≡ starved self };
 }
 
-impl Tells for Outcome {
-    ghost use Rattle.script_rules.specs.Outcomes.{told};
-    ghost use Rattle.script_lines.specs.Room.{outcome_text};
+impl<C: ChunkSource + Drop> Tells<C> for Served<Outcome, C> {
+    ghost use Rattle.arena_program.specs.Told.{served_text};
 
-    ghost text = { λ i outcome. outcome_text i (told outcome) };
+    ghost text = { served_text };
+
+    ghost starved = { λ served. served.starved };
 
     fn put(&self, out: &mut Vec<u8>, i: u64) -> Result<(), OutOfMemory> {
-        put_outcome(out, i, self)
+        put_outcome(out, i, &self.outcome)
+    }
+
+    fn into_starved(self) -> Option<Starved<C>> {
+        self.starved
     }
 }
 
-impl Tells for FileReport {
-    ghost use Rattle.lint_reports.specs.Reports.{report_text};
+impl<C: ChunkSource + Drop> Tells<C> for Linted<C> {
+    ghost use Rattle.arena_program.specs.Told.{linted_text};
 
-    ghost text = { report_text };
+    ghost text = { linted_text };
+
+    ghost starved = { λ linted. linted.starved };
 
     fn put(&self, out: &mut Vec<u8>, i: u64) -> Result<(), OutOfMemory> {
-        put_report(out, i, self)
+        put_report(out, i, &self.report)
+    }
+
+    fn into_starved(self) -> Option<Starved<C>> {
+        self.starved
     }
 }
 
-// The text of outcomes, and what shows that work was starved, each with its number.
+// The text of pieces of work, and what shows that some were starved, each with its number.
 #[derive(Drop)]
 struct Told<C: ChunkSource> {
     text: Vec<u8>,
@@ -61,50 +81,41 @@ fn gain<C: ChunkSource + Drop>(
     let Some(one) = one else {
         return Ok(());
     };
-    match starved.push((i, one)) {
-        Ok(()) => Ok(()),
-        Err(_) => Err(OutOfMemory),
-    }
+    Ok(starved.push((i, one))?)
 }
 
-// What is told of all outcomes. Each goes straight into the text, and is let go once it is told.
-fn tell<T: Tells + Drop, C: ChunkSource + Drop>(
+// What is told of all pieces. Each goes straight into the text, and is let go once it is told.
+fn tell<T: Tells<C> + Drop, C: ChunkSource + Drop>(
     alloc: Global,
-    all: Vec<Served<T, C>>,
+    all: Vec<T>,
 ) -> Result<Told<C>, OutOfMemory>
     requires { length all.items < 2 ^ 32 }
     ensures text { IfOk result (λ told. told.text.items ≡ text_from T.text 0 all.items) }
-    ensures starved { IfOk result (λ told. told.starved.items ≡ starved_of 0 all.items) }
+    ensures starved { IfOk result (λ told. told.starved.items ≡ starved_of T.starved 0 all.items) }
 {
     let mut text = Vec::new(alloc);
     let mut starved = Vec::new(alloc);
     let mut i: u32 = 0;
     for served in all {
-        let Served {
-            outcome,
-            starved: one,
-        } = served;
-        outcome.put(&mut text, u64::from(i))?;
-        gain(&mut starved, i, one)?;
+        served.put(&mut text, u64::from(i))?;
+        gain(&mut starved, i, served.into_starved())?;
         i += 1;
     }
     Ok(Told { text, starved })
 }
 
-/// The text of all outcomes. `starved` gains what shows that work was starved, once nothing more can be wanting.
-pub fn report<T: Tells + Drop, C: ChunkSource + Drop>(
+/// The text of all pieces. `starved` gains what shows that work was starved, once nothing more can be wanting.
+pub fn report<T: Tells<C> + Drop, C: ChunkSource + Drop>(
     alloc: Global,
-    all: Vec<Served<T, C>>,
+    all: Vec<T>,
     starved: &mut Vec<(u32, Starved<C>)>,
 ) -> Result<Vec<u8>, OutOfMemory>
     requires { length all.items < 2 ^ 32 }
     ensures text { IfOk result (λ text. text.items ≡ text_from T.text 0 all.items) }
-    ensures gained { OnOk result (starved.new.items ≡ starved.old.items ++ starved_of 0 all.items) }
+    ensures gained { OnOk result (starved.new.items ≡ starved.old.items ++ starved_of T.starved 0 all.items) }
     ensures same { OnErr result (starved.new.items ≡ starved.old.items) }
 {
     let mut told = tell(alloc, all)?;
-    match starved.append(&mut told.starved) {
-        Ok(()) => Ok(told.text),
-        Err(_) => Err(OutOfMemory),
-    }
+    starved.append(&mut told.starved)?;
+    Ok(told.text)
 }

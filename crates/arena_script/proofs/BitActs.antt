@@ -5,16 +5,17 @@ use Rattle.std.specs.List.{filter, range_with_len}
 use Rattle.std.specs.Option.{option_map_or}
 use Rattle.std.proofs.lemmas.Bool.{cases_lt}
 use Rattle.std.proofs.lemmas.Bool.Decides.{nat_tests}
-use Rattle.placement.specs.Bits.{Set, nothing, with_bit, without_bit, joined, below, members, words_for}
-use Rattle.placement.specs.Rounding.{is_layout}
+use Rattle.arena_rules.specs.Bits.{Set, nothing, with_bit, without_bit, joined, below, members, words_for}
+use Rattle.arena_rules.specs.Rounding.{is_layout}
 use Rattle.std.proofs.Math.Path.{fun_ext}
-use Rattle.placement.specs.PrintedBits.{printed}
+use Rattle.arena_rules.specs.PrintedBits.{printed}
 use Rattle.arena_chunks.specs.Source.{View}
 use Rattle.arena_chunks.specs.Memory.{Memory}
 use Rattle.arena_chunks.proofs.Layers.{placed_least}
 use Rattle.arena_items.specs.LayoutLaws.{plain_8}
 use Rattle.arena_items.specs.declared.room.AllocError.{AllocError}
 use Rattle.arena_items.proofs.Layers.{row_is_layout}
+use Rattle.arena_clone.specs.Asks.Ask.{Room}
 use Rattle.arena_bits.specs.Sets.{IsSetIn, set_of, AreOneOrApart, BecomesSet, PlacesSet}
 use Rattle.arena_bits.specs.declared.set.BitSet.{BitSet}
 use Rattle.script_rules.specs.Objects.{get, has, Bits, bits_end, ASet}
@@ -27,9 +28,11 @@ use Rattle.script_rules.specs.declared.commands.ScriptReply.TheVariants.{Done, T
 use Rattle.arena_script.specs.Things.{Things, object_in, seen, bits_below, AreThings, block_of}
 use Rattle.arena_script.specs.declared.thing.Thing.{Thing}
 use Rattle.arena_script.specs.Wants.{takes_room}
+use Rattle.arena_script.specs.Asks.{asks}
 use Rattle.arena_script.specs.Acts.{GivesThing, GivesNothing}
 use Rattle.arena_script.specs.declared.thing.Thing.TheVariants as thing
 use Rattle.arena_script.proofs.CostFacts.{still, same_used, nothing_given, block_given, block_refused}
+use Rattle.arena_script.proofs.AskLemmas.{block_asked}
 use Rattle.arena_script.proofs.GivingLemmas.{exchanged, made, kept}
 use Rattle.arena_script.proofs.ThingLemmas.{Holds, other_name}
 use Rattle.arena_script.proofs.BitFacts.{has_below, bits_with, bits_without, bits_joined, bits_none}
@@ -125,8 +128,10 @@ module _ {command : Command} {things : Things} {old new : View} {name capacity :
       is = ap (λ (t : Set). ASet s.capacity (bits_below (bits_end s.capacity) t)) places.set_is
           ∙ ap (λ c. ASet c (bits_below (bits_end c) set)) places.capacity
 
-  pub made_gives_nothing : {e : AllocError} → PlacesSet old new capacity set (Err e) → GivesNothing command things old new e
-  made_gives_nothing {e} places = kept none taken given
+  pub made_gives_nothing : asks command old.memory things ≡ Room (words_for capacity * 8) 8 → {e : AllocError}
+      → PlacesSet old new capacity set (Err e) → GivesNothing command things old new e
+  made_gives_nothing is {e} places = kept none taken given
+      (rw is (block_asked old new (words_for capacity * 8) 8 (λ (s : BitSet). s.words.block) e places.placed))
       (block_refused old new new (words_for capacity * 8) 8 (8 * words_for capacity + 7) 0 0 one (set_layout capacity small) (omega arith)
       (omega (arith, small)) (omega arith) (still new) (λ (s : BitSet). s.words.block) e places.placed)
 

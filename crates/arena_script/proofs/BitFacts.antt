@@ -3,7 +3,7 @@ use Rattle.std.proofs.Common.{◌≡◌, ℕ, ◌<◌, ◌≤◌, min, refl, sym
 use Rattle.std.specs.Prelude.{◌==◌, nat_lt, if◌then◌else◌}
 use Rattle.std.proofs.lemmas.Bool.{cases_lt}
 use Rattle.std.proofs.lemmas.Bool.Decides.{nat_tests}
-use Rattle.placement.specs.Bits.{Set, nothing, with_bit, without_bit, joined, below}
+use Rattle.arena_rules.specs.Bits.{Set, nothing, with_bit, without_bit, joined, below}
 use Rattle.script_rules.specs.Objects.{Bits, get, has, bind, unbind, united, are_rising}
 use Rattle.script_rules.proofs.EntryLemmas.{rising_united}
 use Rattle.script_rules.proofs.LookupLemmas.{has_united}

@@ -1,7 +1,8 @@
 -- What copies of things do: those of any kind, and of lists.
-use Rattle.std.proofs.Common.{◌≡◌, ℕ, ◌-◌, ◌*◌, refl, ap, ◌∙◌, subst, arith, Ok, Err, None, Result, length}
+use Rattle.std.proofs.Common.{◌≡◌, ℕ, ◌-◌, ◌*◌, refl, sym, ap, ◌∙◌, subst, arith, Ok, Err, Some, None, [], ◌∷◌, Result, length}
 use Rattle.arena_chunks.specs.Memory.{Memory}
 use Rattle.arena_chunks.specs.Source.{View}
+use Rattle.arena_clone.specs.Asks.{AsksFor}
 use Rattle.arena_items.specs.Room.{capacity_after}
 use Rattle.arena_items.specs.Values.{IsHeld}
 use Rattle.arena_items.specs.declared.room.AllocError.{AllocError}
@@ -18,10 +19,12 @@ use Rattle.script_rules.specs.declared.commands.Command.TheVariants.{CopyTo}
 use Rattle.script_rules.specs.declared.commands.ScriptReply.TheVariants.{Done}
 use Rattle.arena_script.specs.Kinds.{short}
 use Rattle.arena_script.specs.Things.{Things, object_in, seen}
+use Rattle.arena_script.specs.Asks.{copy_ask}
 use Rattle.arena_script.specs.Acts.{GivesThing, GivesNothing}
 use Rattle.arena_script.specs.declared.thing.Thing.{Thing}
 use Rattle.arena_script.specs.declared.thing.Thing.TheVariants as thing
 use Rattle.arena_script.proofs.CostFacts.{IsPaid, IsRefused, grown_least, grown_costs, grown_refused}
+use Rattle.arena_script.proofs.AskLemmas.{growth_asked}
 use Rattle.arena_script.proofs.GivingLemmas.{IsGiven, made, kept}
 use Rattle.arena_script.proofs.ListLemmas.{GrowthRule, all_paid}
 use Rattle.arena_script.proofs.ThingLemmas.{Holds}
@@ -39,9 +42,11 @@ module _ {things : Things} {old new : View} {name other : ℕ} {t : Thing} (h : 
       → GivesThing (CopyTo name other) things old new other w Done
   copy_gives w is copied = made none refl (rw (copy_given h other none, costs, is) refl) copied
 
-  pub copy_gives_nothing : {e : AllocError} → IsRefused cost 0 old new e → GivesNothing (CopyTo name other) things old new e
-  copy_gives_nothing refused =
-      kept {cost = cost} {reply = Done} {object = object_in old.memory t} none refl (rw (copy_given h other none, costs) refl) refused
+  pub copy_gives_nothing : {e : AllocError} → AsksFor (copy_ask (Some t) ∷ []) old new [] (Some e) → IsRefused cost 0 old new e
+      → GivesNothing (CopyTo name other) things old new e
+  copy_gives_nothing {e} asked refused =
+      kept {cost = cost} {reply = Done} {object = object_in old.memory t} none refl (rw (copy_given h other none, costs) refl)
+      (subst (λ o. AsksFor (copy_ask o ∷ []) old new [] (Some e)) (sym h.found) asked) refused
 
 -- ---- Lists
 
@@ -82,5 +87,8 @@ module _ (rule : GrowthRule) (old new : View) (other : ℕ) {things : Things} {n
 
   pub list_copy_gives_nothing : {e : AllocError} → Copied (n - 0) (Err e) → GivesNothing (CopyTo name other) things old new e
   list_copy_gives_nothing {e} split = let makes = from_start split in
-      copy_gives_nothing h none (ap (λ k. 24 * k) counted) (grown_refused old new (empty_block 4) 4 4 0 (λ (w : Vec ℕ). w.raw.block)
+      copy_gives_nothing h none (ap (λ k. 24 * k) counted)
+      (growth_asked old new (empty_block 4) 4 4 (λ (w : Vec ℕ). w.raw.block) makes.err 0 (24 * n) 0 later (new_growth 4 n) e one place
+      paid makes.made)
+      (grown_refused old new (empty_block 4) 4 4 0 (λ (w : Vec ℕ). w.raw.block)
       (24 * n) 0 later one place (omega arith) (new_growth 4 n) e paid (ap (λ m. m.state) makes.err) makes.made)

@@ -1,17 +1,17 @@
 -- What calls of a command cost: one block, or none.
 use Rattle.std.proofs.Common.{◌≡◌, ◌≢◌, ℕ, ◌+◌, ◌-◌, ◌*◌, ◌^◌, ◌≤◌, refl, ap, ◌∙◌, sym, subst, arith, IsTrue, Result, Ok, Err, inl}
 use Rattle.std.specs.Prelude.{IsErrAnd}
-use Rattle.placement.specs.Rounding.{is_layout}
-use Rattle.placement.specs.State.{State, used_bytes, allocated_bytes}
-use Rattle.placement.specs.Asking.{IsStarved as IsStateStarved}
-use Rattle.placement.proofs.AskingLemmas.{asks_more, asks_then}
-use Rattle.placement.proofs.GrownLemmas.{alloc_failed}
-use Rattle.placement.proofs.RoundingLemmas.{layout_power}
+use Rattle.arena_rules.specs.Rounding.{is_layout}
+use Rattle.arena_rules.specs.State.{State, used_bytes, allocated_bytes}
+use Rattle.arena_rules.specs.Asking.{IsStarved as IsStateStarved}
+use Rattle.arena_rules.proofs.AskingLemmas.{asks_more, asks_then}
+use Rattle.arena_rules.proofs.GrownLemmas.{alloc_failed}
+use Rattle.arena_rules.proofs.RoundingLemmas.{layout_power}
 use Rattle.arena_chunks.specs.Source.{View}
 use Rattle.arena_chunks.specs.Answers.{Answer}
 use Rattle.arena_chunks.specs.Answers.Answer.{Placed, Wanting, Refused}
 use Rattle.arena_chunks.specs.BlockCalls.{PlacesBlock}
-use Rattle.arena_chunks.specs.declared.block.Block.{Block}
+use Rattle.arena_store.specs.declared.block.Block.{Block}
 use Rattle.arena_chunks.proofs.Layers.{asks_same}
 use Rattle.arena_items.specs.Costs.{Costs, farthest}
 use Rattle.arena_items.specs.Room.{MakesRoom, TakesRoom, RoomAnswer, SamePlaces, capacity_after}

@@ -3,7 +3,7 @@ use Rattle.std.proofs.Common.{◌≡◌, ℕ, ◌+◌, ◌*◌, ◌≤◌, ◌<�
 use Rattle.std.specs.Prelude.{if◌then◌else◌, IsSomeAnd, ◌≢◌}
 use Rattle.std.proofs.Math.Seq.{take-length, take-suc}
 use Rattle.std.proofs.lemmas.Option.{slice_get-get_or}
-use Rattle.placement.proofs.AskingLemmas.{asks_more}
+use Rattle.arena_rules.proofs.AskingLemmas.{asks_more}
 use Rattle.arena_chunks.specs.Memory.{Memory}
 use Rattle.arena_chunks.specs.Source.{View}
 use Rattle.arena_chunks.specs.Asking.{AsksWithin, IsFull}
@@ -11,11 +11,12 @@ use Rattle.arena_chunks.proofs.Layers.{asks_same}
 use Rattle.arena_hash.specs.Maps.{IsMapIn}
 use Rattle.arena_hash.specs.declared.map.HashMap.{HashMap}
 use Rattle.arena_hash.specs.declared.hasher.FxHasher.{FxHasher}
+use Rattle.arena_clone.specs.Asks.{AsksFor}
 use Rattle.arena_items.specs.declared.room.AllocError.{AllocError}
 use Rattle.arena_items.specs.declared.room.AllocError.TheVariants.{AllocErr}
 use Rattle.script_rules.specs.Objects.{need}
 use Rattle.script_rules.specs.Machine.{run, run_from, cost_of, cost_of_first}
-use Rattle.placement.specs.Asking.{IsStarvedWithin}
+use Rattle.arena_rules.specs.Asking.{IsStarvedWithin}
 use Rattle.script_rules.specs.declared.commands.Command.{Command}
 use Rattle.script_rules.specs.declared.commands.Ended.{Ended}
 use Rattle.script_rules.specs.declared.commands.Ended.TheVariants.{Done, Full, Refused, OutOfMemory}
@@ -24,10 +25,11 @@ use Rattle.script_rules.specs.declared.outcome.Outcome.{Outcome}
 use Rattle.script_rules.proofs.RunLemmas.{first_cost, first_replies, reply_count, cost_rises}
 use Rattle.arena_script.specs.Kinds.{pairs}
 use Rattle.arena_script.specs.Things.{Things}
+use Rattle.arena_script.specs.Asks.{asks}
 use Rattle.arena_script.specs.Acts.{used, HasNoPlace}
 use Rattle.arena_script.specs.Serves.{IsAfter, Stops}
 use Rattle.arena_script.specs.Wants.{takes_memory}
-use Rattle.arena_script.specs.Running.{IsRun, IsStoppedAt, cost_with_next}
+use Rattle.arena_script.specs.Running.{IsRun, IsDenied, IsStoppedAt, cost_with_next}
 use Rattle.arena_script.proofs.RunningLemmas.{cost_more, stopped_costs, stopped_kind}
 use Rattle.arena_script.proofs.ServeLemmas.{no_place_within}
 use Rattle.arena_script.proofs.NeedLemmas.{needed}
@@ -89,6 +91,7 @@ module _ (script : List Command) (start : View) {replies : List ScriptReply} {i 
       );
       full = λ e. absurd (cc);
       refused = λ e. absurd (cc);
+      asked = λ other _. absurd (other refl);
       denied = λ other _. absurd (other refl);
       stopped = λ other. absurd (other refl);
       kind = after.kind;
@@ -111,9 +114,10 @@ module _ (script : List Command) (start : View) {replies : List ScriptReply} {i 
     run_stopped : (ended : Ended) → ended ≢ Done → (ended ≡ Full → IsFull (cost_with_next script (came replies ended bytes)) start)
         → (ended ≡ Refused → IsStarvedWithin (cost_with_next script (came replies ended bytes)) start.memory.state next.memory.state
         start.source next.source)
+        → (ended ≢ OutOfMemory → IsDenied script (came replies ended bytes) start next)
         → (ended ≢ OutOfMemory → HasNoPlace (cost_with_next script (came replies ended bytes)) next)
         → IsRun script start next (came replies ended bytes)
-    run_stopped ended other full refused denied = record {
+    run_stopped ended other full refused asked denied = record {
       replies = record { first = first; all = λ e. absurd (other e) };
       holds = λ e. absurd (other e);
       asks = asks_for ended;
@@ -122,6 +126,7 @@ module _ (script : List Command) (start : View) {replies : List ScriptReply} {i 
       least = λ e. absurd (other e);
       full = full;
       refused = refused;
+      asked = λ _. asked;
       denied = λ _. denied;
       stopped = λ _. inr (stopped_at ended);
       kind = stopped_kind c at.more after stops;
@@ -130,6 +135,20 @@ module _ (script : List Command) (start : View) {replies : List ScriptReply} {i 
     -- Memory was wanting.
     pub run_wanting : IsRun script start next (came replies OutOfMemory bytes)
     run_wanting = run_stopped OutOfMemory (λ e. cc) (λ e. absurd (cc)) (λ e. absurd (cc)) (λ other. absurd (other refl))
+        (λ other. absurd (other refl))
+
+    refused_then : (k : ℕ) → e ≡ AllocErr k → (ended : Ended) → IsDenied script (came replies ended bytes) start next
+    refused_then k refused ended = record {
+      before = now;
+      things = things;
+      after = subst (λ n. IsAfter script start now things n) (sym counted) after;
+      asked = subst (λ n. IsSomeAnd (slice_get script n) Refuses) (sym counted)
+          (subst (λ o. IsSomeAnd o Refuses) (sym at.is)
+          (k, subst (λ x. AsksFor (asks c now.memory things ∷ []) now next [] (Some x)) refused (stops.asked k refused)));
+    }
+      where
+        Refuses : Command → Type 0
+        Refuses d = (j : ℕ) × AsksFor (asks d now.memory things ∷ []) now next [] (Some (AllocErr j))
 
     no_place : (k : ℕ) → e ≡ AllocErr k → (ended : Ended) → HasNoPlace (cost_with_next script (came replies ended bytes)) next
     no_place k refused ended = no_place_within
@@ -142,13 +161,13 @@ module _ (script : List Command) (start : View) {replies : List ScriptReply} {i 
         run_stopped Refused (λ e. cc) (λ e. absurd (cc)) (λ _. record {
           asks = asks_for Refused;
           starved = costs.starved (sym (stopped_kind c at.more after stops).is_growing ∙ grows) k (ap Err refused);
-        }) (λ _. no_place k refused Refused)
+        }) (λ _. refused_then k refused Refused) (λ _. no_place k refused Refused)
     run_refused {k} refused false stays =
         let short = (stopped_costs c at.more after stops).full (sym (stopped_kind c at.more after stops).is_growing ∙ stays) k
         (ap Err refused) in
         run_stopped Full (λ e. cc)
         (λ _. record { still = short.still; short = omega (arith, short.short, unused, next_cost Full bytes) }) (λ e. absurd (cc))
-        (λ _. no_place k refused Full)
+        (λ _. refused_then k refused Full) (λ _. no_place k refused Full)
 
 -- No command was served, since there was no memory for the replies.
 pub run_unbegun : (script : List Command) (start : View) → used start ≡ 0 → (bytes : ℕ) → bytes ≡ used start
@@ -163,6 +182,7 @@ run_unbegun script start unused bytes is = record {
   least = λ e. absurd (cc);
   full = λ e. absurd (cc);
   refused = λ e. absurd (cc);
+  asked = λ _ other. absurd (other refl);
   denied = λ _ other. absurd (other refl);
   stopped = λ other. inl (record { wanting = refl; none = refl; same = refl });
   kind = record { is_growing = refl; allocated = λ stays. refl };

@@ -2,11 +2,13 @@
 use Rattle.std.proofs.Common.{◌≡◌, ℕ, ◌+◌, ◌≤◌, sym, ◌∙◌, IsTrue, Option, Some, None, [], ◌∷◌}
 use Rattle.arena_chunks.specs.Frame.{Frame}
 use Rattle.arena_chunks.specs.Source.{View}
+use Rattle.arena_clone.specs.Asks.{AsksFor}
 use Rattle.arena_items.specs.declared.room.AllocError.{AllocError}
 use Rattle.script_rules.specs.Objects.{get, Object}
 use Rattle.script_rules.specs.Effects.{Gives, effect}
 use Rattle.script_rules.specs.declared.commands.Command.{Command}
 use Rattle.script_rules.specs.declared.commands.ScriptReply.{ScriptReply}
+use Rattle.arena_script.specs.Asks.{asks}
 use Rattle.arena_script.specs.Acts.{used, CostsGiven, GivesThing, GivesNothing}
 use Rattle.arena_script.specs.Things.{Things, IsThingIn, object_in, seen, block_of, blocks_of, size_of, size_held, credit_of, credit_held}
 use Rattle.arena_script.specs.Wants.{takes_room}
@@ -48,9 +50,10 @@ module _ {command : Command} {things : Things} {old new : View} {name cost : ℕ
 
   -- Nothing is given.
   pub kept : {o : Option Thing} {object : Object} {e : AllocError} → get things name ≡ o → IsTrue (takes_room command)
-      → effect command (seen old.memory things) ≡ Gives name object reply cost → IsRefused cost (credit_held o) old new e
+      → effect command (seen old.memory things) ≡ Gives name object reply cost
+      → AsksFor (asks command old.memory things ∷ []) old new [] (Some e) → IsRefused cost (credit_held o) old new e
       → GivesNothing command things old new e
-  kept {o} {object} at taken effect_is refused = record {
+  kept {o} {object} at taken effect_is asked refused = record {
     name = name;
     object = object;
     reply = reply;
@@ -59,6 +62,7 @@ module _ {command : Command} {things : Things} {old new : View} {name cost : ℕ
     taken = taken;
     fits = refused.fits;
     costs = rw at refused.costs;
+    asked = asked;
     denied = rw at refused.denied;
     same = refused.same;
   }

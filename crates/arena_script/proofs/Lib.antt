@@ -2,6 +2,7 @@ pub mod EntryFacts
 pub mod BitFacts
 pub mod PairFacts
 pub mod CostFacts
+pub mod AskLemmas
 pub mod ThingLemmas
 pub mod GivingLemmas
 pub mod NeedLemmas

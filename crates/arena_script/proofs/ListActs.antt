@@ -16,7 +16,7 @@ use Rattle.arena_vec.specs.Credit as vectors
 use Rattle.arena_vec.specs.Growth.{amortised_growth}
 use Rattle.arena_vec.specs.Vecs.{vec_list}
 use Rattle.arena_vec.specs.declared.vec.Vec.{Vec}
-use Rattle.script_rules.specs.Objects.{AList, most_items}
+use Rattle.script_rules.specs.Objects.{get, AList, most_items}
 use Rattle.script_rules.specs.Effects.{Tells, Gives, number_or_nothing, effect}
 use Rattle.script_rules.specs.declared.commands.Command.{Command}
 use Rattle.script_rules.specs.declared.commands.Command.TheVariants.{Push, Insert, Pop, Remove, At, Put, Truncate}
@@ -25,9 +25,11 @@ use Rattle.script_rules.specs.declared.commands.ScriptReply.TheVariants.{Done, N
 use Rattle.arena_script.specs.Kinds.{short}
 use Rattle.arena_script.specs.Things.{Things, seen, credit_of}
 use Rattle.arena_script.specs.Wants.{takes_room}
+use Rattle.arena_script.specs.Asks.{asks, longer_list}
 use Rattle.arena_script.specs.Acts.{GivesThing, GivesNothing}
 use Rattle.arena_script.specs.declared.thing.Thing.TheVariants as thing
 use Rattle.arena_script.proofs.CostFacts.{IsPaid, same_used, nothing_given, grown_least, grown_costs, grown_refused}
+use Rattle.arena_script.proofs.AskLemmas.{growth_asked}
 use Rattle.arena_script.proofs.GivingLemmas.{exchanged, kept}
 use Rattle.arena_script.proofs.ListLemmas.{GrowthRule, Paid, one_paid}
 use Rattle.arena_script.proofs.ThingLemmas.{Holds}
@@ -75,6 +77,7 @@ module _ {things : Things} {m : Memory} {name : ℕ} {v : Vec ℕ} (h : Holds th
   -- It has this list afterwards.
   pub record GrowsTo (command : Command) (list : List ℕ) : Type 0 where
     pub taken : IsTrue (takes_room command)
+    pub asks_is : asks command m things ≡ longer_list (get things name)
     pub few : v.raw.len < most_items
     pub longer : length list ≡ v.raw.len + 1
     pub given : effect command (seen m things) ≡ Gives name (AList list) Done 24
@@ -83,6 +86,7 @@ module _ {things : Things} {m : Memory} {name : ℕ} {v : Vec ℕ} (h : Holds th
   unfolding effect
   push_grows value less = record {
     taken = refl;
+    asks_is = refl;
     few = less;
     longer = omega (arith, counted, length-append items (value ∷ []));
     given = let test : nat_le most_items (length items) ≡ false = grind (arith, nat_tests, counted) in rw (h.found, test) refl;
@@ -92,6 +96,7 @@ module _ {things : Things} {m : Memory} {name : ℕ} {v : Vec ℕ} (h : Holds th
   unfolding effect
   insert_grows at value inside less = record {
     taken = refl;
+    asks_is = refl;
     few = less;
     longer = omega (arith, counted, length-insert items at value (omega (arith, counted)));
     given = let test : nat_le most_items (length items) ≡ false = grind (arith, nat_tests, counted) in
@@ -123,7 +128,10 @@ module _ (rule : GrowthRule) (paid : Paid) (old new : View) (w : Vec ℕ) {thing
 
   pub list_gives_nothing : {e : AllocError} → Grows {X = Unit {0}} short old new v growth list w (Err e)
       → GivesNothing command things old new e
-  list_gives_nothing {e} grows = kept h.found to.taken to.given (grown_refused old new v.raw.block 4 4 v.raw.cap
+  list_gives_nothing {e} grows = kept h.found to.taken to.given
+      (rw (to.asks_is, h.found) (growth_asked old new v.raw.block 4 4 (λ (u : Unit {0}). w.raw.block) grows.err.1 v.raw.cap 24
+      (credit_of (thing.List v)) later growth e one h.held.place afforded grows.made))
+      (grown_refused old new v.raw.block 4 4 v.raw.cap
       (λ (u : Unit {0}). w.raw.block) 24 (credit_of (thing.List v)) later one h.held.place (omega arith) growth e afforded
       (ap (λ m. m.state) grows.err.1) grows.made)
 

@@ -3,11 +3,11 @@ use Rattle.std.proofs.Common.{◌≡◌, ℕ, ◌+◌, ◌-◌, ◌^◌, ◌<◌
 use Rattle.std.specs.Prelude.{nat_le, nat_lt, if◌then◌else◌}
 use Rattle.std.proofs.lemmas.Bool.{cases_lt, false≢true}
 use Rattle.std.proofs.lemmas.Bool.Decides.{nat_tests}
-use Rattle.placement.specs.Rounding.{up, is_layout, is_power_among}
-use Rattle.placement.proofs.RoundingLemmas.{up_close}
+use Rattle.arena_rules.specs.Rounding.{up, is_layout, is_power_among}
+use Rattle.arena_rules.proofs.RoundingLemmas.{up_close}
 use Rattle.arena_chunks.specs.Memory.{Memory}
 use Rattle.arena_chunks.specs.Source.{View}
-use Rattle.arena_chunks.specs.declared.block.Block.{Block}
+use Rattle.arena_store.specs.declared.block.Block.{Block}
 use Rattle.arena_chunks.proofs.Layers.{empty_after, frame_reflexive, placed_least}
 use Rattle.arena_items.specs.Room.{SamePlaces}
 use Rattle.arena_items.specs.declared.room.AllocError.{AllocError}
@@ -30,6 +30,7 @@ use Rattle.arena_script.specs.Kinds.{pairs}
 use Rattle.arena_script.specs.Things.{Things, seen, content, pairs_of, credit_of, IsPairsIn}
 use Rattle.arena_script.specs.Acts.{used, GivesThing, GivesNothing, CostsGiven}
 use Rattle.arena_script.specs.declared.thing.Thing.TheVariants as thing
+use Rattle.arena_script.proofs.AskLemmas.{first_asked}
 use Rattle.arena_script.proofs.GivingLemmas.{exchanged, kept, made}
 use Rattle.arena_script.proofs.ThingLemmas.{Holds}
 use Rattle.arena_script.proofs.PairFacts.{rising, get_pair, has_pair, pairs_with, pairs_without, pairs_none}
@@ -213,7 +214,10 @@ module _ (old new : View) (w : HashMap ℕ ℕ FxHasher) (value : ℕ) {things :
 
   pub bind_gives_nothing : {e : AllocError} → Puts {X = Option ℕ} pairs old new h key value is_value w (Err e)
       → GivesNothing (Bind name key value) things old new e
-  bind_gives_nothing {e} puts = kept holds.found refl (bind_given holds key value small room) (by there refl)
+  bind_gives_nothing {e} puts = kept holds.found refl (bind_given holds key value small room)
+      (rw holds.found (first_asked old new h.table.block 9 8 (λ (x : Option ℕ). w.table.block) puts.err.1
+      (growth_for there h.table.slots h.len) e puts.made))
+      (by there refl)
     where
       by : (b : Bool) → there ≡ b → IsRefused (cost_by holds b) credit old new e
       by true is_there = absurd (false≢true (puts.costs.there is_there).0)

@@ -4,7 +4,7 @@ use Rattle.std.proofs.Math.Path.{fun_ext}
 use Rattle.arena_chunks.specs.Memory.{Memory}
 use Rattle.arena_chunks.specs.Source.{View}
 use Rattle.arena_chunks.specs.Frame.{Frame}
-use Rattle.arena_chunks.specs.declared.block.Block.{Block}
+use Rattle.arena_store.specs.declared.block.Block.{Block}
 use Rattle.arena_items.specs.declared.room.AllocError.{AllocError}
 use Rattle.arena_hash.specs.Accounts.{unit_of}
 use Rattle.arena_hash.specs.Finite.{has, value_of}
@@ -25,6 +25,7 @@ use Rattle.arena_script.specs.Kinds.{pairs}
 use Rattle.arena_script.specs.Things.{Things, content, pairs_of, entries_below, IsPairsIn, credit_of}
 use Rattle.arena_script.specs.Acts.{GivesThing, GivesNothing}
 use Rattle.arena_script.specs.declared.thing.Thing.TheVariants as thing
+use Rattle.arena_script.proofs.AskLemmas.{alone}
 use Rattle.arena_script.proofs.CopyActs.{copy_gives, copy_gives_nothing}
 use Rattle.arena_script.proofs.GivingLemmas.{IsGiven}
 use Rattle.arena_script.proofs.CostFacts.{IsRefused, same_used, nothing_given}
@@ -37,7 +38,7 @@ abbrev Map : Type 0
 Map = HashMap ℕ ℕ FxHasher
 
 abbrev map_kind : Kind Map
-map_kind = map_of pairs plain plain
+map_kind = map_of pairs Rattle.arena_hash.specs.contracts.hasher.FxHasherDefault.TheImpl.ghosts.is_default plain plain
 
 -- numbers are held wherever they are
 plain_all : (m : Memory) (ps : List (ℕ × ℕ)) → (row_of (pair_of (plain {T = ℕ}) (plain {T = ℕ}))).is_held m ps
@@ -85,7 +86,7 @@ module _ (old new : View) (other : ℕ) {things : Things} {name : ℕ} {h : Map}
   module _ {copy : Map} (copies : Cloned (Ok copy)) where
     same_value : (q : List ℕ) → value_of (map_in pairs new.memory copy q) ≡ value_of (map_in pairs old.memory h q)
     same_value q =
-        sym (value_is (map_in pairs new.memory copy q)) ∙ ap (λ (w : FxHasher × (List ℕ → Option ℕ)). w.1 q) copies.made.means
+        sym (value_is (map_in pairs new.memory copy q)) ∙ ap (λ (w : List ℕ → Option ℕ). w q) copies.made.means
         ∙ some_same (of_some (λ (p : ℕ × ℕ). p.1) (map_in pairs old.memory h q)) ∙ value_is (map_in pairs old.memory h q)
 
     same_has : (q : List ℕ) → has (map_in pairs new.memory copy) q ≡ has (map_in pairs old.memory h) q
@@ -150,5 +151,7 @@ module _ (old new : View) (other : ℕ) {things : Things} {name : ℕ} {h : Map}
       (omega (arith, within, some)) takes
 
   pub map_copy_gives_nothing : {e : AllocError} → Cloned (Err e) → GivesNothing (CopyTo name other) things old new e
-  map_copy_gives_nothing {e} copies = copy_gives_nothing holds none (ap (λ k. 256 * k) (sym holds.held.count))
-      (map_denied copies.blocks e h.len refl (table_asked copies.blocks (Some e) copies.placed.asked))
+  map_copy_gives_nothing {e} copies =
+      let asked = table_asked copies.blocks (Some e) copies.placed.asked in
+      copy_gives_nothing holds none (ap (λ k. 256 * k) (sym holds.held.count))
+      (alone old new copies.blocks e (table_ask pairs h.len) asked) (map_denied copies.blocks e h.len refl asked)

@@ -176,6 +176,7 @@ module _ {command : Command} {things : Things} {old new : View} {name : ℕ} {t 
         taken = or_right (tells_much command) (takes_room command) (gives.taken none);
         costs = subst (λ n. CostsRefused n (credits_of things) 0 old new OutOfMemory) (sym (ap (λ (a : Answer). a.cost) answer_is))
             (costs_wanting costs);
+        asked = λ k no. absurd (cc);
         denied = λ k no. absurd (cc);
         kind = kind_stays;
       }
@@ -244,6 +245,7 @@ nothing_stops {command} {things} {old} {new} {e} gives =
           (costs_beside far gives.cost (credit_held (get things gives.name)) (credit_held (get things gives.name)) (credits_of things) 0
           (credits_of things - credit_held (get things gives.name)) old new (Err e)
           (omega (arith, total_get credit_of things gives.name)) (omega arith) gives.costs);
+      asked = λ k is. gives.asked;
       denied = λ k is. no_place_within
           (omega (arith, ap (λ (a : Answer). a.cost) answer, total_get credit_of things gives.name)) (gives.denied k is);
       kind = rw gives.same (record { is_growing = refl; allocated = λ stays. refl });
@@ -256,6 +258,7 @@ untold_stops {command} {things} {old} much = record {
   taken = ap (λ b. b || takes_room command) much;
   costs = costs_wanting (nothing_given (step command (objects_in old.memory things)).cost (credits_of things) 0 old old (still old)
       (omega arith));
+  asked = λ k no. absurd (cc);
   denied = λ k no. absurd (cc);
   kind = same_kind old;
 }

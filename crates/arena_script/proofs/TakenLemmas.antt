@@ -3,13 +3,13 @@ use Rattle.std.proofs.Common.{IsPermutation, ◌≡◌, ℕ, ◌+◌, ◌-◌, �
 use Rattle.std.proofs.lemmas.Option.{none-some, same_Some}
 use Rattle.std.proofs.lemmas.List.Elements.{recursion_from_All, All-from_recursion}
 use Rattle.std.proofs.lemmas.List.Sorted.{All-permutation}
-use Rattle.placement.specs.Rounding.{is_layout}
-use Rattle.placement.specs.State.{State}
+use Rattle.arena_rules.specs.Rounding.{is_layout}
+use Rattle.arena_rules.specs.State.{State}
 use Rattle.arena_chunks.specs.Source.{View}
 use Rattle.arena_chunks.specs.Answers.{Answer}
 use Rattle.arena_chunks.specs.Answers.Answer.{Placed, Wanting, Refused}
 use Rattle.arena_chunks.specs.BlockCalls.{PlacesBlock}
-use Rattle.arena_chunks.specs.declared.block.Block.{Block}
+use Rattle.arena_store.specs.declared.block.Block.{Block}
 use Rattle.arena_chunks.proofs.Layers.{placed_least}
 use Rattle.arena_items.specs.Room.{RoomAnswer, SamePlaces}
 use Rattle.arena_items.specs.declared.room.AllocError.{AllocError}

@@ -9,7 +9,7 @@ use Rattle.arena_items.specs.Room.{capacity_after}
 use Rattle.arena_items.specs.declared.room.AllocError.{AllocError}
 use Rattle.arena_items.specs.declared.room.Growth.{Growth}
 use Rattle.arena_text.specs.Builders.{IsBuilderIn, builder_bytes, no_block}
-use Rattle.arena_chunks.specs.declared.block.Block.{Block}
+use Rattle.arena_store.specs.declared.block.Block.{Block}
 use Rattle.arena_chunks.proofs.Layers.{empty_after, frame_reflexive}
 use Rattle.arena_text.specs.Changes.{Grows}
 use Rattle.arena_text.specs.Growth.{amortised_growth, IsRoomFor}
@@ -21,11 +21,13 @@ use Rattle.script_rules.specs.declared.commands.Command.TheVariants.{MakeText, B
 use Rattle.script_rules.specs.declared.commands.ScriptReply.TheVariants.{Done, CapacityOverflow}
 use Rattle.arena_script.specs.Things.{Things, seen, credit_of}
 use Rattle.arena_script.specs.Wants.{takes_room}
+use Rattle.arena_script.specs.Asks.{asks, longer_text}
 use Rattle.arena_script.specs.Acts.{Acts, GivesThing, GivesNothing}
 use Rattle.arena_script.specs.declared.act.Act.{Act}
 use Rattle.arena_script.specs.declared.act.Act.TheVariants as act
 use Rattle.arena_script.specs.declared.thing.Thing.TheVariants as thing
 use Rattle.arena_script.proofs.CostFacts.{IsPaid, still, nothing_given, grown_least, grown_costs, grown_refused}
+use Rattle.arena_script.proofs.AskLemmas.{growth_asked}
 use Rattle.arena_script.proofs.GivingLemmas.{exchanged, kept, made}
 use Rattle.arena_script.proofs.ThingLemmas.{Holds}
 use Rattle.arena_script.proofs.TextLemmas.{GrowthRule, later, text_paid, text_place}
@@ -46,6 +48,7 @@ joins_all more len go low fits =
 pub record Puts {things : Things} {m : Memory} {name : ℕ} {t : StringBuilder} (h : Holds things m name (thing.Text t))
     (command : Command) (more list : List ℕ) : Type 0 where
   pub taken : IsTrue (takes_room command)
+  pub asks_is : asks command m things ≡ longer_text (length more) (get things name)
   pub effect_is : effect command (seen m things)
       ≡ joins more (length (builder_bytes m t)) (Gives name (AText list) Done (4 * length more))
   pub longer : length list ≡ length (builder_bytes m t) + length more
@@ -53,11 +56,11 @@ pub record Puts {things : Things} {m : Memory} {name : ℕ} {t : StringBuilder} 
 module _ {things : Things} {m : Memory} {name : ℕ} {t : StringBuilder} (h : Holds things m name (thing.Text t)) where
   pub front_puts : (byte : ℕ) → Puts h (Front name byte) (byte ∷ []) (byte ∷ builder_bytes m t)
   unfolding effect
-  front_puts byte = record { taken = refl; effect_is = rw h.found refl; longer = omega arith }
+  front_puts byte = record { taken = refl; asks_is = refl; effect_is = rw h.found refl; longer = omega arith }
 
   pub append_puts : (more : List ℕ) → Puts h (Append name more) more (builder_bytes m t ++ more)
   unfolding effect
-  append_puts more = record { taken = refl; effect_is = rw h.found refl; longer = length-append (builder_bytes m t) more }
+  append_puts more = record { taken = refl; asks_is = refl; effect_is = rw h.found refl; longer = length-append (builder_bytes m t) more }
 
   module _ {command : Command} {more list : List ℕ} (puts : Puts h command more list) (low : list_any not_ascii more ≡ false)
       (counted : t.len ≡ length (builder_bytes m t)) where
@@ -102,7 +105,10 @@ module _ (rule : GrowthRule) (old new : View) (u : StringBuilder) {things : Thin
       })
 
   pub put_gives_nothing : {e : AllocError} → Grows old new t change list u (Err e) → GivesNothing command things old new e
-  put_gives_nothing {e} grows = kept h.found puts.taken (put_given h puts low counted fits) (grown_refused old new t.block 1 1 t.cap
+  put_gives_nothing {e} grows = kept h.found puts.taken (put_given h puts low counted fits)
+      (rw (puts.asks_is, h.found) (growth_asked old new t.block 1 1 (λ (x : Unit {0}). u.block) grows.err.1 t.cap (4 * n)
+      (credit_of (thing.Text t)) credit change e one (text_place rule t n h.held small) paid.0 grows.made))
+      (grown_refused old new t.block 1 1 t.cap
       (λ (x : Unit {0}). u.block) (4 * n) (credit_of (thing.Text t)) credit one (text_place rule t n h.held small) (omega arith) change e
       paid.0 (ap (λ m. m.state) grows.err.1) grows.made)
 
@@ -132,6 +138,7 @@ byte_acts name byte things old new (Err e) (inl acts) = inl (record {
   taken = acts.taken;
   fits = acts.fits;
   costs = acts.costs;
+  asked = acts.asked;
   denied = acts.denied;
   same = acts.same;
 })

@@ -3,8 +3,8 @@ use Rattle.std.proofs.Common.{◌≡◌, ℕ, ◌+◌, ◌-◌, ◌*◌, ◌^◌
 use Rattle.std.specs.Prelude.{nat_le}
 use Rattle.std.proofs.lemmas.Bool.{cases_lt}
 use Rattle.std.proofs.lemmas.Bool.Decides.{nat_tests}
-use Rattle.placement.specs.Rounding.{up, is_layout, is_power_among}
-use Rattle.placement.proofs.RoundingLemmas.{up_same}
+use Rattle.arena_rules.specs.Rounding.{up, is_layout, is_power_among}
+use Rattle.arena_rules.proofs.RoundingLemmas.{up_same}
 use Rattle.arena_chunks.specs.Memory.{Memory}
 use Rattle.arena_items.specs.Room.{capacity_after}
 use Rattle.arena_items.specs.declared.room.Growth.{Growth}

@@ -1,6 +1,6 @@
 -- What commands on values do.
 use Rattle.std.proofs.Common.{◌≡◌, refl, ℕ, arith, IsTrue, Ok, Err, Option, Some, None, is_some, false, List}
-use Rattle.placement.specs.Rounding.{is_layout}
+use Rattle.arena_rules.specs.Rounding.{is_layout}
 use Rattle.arena_chunks.specs.Memory.{Memory}
 use Rattle.arena_chunks.specs.Source.{View}
 use Rattle.arena_chunks.specs.BlockCalls.{WritesBlock}
@@ -11,6 +11,7 @@ use Rattle.arena_items.specs.Values.{IsBoxIn, box_value}
 use Rattle.arena_items.specs.declared.boxes.Box.{Box}
 use Rattle.arena_items.specs.declared.room.AllocError.{AllocError}
 use Rattle.arena_items.proofs.Layers.{row_is_layout}
+use Rattle.arena_clone.specs.Asks.Ask.{Room}
 use Rattle.arena_clone.specs.Placing.{Boxes}
 use Rattle.script_rules.specs.Objects.{get, AValue}
 use Rattle.script_rules.specs.declared.commands.Command.{Command}
@@ -20,9 +21,11 @@ use Rattle.script_rules.specs.declared.commands.ScriptReply.TheVariants.{Done}
 use Rattle.arena_script.specs.Kinds.{long}
 use Rattle.arena_script.specs.Things.{Things, seen}
 use Rattle.arena_script.specs.Wants.{takes_room}
+use Rattle.arena_script.specs.Asks.{asks}
 use Rattle.arena_script.specs.Acts.{GivesThing, GivesNothing}
 use Rattle.arena_script.specs.declared.thing.Thing.TheVariants as thing
 use Rattle.arena_script.proofs.CostFacts.{still, same_used, nothing_given, block_given, block_refused}
+use Rattle.arena_script.proofs.AskLemmas.{block_asked}
 use Rattle.arena_script.proofs.GivingLemmas.{exchanged, made, kept}
 use Rattle.arena_script.proofs.ThingLemmas.{Holds}
 
@@ -68,7 +71,9 @@ module _ {command : Command} {things : Things} {old new : View} {name value : �
     frame = boxes.placed.1.outcome.frame;
   })
 
-  pub made_gives_nothing : {e : AllocError} → Boxes long old new value (Err e) → GivesNothing command things old new e
-  made_gives_nothing {e} boxes = kept none taken given
+  pub made_gives_nothing : asks command old.memory things ≡ Room 8 8 → {e : AllocError} → Boxes long old new value (Err e)
+      → GivesNothing command things old new e
+  made_gives_nothing is {e} boxes = kept none taken given
+      (rw is (block_asked old new 8 8 (λ (b : Box ℕ). b.block) e boxes.placed))
       (block_refused old new new 8 8 15 0 0 one layout (omega arith) (omega arith) (omega arith) (still new) (λ (b : Box ℕ). b.block) e
       boxes.placed)

@@ -1,9 +1,10 @@
 -- What calls on commands do to things in an arena.
-use Rattle.std.specs.Prelude.{◌≡◌, ◌≢◌, ℕ, ◌+◌, ◌-◌, ◌^◌, ◌≤◌, ◌⊎◌, Result, Ok, Err, None, [], ◌∷◌, IsTrue}
-use Rattle.placement.specs.Rounding.{is_layout}
-use Rattle.placement.specs.Search.{place}
+use Rattle.std.specs.Prelude.{◌≡◌, ◌≢◌, ℕ, ◌+◌, ◌-◌, ◌^◌, ◌≤◌, ◌⊎◌, Result, Ok, Err, Some, None, [], ◌∷◌, IsTrue}
+use Rattle.arena_rules.specs.Rounding.{is_layout}
+use Rattle.arena_rules.specs.Search.{place}
 use Rattle.arena_chunks.specs.Source.{View}
 use Rattle.arena_chunks.specs.Frame.{Frame}
+use Rattle.arena_clone.specs.Asks.{AsksFor}
 use Rattle.arena_items.specs.Costs.{Costs, used as used_in}
 use Rattle.arena_items.specs.declared.room.AllocError.{AllocError}
 use Rattle.arena_items.specs.declared.room.AllocError.TheVariants.{AllocErr, CapacityOverflow, OutOfMemory}
@@ -13,6 +14,7 @@ use Rattle.script_rules.specs.Effects as effects
 use Rattle.script_rules.specs.declared.commands.Command.{Command}
 use Rattle.script_rules.specs.declared.commands.ScriptReply.{ScriptReply}
 use Rattle.arena_script.specs.Things.{Things, block_of, blocks_of, IsThingIn, object_in, seen, size_of, size_held, credit_of, credit_held}
+use Rattle.arena_script.specs.Asks.{asks}
 use Rattle.arena_script.specs.Wants.{tells_much, takes_room}
 use Rattle.arena_script.specs.declared.thing.Thing.{Thing}
 use Rattle.arena_script.specs.declared.act.Act.{Act}
@@ -51,8 +53,9 @@ pub record GivesThing (command : Command) (things : Things) (old new : View) (na
   pub costs : CostsGiven cost (credit_held (get things name)) (credit_of thing) old new
   pub frame : Frame old.memory new.memory (blocks_of (get things name)) (block_of thing ∷ [])
 
--- A call gives nothing, where the plain machine would give an object at a cost: the arena refused a block that the cost and the
--- credit would have paid, or memory was wanting. No collection overflows, since the plain machine refuses before.
+-- A call gives nothing, where the plain machine would give an object at a cost: the arena was asked for the command's block, which
+-- the cost and the credit would have paid, and refused it, or memory was wanting. No collection overflows, since the plain machine
+-- refuses before.
 pub record GivesNothing (command : Command) (things : Things) (old new : View) (e : AllocError) : Type 0 where
   pub name : ℕ
   pub object : Object
@@ -62,6 +65,7 @@ pub record GivesNothing (command : Command) (things : Things) (old new : View) (
   pub taken : IsTrue (takes_room command)
   pub fits : e ≢ CapacityOverflow
   pub costs : CostsRefused cost (credit_held (get things name)) (credit_held (get things name)) old new e
+  pub asked : AsksFor (asks command old.memory things ∷ []) old new [] (Some e)
   pub denied : (k : ℕ) → e ≡ AllocErr k → HasNoPlace (used old + (cost + credit_held (get things name))) new
   pub same : new.memory.state ≡ old.memory.state
 

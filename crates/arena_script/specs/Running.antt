@@ -1,17 +1,20 @@
 -- What running a script on an arena of which nothing is used promises.
-use Rattle.std.specs.Prelude.{◌≡◌, ◌≢◌, ℕ, ◌+◌, ◌≤◌, ◌⊎◌, List, [], length, take, slice_get, IsSomeAnd, IsTrue}
+use Rattle.std.specs.Prelude.{◌≡◌, ◌≢◌, ℕ, ◌+◌, ◌≤◌, ◌⊎◌, Some, List, [], ◌∷◌, length, take, slice_get, IsSomeAnd, IsTrue}
 use Rattle.arena_chunks.specs.Memory.{Memory}
 use Rattle.arena_chunks.specs.Source.{View}
 use Rattle.arena_chunks.specs.Asking.{AsksWithin, IsFull}
+use Rattle.arena_clone.specs.Asks.{AsksFor}
+use Rattle.arena_items.specs.declared.room.AllocError.TheVariants.{AllocErr}
 use Rattle.script_rules.specs.Objects.{Objects, need}
 use Rattle.script_rules.specs.Machine.{run, cost_of_first}
-use Rattle.placement.specs.Asking.{IsStarvedWithin}
+use Rattle.arena_rules.specs.Asking.{IsStarvedWithin}
 use Rattle.script_rules.specs.declared.commands.Command.{Command}
 use Rattle.script_rules.specs.declared.commands.Ended.TheVariants as ended
 use Rattle.script_rules.specs.declared.outcome.Outcome.{Outcome}
 use Rattle.arena_script.specs.Things.{Things, AreThings, objects_in}
+use Rattle.arena_script.specs.Asks.{asks}
 use Rattle.arena_script.specs.Acts.{used, HasNoPlace}
-use Rattle.arena_script.specs.Serves.{KeepsKind}
+use Rattle.arena_script.specs.Serves.{KeepsKind, IsAfter}
 use Rattle.arena_script.specs.Wants.{takes_memory}
 
 -- There are things in the arena, one for each name, that share no memory and mean these objects.
@@ -39,6 +42,15 @@ pub record IsUnbegun (old new : View) (outcome : Outcome) : Type 0 where
 abbrev pub IsStoppedAt : List Command → Outcome → Type 0
 IsStoppedAt script outcome = IsSomeAnd (slice_get script (length outcome.replies)) (λ c. IsTrue (takes_memory c))
 
+-- The commands that were answered left things in the arena, and the one behind them asked it for its block: the arena refused, after
+-- so many requests that its source refused, and granted none.
+pub record IsDenied (script : List Command) (outcome : Outcome) (old new : View) : Type 0 where
+  pub before : View
+  pub things : Things
+  pub after : IsAfter script old before things (length outcome.replies)
+  pub asked : IsSomeAnd (slice_get script (length outcome.replies))
+      (λ c. (k : ℕ) × AsksFor (asks c before.memory things ∷ []) before new [] (Some (AllocErr k)))
+
 pub record IsRun (script : List Command) (old new : View) (outcome : Outcome) : Type 0 where
   pub replies : Replies script outcome
   pub holds : outcome.ended ≡ ended.Done → HoldsObjects new.memory (run script).objects
@@ -49,6 +61,7 @@ pub record IsRun (script : List Command) (old new : View) (outcome : Outcome) : 
   pub full : outcome.ended ≡ ended.Full → IsFull (cost_with_next script outcome) old
   pub refused : outcome.ended ≡ ended.Refused
       → IsStarvedWithin (cost_with_next script outcome) old.memory.state new.memory.state old.source new.source
+  pub asked : outcome.ended ≢ ended.Done → outcome.ended ≢ ended.OutOfMemory → IsDenied script outcome old new
   pub denied : outcome.ended ≢ ended.Done → outcome.ended ≢ ended.OutOfMemory → HasNoPlace (cost_with_next script outcome) new
   pub stopped : outcome.ended ≢ ended.Done → IsUnbegun old new outcome ⊎ IsStoppedAt script outcome
   pub kind : KeepsKind old.memory new.memory

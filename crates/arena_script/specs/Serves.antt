@@ -1,8 +1,9 @@
 -- What serving commands leaves: things that stand for the plain machine's objects, and bytes within their cost.
-use Rattle.std.specs.Prelude.{◌≡◌, ◌≢◌, ℕ, ◌+◌, ◌≤◌, false, Result, Ok, Err, None, IsTrue, List, take}
-use Rattle.placement.specs.State.{allocated_bytes}
+use Rattle.std.specs.Prelude.{◌≡◌, ◌≢◌, ℕ, ◌+◌, ◌≤◌, false, Result, Ok, Err, Some, None, IsTrue, List, [], ◌∷◌, take}
+use Rattle.arena_rules.specs.State.{allocated_bytes}
 use Rattle.arena_chunks.specs.Memory.{Memory}
 use Rattle.arena_chunks.specs.Source.{View}
+use Rattle.arena_clone.specs.Asks.{AsksFor}
 use Rattle.arena_items.specs.declared.room.AllocError.{AllocError}
 use Rattle.arena_items.specs.declared.room.AllocError.TheVariants.{AllocErr, CapacityOverflow, OutOfMemory}
 use Rattle.script_rules.specs.Objects.{get, total, bind, unbind}
@@ -11,6 +12,7 @@ use Rattle.script_rules.specs.declared.commands.Command.{Command}
 use Rattle.script_rules.specs.declared.commands.ScriptReply.{ScriptReply}
 use Rattle.script_rules.specs.declared.commands.ScriptReply.TheVariants.{Done}
 use Rattle.arena_script.specs.Things.{Things, AreThings, objects_in, size_of, credit_of}
+use Rattle.arena_script.specs.Asks.{asks}
 use Rattle.arena_script.specs.Acts.{used, CostsGiven, CostsRefused, HasNoPlace}
 use Rattle.arena_script.specs.Wants.{takes_memory}
 use Rattle.arena_script.specs.declared.act.Act.{Act}
@@ -39,12 +41,13 @@ pub record Serves (command : Command) (old new : View) (things later : Things) (
   pub costs : CostsGiven (step command (objects_in old.memory things)).cost (credits_of things) (credits_of later) old new
   pub kind : KeepsKind old.memory new.memory
 
--- A command wasn't served: the arena refused a block that the credits and the cost would have paid, or memory was wanting, and it is
--- one that takes some.
+-- A command wasn't served: the arena was asked for its block, which the credits and the cost would have paid, and refused it; or memory
+-- was wanting, and it is one that takes some.
 pub record Stops (command : Command) (old new : View) (things : Things) (e : AllocError) : Type 0 where
   pub fits : e ≢ CapacityOverflow
   pub taken : IsTrue (takes_memory command)
   pub costs : CostsRefused (step command (objects_in old.memory things)).cost (credits_of things) 0 old new e
+  pub asked : (k : ℕ) → e ≡ AllocErr k → AsksFor (asks command old.memory things ∷ []) old new [] (Some e)
   pub denied : (k : ℕ) → e ≡ AllocErr k
       → HasNoPlace (used old + ((step command (objects_in old.memory things)).cost + credits_of things)) new
   pub kind : KeepsKind old.memory new.memory

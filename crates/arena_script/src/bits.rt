@@ -6,7 +6,7 @@ ghost use Rattle.arena_bits.specs.Bits.{members};
 ghost use Rattle.arena_bits.specs.Printed.{printed};
 ghost use Rattle.arena_bits.specs.Sets.{IsSetIn, PlacesSet, set_of as bits_in};
 ghost use Rattle.script_rules.specs.Objects.{bits_end, get, has};
-ghost use Rattle.placement.specs.Bits.{words_for};
+ghost use Rattle.arena_rules.specs.Bits.{words_for};
 ghost use Rattle.arena_script.specs.Things.{AreThings, bits_below};
 ghost use Rattle.arena_script.specs.Acts.{Acts};
 

@@ -6,7 +6,7 @@ use Rattle.std.proofs.Math.Nat.{mul-le-mul_left}
 use Rattle.arena_chunks.specs.Memory.{Memory}
 use Rattle.arena_chunks.specs.Source.{View}
 use Rattle.arena_chunks.specs.Frame.{AreBlocksApart, Frame, Stays}
-use Rattle.arena_chunks.specs.declared.block.Block.{Block}
+use Rattle.arena_store.specs.declared.block.Block.{Block}
 use Rattle.arena_chunks.proofs.Layers.{blocks_turned, frame_behind, frame_both, frame_keeps}
 use Rattle.arena_items.specs.Costs.{Costs, farthest}
 use Rattle.arena_items.specs.Layout.{IsItemLayout}

@@ -2,11 +2,11 @@
 use Rattle.std.proofs.Common.{◌≡◌, ℕ, List, [], ◌∷◌, ◌++◌, refl, sym, ap, ◌∙◌, inl, inr, Some, Ok, Err, Bool, true, false, ◌<◌, ◌≤◌, length, arith, None, ◌+◌, ◌-◌, ◌^◌}
 use Rattle.std.specs.Prelude.{if◌then◌else◌, not, Result, IfOk, ◌↔◌}
 use Rattle.std.proofs.lemmas.Result.{IfOk-weaker}
-use Rattle.placement.proofs.AskingLemmas.{asks_more}
+use Rattle.arena_rules.proofs.AskingLemmas.{asks_more}
 use Rattle.arena_chunks.specs.Memory.{Memory}
 use Rattle.arena_chunks.specs.Source.{View}
 use Rattle.arena_chunks.specs.Frame.{Frame, AreAllApart}
-use Rattle.arena_chunks.specs.declared.block.Block.{Block}
+use Rattle.arena_store.specs.declared.block.Block.{Block}
 use Rattle.arena_chunks.proofs.Layers.{all_apart, all_from_none, all_from_both, apart_both, frame_then, frame_weaken, frame_beside, frame_behind, frame_keeps_all}
 use Rattle.arena_items.specs.Costs.{Costs}
 use Rattle.arena_items.specs.Room.{SamePlaces}

@@ -4,12 +4,12 @@ use Rattle.std.proofs.Common.{◌≡◌, ℕ, ◌+◌, ◌-◌, ◌*◌, ◌^◌
 use Rattle.std.specs.Prelude.{Result, OnErr}
 use Rattle.std.proofs.lemmas.Bool.{cases_Bool}
 use Rattle.std.proofs.Math.Nat.{mul-le-mul_left}
-use Rattle.placement.specs.State.{allocated_bytes}
-use Rattle.placement.proofs.AskingLemmas.{asks_more, starved_nearer}
+use Rattle.arena_rules.specs.State.{allocated_bytes}
+use Rattle.arena_rules.proofs.AskingLemmas.{asks_more, starved_nearer}
 use Rattle.arena_chunks.specs.Answers.{Answer}
 use Rattle.arena_chunks.specs.Source.{View}
 use Rattle.arena_chunks.specs.BlockCalls.{PlacesBlock}
-use Rattle.arena_chunks.specs.declared.block.Block.{Block}
+use Rattle.arena_store.specs.declared.block.Block.{Block}
 use Rattle.arena_chunks.proofs.Layers.{asks_same}
 use Rattle.arena_items.specs.Costs.{used, Costs, Covers, farthest}
 use Rattle.arena_items.specs.Layout.{IsItemLayout}

@@ -2,7 +2,7 @@
 use Rattle.std.proofs.Common.{◌≡◌, ℕ, ◌+◌, ◌^◌, ◌<◌, length, sym, ◌∙◌, arith, refl, Some, Option}
 use Rattle.std.specs.Int.{w32, to_le_bytes}
 use Rattle.std.proofs.lemmas.List.{length-map, length-reverse, reverse-reverse}
-use Rattle.placement.specs.Rounding.{up}
+use Rattle.arena_rules.specs.Rounding.{up}
 use Rattle.arena_chunks.specs.Memory.{Memory}
 use Rattle.arena_items.specs.Layout.{pair_size, second_at, option_size}
 use Rattle.arena_items.specs.declared.item.Item.{Ghosts}

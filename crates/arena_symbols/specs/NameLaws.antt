@@ -2,7 +2,7 @@
 use Rattle.std.proofs.Common.{◌≡◌, ℕ, zero, suc, List, [], ◌∷◌, ◌++◌, refl, sym, ap, subst, ◌∙◌, arith}
 use Rattle.std.specs.List.{AllByRecursion, Contains}
 use Rattle.arena_chunks.specs.Memory.{Memory}
-use Rattle.arena_chunks.specs.declared.block.Block.{Block}
+use Rattle.arena_store.specs.declared.block.Block.{Block}
 use Rattle.arena_chunks.specs.declared.allocator.text.Str.{Str}
 use Rattle.arena_items.specs.Footprint.{AreReadable, Agree}
 use Rattle.arena_items.specs.FootprintLaws.{held_again}

@@ -3,7 +3,7 @@ use Rattle.std.specs.Prelude.{◌≡◌, ℕ, ◌+◌, List, [], ◌∷◌, ◌+
 use Rattle.std.specs.List.{Contains}
 use Rattle.arena_chunks.specs.Memory.{Memory}
 use Rattle.arena_chunks.specs.Frame.{AreAllApart, ArePairwiseApart}
-use Rattle.arena_chunks.specs.declared.block.Block.{Block}
+use Rattle.arena_store.specs.declared.block.Block.{Block}
 use Rattle.arena_chunks.specs.declared.allocator.text.Str.{Str}
 use Rattle.arena_items.specs.Footprint.{AreReadable}
 use Rattle.arena_items.specs.Values.{bytes_of}

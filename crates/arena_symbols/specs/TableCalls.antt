@@ -4,7 +4,7 @@ use Rattle.std.specs.Int.{w32, to_le_bytes}
 use Rattle.arena_chunks.specs.Memory.{Memory}
 use Rattle.arena_chunks.specs.Source.{View}
 use Rattle.arena_chunks.specs.Frame.{AreAllApart, Frame}
-use Rattle.arena_chunks.specs.declared.block.Block.{Block}
+use Rattle.arena_store.specs.declared.block.Block.{Block}
 use Rattle.arena_items.specs.Room.{SamePlaces}
 use Rattle.arena_items.specs.declared.item.Item.{Ghosts}
 use Rattle.arena_items.specs.declared.room.AllocError.{AllocError}

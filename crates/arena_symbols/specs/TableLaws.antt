@@ -3,7 +3,7 @@ use Rattle.std.proofs.Common.{◌≡◌, ℕ, List, [], ◌∷◌, map, reverse,
 use Rattle.std.specs.List.{AllByRecursion}
 use Rattle.std.specs.Int.{w32, to_le_bytes}
 use Rattle.arena_chunks.specs.Memory.{Memory, image, bytes_from}
-use Rattle.arena_chunks.specs.declared.block.Block.{Block}
+use Rattle.arena_store.specs.declared.block.Block.{Block}
 use Rattle.arena_chunks.proofs.Layers.{no_bytes}
 use Rattle.arena_items.specs.Footprint.{AreReadable, Agree}
 use Rattle.arena_items.specs.FootprintLaws.{held_again}

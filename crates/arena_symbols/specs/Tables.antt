@@ -3,7 +3,7 @@ use Rattle.std.specs.Prelude.{◌≡◌, ◌==◌, ℕ, ◌+◌, ◌^◌, ◌<�
 use Rattle.std.specs.Int.{w32, to_le_bytes}
 use Rattle.arena_chunks.specs.Memory.{Memory}
 use Rattle.arena_chunks.specs.Frame.{ArePairwiseApart}
-use Rattle.arena_chunks.specs.declared.block.Block.{Block}
+use Rattle.arena_store.specs.declared.block.Block.{Block}
 use Rattle.arena_items.specs.ByteForms.{pair_item, option_item}
 use Rattle.arena_items.specs.declared.item.Item.{Ghosts}
 use Rattle.arena_vec.specs.Credit.{credit_of as list_credit}

@@ -2,11 +2,11 @@
 use Rattle.std.proofs.Common.{◌≡◌, ℕ, ◌*◌, ◌^◌, ◌<◌, ◌≤◌, ◌+◌, ◌-◌, Bool, true, false, IsTrue, Ok, refl, arith, ◌∙◌}
 use Rattle.std.specs.Prelude.{nat_le, max, if◌then◌else◌}
 use Rattle.std.proofs.lemmas.Bool.Decides.{nat_tests}
-use Rattle.placement.specs.Rounding.{up, is_layout, is_power_among}
-use Rattle.placement.proofs.RoundingLemmas.{up_same}
+use Rattle.arena_rules.specs.Rounding.{up, is_layout, is_power_among}
+use Rattle.arena_rules.proofs.RoundingLemmas.{up_same}
 use Rattle.arena_chunks.specs.Source.{View}
 use Rattle.arena_chunks.specs.Answers.Answer.{Placed}
-use Rattle.arena_chunks.specs.declared.block.Block.{Block}
+use Rattle.arena_store.specs.declared.block.Block.{Block}
 use Rattle.arena_chunks.proofs.Layers.{empty_before, frame_reflexive}
 use Rattle.arena_items.specs.Room.{TakesRoom, MakesRoom, capacity_after}
 use Rattle.arena_items.specs.declared.room.Growth.{Growth}
@@ -18,11 +18,11 @@ use Rattle.arena_text.specs.Changes.{IsGrown}
 use Rattle.arena_text.specs.declared.text.StringBuilder.{StringBuilder}
 
 -- So many bytes have a layout.
-pub bytes_layout : (n : ℕ) → n < 2 ^ 63 → IsTrue (is_layout (n * 1) 1)
+pub bytes_layout : (n : ℕ) → n < 2 ^ 63 → IsTrue (is_layout n 1)
 unfolding is_power_among
 bytes_layout n few =
-    let same : up (n * 1) 1 ≡ n * 1 = up_same (n * 1) 1 (omega arith) (omega arith) in
-    let fits : nat_le (n * 1) (2 ^ 63 - 1) ≡ true = grind (arith, nat_tests) in
+    let same : up n 1 ≡ n = up_same n 1 (omega arith) (omega arith) in
+    let fits : nat_le n (2 ^ 63 - 1) ≡ true = grind (arith, nat_tests) in
     rw (same, fits) refl
 
 -- A block was taken for more bytes: the text has those that it had.

@@ -5,12 +5,12 @@ use Rattle.std.proofs.lemmas.List.{take_all, length-take-le, take_more_set, drop
 use Rattle.std.proofs.lemmas.Str.{IsUtf8-append}
 use Rattle.std.proofs.Math.Seq.{take-set-lt}
 use Rattle.std.specs.List.{flat_map}
-use Rattle.placement.specs.Machine.{splice}
+use Rattle.arena_rules.specs.Lists.{splice}
 use Rattle.arena_chunks.specs.Memory.{Memory, image, bytes_from, is_readable}
 use Rattle.arena_chunks.specs.Source.{View}
 use Rattle.arena_chunks.specs.Frame.{Frame}
 use Rattle.arena_chunks.specs.BlockCalls.{WritesBlock}
-use Rattle.arena_chunks.specs.declared.block.Block.{Block}
+use Rattle.arena_store.specs.declared.block.Block.{Block}
 use Rattle.arena_chunks.proofs.Layers.{length-bytes, bytes_within, take_bytes, writes_more, empty_before, frame_then, frame_reflexive, wrote_part, wrote_whole, edits_to}
 use Rattle.arena_items.specs.Values.{bytes_of}
 use Rattle.arena_items.specs.Room.{MakesRoom, SamePlaces}

@@ -1,7 +1,7 @@
 -- Texts as lists of bytes.
 use Rattle.std.specs.Prelude.{ℕ, ◌≤◌, List, take}
 use Rattle.arena_chunks.specs.Memory.{Memory}
-use Rattle.arena_chunks.specs.declared.block.Block.{Block}
+use Rattle.arena_store.specs.declared.block.Block.{Block}
 use Rattle.arena_items.specs.Values.{IsHeld, bytes_of}
 use Rattle.arena_text.specs.declared.text.StringBuilder.{StringBuilder}
 

@@ -10,4 +10,4 @@ mod text;
 mod uses;
 mod values;
 
-pub use text::StringBuilder;
+pub use text::{ArenaStringBuilder, StringBuilder};

@@ -18,10 +18,7 @@ fn layout_of(n: u64) -> Layout
     ensures size { result.size ≡ n * 1 }
     ensures align { result.align ≡ 1 }
 {
-    match Layout::array(n, 1, 1) {
-        Some(layout) => layout,
-        None => unreachable!(),
-    }
+    Layout::of(n, 1)
 }
 
 // The text after a growth.

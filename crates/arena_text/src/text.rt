@@ -27,6 +27,9 @@ pub struct StringBuilder {
     pub cap: u64,
 }
 
+/// The name by which users of the Rust crate know it.
+pub type ArenaStringBuilder = StringBuilder;
+
 #[tactic(auto, using(crate::proofs::TextLemmas::text_laws))]
 impl StringBuilder {
     /// No bytes and no room.

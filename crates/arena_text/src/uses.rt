@@ -2,8 +2,8 @@
 ghost use Rattle.std.specs.Prelude.{◌≡◌, ◌+◌, ◌*◌, ◌<◌, ◌≤◌, ◌++◌, ◌⊎◌, [], ◌∷◌, length, replicate, chars, encode_utf8, Err, IsOk, IfOk, IsUtf8};
 ghost use Rattle.std.specs.Result.{result_map_both};
 ghost use Rattle.std.specs.Fmt.{decimal};
-ghost use Rattle.placement.specs.State.{used_bytes};
-ghost use Rattle.arena_chunks.specs.Frame.{AreBlocksApart};
+ghost use Rattle.arena_rules.specs.State.{used_bytes};
+ghost use Rattle.arena_chunks.specs.Frame.{Frame, AreBlocksApart};
 ghost use Rattle.arena_items.specs.Room.{SamePlaces};
 ghost use Rattle.arena_text.specs.Growth.{amortised_growth};
 ghost use Rattle.arena_text.specs.Builders.{IsBuilderIn, builder_bytes};
@@ -41,6 +41,8 @@ pub fn row_of<C: ChunkSource>(byte: u8, n: u64, a: &mut Allocator<C>) -> Grown<S
     ensures held { IfOk result (IsBuilderIn a.new.memory) }
     ensures bytes { IfOk result (λ t. builder_bytes a.new.memory t ≡ replicate n byte) }
     ensures room { IfOk result (λ t. t.cap ≤ 2 * n + 8) }
+    ensures frame { IfOk result (λ t. Frame a.old.memory a.new.memory [] (t.block ∷ [])) }
+    ensures beside { Frame a.old.memory a.new.memory [] [] }
 {
     pushed_rule();
     let mut text = StringBuilder::new_in();

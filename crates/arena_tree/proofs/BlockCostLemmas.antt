@@ -1,22 +1,23 @@
 -- What it costs to place a block.
-use Rattle.std.proofs.Common.{◌≡◌, ℕ, ◌+◌, ◌-◌, ◌^◌, ◌≤◌, inl, inr, ap, arith, IsTrue, Option, Some, None}
+use Rattle.std.proofs.Common.{◌≡◌, ℕ, ◌+◌, ◌-◌, ◌^◌, ◌≤◌, inl, inr, refl, ap, arith, IsTrue, Option, Some, None}
 use Rattle.std.proofs.lemmas.Bool.{cases_lt}
-use Rattle.placement.specs.Rounding.{is_layout}
-use Rattle.placement.specs.State.{used_bytes, allocated_bytes, top_of}
+use Rattle.arena_rules.specs.Rounding.{is_layout}
+use Rattle.arena_rules.specs.State.{used_bytes, allocated_bytes, top_of}
 use Rattle.arena_chunks.specs.Memory.{Memory}
 use Rattle.arena_chunks.specs.Source.{View}
 use Rattle.arena_chunks.specs.Answers.{Answer}
 use Rattle.arena_chunks.specs.Answers.Answer.{Placed, Refused, Wanting}
 use Rattle.arena_chunks.specs.Asking.{AsksWithin}
 use Rattle.arena_chunks.specs.BlockCalls.{PlacesBlock}
-use Rattle.arena_chunks.specs.declared.block.Block.{Block}
+use Rattle.arena_store.specs.declared.block.Block.{Block}
 use Rattle.arena_chunks.proofs.Layers.{asks_placed, placed_most, placed_full, placed_starved_any}
 use Rattle.arena_items.specs.Costs.{used}
 use Rattle.arena_items.specs.Room.{SamePlaces}
 use Rattle.arena_items.specs.declared.room.AllocError.{AllocError}
 use Rattle.arena_items.specs.declared.room.AllocError.TheVariants.{AllocErr, OutOfMemory}
+use Rattle.arena_tree.specs.Layouts.{Layouts, Only}
 use Rattle.arena_tree.specs.Spending.{Stops, Spends, far_end}
-use Rattle.arena_tree.proofs.NodeCostLemmas.{told, unchanged}
+use Rattle.arena_tree.proofs.NodeCostLemmas.{told, refused_place, unchanged}
 use Rattle.arena_tree.proofs.SpendingLemmas.{frame_kind}
 
 module _ (old new : View) (size align : ℕ) (one : old.memory.state.min_align ≡ 1) (layout : IsTrue (is_layout size align))
@@ -28,7 +29,7 @@ module _ (old new : View) (size align : ℕ) (one : old.memory.state.min_align �
   asks answer places = asks_placed _ old new size align answer layout small (omega (arith, one)) places
 
   -- A block costs its bytes with their padding.
-  pub block_placed : (b : Block) → PlacesBlock old new size align (Placed b) → Spends cost 0 0 old new None
+  pub block_placed : (b : Block) → PlacesBlock old new size align (Placed b) → Spends (Only size align) cost 0 0 old new None
   block_placed b places = record {
     takes = omega (arith, placed_most old new size align b layout places, one);
     asks = asks (Placed b) places;
@@ -38,7 +39,7 @@ module _ (old new : View) (size align : ℕ) (one : old.memory.state.min_align �
 
   -- What is refused leaves all as it was.
   stopped : (answer : Answer) (error : Option AllocError) → PlacesBlock old new size align answer → new.memory ≡ old.memory
-      → Stops (used old + (cost + 0)) old new error → Spends cost 0 0 old new error
+      → Stops (Only size align) (used old + (cost + 0)) old new error → Spends (Only size align) cost 0 0 old new error
   stopped answer error places same stops = record {
     takes = omega (arith, ap (λ (m : Memory). used_bytes m.state) same);
     asks = asks answer places;
@@ -46,7 +47,7 @@ module _ (old new : View) (size align : ℕ) (one : old.memory.state.min_align �
     stops = stops;
   }
 
-  pub block_refused : (k : ℕ) → PlacesBlock old new size align (Refused k) → Spends cost 0 0 old new (Some (AllocErr k))
+  pub block_refused : (k : ℕ) → PlacesBlock old new size align (Refused k) → Spends (Only size align) cost 0 0 old new (Some (AllocErr k))
   block_refused k places =
       let same = places.1.outcome.1.memory in
       let held = ap (λ (m : Memory). allocated_bytes m.state) same in
@@ -64,18 +65,24 @@ module _ (old new : View) (size align : ℕ) (one : old.memory.state.min_align �
             still = still;
             short = omega (arith, (placed_full old new size align k layout still places).short, one);
           };
+          denied = record {
+            size = size;
+            align = align;
+            asked = (refl, refl);
+            none = refused_place old new size align k layout places;
+          };
         },
         unchanged same,
       )
 
-  pub block_wanting : PlacesBlock old new size align Wanting → Spends cost 0 0 old new (Some OutOfMemory)
+  pub block_wanting : PlacesBlock old new size align Wanting → Spends (Only size align) cost 0 0 old new (Some OutOfMemory)
   block_wanting places =
       let same = ap (λ (v : View). v.memory) places.1.outcome.same in
       stopped Wanting (Some OutOfMemory) places same (unchanged same)
 
 -- Calls after which no cursor moved spend nothing more.
-pub spends_same : {bytes before after : ℕ} {old mid new : View} → SamePlaces mid new → Spends bytes before after old mid None
-    → Spends bytes before after old new None
+pub spends_same : {layouts : Layouts} {bytes before after : ℕ} {old mid new : View} → SamePlaces mid new
+    → Spends layouts bytes before after old mid None → Spends layouts bytes before after old new None
 spends_same same spends = record {
   takes = rw same.state spends.takes;
   asks = rw (same.state, same.source) spends.asks;

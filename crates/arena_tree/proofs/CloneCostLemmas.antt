@@ -8,15 +8,18 @@ use Rattle.tree_rules.specs.Trees.{Exprs, NoExprs, And, Sum, Prod, Stmts, NoStmt
 use Rattle.tree_rules.specs.Trees as tree
 use Rattle.arena_tree.specs.declared.node.Node.{Node}
 use Rattle.arena_tree.specs.Counts.{nodes}
+use Rattle.arena_tree.specs.Layouts.{Layouts}
 use Rattle.arena_tree.specs.Spending.{Spends}
-use Rattle.arena_tree.specs.Cloning.{names_bytes, clone_bytes, below_bytes, row_bytes}
+use Rattle.arena_tree.specs.Cloning.{names_bytes, clone_bytes, below_bytes, row_bytes, RowCopyOf, TreeCopyOf}
 use Rattle.arena_tree.specs.Subtrees.{Subtree, OfExpr, OfStmt, expr_row, stmt_row, RowAt}
-use Rattle.arena_tree.proofs.SpendingLemmas.{spends_then, spends_more}
+use Rattle.arena_tree.proofs.CopyLayoutLemmas.{tree_copy}
+use Rattle.arena_tree.proofs.SpendingLemmas.{spends_then, spends_more, asks_of}
 use Rattle.arena_tree.proofs.RowLemmas.{Kid}
 use Rattle.arena_tree.proofs.SubtreeLemmas.{kids_it, own_bytes}
 pub use Rattle.arena_tree.proofs.SpendingLemmas.{err_spends}
 
-pub forget : {bytes after : ℕ} {old new : View} {e : Option AllocError} → Spends bytes 0 after old new e → Spends bytes 0 0 old new e
+pub forget : {layouts : Layouts} {bytes after : ℕ} {old new : View} {e : Option AllocError} → Spends layouts bytes 0 after old new e
+    → Spends layouts bytes 0 0 old new e
 forget spends = spends_more spends (omega arith) (omega arith)
 
 -- ---- A list of nodes
@@ -32,16 +35,17 @@ row_cost (t ∷ ts) m (n ∷ ns) at = omega (arith, row_cost ts m ns at.1)
 row_cost ts m ns at = absurd at
 
 -- room for the list is asked for
-pub row_room : {old new : View} {e : Option AllocError} (ts : List Subtree) (m : Memory) (ns : List Node) (len : ℕ) → RowAt ts m ns
-    → length ns ≡ len → Spends (128 * len) 0 0 old new e → Spends (row_bytes ts) 0 (row_below ts) old new e
+pub row_room : {layouts : Layouts} {old new : View} {e : Option AllocError} (ts : List Subtree) (m : Memory) (ns : List Node) (len : ℕ)
+    → RowAt ts m ns → length ns ≡ len → Spends layouts (128 * len) 0 0 old new e → Spends layouts (row_bytes ts) 0 (row_below ts) old new e
 row_room ts m ns len at is spends =
     let all = row_cost ts m ns at in
     spends_more spends (omega (arith, all, is)) (omega (arith, all, is))
 
 -- and then for one node more
-pub row_kid : {old one two : View} {e : Option AllocError} (ts : List Subtree) (m : Memory) (i : ℕ) (k : Node) (kid : Kid ts m i k)
-    → Frame old.memory one.memory [] [] → Spends (below_bytes kid.tree) 0 0 one two e
-    → Spends (row_bytes ts) 0 (row_below (drop i ts)) old one None → Spends (row_bytes ts) 0 (row_below (drop (suc i) ts)) old two e
+pub row_kid : {some layouts : Layouts} {old one two : View} {e : Option AllocError} (ts : List Subtree) (m : Memory) (i : ℕ) (k : Node) (kid : Kid ts m i k)
+    → Frame old.memory one.memory [] [] → Spends layouts (below_bytes kid.tree) 0 0 one two e
+    → Spends some (row_bytes ts) 0 (row_below (drop i ts)) old one None
+    → Spends layouts (row_bytes ts) 0 (row_below (drop (suc i) ts)) old two e
 row_kid ts m i k kid frame copy spends =
     let left = ap row_below kid.rest in
     spends_then spends copy frame (omega arith) (omega (arith, left)) (omega (arith, left))
@@ -63,17 +67,20 @@ below_is (OfStmt (tree.Block body)) = omega (arith, stmt_row_bytes body)
 below_is t = omega arith
 
 -- a text, or kids
-pub part_spends : {old new : View} {e : Option AllocError} {part : ℕ} (t : Subtree) → part ≤ own_bytes t + row_bytes (kids_it t)
-    → Spends part 0 0 old new e → Spends (below_bytes t) 0 0 old new e
+pub part_spends : {layouts : Layouts} {old new : View} {e : Option AllocError} {part : ℕ} (t : Subtree)
+    → part ≤ own_bytes t + row_bytes (kids_it t) → Spends layouts part 0 0 old new e → Spends layouts (below_bytes t) 0 0 old new e
 part_spends t within spends = spends_more spends (omega (arith, within, below_is t)) (omega (arith, within, below_is t))
 
 -- a text, and then kids
-pub both_spend : {old one new : View} {e : Option AllocError} {len : ℕ} (t : Subtree) → len ≡ own_bytes t → Spends len 0 0 old one None
-    → Frame old.memory one.memory [] [] → Spends (row_bytes (kids_it t)) 0 0 one new e → Spends (below_bytes t) 0 0 old new e
+pub both_spend : {some layouts : Layouts} {old one new : View} {e : Option AllocError} {len : ℕ} (t : Subtree) → len ≡ own_bytes t
+    → Spends some len 0 0 old one None → Frame old.memory one.memory [] [] → Spends layouts (row_bytes (kids_it t)) 0 0 one new e
+    → Spends layouts (below_bytes t) 0 0 old new e
 both_spend t is text frame kids =
     spends_then text kids frame (omega (arith, is, below_is t)) (omega (arith, is, below_is t)) (omega (arith, is, below_is t))
 
 -- the list of a tree's statements
-pub spends_tree : {old new : View} {e : Option AllocError} (ss : Stmts) → Spends (row_bytes (stmt_row ss)) 0 0 old new e
-    → Spends (clone_bytes ss) 0 0 old new e
-spends_tree {old} {new} {e} ss = subst (λ n. Spends n 0 0 old new e) (stmt_row_bytes ss)
+pub spends_tree : {old new : View} {e : Option AllocError} (ss : Stmts)
+    → Spends (RowCopyOf (stmt_row ss)) (row_bytes (stmt_row ss)) 0 0 old new e
+    → Spends (TreeCopyOf ss) (clone_bytes ss) 0 0 old new e
+spends_tree {old} {new} {e} ss spends =
+    asks_of (tree_copy ss) (subst (λ n. Spends (RowCopyOf (stmt_row ss)) n 0 0 old new e) (stmt_row_bytes ss) spends)

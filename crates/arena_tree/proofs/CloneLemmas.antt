@@ -11,9 +11,10 @@ use Rattle.tree_rules.specs.Trees as tree
 use Rattle.arena_tree.specs.declared.node.Kind.{Kind}
 use Rattle.arena_tree.specs.declared.node.Kind.TheVariants as kind
 use Rattle.arena_tree.specs.declared.node.Node.{Node}
-use Rattle.arena_tree.specs.TreesAt.{node_item, kids_of}
+use Rattle.arena_tree.specs.NodeForms.{number_node}
+use Rattle.arena_tree.specs.TreesAt.{node_item, kids_of, no_kids}
 use Rattle.arena_tree.specs.Subtrees.{Subtree, OfExpr, OfStmt, SubtreeAt, RowAt, below_it, has_kids, HasRow, IsTreePlaced, IsRowBuilt}
-use Rattle.arena_tree.proofs.BuildLemmas.{neg_placed, sum_placed, prod_placed, number_placed, name_placed}
+use Rattle.arena_tree.proofs.BuildLemmas.{HasKidsAlone, neg_placed, sum_placed, prod_placed, number_placed, name_placed}
 use Rattle.arena_tree.proofs.LinesLemmas.{show_placed, block_placed, let_node_placed}
 use Rattle.arena_tree.proofs.RowLemmas.{exprs_built, stmts_built}
 use Rattle.arena_tree.proofs.SubtreeLemmas.{kids_it, own_bytes, kids_at}
@@ -25,43 +26,44 @@ more_kinds kind.Name num name = absurd (name refl)
 more_kinds k num name = refl
 
 pub number_copied : (m : Memory) (source n : Node) (old : Memory) (t : Subtree) → SubtreeAt t m source → source.kind ≡ kind.Num
-    → n.kind ≡ kind.Num → n.number ≡ source.number → IsTreePlaced t old old n
-number_copied m source n old (OfExpr (Num k)) at is named number = number_placed old k n named (number ∙ at.1)
-number_copied m source n old (OfStmt (Let name e)) at is named number = cc
-number_copied m source n old t at is named number = cc
+    → n ≡ number_node source.number → IsTreePlaced t old old n
+number_copied m source n old (OfExpr (Num k)) at is number = number_placed old k n (number ∙ ap number_node at.1)
+number_copied m source n old (OfStmt (Let name e)) at is number = cc
+number_copied m source n old t at is number = cc
 
 pub name_copied : (m : Memory) (source n : Node) (old new : Memory) (t : Subtree) (text : Str) → SubtreeAt t m source
     → source.kind ≡ kind.Name → IsTextIn new text → text_bytes new text ≡ text_bytes m source.text → Frame old new [] (text.block ∷ [])
-    → n.kind ≡ kind.Name → n.text ≡ text → IsTreePlaced t old new n
-name_copied m source n old new (OfExpr (Name bytes)) text at is held same frame named txt =
-    name_placed old new bytes text n held (same ∙ at.2) frame named txt
-name_copied m source n old new (OfStmt (Let name e)) text at is held same frame named txt = cc
-name_copied m source n old new t text at is held same frame named txt = cc
+    → n.kind ≡ kind.Name → n.text ≡ text → (n.number ≡ 0) × (kids_of n ≡ no_kids) → IsTreePlaced t old new n
+name_copied m source n old new (OfExpr (Name bytes)) text at is held same frame named txt rest =
+    name_placed old new bytes text n held (same ∙ at.2) frame named txt rest
+name_copied m source n old new (OfStmt (Let name e)) text at is held same frame named txt rest = cc
+name_copied m source n old new t text at is held same frame named txt rest = cc
 
 pub let_copied : (m : Memory) (source n : Node) (old one new : Memory) (t : Subtree) (text : Str) (v : Vec Node) → SubtreeAt t m source
     → source.kind ≡ kind.Let → IsTextIn one text → text_bytes one text ≡ text_bytes m source.text → Frame old one [] (text.block ∷ [])
-    → IsRowBuilt (kids_it t) one new v → n.kind ≡ kind.Let → n.text ≡ text → kids_of n ≡ v → IsTreePlaced t old new n
-let_copied m source n old one new (OfStmt (Let name e)) text v at is held same frame built named txt kids =
-    let_node_placed name e old one new text v n held (same ∙ at.2) frame (exprs_built (And e NoExprs) one new v built) named txt kids
-let_copied m source n old one new (OfExpr (Num k)) text v at is held same frame built named txt kids = cc
-let_copied m source n old one new t text v at is held same frame built named txt kids = cc
+    → IsRowBuilt (kids_it t) one new v → n.kind ≡ kind.Let → n.text ≡ text → kids_of n ≡ v → n.number ≡ 0
+    → IsTreePlaced t old new n
+let_copied m source n old one new (OfStmt (Let name e)) text v at is held same frame built named txt kids rest =
+    let_node_placed name e old one new text v n held (same ∙ at.2) frame (exprs_built (And e NoExprs) one new v built) named txt kids rest
+let_copied m source n old one new (OfExpr (Num k)) text v at is held same frame built named txt kids rest = cc
+let_copied m source n old one new t text v at is held same frame built named txt kids rest = cc
 
 pub kids_copied : (m : Memory) (source n : Node) (old new : Memory) (t : Subtree) (v : Vec Node) → SubtreeAt t m source
     → (source.kind ≡ kind.Num → ⊥) → (source.kind ≡ kind.Name → ⊥) → (source.kind ≡ kind.Let → ⊥) → IsRowBuilt (kids_it t) old new v
-    → n.kind ≡ source.kind → kids_of n ≡ v → IsTreePlaced t old new n
-kids_copied m source n old new (OfExpr (Num k)) v at num name lets built named kids = absurd (num at.0)
-kids_copied m source n old new (OfExpr (Name bytes)) v at num name lets built named kids = absurd (name at.0)
-kids_copied m source n old new (OfExpr (Neg e)) v at num name lets built named kids =
-    neg_placed e old new v n (exprs_built (And e NoExprs) old new v built) (named ∙ at.0) kids
-kids_copied m source n old new (OfExpr (Sum es)) v at num name lets built named kids =
-    sum_placed es old new v n (exprs_built es old new v built) (named ∙ at.0) kids
-kids_copied m source n old new (OfExpr (Prod es)) v at num name lets built named kids =
-    prod_placed es old new v n (exprs_built es old new v built) (named ∙ at.0) kids
-kids_copied m source n old new (OfStmt (Let name' e)) v at num name lets built named kids = absurd (lets at.0)
-kids_copied m source n old new (OfStmt (Show e)) v at num name lets built named kids =
-    show_placed e old new v n (exprs_built (And e NoExprs) old new v built) (named ∙ at.0) kids
-kids_copied m source n old new (OfStmt (tree.Block body)) v at num name lets built named kids =
-    block_placed body old new v n (stmts_built body old new v built) (named ∙ at.0) kids
+    → n.kind ≡ source.kind → kids_of n ≡ v → HasKidsAlone n → IsTreePlaced t old new n
+kids_copied m source n old new (OfExpr (Num k)) v at num name lets built named kids rest = absurd (num at.0)
+kids_copied m source n old new (OfExpr (Name bytes)) v at num name lets built named kids rest = absurd (name at.0)
+kids_copied m source n old new (OfExpr (Neg e)) v at num name lets built named kids rest =
+    neg_placed e old new v n (exprs_built (And e NoExprs) old new v built) (named ∙ at.0) kids rest
+kids_copied m source n old new (OfExpr (Sum es)) v at num name lets built named kids rest =
+    sum_placed es old new v n (exprs_built es old new v built) (named ∙ at.0) kids rest
+kids_copied m source n old new (OfExpr (Prod es)) v at num name lets built named kids rest =
+    prod_placed es old new v n (exprs_built es old new v built) (named ∙ at.0) kids rest
+kids_copied m source n old new (OfStmt (Let name' e)) v at num name lets built named kids rest = absurd (lets at.0)
+kids_copied m source n old new (OfStmt (Show e)) v at num name lets built named kids rest =
+    show_placed e old new v n (exprs_built (And e NoExprs) old new v built) (named ∙ at.0) kids rest
+kids_copied m source n old new (OfStmt (tree.Block body)) v at num name lets built named kids rest =
+    block_placed body old new v n (stmts_built body old new v built) (named ∙ at.0) kids rest
 
 -- a node's own text
 pub text_of : (m : Memory) (n : Node) (t : Subtree) → SubtreeAt t m n → (n.kind ≡ kind.Name) ⊎ (n.kind ≡ kind.Let)

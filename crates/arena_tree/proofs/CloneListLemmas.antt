@@ -11,13 +11,20 @@ use Rattle.arena_vec.specs.Growth.{amortised_growth}
 use Rattle.arena_vec.specs.Vecs.{IsVecIn, vec_list}
 use Rattle.arena_vec.specs.declared.vec.Vec.{Vec}
 use Rattle.arena_tree.specs.declared.node.Node.{Node}
-use Rattle.arena_tree.specs.TreesAt.{node_item}
+use Rattle.arena_tree.specs.TreesAt.{node_item, AreLean}
 use Rattle.arena_tree.specs.Subtrees.{RowAt, IsRowBuilt}
+use Rattle.arena_tree.proofs.LeanLemmas.{lean_none}
 
 -- a list of no nodes in a block that was free
 pub room_built : (old new : Memory) (v : Vec Node) → IsVecIn node_item new v → vec_list node_item new v ≡ []
     → Frame old new [] (v.raw.block ∷ []) → IsRowBuilt [] old new v
-room_built old new v held none frame = record { held = held; stand = subst (RowAt [] new) (sym none) tt; apart = (tt, tt); frame = frame }
+room_built old new v held none frame = record {
+  held = held;
+  stand = subst (RowAt [] new) (sym none) tt;
+  apart = (tt, tt);
+  frame = frame;
+  lean = subst (AreLean new) (sym none) (lean_none new);
+}
 
 -- Where there is room, a node is never refused, and no cursor moves.
 module _ (old new : View) (v w : Vec Node) (n : Node)

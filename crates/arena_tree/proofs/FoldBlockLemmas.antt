@@ -2,7 +2,7 @@
 use Rattle.std.proofs.Common.{refl, ◌∙◌, List, [], ◌∷◌, ◌++◌}
 use Rattle.arena_chunks.specs.Memory.{Memory}
 use Rattle.arena_chunks.specs.Frame.{AreAllApart, ArePairwiseApart}
-use Rattle.arena_chunks.specs.declared.block.Block.{Block}
+use Rattle.arena_store.specs.declared.block.Block.{Block}
 use Rattle.arena_chunks.proofs.Layers.{apart_both, apart_each, pairwise_both, all_of_both, all_from_both, frame_then, frame_weaken, frame_reflexive}
 use Rattle.arena_clone.proofs.Layers.{all_turned}
 use Rattle.arena_items.specs.Footprint.{AreReadable, Agree}

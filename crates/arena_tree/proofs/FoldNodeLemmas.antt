@@ -1,20 +1,22 @@
 -- One node is folded: its kids, and then itself by the rule for its kind.
-use Rattle.std.proofs.Common.{◌≡◌, ℕ, ◌+◌, ◌<◌, ◌≤◌, ap, sym, refl, subst, ◌∙◌, true, false, Option, Some, None, List, ◌∷◌, ◌++◌, arith}
+use Rattle.std.proofs.Common.{◌≡◌, ℕ, ◌+◌, ◌<◌, ◌≤◌, ap, sym, refl, subst, ◌∙◌, true, false, Option, Some, None, List, [], ◌∷◌, ◌++◌, arith}
 use Rattle.arena_chunks.specs.Memory.{Memory}
 use Rattle.arena_chunks.specs.Frame.{AreAllApart}
-use Rattle.arena_chunks.specs.declared.block.Block.{Block}
+use Rattle.arena_store.specs.declared.block.Block.{Block}
 use Rattle.arena_chunks.proofs.Layers.{all_from_both}
 use Rattle.arena_clone.proofs.Layers.{all_turned}
 use Rattle.arena_items.specs.Footprint.{AreReadable}
+use Rattle.arena_vec.specs.Vecs.{vec_list}
 use Rattle.arena_vec.specs.declared.vec.Vec.{Vec}
 use Rattle.tree_rules.specs.Trees.{Num, Name, Let, folded, all_folded, folded_stmts}
 use Rattle.arena_tree.specs.declared.node.Node.{Node}
-use Rattle.arena_tree.specs.TreesAt.{kids_of, kids_in}
+use Rattle.arena_tree.specs.TreesAt.{node_item, kids_of, kids_in, AreLean}
 use Rattle.arena_tree.specs.Subtrees.{Subtree, OfExpr, OfStmt, SubtreeAt, lists_at, texts_at, below_it, row_lists, row_texts, has_kids}
 use Rattle.arena_tree.specs.FoldingParts.{row_folds, IsWhole, IsRowWhole, CanFoldRow, StandOn, Becomes, IsFolded, FoldsRow, kids_folded, ruled, or_stays, once_if, IsRule}
 use Rattle.arena_tree.proofs.FoldBlockLemmas.{shrinks_none, shrinks_then, shrinks_own, writes_none, agree_beside}
 use Rattle.arena_tree.proofs.FoldRowLemmas.{held_still}
 use Rattle.arena_tree.proofs.KidsLemmas.{branch, node_on}
+use Rattle.arena_tree.proofs.LeanLemmas.{node_lean, own_lean, below_lean}
 use Rattle.arena_tree.proofs.SubtreeLemmas.{kids_it, own_texts, kids_at, true_false}
 
 -- ---- A node with no kids
@@ -89,6 +91,13 @@ kids_done {t} {old} {new} {n} {count = count} whole is same fold =
       count_is = f.count_is;
       few = omega (arith, f.few, b.below_is);
     }
+
+-- It holds nothing that its kind doesn't use, where it didn't before and its kids don't.
+pub kids_done_lean : {old new : Memory} {n : Node} {v : Vec Node} → v ≡ kids_of n
+    → (AreLean old (vec_list node_item old v) → AreLean new (vec_list node_item new v)) → AreLean old (n ∷ []) → AreLean new (n ∷ [])
+kids_done_lean {old} {new} {n} same fold lean = node_lean new n (own_lean old n lean)
+    (subst (λ w. AreLean new (vec_list node_item new w)) same
+    (fold (subst (λ w. AreLean old (vec_list node_item old w)) (sym same) (below_lean old n lean))))
 
 -- ---- The rule
 

@@ -5,20 +5,21 @@ use Rattle.std.proofs.lemmas.List.{length-set, take-set, take-take, drop-set, dr
 use Rattle.std.proofs.lemmas.Option.{slice_get_within}
 use Rattle.arena_chunks.specs.Memory.{Memory}
 use Rattle.arena_chunks.specs.Source.{View}
-use Rattle.arena_chunks.specs.declared.block.Block.{Block}
+use Rattle.arena_store.specs.declared.block.Block.{Block}
 use Rattle.arena_chunks.proofs.Layers.{apart_each}
 use Rattle.arena_vec.specs.Changes.{Becomes as VecBecomes}
 use Rattle.arena_vec.specs.Vecs.{IsVecIn, vec_list}
 use Rattle.arena_vec.specs.declared.vec.Vec.{Vec}
 use Rattle.arena_tree.specs.declared.node.Node.{Node}
-use Rattle.arena_tree.specs.TreesAt.{node_item}
+use Rattle.arena_tree.specs.TreesAt.{node_item, AreLean}
 use Rattle.arena_tree.specs.TreeLaws.{list_same, list_held}
 use Rattle.arena_tree.specs.Subtrees.{Subtree, SubtreeAt, lists_at, texts_at, below_it, RowAt, row_lists, row_texts, row_nodes}
 use Rattle.arena_tree.specs.FoldingParts.{IsClear, IsWhole, IsRowWhole, CanFold, StandsOn, WritesIn, IsFolded, AreFolded, AreFoldedFrom}
 use Rattle.arena_tree.proofs.SubtreeLemmas.{row_length}
 use Rattle.arena_tree.proofs.WalkLemmas.{some_node, none_node, list_len}
 use Rattle.arena_tree.proofs.FoldBlockLemmas.{Split, split_of, shrinks_none, shrinks_both, beside, writes_none, writes_more, writes_then, agree_beside}
-use Rattle.arena_tree.proofs.KeptLemmas.{row_both, on_beside, row_on_beside}
+use Rattle.arena_tree.proofs.KeptLemmas.{row_both, on_beside, row_on_beside, on_lean_beside, row_on_lean_beside}
+use Rattle.arena_tree.proofs.LeanLemmas.{lean_both, lean_first, lean_behind}
 
 pub held_still : (old new : Memory) (v : Vec Node) → new.state ≡ old.state → IsVecIn node_item old v → IsVecIn node_item new v
 held_still old new v same held = list_held old new v held (rw same held.place.readable)
@@ -44,6 +45,17 @@ first_folded {v = v} {b = b} {q = q} s f g set =
       count_is = omega (arith, f.count_is, g.count_is);
       few = omega (arith, f.few, g.few);
     }
+
+-- Where the first one holds nothing that its kind doesn't use, and the others don't, none of them does then.
+first_lean : {t : Subtree} {trees : List Subtree} {v : Block} {b bt q qt : List Block} {old mid two new : Memory} {l : Node}
+    {nodes : List Node} {count once : ℕ} → Split v b q bt qt → AreFolded trees q qt v old mid nodes count → IsFolded t b bt mid two l once
+    → WritesIn two new (v ∷ []) → AreLean two (l ∷ []) → AreLean mid nodes → AreLean new (l ∷ nodes)
+first_lean {v = v} {b = b} {q = q} {new = new} {l = l} {nodes = nodes} s f g set one rest =
+    let first = g.becomes in
+    let w = writes_then (writes_more (v ∷ b) (λ addr n h. h.1) first.writes) (writes_more (v ∷ b) (λ addr n h. (h.0, tt)) set) in
+    let own = beside first.shrinks (v ∷ q) s.beside_first in
+    lean_both new (l ∷ []) nodes (on_lean_beside set first.on ((own.0.0, tt), (own.1.0, tt)) one)
+    (row_on_lean_beside w f.on (beside f.shrinks (v ∷ b) s.beside_others) rest)
 
 -- ---- A tree among others
 
@@ -79,6 +91,7 @@ pub record Left (trees : List Subtree) (old m : Memory) (v : Vec Node) (i count 
   pub whole : IsRowWhole trees old v
   pub front : take i (vec_list node_item m v) ≡ take i (vec_list node_item old v)
   pub row : AreFoldedFrom i trees old m v count
+  pub lean : AreLean old (vec_list node_item old v) → AreLean m (drop i (vec_list node_item m v))
 
 pub row_begins : {trees : List Subtree} {m : Memory} {v : Vec Node} (i : ℕ) → IsRowWhole trees m v → v.raw.len ≤ i
     → Left trees m m v i 0
@@ -98,6 +111,7 @@ row_begins {trees} {m} {v} i whole end =
         count_is = refl;
         few = omega arith;
       });
+      lean = λ lean. lean_behind m i ns lean;
     }
 
 -- the tree whose turn it is
@@ -140,9 +154,10 @@ turn_can t low = record { tree = t.place.tree; whole = turn_whole t; low = omega
 pub row_next : {trees : List Subtree} {old m two new : Memory} {v : Vec Node} {i count once : ℕ} {k l : Node}
     (t : Turn trees old m v i count k) → IsVecIn node_item m v
     → IsFolded t.place.tree (lists_at t.place.tree m k) (texts_at t.place.tree m k) m two l once
+    → (AreLean m (k ∷ []) → AreLean two (l ∷ []))
     → WritesIn two new (v.raw.block ∷ []) → vec_list node_item new v ≡ slice_set (vec_list node_item two v) i l
     → Left trees old new v i (count + once)
-row_next {trees} {old} {m} {two} {new} {v} {i = i} {k = k} {l = l} t held f set set_is =
+row_next {trees} {old} {m} {two} {new} {v} {i = i} {k = k} {l = l} t held f step set set_is =
     let p = t.place in
     let ns = vec_list node_item old v in
     let ms = vec_list node_item m v in
@@ -157,6 +172,10 @@ row_next {trees} {old} {m} {two} {new} {v} {i = i} {k = k} {l = l} t held f set 
       whole = t.left.whole;
       front = ap (take i) is ∙ take-set ms i l ∙ sym (upto ms) ∙ ap (take i) t.left.front ∙ upto ns;
       row = rw (p.tree_is, p.node_is, rest) (first_folded p.split t.left.row g set);
+      lean = λ lean.
+          let was = lean_first old k (drop (suc i) ns) (subst (AreLean old) p.node_is (lean_behind old i ns lean)) in
+          let now = on_lean_beside t.left.row.writes (record { stands = p.stands; lists = refl; texts = refl }) p.split.beside_first was in
+          subst (AreLean new) (sym rest) (first_lean p.split t.left.row g set (step now) (t.left.lean lean));
     }
 
 -- One node of a list was set: the handle stays.

@@ -1,15 +1,17 @@
 -- The rule for one node whose kids are folded: negations of negations, and totals of numbers.
-use Rattle.std.proofs.Common.{◌≡◌, ℕ, ◌^◌, ap, refl, ◌∙◌, Bool, true, false, Option, Some, None, List, [], ◌∷◌}
-use Rattle.std.specs.Prelude.{slice_get, nat_lt, if◌then◌else◌}
+use Rattle.std.proofs.Common.{◌≡◌, ℕ, ◌^◌, ap, refl, subst, ◌∙◌, Bool, true, false, Option, Some, None, List, [], ◌∷◌}
+use Rattle.std.specs.Prelude.{slice_get, IfSome, nat_lt, if◌then◌else◌}
 use Rattle.arena_chunks.specs.Memory.{Memory}
 use Rattle.tree_rules.specs.Trees.{Expr, Num, Neg, Sum, Prod, Exprs, NoExprs, And, Let, front_number, numbers_of, sum, product, reckoned, one_if_reckoned}
 use Rattle.arena_tree.specs.declared.node.Kind.{Kind}
 use Rattle.arena_tree.specs.declared.node.Kind.TheVariants as kind
 use Rattle.arena_tree.specs.declared.node.Node.{Node}
-use Rattle.arena_tree.specs.TreesAt.{kids_in, IsOnly, ExprAt, ExprsAt}
+use Rattle.arena_tree.specs.TreesAt.{kids_in, IsOnly, ExprAt, ExprsAt, AreLean}
+use Rattle.arena_tree.specs.NodeForms.{number_node}
 use Rattle.arena_tree.specs.Subtrees.{Subtree, OfExpr, OfStmt, SubtreeAt, lists_at, texts_at}
 use Rattle.arena_tree.specs.FoldingParts.{Replaces, IsNegation, or_stays, once_if, IsRule, number_before, numbers_in, total_of, total_in, IsTotalNode}
 use Rattle.arena_tree.proofs.FoldBlockLemmas.{shrinks_none}
+use Rattle.arena_tree.proofs.LeanLemmas.{below_lean, number_lean}
 use Rattle.arena_tree.proofs.WalkLemmas.{some_node}
 
 stays : (t : Subtree) (m : Memory) (n : Node) → SubtreeAt t m n → Replaces t t m n n
@@ -54,7 +56,16 @@ neg_rule m n k None is one not (OfExpr (Neg e)) at = (stays (OfExpr (Neg e)) m n
 neg_rule m n k found is one inner (OfStmt (Let name e)) at = cc
 neg_rule m n k found is one inner t at = cc
 
+pub inner_lean : (m : Memory) (n k inner : Node) → kids_in m n ≡ k ∷ [] → kids_in m k ≡ inner ∷ [] → AreLean m (n ∷ [])
+    → AreLean m (inner ∷ [])
+inner_lean m n k inner one two lean = subst (AreLean m) two (below_lean m k (subst (AreLean m) one (below_lean m n lean)))
+
 -- ---- Totals
+
+pub total_lean : (m : Memory) (found : Option Node) → IfSome found (λ n. n ≡ number_node n.number)
+    → IfSome found (λ n. AreLean m (n ∷ []))
+total_lean m None is = tt
+total_lean m (Some n) is = number_lean m n.number n is
 
 -- The total comes in the place of the node, where there is one.
 totalled : (total : List ℕ → ℕ) (o : Option (List ℕ)) (e : Expr) (m : Memory) (n : Node) (found : Option Node)

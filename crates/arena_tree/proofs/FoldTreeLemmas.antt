@@ -4,7 +4,7 @@ use Rattle.arena_chunks.specs.Memory.{Memory}
 use Rattle.arena_chunks.specs.Source.{View}
 use Rattle.arena_chunks.proofs.Layers.{frame_weaken}
 use Rattle.arena_clone.proofs.Layers.{all_turned}
-use Rattle.placement.specs.State.{used_bytes}
+use Rattle.arena_rules.specs.State.{used_bytes}
 use Rattle.arena_items.specs.Room.{SamePlaces}
 use Rattle.arena_vec.specs.Vecs.{vec_list}
 use Rattle.tree_rules.specs.Trees.{Stmts, AreStmts, folded_stmts, folds_of_stmts}

@@ -1,7 +1,7 @@
 -- Trees that calls are given, and that calls leave.
 use Rattle.std.proofs.Common.{◌+◌, ◌/◌, ◌<◌, arith}
 use Rattle.arena_chunks.specs.Memory.{Memory}
-use Rattle.placement.specs.State.{used_bytes}
+use Rattle.arena_rules.specs.State.{used_bytes}
 use Rattle.arena_vec.specs.Vecs.{vec_list}
 use Rattle.tree_rules.specs.Trees.{Stmts, AreStmts}
 use Rattle.arena_tree.specs.declared.tree.Tree.{Tree}

@@ -2,17 +2,18 @@
 use Rattle.std.proofs.Common.{ℕ, refl, List, [], ◌∷◌, ◌++◌}
 use Rattle.arena_chunks.specs.Memory.{Memory}
 use Rattle.arena_chunks.specs.Frame.{IsApart, AreAllApart}
-use Rattle.arena_chunks.specs.declared.block.Block.{Block}
+use Rattle.arena_store.specs.declared.block.Block.{Block}
 use Rattle.arena_chunks.proofs.Layers.{all_from_both}
 use Rattle.arena_clone.proofs.Layers.{all_turned}
 use Rattle.arena_tree.specs.declared.node.Node.{Node}
-use Rattle.arena_tree.specs.TreesAt.{OfLists, OfTexts, expr_blocks}
+use Rattle.arena_tree.specs.TreesAt.{OfLists, OfTexts, expr_blocks, AreLean}
 use Rattle.arena_tree.specs.StmtsAt.{stmt_blocks}
 use Rattle.arena_tree.specs.TreeLaws.{expr_readable, expr_same, expr_again}
 use Rattle.arena_tree.specs.StmtLaws.{stmt_readable, stmt_same, stmt_again}
 use Rattle.arena_tree.specs.Subtrees.{Subtree, OfExpr, OfStmt, SubtreeAt, lists_at, texts_at, RowAt, row_lists, row_texts}
 use Rattle.arena_tree.specs.FoldingParts.{StandsOn, StandOn, WritesIn}
 use Rattle.arena_tree.proofs.PartsLemmas.{Parts, None, First, Second, expr_parts, stmt_parts}
+use Rattle.arena_tree.proofs.LeanLemmas.{lean_none, lean_both, lean_first, lean_rest, it_stays_lean}
 use Rattle.arena_tree.proofs.StayLemmas.{stay_all}
 use Rattle.arena_tree.proofs.FoldBlockLemmas.{AreBeside}
 
@@ -61,6 +62,34 @@ all_beside {a} {c} {ws} (t ∷ ts) (n ∷ ns) w at h =
     let xs = (all_from_both ws (texts_at t a n) (row_texts ts a ns)).0 h.1 in
     row_both (beside t n w at.0 (ls.0, xs.0)) (all_beside ts ns w at.1 (ls.1, xs.1))
 all_beside ts ns w at h = absurd at
+
+-- Nodes that hold nothing that their kinds don't use still don't.
+lean_beside : {a c : Memory} {ws : List Block} (t : Subtree) (n : Node) → WritesIn a c ws → SubtreeAt t a n
+    → AreBeside ws (lists_at t a n) (texts_at t a n) → AreLean a (n ∷ []) → AreLean c (n ∷ [])
+lean_beside {a} {c} {ws} (OfExpr e) n w at h =
+    let apart = all_turned ws (expr_blocks e a n) (parts_beside ws _ _ _ (expr_parts e a n) h) in
+    it_stays_lean (OfExpr e) a c n at (stay_all a c ws ws (expr_blocks e a n) w.frame (expr_readable e a n at) apart).agree
+lean_beside {a} {c} {ws} (OfStmt s) n w at h =
+    let apart = all_turned ws (stmt_blocks s a n) (parts_beside ws _ _ _ (stmt_parts s a n) h) in
+    it_stays_lean (OfStmt s) a c n at (stay_all a c ws ws (stmt_blocks s a n) w.frame (stmt_readable s a n at) apart).agree
+
+all_lean_beside : {a c : Memory} {ws : List Block} (ts : List Subtree) (ns : List Node) → WritesIn a c ws → RowAt ts a ns
+    → AreBeside ws (row_lists ts a ns) (row_texts ts a ns) → AreLean a ns → AreLean c ns
+all_lean_beside {a} {c} [] [] w at h lean = lean_none c
+all_lean_beside {a} {c} {ws} (t ∷ ts) (n ∷ ns) w at h lean =
+    let ls = (all_from_both ws (lists_at t a n) (row_lists ts a ns)).0 h.0 in
+    let xs = (all_from_both ws (texts_at t a n) (row_texts ts a ns)).0 h.1 in
+    lean_both c (n ∷ []) ns (lean_beside t n w at.0 (ls.0, xs.0) (lean_first a n ns lean))
+    (all_lean_beside ts ns w at.1 (ls.1, xs.1) (lean_rest a n ns lean))
+all_lean_beside ts ns w at h lean = absurd at
+
+pub on_lean_beside : {t : Subtree} {old new : Memory} {n : Node} {ls ts ws : List Block} → WritesIn old new ws → StandsOn t old n ls ts
+    → AreBeside ws ls ts → AreLean old (n ∷ []) → AreLean new (n ∷ [])
+on_lean_beside {t} {n = n} w on h = lean_beside t n w on.stands (rw (on.lists, on.texts) h)
+
+pub row_on_lean_beside : {trees : List Subtree} {old new : Memory} {ns : List Node} {ls ts ws : List Block} → WritesIn old new ws
+    → StandOn trees old ns ls ts → AreBeside ws ls ts → AreLean old ns → AreLean new ns
+row_on_lean_beside {trees} {ns = ns} w on h = all_lean_beside trees ns w on.stand (rw (on.lists, on.texts) h)
 
 pub on_beside : {t : Subtree} {old new : Memory} {n : Node} {ls ts ws : List Block} → WritesIn old new ws → StandsOn t old n ls ts
     → AreBeside ws ls ts → StandsOn t new n ls ts

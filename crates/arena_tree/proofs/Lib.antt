@@ -9,12 +9,15 @@ pub mod LinesLemmas
 pub mod LineLemmas
 pub mod WalkLemmas
 pub mod SubtreeLemmas
+pub mod LeanLemmas
 pub mod RowLemmas
 pub mod PrintLemmas
 pub mod SpendingLemmas
 pub mod NodeCostLemmas
 pub mod PartCostLemmas
 pub mod BlockCostLemmas
+pub mod CopyLayoutLemmas
+pub mod AskedLemmas
 pub mod CloneCostLemmas
 pub mod CloneListLemmas
 pub mod CloneLemmas

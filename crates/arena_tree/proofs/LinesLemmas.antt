@@ -13,32 +13,32 @@ use Rattle.arena_tree.specs.declared.node.Node.{Node}
 use Rattle.arena_tree.specs.TreesAt.{kids_of, kids_in, of_first, expr_blocks, IsBuilt}
 use Rattle.arena_tree.specs.StmtsAt.{IsStmtPlaced, AreBuilt}
 use Rattle.arena_tree.proofs.StayLemmas.{StayAll, stay_all, frame_behind}
-use Rattle.arena_tree.proofs.BuildLemmas.{only_one, only_blocks}
+use Rattle.arena_tree.proofs.BuildLemmas.{only_one, only_blocks, HasKidsAlone, lean_as}
 
 pub show_placed : (e : Expr) (old new : Memory) (v : Vec Node) (n : Node) → IsBuilt (And e NoExprs) old new v → n.kind ≡ kind.Show
-    → kids_of n ≡ v
-    → IsStmtPlaced (Show e) old new n
-show_placed e old new v n built is kids =
+    → kids_of n ≡ v → HasKidsAlone n → IsStmtPlaced (Show e) old new n
+show_placed e old new v n built is kids rest =
     let b = subst (IsBuilt (And e NoExprs) old new) (sym kids) built in
     let ns = kids_in new n in
     record {
       stands = (is, b.held, only_one e new ns b.stand);
       apart = subst (λ bs. ArePairwiseApart (n.kids ∷ bs)) (only_blocks e new ns) b.apart;
       frame = subst (λ bs. Frame old new [] (n.kids ∷ bs)) (only_blocks e new ns) b.frame;
+      lean = lean_as n is rest b.lean;
     }
 
 pub block_placed : (ss : Stmts) (old new : Memory) (v : Vec Node) (n : Node) → AreBuilt ss old new v → n.kind ≡ kind.Block → kids_of n ≡ v
-    → IsStmtPlaced (tree.Block ss) old new n
-block_placed ss old new v n built is kids =
+    → HasKidsAlone n → IsStmtPlaced (tree.Block ss) old new n
+block_placed ss old new v n built is kids rest =
     let b = subst (AreBuilt ss old new) (sym kids) built in
-    record { stands = (is, b.held, b.stand); apart = b.apart; frame = b.frame }
+    record { stands = (is, b.held, b.stand); apart = b.apart; frame = b.frame; lean = lean_as n is rest b.lean }
 
 -- the name was placed first, and then the expression in a list
 pub let_node_placed : (name : List ℕ) (e : Expr) (old one new : Memory) (text : Str) (v : Vec Node) (n : Node) → IsTextIn one text
     → text_bytes one text ≡ name
     → Frame old one [] (text.block ∷ []) → IsBuilt (And e NoExprs) one new v → n.kind ≡ kind.Let → n.text ≡ text → kids_of n ≡ v
-    → IsStmtPlaced (Let name e) old new n
-let_node_placed name e old one new text v n held is frame built kind same kids =
+    → n.number ≡ 0 → IsStmtPlaced (Let name e) old new n
+let_node_placed name e old one new text v n held is frame built kind same kids rest =
     let b = subst (IsBuilt (And e NoExprs) one new) (sym kids) built in
     let ns = kids_in new n in
     let t = text.block in
@@ -51,4 +51,5 @@ let_node_placed name e old one new text v n held is frame built kind same kids =
       apart = (subst (λ (s : Str). IsApart s.block.addr s.block.size news) (sym same) stay.apart.0, apart);
       frame = subst (λ (s : Str). Frame old new [] (s.block ∷ news)) (sym same)
           (frame_then old one new [] (t ∷ []) (t ∷ news) frame (frame_behind one new news (t ∷ []) then));
+      lean = lean_as n kind rest b.lean;
     }

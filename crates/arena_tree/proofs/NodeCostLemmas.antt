@@ -1,9 +1,12 @@
 -- What it costs to put a node at the end of a list.
-use Rattle.std.proofs.Common.{◌≡◌, ℕ, ◌+◌, ◌-◌, ◌*◌, ◌^◌, ◌<◌, ◌≤◌, refl, sym, ap, subst, arith, IsTrue, Ok, Err, List, [], ◌∷◌, ◌++◌, length, length-append, ◌⊎◌, inl, inr}
+use Rattle.std.proofs.Common.{◌≡◌, ℕ, ◌+◌, ◌-◌, ◌*◌, ◌^◌, ◌<◌, ◌≤◌, refl, sym, ap, subst, ◌∙◌, arith, IsTrue, Ok, Err, List, [], ◌∷◌, ◌++◌, length, length-append, ◌⊎◌, inl, inr, max, None}
 use Rattle.std.proofs.lemmas.Bool.{cases_lt}
 use Rattle.std.specs.Prelude.{Result, Option, OnOk, OnErr}
-use Rattle.placement.specs.Rounding.{is_layout}
-use Rattle.placement.specs.State.{allocated_bytes, top_of}
+use Rattle.arena_rules.specs.Rounding.{is_layout}
+use Rattle.arena_rules.specs.Search.{place}
+use Rattle.arena_rules.specs.State.{allocated_bytes, top_of}
+use Rattle.arena_rules.proofs.GrownLemmas.{alloc_failed}
+use Rattle.arena_rules.proofs.RoundingLemmas.{layout_power}
 use Rattle.arena_chunks.specs.Memory.{Memory}
 use Rattle.arena_chunks.specs.Source.{View}
 use Rattle.arena_chunks.specs.Answers.Answer.{Refused}
@@ -20,14 +23,21 @@ use Rattle.arena_items.specs.declared.room.Growth.TheVariants.{Stays, GrowsTo, O
 use Rattle.arena_items.proofs.Layers.{row_is_layout, room_costs, room_refused_as, costs_nothing}
 use Rattle.arena_vec.specs.Changes.{Grows}
 use Rattle.arena_vec.specs.Credit.{asked_by, credit_of}
-use Rattle.arena_vec.specs.Growth.{amortised_growth}
+use Rattle.arena_vec.specs.Growth.{amortised, growth_to, amortised_growth}
 use Rattle.arena_vec.specs.Vecs.{IsVecIn}
 use Rattle.arena_vec.specs.declared.vec.Vec.{Vec}
 use Rattle.arena_tree.specs.NodeForms.{plain_88_8}
 use Rattle.arena_tree.specs.TreesAt.{node_item}
+use Rattle.arena_tree.specs.Layouts.{ListOf, LongerList, IsDenied}
 use Rattle.arena_tree.specs.Spending.{IsStarvedBehind, Stops, Spends, error_of}
 use Rattle.arena_tree.specs.declared.node.Node.{Node}
-use Rattle.arena_tree.proofs.SpendingLemmas.{frame_kind, spends_more}
+use Rattle.arena_tree.proofs.SpendingLemmas.{frame_kind, spends_more, asks_of}
+
+same_more : (a b : ℕ) → GrowsTo a ≡ GrowsTo b → a ≡ b
+same_more a b is = cc
+
+stays_grows : (more : ℕ) → Stays ≡ GrowsTo more → ⊥
+stays_grows more is = cc
 
 -- A refused block tells the refusals by which the source's count rose.
 pub told : (old new : View) (size align k : ℕ) → PlacesBlock old new size align (Refused k) → IsCounted k old new
@@ -38,13 +48,22 @@ told old new size align k places =
       | inr within ↦ inl (omega (arith, asked.refusals, places.1.outcome.0))
     ]
 
+-- A block that was refused has no place, before and after.
+pub refused_place : (old new : View) (size align k : ℕ) → IsTrue (is_layout size align) → PlacesBlock old new size align (Refused k)
+    → place new.memory.state size align ≡ None
+refused_place old new size align k layout places =
+    let failed = alloc_failed old.memory.state old.memory.state size align places.0 places.1.valid.entry (layout_power size align layout)
+    places.1.outcome.1.step in
+    rw (ap (λ (m : Memory). m.state) places.1.outcome.1.memory) failed.none
+
 pub pushed_length : (ns : List Node) (n : Node) (len : ℕ) → length ns ≡ len → length (ns ++ n ∷ []) ≡ len + 1
 pushed_length ns n len is = omega (arith, length-append ns (n ∷ []), is)
 
 pub unchanged : {old new : Memory} → new ≡ old → Frame old new [] []
 unchanged {old} same = subst (λ m. Frame old m [] []) (sym same) (frame_reflexive old [])
 
--- What is known of growth: it is paid ahead, the capacity never falls, and what fits is no overflow.
+-- What is known of growth: it is paid ahead, the capacity never falls, what fits is no overflow, there is none where there is room, and else
+-- the capacity is doubled.
 pub record Paid : Type 0 where
   pub keeps : (size cap required : ℕ) → cap ≤ capacity_after (amortised_growth size cap required) cap
   pub asks : (size cap len n : ℕ) → len ≤ cap → 0 < size → (len + n) * (2 * size) ≤ 2 ^ 32
@@ -54,6 +73,11 @@ pub record Paid : Type 0 where
   pub fits : (old new : View) (v w : Vec Node) (required : ℕ) (list : List Node) (result : Result (Unit {0}) AllocError) → required < 2 ^ 32
       → required * 88 < 2 ^ 32 → Grows node_item old new v (amortised_growth 88 v.raw.cap required) list w result
       → ¬ (result ≡ Err CapacityOverflow)
+  pub stays : (size cap required wanted : ℕ) → required ≤ cap → growth_to size cap required wanted ≡ Stays
+  pub doubles : (size cap required : ℕ) → max (2 * cap) required < 2 ^ 32 → max (2 * cap) required * size < 2 ^ 32
+      → amortised size cap required ≡ max (2 * cap) required
+  pub grows : (size cap required wanted : ℕ) → cap < required → required < 2 ^ 32 → required * size < 2 ^ 32
+      → growth_to size cap required wanted ≡ GrowsTo wanted
 
 module _ (paid : Paid) (old new : View) (v w : Vec Node) (list : List Node) (one : old.memory.state.min_align ≡ 1)
     (held : IsVecIn node_item old.memory v) (few : v.raw.len ≤ 2 ^ 24) (longer : length list ≡ v.raw.len + 1) where
@@ -109,6 +133,32 @@ module _ (paid : Paid) (old new : View) (v w : Vec Node) (list : List Node) (one
       err (Err e) grows = omega (arith, ap (λ (u : Vec Node). credit_of 88 u.raw.len u.raw.cap) grows.err.0)
   costs Overflows is result grows = absurd (never result is grows)
 
+  -- the list that is asked for where there is no room
+  becomes_longer : (g : Growth) → growth ≡ g → (more : ℕ) → g ≡ GrowsTo more → LongerList v.raw.len v.raw.cap (more * 88) 8
+  becomes_longer g is more grown = by (cases_lt v.raw.cap (v.raw.len + 1))
+    where
+      by : (v.raw.cap < v.raw.len + 1) ⊎ (v.raw.len + 1 ≤ v.raw.cap) → LongerList v.raw.len v.raw.cap (more * 88) 8
+      by (inl full) =
+          let wanted = amortised 88 v.raw.cap (v.raw.len + 1) in
+          let is_wanted : GrowsTo wanted ≡ GrowsTo more
+          = sym (paid.grows 88 v.raw.cap (v.raw.len + 1) wanted full (omega arith) (omega arith)) ∙ is ∙ grown in
+          let twice : wanted ≡ max (2 * v.raw.cap) (v.raw.len + 1)
+          = paid.doubles 88 v.raw.cap (v.raw.len + 1) (omega (arith, full)) (omega (arith, full)) in
+          (omega (arith, full), (ap (λ n. n * 88) (sym (same_more wanted more is_wanted) ∙ twice), refl))
+      by (inr room) = absurd (stays_grows more (sym (paid.stays 88 v.raw.cap (v.raw.len + 1) _ room) ∙ is ∙ grown))
+
+  denied : (g : Growth) (k : ℕ) → growth ≡ g → Pushes (Err (AllocErr k)) → IsDenied (LongerList v.raw.len v.raw.cap) new
+  denied Stays k is grows = absurd (rw is at grows.made).0
+  denied (GrowsTo more) k is grows = record {
+    size = more * 88;
+    align = 8;
+    asked = becomes_longer (GrowsTo more) is more refl;
+    none = refused_place old new (more * 88) 8 k (layout more is)
+        (room_refused_as old new v.raw.block 88 8 v.raw.cap (λ (x : Unit {0}). w.raw.block) more one held.place (layout more is)
+        (AllocErr k) grows.err.1 (rw is at grows.made));
+  }
+  denied Overflows k is grows = absurd (never (Err (AllocErr k)) is grows)
+
   counts : (g : Growth) (k : ℕ) → growth ≡ g → Pushes (Err (AllocErr k)) → IsCounted k old new
   counts Stays k is grows = absurd (rw is at grows.made).0
   counts (GrowsTo more) k is grows = told old new (more * 88) 8 k
@@ -117,7 +167,7 @@ module _ (paid : Paid) (old new : View) (v w : Vec Node) (list : List Node) (one
   counts Overflows k is grows = absurd (never (Err (AllocErr k)) is grows)
 
   pub node_spends : (result : Result (Unit {0}) AllocError) → Grows node_item old new v growth list w result
-      → Spends 359 credit later old new (error_of result)
+      → Spends (LongerList v.raw.len v.raw.cap) 359 credit later old new (error_of result)
   node_spends result grows =
       let cost = costs growth refl result grows in
       record { takes = cost.takes; asks = cost.asks; kind = frame_kind grows.frame; stops = stops result grows cost }
@@ -129,13 +179,14 @@ module _ (paid : Paid) (old new : View) (v w : Vec Node) (list : List Node) (one
       far (inr (inr refused)) = inl refused
 
       stops : (r : Result (Unit {0}) AllocError) → Pushes r → Costs {X = Unit {0}} farthest 359 credit later old new r
-          → Stops (used old + (359 + credit)) old new (error_of r)
+          → Stops (LongerList v.raw.len v.raw.cap) (used old + (359 + credit)) old new (error_of r)
       stops (Ok tt) grows cost = tt
       stops (Err (AllocErr k)) grows cost = (
         record {
           counted = counts growth k refl grows;
           starved = λ growing. far (cost.starved growing k refl).cause;
           full = λ still. cost.full still k refl;
+          denied = denied growth k refl grows;
         },
         unchanged grows.err.1,
       )
@@ -145,5 +196,11 @@ module _ (paid : Paid) (old new : View) (v w : Vec Node) (list : List Node) (one
 
 -- The first node of a new list costs as much, since nothing is saved for it.
 pub first_node : (old new : View) (v : Vec Node) (later : ℕ) (error : Option AllocError) → v.raw.len ≡ 0
-    → Spends 359 (credit_of 88 v.raw.len v.raw.cap) later old new error → Spends 359 0 0 old new error
-first_node old new v later error none spends = spends_more spends (omega (arith, none)) (omega (arith, none))
+    → Spends (LongerList v.raw.len v.raw.cap) 359 (credit_of 88 v.raw.len v.raw.cap) later old new error
+    → Spends (ListOf 1) 359 0 0 old new error
+first_node old new v later error none spends =
+    asks_of (λ size align longer. (longer.1.0 ∙ ap (λ n. n * 88) (one longer.0), longer.1.1))
+    (spends_more spends (omega (arith, none)) (omega (arith, none)))
+  where
+    one : v.raw.cap ≤ v.raw.len → max (2 * v.raw.cap) (v.raw.len + 1) ≡ 1
+    one few = omega (arith, few, none)

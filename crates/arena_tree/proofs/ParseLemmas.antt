@@ -2,8 +2,8 @@
 use Rattle.std.proofs.Common.{◌≡◌, ℕ, ◌^◌, ◌<◌, ◌≤◌, ◌⊎◌, inl, inr, refl, arith, true, Err, Some, List, []}
 use Rattle.std.specs.Prelude.{Option}
 use Rattle.std.proofs.lemmas.Bool.{cases_lt}
-use Rattle.placement.specs.State.{allocated_bytes, top_of}
-use Rattle.placement.proofs.AskingLemmas.{asks_more}
+use Rattle.arena_rules.specs.State.{allocated_bytes, top_of}
+use Rattle.arena_rules.proofs.AskingLemmas.{asks_more}
 use Rattle.arena_chunks.specs.Source.{View}
 use Rattle.arena_chunks.specs.Frame.{Frame}
 use Rattle.arena_chunks.specs.Asking.{IsStarved, IsRefusedBySource}
@@ -12,6 +12,7 @@ use Rattle.arena_items.specs.declared.room.AllocError.TheVariants as alloc
 use Rattle.tree_rules.specs.Refusals.{TreeOf}
 use Rattle.tree_rules.specs.declared.refused.Refused.{Refused}
 use Rattle.tree_rules.specs.declared.refused.Refused.TheVariants.{Syntax, TooDeep, NumberTooBig}
+use Rattle.arena_tree.specs.Layouts.{Layouts}
 use Rattle.arena_tree.specs.Spending.{Spends, IsStarvedBehind}
 use Rattle.arena_tree.specs.Parsing.{Parses, TakesAtMost, IsShortOf, error_for}
 
@@ -20,9 +21,9 @@ refused_parses bytes a (Syntax at) h = (h, refl)
 refused_parses bytes a (TooDeep at) h = (h, refl)
 refused_parses bytes a (NumberTooBig at) h = (h, refl)
 
-pub spends_takes : {few left : ℕ} {old new : View} {error : Option AllocError} (most : ℕ) → Spends few 0 left old new error
-    → few ≤ most → TakesAtMost most old new
-spends_takes {few} {left} {old} {new} most spends less = record {
+pub spends_takes : {layouts : Layouts} {few left : ℕ} {old new : View} {error : Option AllocError} (most : ℕ)
+    → Spends layouts few 0 left old new error → few ≤ most → TakesAtMost most old new
+spends_takes {layouts} {few} {left} {old} {new} most spends less = record {
   takes = omega (arith, spends.takes, less);
   asks = asks_more _ _ old.memory.state new.memory.state old.source new.source (omega (arith, less)) spends.asks;
   kind = spends.kind;
@@ -38,11 +39,12 @@ starved old new growing (inr (inr up)) = record { growing = growing; cause = by 
     by (inl few) = inl (omega (arith, up, few))
     by (inr much) = inr (inl much)
 
-pub short : {few : ℕ} {old new : View} (most k : ℕ) → Spends few 0 0 old new (Some (alloc.AllocErr k)) → few ≤ most
-    → IsShortOf most k old new × Frame old.memory new.memory [] []
-short {few} {old} {new} most k spends less =
+pub short : {layouts : Layouts} {few : ℕ} {old new : View} (most k : ℕ) → Spends layouts few 0 0 old new (Some (alloc.AllocErr k))
+    → few ≤ most → IsShortOf layouts most k old new × Frame old.memory new.memory [] []
+short {layouts} {few} {old} {new} most k spends less =
     let why = spends.stops.0 in (
       record {
+        denied = why.denied;
         counted = why.counted;
         starved = λ growing. starved old new growing (why.starved growing);
         full = λ still. record { still = still; short = omega (arith, (why.full still).short, less) };

@@ -15,7 +15,7 @@ use Rattle.arena_tree.specs.TreesAt.{kids_of, IsPlaced}
 use Rattle.arena_tree.specs.Subtrees.{OfExpr, expr_row, IsRowBuilt}
 use Rattle.arena_tree.specs.Parts.{IsTokenAt, sign_of, signed_tree, Reads, behind_factor, at_next}
 use Rattle.arena_tree.specs.LineParts.{braces, at_line, at_value}
-use Rattle.arena_tree.proofs.BuildLemmas.{sum_placed}
+use Rattle.arena_tree.proofs.BuildLemmas.{HasKidsAlone, sum_placed}
 use Rattle.arena_tree.proofs.RowLemmas.{exprs_built, exprs_more}
 use Rattle.arena_tree.proofs.TokenLemmas.{passed_to}
 
@@ -112,6 +112,6 @@ terms_more false s t built = exprs_more (term_trees s) (signed_tree false (facto
 
 pub terms_placed : {old new : Memory} {v : Vec Node} {n : Node} (minus : Bool) (s : Terms) (t : Factors)
     → IsRowBuilt (expr_row (term_trees (joined minus s t))) old new v → n.kind ≡ kind.Sum → kids_of n ≡ v
-    → IsPlaced (terms_tree (joined minus s t)) old new n
-terms_placed true s t built is kids = sum_placed _ _ _ _ _ (exprs_built _ _ _ _ built) is kids
-terms_placed false s t built is kids = sum_placed _ _ _ _ _ (exprs_built _ _ _ _ built) is kids
+    → HasKidsAlone n → IsPlaced (terms_tree (joined minus s t)) old new n
+terms_placed true s t built is kids rest = sum_placed _ _ _ _ _ (exprs_built _ _ _ _ built) is kids rest
+terms_placed false s t built is kids rest = sum_placed _ _ _ _ _ (exprs_built _ _ _ _ built) is kids rest

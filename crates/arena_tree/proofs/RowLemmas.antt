@@ -9,12 +9,13 @@ use Rattle.arena_vec.specs.Vecs.{IsVecIn, vec_list}
 use Rattle.arena_vec.specs.declared.vec.Vec.{Vec}
 use Rattle.tree_rules.specs.Trees.{Expr, Exprs, NoExprs, And, with_expr, Stmt, Stmts, NoStmts, Then, with_stmt}
 use Rattle.arena_tree.specs.declared.node.Node.{Node}
-use Rattle.arena_tree.specs.TreesAt.{node_item, exprs_blocks, expr_blocks, IsBuilt}
-use Rattle.arena_tree.specs.StmtsAt.{stmts_blocks, stmt_blocks, AreBuilt}
+use Rattle.arena_tree.specs.TreesAt.{node_item, AreLean, IsBuilt}
+use Rattle.arena_tree.specs.StmtsAt.{AreBuilt}
 use Rattle.arena_tree.specs.TreeLaws.{list_same, list_held, expr_readable, expr_names, expr_again, readable_both, readable_each, agree_each}
 use Rattle.arena_tree.specs.StmtLaws.{stmt_readable, stmt_names, stmt_again}
 use Rattle.arena_tree.specs.Subtrees.{Subtree, OfExpr, OfStmt, SubtreeAt, blocks_at, below_it, row_nodes, HasTree, expr_row, stmt_row, RowAt, row_blocks, IsTreePlaced, IsRowBuilt}
 use Rattle.arena_tree.proofs.StayLemmas.{stay_all, all_none, turned_one, frame_behind}
+use Rattle.arena_tree.proofs.LeanLemmas.{lean_none, lean_both, expr_blocks_are, stmt_blocks_are, row_stays_lean, it_stays_lean}
 use Rattle.arena_tree.proofs.WalkLemmas.{some_node, none_node}
 use Rattle.arena_tree.proofs.SubtreeLemmas.{row_exprs_at, row_stmts_at, row_length}
 use Rattle.std.proofs.lemmas.List.{take_all}
@@ -60,9 +61,9 @@ one_more (r ∷ ts) t m (k ∷ ns) n at one =
 one_more ts t m ns n at one = absurd at
 
 tree_placed : (t : Subtree) (old new : Memory) (n : Node) → IsTreePlaced t old new n
-    → SubtreeAt t new n × ArePairwiseApart (blocks_at t new n) × Frame old new [] (blocks_at t new n)
-tree_placed (OfExpr e) old new n p = (p.stands, p.apart, p.frame)
-tree_placed (OfStmt s) old new n p = (p.stands, p.apart, p.frame)
+    → SubtreeAt t new n × ArePairwiseApart (blocks_at t new n) × Frame old new [] (blocks_at t new n) × AreLean new (n ∷ [])
+tree_placed (OfExpr e) old new n p = (p.stands, p.apart, p.frame, p.lean)
+tree_placed (OfStmt s) old new n p = (p.stands, p.apart, p.frame, p.lean)
 
 -- no trees, in a list with no storage
 pub row_none : (m : Memory) (v : Vec Node) → IsVecIn node_item m v → vec_list node_item m v ≡ [] → v.raw.block.size ≡ 0
@@ -72,6 +73,7 @@ row_none m v held none size = record {
   stand = subst (RowAt [] m) (sym none) tt;
   apart = (tt, tt);
   frame = (empty_after m m [] [] [] v.raw.block size).1 (frame_reflexive m []);
+  lean = subst (AreLean m) (sym none) (lean_none m);
 }
 
 -- A tree that was placed before is put in a list with room, in a block that was free.
@@ -94,6 +96,7 @@ row_first t old one mid new v w n placed room held list_is filled =
       apart = subst (λ bs. ArePairwiseApart (wb ∷ bs)) (sym blocks) (turned_one wb nb stay.apart, p.1);
       frame = subst (λ bs. Frame old new [] (wb ∷ bs)) (sym blocks)
           (frame_then old one new [] nb (wb ∷ nb) p.2 (frame_beside one new [] (wb ∷ []) nb frame));
+      lean = subst (AreLean new) (sym list) (it_stays_lean t one new n p.0 stay.agree p.3);
     }
   where
     no_trees : (ns : List Node) → RowAt [] mid ns → ns ≡ []
@@ -103,7 +106,7 @@ row_first t old one mid new v w n placed room held list_is filled =
 -- A tree is placed, and put at the end of a list that is built.
 module _ (ts : List Subtree) (t : Subtree) (old one two : Memory) (v : Vec Node) (n : Node) (built : IsRowBuilt ts old one v)
     (placed : IsTreePlaced t one two n) where
-  stands : SubtreeAt t two n × ArePairwiseApart (blocks_at t two n) × Frame one two [] (blocks_at t two n)
+  stands : SubtreeAt t two n × ArePairwiseApart (blocks_at t two n) × Frame one two [] (blocks_at t two n) × AreLean two (n ∷ [])
   stands = tree_placed t one two n placed
 
   pub row_held : IsVecIn node_item two v
@@ -142,13 +145,11 @@ module _ (ts : List Subtree) (t : Subtree) (old one two : Memory) (v : Vec Node)
         frame = subst (λ bs. Frame old new [] (wb ∷ bs)) (sym blocks) (frame_then old two new [] (vb ∷ (eb ++ nb)) (wb ∷ (eb ++ nb))
             (frame_then old one two [] (vb ∷ eb) (vb ∷ (eb ++ nb)) built.frame (frame_behind one two nb (vb ∷ eb) stands.2))
             (frame_beside two new (vb ∷ []) (wb ∷ []) (eb ++ nb) frame));
+        lean = subst (AreLean new) (sym list) (lean_both new ns (n ∷ []) (row_stays_lean ts one new ns built.stand rest.agree built.lean)
+            (it_stays_lean t two new n stands.0 last.agree stands.3));
       }
 
 -- ---- Lists of expressions, and of statements
-
-expr_blocks_are : (es : Exprs) (m : Memory) (ns : List Node) → row_blocks (expr_row es) m ns ≡ exprs_blocks es m ns
-expr_blocks_are (And e rest) m (n ∷ ns) = ap (λ bs. expr_blocks e m n ++ bs) (expr_blocks_are rest m ns)
-expr_blocks_are es m ns = refl
 
 pub exprs_built : (es : Exprs) (old new : Memory) (v : Vec Node) → IsRowBuilt (expr_row es) old new v → IsBuilt es old new v
 exprs_built es old new v b =
@@ -158,11 +159,8 @@ exprs_built es old new v b =
       stand = row_exprs_at es new _ b.stand;
       apart = subst (λ bs. ArePairwiseApart (v.raw.block ∷ bs)) is b.apart;
       frame = subst (λ bs. Frame old new [] (v.raw.block ∷ bs)) is b.frame;
+      lean = b.lean;
     }
-
-stmt_blocks_are : (ss : Stmts) (m : Memory) (ns : List Node) → row_blocks (stmt_row ss) m ns ≡ stmts_blocks ss m ns
-stmt_blocks_are (Then s rest) m (n ∷ ns) = ap (λ bs. stmt_blocks s m n ++ bs) (stmt_blocks_are rest m ns)
-stmt_blocks_are ss m ns = refl
 
 pub stmts_built : (ss : Stmts) (old new : Memory) (v : Vec Node) → IsRowBuilt (stmt_row ss) old new v → AreBuilt ss old new v
 stmts_built ss old new v b =
@@ -172,6 +170,7 @@ stmts_built ss old new v b =
       stand = row_stmts_at ss new _ b.stand;
       apart = subst (λ bs. ArePairwiseApart (v.raw.block ∷ bs)) is b.apart;
       frame = subst (λ bs. Frame old new [] (v.raw.block ∷ bs)) is b.frame;
+      lean = b.lean;
     }
 
 -- one more, in the lists of the grammar

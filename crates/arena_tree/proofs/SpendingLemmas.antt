@@ -1,23 +1,25 @@
 -- What calls cost that are made one after another.
 use Rattle.std.proofs.Common.{◌≡◌, ℕ, ◌+◌, ◌-◌, ◌≤◌, inl, inr, refl, sym, subst, ◌∙◌, arith, Ok, Err, Option, Some, None, List, [], length, drop, length-take}
 use Rattle.std.specs.Prelude.{Result, IsErr, IsErrAnd, slice_range}
-use Rattle.placement.proofs.AskingLemmas.{asks_more, asks_then, refused_after}
+use Rattle.arena_rules.proofs.AskingLemmas.{asks_more, asks_then, refused_after}
 use Rattle.arena_chunks.specs.Memory.{Memory}
 use Rattle.arena_chunks.specs.Source.{View}
 use Rattle.arena_chunks.specs.Frame.{Frame}
-use Rattle.arena_chunks.specs.declared.block.Block.{Block}
+use Rattle.arena_store.specs.declared.block.Block.{Block}
 use Rattle.arena_chunks.proofs.Layers.{asks_same, frame_reflexive, frame_then, frame_forget}
 use Rattle.arena_items.specs.Costs.{used}
 use Rattle.arena_items.specs.declared.room.AllocError.{AllocError}
 use Rattle.arena_items.specs.declared.room.AllocError.TheVariants.{AllocErr, CapacityOverflow, OutOfMemory}
 use Rattle.arena_chunks.specs.Asking.{IsCounted}
+use Rattle.arena_tree.specs.Layouts.{Layouts, AskedFor}
 use Rattle.arena_tree.specs.Spending.{KeepsKind, IsStarvedBehind, Stops, Spends, error_of, most_for, SpendsUpTo, SpendsAll, SpendsOrNot}
 
 pub frame_kind : {old new : Memory} {before after : List Block} → Frame old new before after → KeepsKind old new
 frame_kind frame = record { is_growing = frame.is_growing; allocated = frame.allocated }
 
 -- Nothing is done.
-pub spends_nothing : (bytes before after : ℕ) (a : View) → after ≤ bytes + before → Spends bytes before after a a None
+pub spends_nothing : {layouts : Layouts} (bytes before after : ℕ) (a : View) → after ≤ bytes + before
+    → Spends layouts bytes before after a a None
 spends_nothing bytes before after a less = record {
   takes = omega (arith, less);
   asks = asks_same _ a a refl refl;
@@ -26,11 +28,11 @@ spends_nothing bytes before after a less = record {
 }
 
 -- Calls, and then others: what was in use before the first stays.
-pub spends_then : {one saved two spare left all rest : ℕ} {old mid new : View} {error : Option AllocError}
-    → Spends one 0 saved old mid None → Spends two spare left mid new error → Frame old.memory mid.memory [] []
+pub spends_then : {some layouts : Layouts} {one saved two spare left all rest : ℕ} {old mid new : View} {error : Option AllocError}
+    → Spends some one 0 saved old mid None → Spends layouts two spare left mid new error → Frame old.memory mid.memory [] []
     → one ≤ all → one + two + spare ≤ all + saved → one + two + spare + rest ≤ all + saved + left
-    → Spends all 0 rest old new error
-spends_then {one} {saved} {two} {spare} {left} {all} {rest} {old} {mid} {new} {error} first second frame few fit paid = record {
+    → Spends layouts all 0 rest old new error
+spends_then {some} {layouts} {one} {saved} {two} {spare} {left} {all} {rest} {old} {mid} {new} {error} first second frame few fit paid = record {
   takes = omega (arith, first.takes, second.takes, paid);
   asks = asks_then _ old.memory.state mid.memory.state new.memory.state old.source mid.source new.source
       (asks_more _ _ old.memory.state mid.memory.state old.source mid.source (omega (arith, few)) first.asks)
@@ -54,7 +56,7 @@ spends_then {one} {saved} {two} {spare} {left} {all} {rest} {old} {mid} {new} {e
     counted k (inl rose) = inl (omega (arith, rose, first.asks.refusals))
     counted k (inr last) = inr last
 
-    by : (e : Option AllocError) → Stops (used mid + (two + spare)) mid new e → Stops (used old + (all + 0)) old new e
+    by : (e : Option AllocError) → Stops layouts (used mid + (two + spare)) mid new e → Stops layouts (used old + (all + 0)) old new e
     by None h = tt
     by (Some (AllocErr k)) h = (
       record {
@@ -63,6 +65,7 @@ spends_then {one} {saved} {two} {spare} {left} {all} {rest} {old} {mid} {new} {e
         full = λ still.
             let short = h.0.full (first.kind.is_growing ∙ still) in
             record { still = still; short = omega (arith, short.short, first.kind.allocated still, within) };
+        denied = h.0.denied;
       },
       frame_then old.memory mid.memory new.memory [] [] [] frame h.1,
     )
@@ -70,11 +73,38 @@ spends_then {one} {saved} {two} {spare} {left} {all} {rest} {old} {mid} {new} {e
     by (Some CapacityOverflow) h = h
 
 -- What is paid ahead is enough for more, and what is saved may be forgotten.
-pub spends_more : {few spare many left rest : ℕ} {old new : View} {error : Option AllocError} → Spends few spare left old new error
-    → few + spare ≤ many → few + spare + rest ≤ many + left → Spends many 0 rest old new error
-spends_more {old = old} spends less paid =
-    spends_then (spends_nothing 0 0 0 old (omega arith)) spends (frame_reflexive old.memory []) (omega arith) (omega (arith, less))
+pub spends_more : {layouts : Layouts} {few spare many left rest : ℕ} {old new : View} {error : Option AllocError}
+    → Spends layouts few spare left old new error → few + spare ≤ many → few + spare + rest ≤ many + left
+    → Spends layouts many 0 rest old new error
+spends_more {layouts} {old = old} spends less paid =
+    spends_then (spends_nothing {layouts = layouts} 0 0 0 old (omega arith)) spends (frame_reflexive old.memory []) (omega arith) (omega (arith, less))
     (omega (arith, paid))
+
+-- What is asked for is of more layouts too; and calls that were not stopped may be said to ask for any.
+pub asks_of : {some layouts : Layouts} {bytes before after : ℕ} {old new : View} {error : Option AllocError}
+    → ((size align : ℕ) → some size align → layouts size align) → Spends some bytes before after old new error
+    → Spends layouts bytes before after old new error
+asks_of {some} {layouts} {bytes} {before} {old = old} {new} {error} wider spends =
+    record { takes = spends.takes; asks = spends.asks; kind = spends.kind; stops = by error spends.stops }
+  where
+    by : (e : Option AllocError) → Stops some (used old + (bytes + before)) old new e
+        → Stops layouts (used old + (bytes + before)) old new e
+    by None h = tt
+    by (Some (AllocErr k)) h = let d = h.0.denied in (
+      record {
+        counted = h.0.counted;
+        starved = h.0.starved;
+        full = h.0.full;
+        denied = record { size = d.size; align = d.align; asked = wider d.size d.align d.asked; none = d.none };
+      },
+      h.1,
+    )
+    by (Some OutOfMemory) h = h
+    by (Some CapacityOverflow) h = h
+
+pub asks_any : {some layouts : Layouts} {bytes before after : ℕ} {old new : View} → Spends some bytes before after old new None
+    → Spends layouts bytes before after old new None
+asks_any spends = record { takes = spends.takes; asks = spends.asks; kind = spends.kind; stops = tt }
 
 -- What was placed on free blocks leaves all that was in use.
 pub frees : {old new : Memory} {blocks : List Block} → Frame old new [] blocks → Frame old new [] []
@@ -98,18 +128,21 @@ pub handed_on : {X : Type 0} (P : Result X AllocError → Type 0) (result : Resu
 handed_on P (Ok x) e is h = absurd is.1
 handed_on P (Err f) e is h = subst (λ d. P (Err d)) (sym is.1) h
 
-pub err_up_to : {old new : View} (at len : ℕ) (result : Result ℕ AllocError) (e : AllocError) → IsHandedOn result e
-    → Spends (most_for (len - at)) 0 0 old new (Some e) → SpendsUpTo at len old new result
-err_up_to {old} {new} at len = handed_on (SpendsUpTo at len old new)
+abbrev pub Stopped : ℕ → List ℕ → View → View → AllocError → Type 0
+Stopped at src old new e = Spends (AskedFor src) (most_for (length src - at)) 0 0 old new (Some e)
 
-pub err_all : {X : Type 0} {old new : View} (at len : ℕ) (result : Result (X × ℕ) AllocError) (e : AllocError) → IsHandedOn result e
-    → Spends (most_for (len - at)) 0 0 old new (Some e) → SpendsAll at len old new result
-err_all {X} {old} {new} at len = handed_on (SpendsAll at len old new)
+pub err_up_to : {old new : View} (at : ℕ) (src : List ℕ) (result : Result ℕ AllocError) (e : AllocError) → IsHandedOn result e
+    → Stopped at src old new e → SpendsUpTo at src old new result
+err_up_to {old} {new} at src = handed_on (SpendsUpTo at src old new)
 
-pub err_or_not : {old new : View} (at len : ℕ) (result : Result (Option ℕ) AllocError) (e : AllocError) → IsHandedOn result e
-    → Spends (most_for (len - at)) 0 0 old new (Some e) → SpendsOrNot at len old new result
-err_or_not {old} {new} at len = handed_on (SpendsOrNot at len old new)
+pub err_all : {X : Type 0} {old new : View} (at : ℕ) (src : List ℕ) (result : Result (X × ℕ) AllocError) (e : AllocError)
+    → IsHandedOn result e → Stopped at src old new e → SpendsAll at src old new result
+err_all {X} {old} {new} at src = handed_on (SpendsAll at src old new)
 
-pub err_spends : {X : Type 0} {bytes : ℕ} {old new : View} (result : Result X AllocError) (e : AllocError) → IsHandedOn result e
-    → Spends bytes 0 0 old new (Some e) → Spends bytes 0 0 old new (error_of result)
-err_spends {X} {bytes} {old} {new} = handed_on (λ (r : Result X AllocError). Spends bytes 0 0 old new (error_of r))
+pub err_or_not : {old new : View} (at : ℕ) (src : List ℕ) (result : Result (Option ℕ) AllocError) (e : AllocError)
+    → IsHandedOn result e → Stopped at src old new e → SpendsOrNot at src old new result
+err_or_not {old} {new} at src = handed_on (SpendsOrNot at src old new)
+
+pub err_spends : {X : Type 0} {layouts : Layouts} {bytes : ℕ} {old new : View} (result : Result X AllocError) (e : AllocError)
+    → IsHandedOn result e → Spends layouts bytes 0 0 old new (Some e) → Spends layouts bytes 0 0 old new (error_of result)
+err_spends {X} {layouts} {bytes} {old} {new} = handed_on (λ (r : Result X AllocError). Spends layouts bytes 0 0 old new (error_of r))

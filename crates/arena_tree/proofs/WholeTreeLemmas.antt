@@ -3,7 +3,7 @@ use Rattle.std.proofs.Common.{◌≡◌, sym, ap, subst, ◌∙◌, List, [], �
 use Rattle.arena_chunks.specs.Memory.{Memory}
 use Rattle.arena_chunks.specs.Checkpoints.{GoesBack}
 use Rattle.arena_chunks.specs.Frame.{Frame, AreAllApart}
-use Rattle.arena_chunks.specs.declared.block.Block.{Block}
+use Rattle.arena_store.specs.declared.block.Block.{Block}
 use Rattle.arena_chunks.proofs.Layers.{went_back, all_from_none, all_among, all_each}
 use Rattle.arena_items.specs.Footprint.{AreReadable, Agree}
 use Rattle.arena_vec.specs.Vecs.{vec_list}

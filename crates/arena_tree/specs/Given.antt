@@ -4,7 +4,7 @@ use Rattle.arena_chunks.specs.Memory.{Memory}
 use Rattle.arena_chunks.specs.Frame.{ArePairwiseApart, AreAllApart}
 use Rattle.arena_vec.specs.Vecs.{IsVecIn, vec_list}
 use Rattle.tree_rules.specs.Trees.{Stmts, AreStmts}
-use Rattle.arena_tree.specs.TreesAt.{node_item}
+use Rattle.arena_tree.specs.TreesAt.{node_item, AreLean}
 use Rattle.arena_tree.specs.StmtsAt.{StmtsAt}
 use Rattle.arena_tree.specs.Lists.{stmts_lists, stmts_texts}
 use Rattle.arena_tree.specs.declared.tree.Tree.{Tree}
@@ -24,3 +24,8 @@ pub record IsTreeIn (m : Memory) (t : Tree) : Type 0 where
   pub lists : ArePairwiseApart (t.stmts.raw.block ∷ stmts_lists trees m (vec_list node_item m t.stmts))
   pub texts : AreAllApart (stmts_texts trees m (vec_list node_item m t.stmts)) (t.stmts.raw.block ∷ stmts_lists trees m (vec_list
       node_item m t.stmts))
+
+-- No node of the tree holds what its kind doesn't use, at any depth: a number that is not 0, a text, or a list. A tree that is made of raw
+-- parts may; no call asks for this.
+abbrev pub IsLeanTree : Memory → Tree → Type 0
+IsLeanTree m t = AreLean m (vec_list node_item m t.stmts)

@@ -9,6 +9,7 @@ pub mod Counts
 pub mod Printing
 pub mod Lists
 pub mod Given
+pub mod Layouts
 pub mod Spending
 pub mod Parsing
 pub mod Subtrees

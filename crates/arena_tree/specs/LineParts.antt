@@ -1,5 +1,5 @@
 -- Statements that were read, and what was placed for them.
-use Rattle.std.specs.Prelude.{◌≡◌, ℕ, zero, suc, ◌<◌, ◌≤◌, Option, Some, None, List, [], ◌∷◌, length, slice_range}
+use Rattle.std.specs.Prelude.{◌≡◌, ℕ, zero, suc, ◌+◌, ◌<◌, ◌≤◌, Option, Some, None, List, [], ◌∷◌, length, slice_range}
 use Rattle.arena_chunks.specs.Memory.{Memory}
 use Rattle.arena_vec.specs.declared.vec.Vec.{Vec}
 use Rattle.tree_rules.specs.Tokens.{LetKey, Word, Equals, LeftBrace, RightBrace, Placed}
@@ -39,6 +39,7 @@ LinesStop (t ∷ ts) = t.token ≡ RightBrace
 
 pub record IsLine (bytes : List ℕ) (from end : ℕ) (old new : Memory) (n : Node) : Type 0 where
   pub part : Line
+  pub long : from + 2 ≤ end
   pub read : Reads bytes from end (spell_line part) at_line at_line
   pub open read use *
   pub placed : IsStmtPlaced (line_tree part) old new n
@@ -63,6 +64,7 @@ abbrev pub IsLineStart : List ℕ → ℕ → LineStart → Type 0
 IsLineStart bytes at (start.Let begin end behind) = IsLet bytes at (slice_range bytes begin end) behind × IsFactorPlace bytes behind
     × (at < behind) × (behind ≤ length bytes)
     × (begin ≤ end) × (end ≤ length bytes) × (at ≤ begin) × (end ≤ behind)
+    × ((place : ℕ) × IsTokenAt bytes place (Word (slice_range bytes begin end)) end)
 IsLineStart bytes at (start.Block behind) = IsTokenAt bytes at LeftBrace behind × IsLinesPlace bytes behind × (at < behind)
     × (behind ≤ length bytes)
 IsLineStart bytes at start.Expr = IsFactorPlace bytes at × ExprStarts bytes at

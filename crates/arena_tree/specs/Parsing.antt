@@ -9,6 +9,7 @@ use Rattle.tree_rules.specs.Refusals.{TreeOf}
 use Rattle.tree_rules.specs.declared.refused.Refused.{Refused}
 use Rattle.tree_rules.specs.declared.refused.Refused.TheVariants as refused
 use Rattle.arena_tree.specs.StmtsAt.{AreBuilt}
+use Rattle.arena_tree.specs.Layouts.{Layouts, IsDenied, AskedFor}
 use Rattle.arena_tree.specs.Spending.{KeepsKind}
 use Rattle.arena_tree.specs.declared.tree.Tree.{Tree}
 use Rattle.arena_tree.specs.declared.tree.TreeErr.{TreeErr}
@@ -25,9 +26,10 @@ pub record TakesAtMost (bytes : ℕ) (old new : View) : Type 0 where
   pub asks : AsksWithin (used old + bytes) old new
   pub kind : KeepsKind old.memory new.memory
 
--- Why a block was refused in a call that takes at most so many bytes: the arena grows and was starved, or it doesn't and has fewer. The
--- refusals that are told are the source's.
-pub record IsShortOf (bytes refused : ℕ) (old new : View) : Type 0 where
+-- Why a block was refused in a call that takes at most so many bytes: it has one of these layouts and no place, and the arena grows and was
+-- starved, or it doesn't and has fewer. The refusals that are told are the source's.
+pub record IsShortOf (layouts : Layouts) (bytes refused : ℕ) (old new : View) : Type 0 where
+  pub denied : IsDenied layouts new
   pub counted : IsCounted refused old new
   pub starved : old.memory.state.is_growing ≡ true → IsStarved (2 ^ 62) old new
   pub full : old.memory.state.is_growing ≡ false → IsFull (used old + bytes) old
@@ -53,5 +55,5 @@ Parses bytes old new (Err (Syntax at)) = IsRefusedText bytes old new (refused.Sy
 Parses bytes old new (Err (TooDeep at)) = IsRefusedText bytes old new (refused.TooDeep at)
 Parses bytes old new (Err (NumberTooBig at)) = IsRefusedText bytes old new (refused.NumberTooBig at)
 Parses bytes old new (Err (AllocErr k)) =
-    IsProgramText bytes × IsShortOf (parse_bytes (length bytes)) k old new × Frame old.memory new.memory [] []
+    IsProgramText bytes × IsShortOf (AskedFor bytes) (parse_bytes (length bytes)) k old new × Frame old.memory new.memory [] []
 Parses bytes old new (Err OutOfMemory) = IsProgramText bytes × Frame old.memory new.memory [] []

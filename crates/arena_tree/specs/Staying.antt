@@ -2,7 +2,7 @@
 use Rattle.std.specs.Prelude.{◌≡◌, List}
 use Rattle.arena_chunks.specs.Memory.{Memory}
 use Rattle.arena_chunks.specs.Frame.{AreAllApart}
-use Rattle.arena_chunks.specs.declared.block.Block.{Block}
+use Rattle.arena_store.specs.declared.block.Block.{Block}
 use Rattle.tree_rules.specs.Trees.{Stmts}
 use Rattle.arena_tree.specs.Given.{IsTreeIn, Means}
 use Rattle.arena_tree.specs.Folding.{lists_of, footprint}

@@ -2,7 +2,7 @@
 use Rattle.std.specs.Prelude.{◌≡◌, List, [], ◌∷◌, ◌++◌}
 use Rattle.arena_chunks.specs.Memory.{Memory}
 use Rattle.arena_chunks.specs.Frame.{Frame, ArePairwiseApart}
-use Rattle.arena_chunks.specs.declared.block.Block.{Block}
+use Rattle.arena_store.specs.declared.block.Block.{Block}
 use Rattle.arena_items.specs.Values.{IsTextIn, text_bytes}
 use Rattle.arena_vec.specs.Vecs.{IsVecIn, vec_list}
 use Rattle.arena_vec.specs.declared.vec.Vec.{Vec}
@@ -10,7 +10,7 @@ use Rattle.tree_rules.specs.Trees.{Stmt, Let, Show, Stmts, NoStmts, Then}
 use Rattle.tree_rules.specs.Trees as tree
 use Rattle.arena_tree.specs.declared.node.Kind.TheVariants as kind
 use Rattle.arena_tree.specs.declared.node.Node.{Node}
-use Rattle.arena_tree.specs.TreesAt.{node_item, kids_of, kids_in, IsOnly, of_first, ExprAt, Which, OfBoth, with_list, with_text, expr_named}
+use Rattle.arena_tree.specs.TreesAt.{node_item, kids_of, kids_in, IsOnly, of_first, ExprAt, Which, OfBoth, with_list, with_text, expr_named, AreLean}
 
 abbrev mutual
   pub StmtAt : Stmt → Memory → Node → Type 0
@@ -48,9 +48,11 @@ pub record IsStmtPlaced (s : Stmt) (old new : Memory) (n : Node) : Type 0 where
   pub stands : StmtAt s new n
   pub apart : ArePairwiseApart (stmt_blocks s new n)
   pub frame : Frame old new [] (stmt_blocks s new n)
+  pub lean : AreLean new (n ∷ [])
 
 pub record AreBuilt (ss : Stmts) (old new : Memory) (list : Vec Node) : Type 0 where
   pub held : IsVecIn node_item new list
   pub stand : StmtsAt ss new (vec_list node_item new list)
   pub apart : ArePairwiseApart (list.raw.block ∷ stmts_blocks ss new (vec_list node_item new list))
   pub frame : Frame old new [] (list.raw.block ∷ stmts_blocks ss new (vec_list node_item new list))
+  pub lean : AreLean new (vec_list node_item new list)

@@ -2,7 +2,7 @@
 use Rattle.std.specs.Prelude.{ℕ, ◌+◌, ◌<◌, Bool, true, false, List, [], ◌∷◌, ◌++◌}
 use Rattle.arena_chunks.specs.Memory.{Memory}
 use Rattle.arena_chunks.specs.Frame.{Frame, ArePairwiseApart}
-use Rattle.arena_chunks.specs.declared.block.Block.{Block}
+use Rattle.arena_store.specs.declared.block.Block.{Block}
 use Rattle.arena_vec.specs.Vecs.{IsVecIn, vec_list}
 use Rattle.arena_vec.specs.declared.vec.Vec.{Vec}
 use Rattle.tree_rules.specs.Trees.{Expr, Num, Name, Neg, Sum, Prod, Exprs, NoExprs, And, Stmt, Let, Show, Stmts, NoStmts, Then}
@@ -11,7 +11,7 @@ use Rattle.arena_tree.specs.declared.node.Kind.{Kind}
 use Rattle.arena_tree.specs.declared.node.Kind.TheVariants as kind
 use Rattle.arena_tree.specs.declared.node.Node.{Node}
 use Rattle.arena_tree.specs.Counts.{below, below_stmt}
-use Rattle.arena_tree.specs.TreesAt.{node_item, ExprAt, expr_blocks, IsPlaced}
+use Rattle.arena_tree.specs.TreesAt.{node_item, ExprAt, expr_blocks, IsPlaced, AreLean}
 use Rattle.arena_tree.specs.StmtsAt.{StmtAt, stmt_blocks, IsStmtPlaced}
 use Rattle.arena_tree.specs.Lists.{expr_lists, expr_texts, stmt_lists, stmt_texts}
 
@@ -117,3 +117,4 @@ pub record IsRowBuilt (ts : List Subtree) (old new : Memory) (v : Vec Node) : Ty
   pub stand : RowAt ts new (vec_list node_item new v)
   pub apart : ArePairwiseApart (v.raw.block ∷ row_blocks ts new (vec_list node_item new v))
   pub frame : Frame old new [] (v.raw.block ∷ row_blocks ts new (vec_list node_item new v))
+  pub lean : AreLean new (vec_list node_item new v)

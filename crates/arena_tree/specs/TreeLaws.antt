@@ -2,7 +2,7 @@
 use Rattle.std.proofs.Common.{◌≡◌, ◌*◌, ap, sym, refl, subst, ◌∙◌, List, [], ◌∷◌, ◌++◌, IsTrue}
 use Rattle.std.specs.List.{AllByRecursion}
 use Rattle.arena_chunks.specs.Memory.{Memory, is_readable}
-use Rattle.arena_chunks.specs.declared.block.Block.{Block}
+use Rattle.arena_store.specs.declared.block.Block.{Block}
 use Rattle.arena_items.specs.Footprint.{AreReadable, Agree}
 use Rattle.arena_items.specs.FootprintLaws.{held_again}
 use Rattle.arena_items.specs.Values.{bytes_of, elements}

@@ -2,6 +2,7 @@
 ghost use Rattle.std.specs.Prelude.{◌+◌, ◌-◌, ◌^◌, ◌≤◌, [], ◌∷◌, IfOk};
 ghost use Rattle.arena_chunks.specs.Frame.{Frame};
 ghost use Rattle.arena_items.specs.Values.{IsHeld};
+ghost use Rattle.arena_tree.specs.Layouts.{Only};
 ghost use Rattle.arena_tree.specs.Spending.{Spends, error_of};
 
 use arena_chunks::{Allocator, ArenaErr, Block, ChunkSource};
@@ -15,7 +16,7 @@ pub(crate) fn place_block<C: ChunkSource>(a: &mut Allocator<C>, layout: Layout) 
     requires small { layout.size + 64 ≤ 2 ^ 63 }
     ensures held { IfOk result (IsHeld layout.size layout.align a.new.memory.state) }
     ensures frame { IfOk result (λ b. Frame a.old.memory a.new.memory [] (b ∷ [])) }
-    ensures spends { Spends (layout.size + (layout.align - 1)) 0 0 a.old a.new (error_of result) }
+    ensures spends { Spends (Only layout.size layout.align) (layout.size + (layout.align - 1)) 0 0 a.old a.new (error_of result) }
 {
     // So the least alignment is known to be 1.
     let _ = a.min_align();

@@ -3,10 +3,11 @@ ghost use Rattle.std.specs.Prelude.{◌≡◌, ◌+◌, ◌^◌, ◌≤◌, List
 ghost use Rattle.arena_chunks.specs.Memory.{Memory};
 ghost use Rattle.arena_vec.specs.Vecs.{IsVecIn};
 ghost use Rattle.tree_rules.specs.Trees.{Expr, Neg};
-ghost use Rattle.arena_tree.specs.TreesAt.{node_item, kids_of, IsPlaced};
+ghost use Rattle.arena_tree.specs.TreesAt.{node_item, kids_of, no_kids, IsPlaced};
 ghost use Rattle.arena_tree.specs.Subtrees.{Subtree, OfExpr, IsTreePlaced, IsRowBuilt};
-ghost use Rattle.arena_tree.specs.NodeForms.{number_node};
+ghost use Rattle.arena_tree.specs.NodeForms.{number_node, no_text};
 ghost use Rattle.arena_tree.specs.Parts.{signed_tree};
+ghost use Rattle.arena_tree.specs.Layouts.{ListOf, LongerList};
 ghost use Rattle.arena_tree.specs.Spending.{Spends, error_of, node_cost, credit};
 
 use crate::clone_list::roomy;
@@ -38,6 +39,7 @@ pub(crate) fn number(n: u64) -> Node
 pub(crate) fn named(text: Str) -> Node
     ensures kind { result.kind ≡ Kind.Name }
     ensures text { result.text ≡ text }
+    ensures rest { (result.number ≡ 0) × (kids_of result ≡ no_kids) }
 {
     Node {
         kind: Kind::Name,
@@ -54,6 +56,7 @@ pub(crate) fn named(text: Str) -> Node
 pub(crate) fn with_kids(kind: Kind, list: Vec<Node>) -> Node
     ensures kind { result.kind ≡ kind }
     ensures kids { kids_of result ≡ list }
+    ensures rest { (result.number ≡ 0) × (result.text ≡ no_text) }
 {
     Node {
         kind,
@@ -79,9 +82,10 @@ pub(crate) fn push_node<C: ChunkSource>(
     ensures row { (ts : List Subtree) (t : Subtree) (old one : Memory) → IsRowBuilt ts old one list.old
         → IsTreePlaced t one a.old.memory node
         → OnOk result (IsRowBuilt (ts ++ t ∷ []) old a.new.memory list.new) }
-    ensures spends { Spends node_cost (credit list.old) (credit list.new) a.old a.new (error_of result) }
+    ensures spends { Spends (LongerList list.old.raw.len list.old.raw.cap) node_cost (credit list.old) (credit list.new) a.old a.new (error_of result) }
     ensures len { OnOk result (list.new.raw.len ≡ list.old.raw.len + 1) }
 {
+    growth_rule();
     growth_costs();
     vector_costs::<Node, ()>();
     // So the least alignment is known to be 1.
@@ -92,8 +96,9 @@ pub(crate) fn push_node<C: ChunkSource>(
 // Puts a node under one of a kind, as its only kid.
 pub(crate) fn wrap<C: ChunkSource>(a: &mut Allocator<C>, kind: Kind, node: &mut Node) -> Grown<()>
     ensures tree { (e : Expr) (old : Memory) → IsPlaced e old a.old.memory node.old
-        → OnOk result ((node.new.kind ≡ kind) × IsRowBuilt (OfExpr e ∷ []) old a.new.memory (kids_of node.new)) }
-    ensures spends { Spends node_cost 0 0 a.old a.new (error_of result) }
+        → OnOk result ((node.new.kind ≡ kind) × IsRowBuilt (OfExpr e ∷ []) old a.new.memory (kids_of node.new)
+        × (node.new.number ≡ 0) × (node.new.text ≡ no_text)) }
+    ensures spends { Spends (ListOf 1) node_cost 0 0 a.old a.new (error_of result) }
 {
     let mut list = Vec::new_in();
     push_node(a, &mut list, *node)?;
@@ -105,7 +110,7 @@ pub(crate) fn wrap<C: ChunkSource>(a: &mut Allocator<C>, kind: Kind, node: &mut 
 pub(crate) fn negate<C: ChunkSource>(a: &mut Allocator<C>, node: &mut Node) -> Grown<()>
     ensures tree { (e : Expr) (old : Memory) → IsPlaced e old a.old.memory node.old
         → OnOk result (IsPlaced (Neg e) old a.new.memory node.new) }
-    ensures spends { Spends node_cost 0 0 a.old a.new (error_of result) }
+    ensures spends { Spends (ListOf 1) node_cost 0 0 a.old a.new (error_of result) }
 {
     wrap(a, Kind::Neg, node)
 }
@@ -115,7 +120,7 @@ pub(crate) fn negate<C: ChunkSource>(a: &mut Allocator<C>, node: &mut Node) -> G
 pub(crate) fn sign<C: ChunkSource>(a: &mut Allocator<C>, minus: bool, node: &mut Node) -> Grown<()>
     ensures tree { (e : Expr) (old : Memory) → IsPlaced e old a.old.memory node.old
         → OnOk result (IsPlaced (signed_tree minus e) old a.new.memory node.new) }
-    ensures spends { Spends node_cost 0 0 a.old a.new (error_of result) }
+    ensures spends { Spends (ListOf 1) node_cost 0 0 a.old a.new (error_of result) }
 {
     if minus {
         return negate(a, node);
@@ -128,7 +133,7 @@ pub(crate) fn sign<C: ChunkSource>(a: &mut Allocator<C>, minus: bool, node: &mut
 pub(crate) fn first_of<C: ChunkSource>(a: &mut Allocator<C>, node: Node) -> Grown<Vec<Node>>
     ensures tree { (e : Expr) (old : Memory) → IsPlaced e old a.old.memory node
         → IfOk result (IsRowBuilt (OfExpr e ∷ []) old a.new.memory) }
-    ensures spends { Spends node_cost 0 0 a.old a.new (error_of result) }
+    ensures spends { Spends (ListOf 2) node_cost 0 0 a.old a.new (error_of result) }
     ensures len { IfOk result (λ v. v.raw.len ≡ 1) }
     ensures cap { IfOk result (λ v. v.raw.cap ≡ 2) }
 {
@@ -146,6 +151,7 @@ pub(crate) fn let_node(text: Str, list: Vec<Node>) -> Node
     ensures kind { result.kind ≡ Kind.Let }
     ensures text { result.text ≡ text }
     ensures kids { kids_of result ≡ list }
+    ensures rest { result.number ≡ 0 }
 {
     Node {
         kind: Kind::Let,

@@ -4,7 +4,7 @@ ghost use Rattle.arena_vec.specs.Vecs.{vec_list};
 ghost use Rattle.arena_tree.specs.TreesAt.{node_item};
 ghost use Rattle.arena_tree.specs.Spending.{Spends, error_of};
 ghost use Rattle.arena_tree.specs.Subtrees.{Subtree, SubtreeAt, RowAt, HasTree, HasRow, IsTreePlaced, IsRowBuilt};
-ghost use Rattle.arena_tree.specs.Cloning.{below_bytes, row_bytes};
+ghost use Rattle.arena_tree.specs.Cloning.{below_bytes, row_bytes, BelowCopyOf, RowCopyOf};
 
 use crate::build::{let_node, named, number, with_kids};
 use crate::clone_list::{fill, roomy};
@@ -26,7 +26,7 @@ fn clone_node<C: ChunkSource, D: ChunkSource>(
     ensures tree { (t : Subtree) → SubtreeAt t from.now.memory node
         → IfOk result (IsTreePlaced t to.old.memory to.new.memory) }
     ensures spends { (t : Subtree) → SubtreeAt t from.now.memory node
-        → Spends (below_bytes t) 0 0 to.old to.new (error_of result) }
+        → Spends (BelowCopyOf t) (below_bytes t) 0 0 to.old to.new (error_of result) }
 {
     match node.kind {
         Kind::Num => Ok(number(node.number)),
@@ -58,7 +58,7 @@ pub(crate) fn clone_row<C: ChunkSource, D: ChunkSource>(
     ensures trees { (ts : List Subtree) → RowAt ts from.now.memory (vec_list node_item from.now.memory nodes)
         → IfOk result (IsRowBuilt ts to.old.memory to.new.memory) }
     ensures spends { (ts : List Subtree) → RowAt ts from.now.memory (vec_list node_item from.now.memory nodes)
-        → Spends (row_bytes ts) 0 0 to.old to.new (error_of result) }
+        → Spends (RowCopyOf ts) (row_bytes ts) 0 0 to.old to.new (error_of result) }
 {
     let mut list = roomy(to, nodes.len())?;
     let mut i = 0;

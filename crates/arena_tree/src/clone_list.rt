@@ -5,6 +5,7 @@ ghost use Rattle.arena_items.specs.Room.{SamePlaces};
 ghost use Rattle.arena_vec.specs.Vecs.{IsVecIn};
 ghost use Rattle.arena_tree.specs.TreesAt.{node_item};
 ghost use Rattle.arena_tree.specs.Subtrees.{Subtree, IsTreePlaced, IsRowBuilt};
+ghost use Rattle.arena_tree.specs.Layouts.{ListOf};
 ghost use Rattle.arena_tree.specs.Spending.{Spends, error_of};
 
 use crate::block::place_block;
@@ -20,7 +21,7 @@ pub(crate) fn roomy<C: ChunkSource>(a: &mut Allocator<C>, len: u32) -> Grown<Vec
     ensures row { IfOk result (IsRowBuilt [] a.old.memory a.new.memory) }
     ensures len { IfOk result (λ v. v.raw.len ≡ 0) }
     ensures cap { IfOk result (λ v. v.raw.cap ≡ len) }
-    ensures spends { Spends (128 * len) 0 0 a.old a.new (error_of result) }
+    ensures spends { Spends (ListOf len) (128 * len) 0 0 a.old a.new (error_of result) }
 {
     if len == 0 {
         return Ok(Vec::new_in());

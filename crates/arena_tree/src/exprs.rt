@@ -24,7 +24,7 @@ fn factor<C: ChunkSource>(
     requires within { at ≤ length src.now }
     requires place { IsFactorPlace src.now at }
     ensures tree { IfOk result (λ end. IsFactor src.now at end a.old.memory a.new.memory node.new) }
-    ensures spends { SpendsUpTo at (length src.now) a.old a.new result }
+    ensures spends { SpendsUpTo at src.now a.old a.new result }
 {
     match start_at(src, at) {
         Start::Number { n, end } => {
@@ -54,7 +54,7 @@ fn minus<C: ChunkSource>(
     requires start { IsStart src.now at (Start.Minus behind) }
     requires place { IsFactorPlace src.now at }
     ensures tree { IfOk result (λ end. IsFactor src.now at end a.old.memory a.new.memory node.new) }
-    ensures spends { SpendsUpTo at (length src.now) a.old a.new result }
+    ensures spends { SpendsUpTo at src.now a.old a.new result }
 {
     let end = factor(a, src, behind, node)?;
     negate(a, node)?;
@@ -75,7 +75,7 @@ fn paren<C: ChunkSource>(
     requires start { IsStart src.now at (Start.Paren behind) }
     requires place { IsFactorPlace src.now at }
     ensures tree { IfOk result (λ end. IsFactor src.now at end a.old.memory a.new.memory node.new) }
-    ensures spends { SpendsUpTo at (length src.now) a.old a.new result }
+    ensures spends { SpendsUpTo at src.now a.old a.new result }
 {
     let end = expr(a, src, behind, node)?;
     Ok(close_at(src, end))
@@ -92,7 +92,7 @@ fn term<C: ChunkSource>(
     requires within { at ≤ length src.now }
     requires place { IsFactorPlace src.now at }
     ensures tree { IfOk result (λ end. IsTerm src.now at end a.old.memory a.new.memory node.new) }
-    ensures spends { SpendsUpTo at (length src.now) a.old a.new result }
+    ensures spends { SpendsUpTo at src.now a.old a.new result }
 {
     let end = factor(a, src, at, node)?;
     let Some(star) = star_at(src, end) else {
@@ -124,7 +124,7 @@ pub(crate) fn expr<C: ChunkSource>(
     requires within { at ≤ length src.now }
     requires place { IsFactorPlace src.now at }
     ensures tree { IfOk result (λ end. IsTerms src.now at end a.old.memory a.new.memory node.new) }
-    ensures spends { SpendsUpTo at (length src.now) a.old a.new result }
+    ensures spends { SpendsUpTo at src.now a.old a.new result }
 {
     let end = term(a, src, at, node)?;
     let Some((mut minus, mut here)) = sign_at(src, end) else {

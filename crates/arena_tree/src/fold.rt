@@ -1,8 +1,9 @@
 // Folding of trees, where they stand.
-ghost use Rattle.std.specs.Prelude.{◌≡◌, ℕ, [], ◌∷◌};
+ghost use Rattle.std.specs.Prelude.{◌≡◌, ℕ, [], ◌∷◌, IfSome};
 ghost use Rattle.arena_items.specs.Room.{SamePlaces};
 ghost use Rattle.arena_vec.specs.Vecs.{IsVecIn, vec_list};
-ghost use Rattle.arena_tree.specs.TreesAt.{node_item, kids_of, kids_in};
+ghost use Rattle.arena_tree.specs.NodeForms.{number_node};
+ghost use Rattle.arena_tree.specs.TreesAt.{node_item, kids_of, kids_in, AreLean};
 ghost use Rattle.arena_tree.specs.Subtrees.{Subtree, lists_at, texts_at, has_kids};
 ghost use Rattle.arena_tree.specs.FoldingParts.{CanFold, CanFoldRow, IsWhole, IsFolded, FoldsRow, IsRule, IsSubtree, IsNegation, IsTotalNode, capped, added, total_of, total_in, numbers_in};
 
@@ -63,7 +64,8 @@ fn total<C: ChunkSource>(a: &Allocator<C>, list: Vec<Node>, product: bool) -> Op
 // The node of the total of a node's kids, or none where there is no total.
 fn total_node<C: ChunkSource>(a: &Allocator<C>, node: Node, product: bool) -> Option<Node>
     requires { IsVecIn node_item a.now.memory (kids_of node) }
-    ensures { IsTotalNode (total_in (total_of product) (numbers_in (kids_in a.now.memory node))) result }
+    ensures total { IsTotalNode (total_in (total_of product) (numbers_in (kids_in a.now.memory node))) result }
+    ensures number { IfSome result (λ n. n ≡ number_node n.number) }
 {
     match total(a, kids(a, node), product) {
         Some(n) => Some(number(n)),
@@ -83,7 +85,8 @@ fn only_kid<C: ChunkSource>(a: &Allocator<C>, node: Node) -> Node
 // The node that comes in the place of one whose kids are folded, by the rule for its kind; none where it stays.
 fn rule<C: ChunkSource>(a: &Allocator<C>, node: Node) -> Option<Node>
     requires { IsSubtree a.now.memory node }
-    ensures { IsRule a.now.memory node result }
+    ensures rule { IsRule a.now.memory node result }
+    ensures lean { AreLean a.now.memory (node ∷ []) → IfSome result (λ by. AreLean a.now.memory (by ∷ [])) }
 {
     match node.kind {
         Kind::Neg => {
@@ -122,6 +125,7 @@ fn fold_node<C: ChunkSource>(a: &mut Allocator<C>, node: &mut Node, room: u64) -
     requires { CanFold a.old.memory node.old room }
     ensures folded { (t : Subtree) → IsWhole t a.old.memory node.old
         → IsFolded t (lists_at t a.old.memory node.old) (texts_at t a.old.memory node.old) a.old.memory a.new.memory node.new result }
+    ensures lean { AreLean a.old.memory (node.old ∷ []) → AreLean a.new.memory (node.new ∷ []) }
     ensures places { SamePlaces a.old a.new }
 {
     if !has_kids(node.kind) {
@@ -143,6 +147,8 @@ fn fold_node<C: ChunkSource>(a: &mut Allocator<C>, node: &mut Node, room: u64) -
 pub(crate) fn fold_row<C: ChunkSource>(a: &mut Allocator<C>, list: Vec<Node>, room: u64) -> u64
     requires { CanFoldRow a.old.memory list room }
     ensures folded { FoldsRow a.old.memory a.new.memory list result }
+    ensures lean { AreLean a.old.memory (vec_list node_item a.old.memory list)
+        → AreLean a.new.memory (vec_list node_item a.new.memory list) }
     ensures places { SamePlaces a.old a.new }
 {
     let mut count = 0;

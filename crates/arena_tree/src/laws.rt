@@ -3,7 +3,7 @@ ghost use Rattle.std.specs.Prelude.{◌≡◌, List, []};
 ghost use Rattle.arena_chunks.specs.Checkpoints.{GoesBack};
 ghost use Rattle.arena_chunks.specs.Frame.{Frame, AreAllApart};
 ghost use Rattle.arena_chunks.specs.Memory.{Memory};
-ghost use Rattle.arena_chunks.specs.declared.block.Block.{Block};
+ghost use Rattle.arena_store.specs.declared.block.Block.{Block};
 ghost use Rattle.arena_items.specs.Footprint.{AreReadable};
 ghost use Rattle.tree_rules.specs.Trees.{Stmts};
 ghost use Rattle.arena_tree.specs.Folding.{lists_of, footprint};

@@ -4,6 +4,7 @@ ghost use Rattle.arena_chunks.specs.Frame.{Frame};
 ghost use Rattle.arena_items.specs.Values.{IsTextIn, text_bytes};
 ghost use Rattle.tree_rules.specs.Trees.{Name};
 ghost use Rattle.arena_tree.specs.TreesAt.{IsPlaced};
+ghost use Rattle.arena_tree.specs.Layouts.{TextOf};
 ghost use Rattle.arena_tree.specs.Spending.{Spends, error_of};
 
 use crate::block::place_block;
@@ -20,7 +21,7 @@ fn place_text<C: ChunkSource>(a: &mut Allocator<C>, bytes: &[u8]) -> Grown<Str>
     ensures held { IfOk result (IsTextIn a.new.memory) }
     ensures text { IfOk result (λ s. text_bytes a.new.memory s ≡ bytes.now) }
     ensures frame { IfOk result (λ s. Frame a.old.memory a.new.memory [] (s.block ∷ [])) }
-    ensures spends { Spends (length bytes.now) 0 0 a.old a.new (error_of result) }
+    ensures spends { Spends (TextOf (length bytes.now)) (length bytes.now) 0 0 a.old a.new (error_of result) }
 {
     let Some(layout) = Layout::new(bytes.len() as u64, 1) else {
         unreachable!();
@@ -36,7 +37,7 @@ pub(crate) fn place_name<C: ChunkSource>(a: &mut Allocator<C>, name: &[u8]) -> G
     ensures held { IfOk result (IsTextIn a.new.memory) }
     ensures text { IfOk result (λ s. text_bytes a.new.memory s ≡ name.now) }
     ensures frame { IfOk result (λ s. Frame a.old.memory a.new.memory [] (s.block ∷ [])) }
-    ensures spends { Spends (length name.now) 0 0 a.old a.new (error_of result) }
+    ensures spends { Spends (TextOf (length name.now)) (length name.now) 0 0 a.old a.new (error_of result) }
 {
     place_text(a, name)
 }
@@ -49,7 +50,7 @@ pub(crate) fn name_node<C: ChunkSource>(
 ) -> Grown<()>
     requires { length name.now ≤ 2 ^ 24 }
     ensures tree { OnOk result (IsPlaced (Name name.now) a.old.memory a.new.memory node.new) }
-    ensures spends { Spends (length name.now) 0 0 a.old a.new (error_of result) }
+    ensures spends { Spends (TextOf (length name.now)) (length name.now) 0 0 a.old a.new (error_of result) }
 {
     let text = place_text(a, name)?;
     *node = named(text);
@@ -66,7 +67,7 @@ pub(crate) fn clone_text<C: ChunkSource, D: ChunkSource>(
     ensures held { IfOk result (IsTextIn to.new.memory) }
     ensures text { IfOk result (λ s. text_bytes to.new.memory s ≡ text_bytes from.now.memory text) }
     ensures frame { IfOk result (λ s. Frame to.old.memory to.new.memory [] (s.block ∷ [])) }
-    ensures spends { Spends (length (text_bytes from.now.memory text)) 0 0 to.old to.new (error_of result) }
+    ensures spends { Spends (TextOf (length (text_bytes from.now.memory text))) (length (text_bytes from.now.memory text)) 0 0 to.old to.new (error_of result) }
 {
     // So the state is known to be valid, and the text to have a layout.
     let _ = from.min_align();

@@ -1,7 +1,8 @@
 // Statements.
-ghost use Rattle.std.specs.Prelude.{◌^◌, ◌≤◌, length, slice_range, IfOk};
+ghost use Rattle.std.specs.Prelude.{ℕ, ◌^◌, ◌≤◌, length, slice_range, IfOk};
+ghost use Rattle.tree_rules.specs.Tokens.{Word};
 ghost use Rattle.tree_reader.specs.Seen.{tokens_at};
-ghost use Rattle.arena_tree.specs.Parts.{IsFactorPlace};
+ghost use Rattle.arena_tree.specs.Parts.{IsFactorPlace, IsTokenAt};
 ghost use Rattle.arena_tree.specs.LineParts.{IsLinesPlace, IsLet, IsLine, AreLines, LineOrStop, LinesStop, ExprStarts};
 ghost use Rattle.arena_tree.specs.Spending.{SpendsUpTo, SpendsAll, SpendsOrNot};
 
@@ -31,10 +32,11 @@ fn let_line<C: ChunkSource>(
     requires within { end ≤ length src.now }
     requires place { IsLinesPlace src.now at }
     requires first { IsLet src.now at (slice_range src.now begin end) behind }
+    requires word { (place : ℕ) × IsTokenAt src.now place (Word (slice_range src.now begin end)) end }
     requires factor { IsFactorPlace src.now behind }
     requires rest { behind ≤ length src.now }
     ensures tree { IfOk result (λ end. IsLine src.now at end a.old.memory a.new.memory node.new) }
-    ensures spends { SpendsUpTo at (length src.now) a.old a.new result }
+    ensures spends { SpendsUpTo at src.now a.old a.new result }
 {
     let name = place_name(a, &src[begin..end])?;
     let stop = expr(a, src, behind, node)?;
@@ -56,7 +58,7 @@ fn show_line<C: ChunkSource>(
     requires factor { IsFactorPlace src.now at }
     requires starts { ExprStarts src.now at }
     ensures tree { IfOk result (λ end. IsLine src.now at end a.old.memory a.new.memory node.new) }
-    ensures spends { SpendsUpTo at (length src.now) a.old a.new result }
+    ensures spends { SpendsUpTo at src.now a.old a.new result }
 {
     let stop = expr(a, src, at, node)?;
     let last = semicolon_at(src, stop);
@@ -75,7 +77,7 @@ fn line<C: ChunkSource>(
     requires within { at ≤ length src.now }
     requires place { IsLinesPlace src.now at }
     ensures tree { IfOk result (LineOrStop src.now at a.old.memory a.new.memory node.new) }
-    ensures spends { SpendsOrNot at (length src.now) a.old a.new result }
+    ensures spends { SpendsOrNot at src.now a.old a.new result }
 {
     match line_at(src, at) {
         LineStart::End => Ok(None),
@@ -106,7 +108,7 @@ pub(crate) fn lines<C: ChunkSource>(
     requires place { IsLinesPlace src.now at }
     ensures trees { IfOk result (λ r. AreLines src.now at r.1 a.old.memory a.new.memory r.0
         × LinesStop (tokens_at src.now r.1)) }
-    ensures spends { SpendsAll at (length src.now) a.old a.new result }
+    ensures spends { SpendsAll at src.now a.old a.new result }
 {
     let mut list = Vec::new_in();
     let mut node = number(0);

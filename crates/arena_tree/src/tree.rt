@@ -2,7 +2,7 @@
 ghost use Rattle.std.specs.Prelude.{◌≡◌, ◌^◌, ◌≤◌, length, IfOk};
 ghost use Rattle.tree_rules.specs.Trees.{Stmts, text};
 ghost use Rattle.arena_tree.specs.Cloning.{Clones, clone_bytes};
-ghost use Rattle.arena_tree.specs.Given.{IsTreeIn, Means};
+ghost use Rattle.arena_tree.specs.Given.{IsTreeIn, IsLeanTree, Means};
 ghost use Rattle.arena_tree.specs.Folding.{Folds};
 ghost use Rattle.arena_tree.specs.Parsing.{Parses, TakesAtMost, parse_bytes, error_for};
 
@@ -13,8 +13,9 @@ use crate::print::{Stand, put_row};
 use crate::program::lines;
 use arena_chunks::{Allocator, ChunkSource};
 use arena_items::AllocError;
+use arena_rules::OutOfMemory;
 use arena_vec::Vec;
-use placement::{Bytes, OutOfMemory};
+use call_rules::Bytes;
 use std::alloc::Global;
 use tree_reader::refusal;
 use tree_rules::Refused;
@@ -65,6 +66,7 @@ impl Tree {
         requires { length src.now ≤ 2 ^ 24 }
         ensures parses { Parses src.now a.old a.new result }
         ensures tree { IfOk result (IsTreeIn a.new.memory) }
+        ensures lean { IfOk result (IsLeanTree a.new.memory) }
         ensures bytes { TakesAtMost (parse_bytes (length src.now)) a.old a.new }
     {
         some_reading();
@@ -116,6 +118,7 @@ impl Tree {
         requires { IsTreeIn from.now.memory self.now }
         ensures clones { (trees : Stmts) → Means from.now.memory self.now trees → Clones trees to.old to.new result }
         ensures tree { IfOk result (IsTreeIn to.new.memory) }
+        ensures lean { IfOk result (IsLeanTree to.new.memory) }
         ensures bytes { (trees : Stmts) → Means from.now.memory self.now trees
             → TakesAtMost (clone_bytes trees) to.old to.new }
     {
@@ -135,6 +138,7 @@ impl Tree {
         requires { IsTreeIn a.old.memory self.old }
         ensures folded { (trees : Stmts) → Means a.old.memory self.old trees → Folds trees a.old a.new self.old self.new result }
         ensures tree { IsTreeIn a.new.memory self.new }
+        ensures lean { IsLeanTree a.old.memory self.old → IsLeanTree a.new.memory self.new }
     {
         folding();
         let room = a.used_bytes() / 88 + 1;

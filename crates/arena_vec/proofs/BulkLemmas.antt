@@ -7,7 +7,7 @@ use Rattle.std.specs.Prelude.{min}
 use Rattle.arena_chunks.specs.Memory.{Memory}
 use Rattle.arena_chunks.specs.Source.{View}
 use Rattle.arena_chunks.specs.Frame.{Stays}
-use Rattle.arena_chunks.specs.declared.block.Block.{Block}
+use Rattle.arena_store.specs.declared.block.Block.{Block}
 use Rattle.arena_items.specs.declared.item.Item.{Ghosts}
 use Rattle.arena_items.specs.Values.{elements, bytes_of}
 use Rattle.arena_items.proofs.Layers.{length-elements, elements-all, elements-cut}

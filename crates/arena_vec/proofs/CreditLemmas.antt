@@ -6,7 +6,7 @@ use Rattle.std.proofs.lemmas.Bool.Decides.{nat_tests}
 use Rattle.std.proofs.Math.Nat.{mul-le-mul_left, mul-le-mul_right}
 use Rattle.arena_chunks.specs.Source.{View}
 use Rattle.arena_chunks.specs.Answers.{Answer}
-use Rattle.arena_chunks.specs.declared.block.Block.{Block}
+use Rattle.arena_store.specs.declared.block.Block.{Block}
 use Rattle.arena_items.specs.declared.item.Item.{Ghosts}
 use Rattle.arena_items.specs.Room.{capacity_after, MakesRoom, RoomAnswer}
 use Rattle.arena_items.specs.declared.room.AllocError.{AllocError}

@@ -7,7 +7,7 @@ use Rattle.std.proofs.lemmas.Option.{slice_get_within, get_or_from_slice_get}
 use Rattle.std.specs.Prelude.{slice_get}
 use Rattle.std.specs.Array.{list_steps}
 use Rattle.std.specs.Iterator.{CallableAtEachTurn}
-use Rattle.placement.specs.Machine.{splice}
+use Rattle.arena_rules.specs.Lists.{splice}
 use Rattle.arena_items.specs.Values.{elements}
 use mir.Val.{bool_byte}
 use borrow.Rule.Slice.PartMut.{put_mid}

@@ -8,7 +8,7 @@ use Rattle.std.specs.List.Retain.{IsFiltered, RetainsInTurn}
 use Rattle.arena_chunks.specs.Frame.{Frame}
 use Rattle.arena_chunks.specs.Source.{View}
 use Rattle.arena_chunks.specs.BlockCalls.{WritesBlock}
-use Rattle.arena_chunks.specs.declared.block.Block.{Block}
+use Rattle.arena_store.specs.declared.block.Block.{Block}
 use Rattle.arena_chunks.proofs.Layers.{frame_then, frame_reflexive}
 use Rattle.arena_items.specs.Values.{elements, bytes_of}
 use Rattle.arena_items.specs.declared.item.Item.{Ghosts}

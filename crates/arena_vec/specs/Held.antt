@@ -1,7 +1,7 @@
 -- What the storage of values needs of its arena, and the values there.
 use Rattle.std.specs.Prelude.{◌≡◌, ℕ, ◌*◌, ◌-◌, ◌^◌, ◌≤◌, List}
 use Rattle.arena_chunks.specs.Memory.{Memory}
-use Rattle.arena_chunks.specs.declared.block.Block.{Block}
+use Rattle.arena_store.specs.declared.block.Block.{Block}
 use Rattle.arena_items.specs.declared.item.Item.{Ghosts}
 use Rattle.arena_items.specs.Values.{IsHeld, bytes_of, elements}
 use Rattle.arena_vec.specs.declared.raw.RawVec.{RawVec}

@@ -1,6 +1,6 @@
 -- Which pool an arena is of, by what became of it.
 use Rattle.std.proofs.Common.{◌≡◌, ℕ, ◌<◌, true, false, sym, refl, ◌∙◌, arith}
-use Rattle.placement.specs.State.{State, allocated_bytes}
+use Rattle.arena_rules.specs.State.{State, allocated_bytes}
 use Rattle.arena_pool.specs.Kinds.{IsOfKind}
 use Rattle.arena_pool.specs.declared.kind.PoolKind.{PoolKind}
 use Rattle.arena_pool.specs.declared.kind.PoolKind.TheVariants.{Standard, FixedSize}

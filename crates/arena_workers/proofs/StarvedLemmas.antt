@@ -2,8 +2,8 @@
 use Rattle.std.proofs.Common.{◌≡◌, ◌≢◌, ℕ, ◌+◌, ◌<◌, ◌≤◌, ◌^◌, inl, inr, List, [], ◌∷◌, ◌++◌, length, length-append, Option, None, Some, sym, refl, ap, ◌∙◌, subst, append_assoc, arith}
 use Rattle.std.specs.Prelude.{IfSome, IsSomeAnd}
 use Rattle.std.specs.List.{AllByRecursion}
-use Rattle.placement.specs.State.{used_bytes, allocated_bytes, top_of}
-use Rattle.placement.specs.Asking.{IsRequestWithin, AddsWithin, most_asked}
+use Rattle.arena_rules.specs.State.{used_bytes, allocated_bytes, top_of}
+use Rattle.arena_rules.specs.Asking.{IsRequestWithin, AddsWithin, most_asked}
 use Rattle.arena_chunks.specs.Source.{Source, View}
 use Rattle.arena_chunks.specs.Asking.{AsksWithin, IsStarved, IsFull}
 use Rattle.arena_pool.specs.Kinds.{IsUnused}

@@ -1,7 +1,7 @@
 -- What shows that work was starved, and which pools are too small for it.
 use Rattle.std.specs.Prelude.{◌≡◌, ℕ, ◌-◌, ◌<◌, ◌≤◌, ◌^◌, List, [], ◌∷◌, ◌++◌, IfSome}
-use Rattle.placement.specs.State.{allocated_bytes}
-use Rattle.placement.specs.Asking.{IsRequestWithin, most_asked}
+use Rattle.arena_rules.specs.State.{allocated_bytes}
+use Rattle.arena_rules.specs.Asking.{IsRequestWithin, most_asked}
 use Rattle.arena_chunks.specs.Source.{Source}
 use Rattle.arena_pool.specs.declared.kind.PoolKind.{PoolKind}
 use Rattle.arena_pool.specs.declared.kind.PoolKind.TheVariants.{FixedSize}

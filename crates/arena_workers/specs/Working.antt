@@ -1,6 +1,6 @@
 -- What is known of work that is done on lent arenas, and of what comes of a piece of it.
 use Rattle.std.specs.Prelude.{◌≡◌, ◌<◌, ◌≤◌, ◌^◌, ◌⊎◌, Bool, true, false, None, IsSomeAnd}
-use Rattle.placement.specs.State.{State, allocated_bytes, top_of}
+use Rattle.arena_rules.specs.State.{State, allocated_bytes, top_of}
 use Rattle.arena_chunks.specs.Source.{Source, View}
 use Rattle.arena_pool.specs.Kinds.{IsOfKind, IsUnused}
 use Rattle.arena_pool.specs.declared.kind.PoolKind.{PoolKind}
@@ -19,6 +19,11 @@ pub record Terms (Piece Outcome : Type 0) : Type 1 where
 -- An arena that doesn't grow, or whose newest chunk ends low: behind it there is place for more.
 pub record LiesLow (state : State) : Type 0 where
   pub top : state.is_growing ≡ true → top_of state.chunks ≤ 2 ^ 62
+
+-- An arena that grows, and whose newest chunk ends high.
+pub record LiesHigh (state : State) : Type 0 where
+  pub growing : state.is_growing ≡ true
+  pub top : 2 ^ 62 < top_of state.chunks
 
 -- What is kept of an arena that refused: a large one as it stands, and of another its source.
 abbrev pub IsKept : {C : Type 0} → (C → Source) → View → Starved C → Type 0

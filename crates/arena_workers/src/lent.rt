@@ -1,7 +1,7 @@
 // One piece of work on an arena of the pool.
-ghost use Rattle.std.specs.Prelude.{◌≡◌, false};
+ghost use Rattle.std.specs.Prelude.{MatchBool};
 ghost use Rattle.arena_pool.specs.Kinds.{IsUnused};
-ghost use Rattle.arena_workers.specs.Working.{LiesLow, IsKept, IsServed, IsUnserved};
+ghost use Rattle.arena_workers.specs.Working.{LiesLow, LiesHigh, IsKept, IsServed, IsUnserved};
 
 use crate::served::{Served, Starved};
 use crate::work::Work;
@@ -18,7 +18,7 @@ const LARGE: u64 = 1 << 60;
 
 // Whether an arena that grows lies so high that it isn't worked on any more.
 fn is_high<C: ChunkSource>(a: &Allocator<C>) -> bool
-    ensures { result ≡ false → LiesLow a.now.memory.state }
+    ensures { MatchBool result (LiesHigh a.now.memory.state) (LiesLow a.now.memory.state) }
 {
     a.is_growing() && a.data_end() > HIGH
 }

@@ -1,6 +1,6 @@
 // What is done with a lent arena.
 ghost use Rattle.std.specs.Prelude.{◌≡◌};
-ghost use Rattle.placement.specs.State.{used_bytes};
+ghost use Rattle.arena_rules.specs.State.{used_bytes};
 ghost use Rattle.arena_pool.specs.Kinds.{IsOfKind};
 ghost use Rattle.arena_pool.specs.declared.kind.PoolKind.{PoolKind};
 

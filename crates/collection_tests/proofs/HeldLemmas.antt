@@ -8,7 +8,7 @@ use Rattle.arena_chunks.specs.Source.{View}
 use Rattle.arena_chunks.specs.Answers.Answer.{Placed}
 use Rattle.arena_chunks.specs.BlockCalls.{PlacesBlock}
 use Rattle.arena_chunks.specs.Frame.{Frame, AreAllApart, AreBlocksApart}
-use Rattle.arena_chunks.specs.declared.block.Block.{Block}
+use Rattle.arena_store.specs.declared.block.Block.{Block}
 use Rattle.arena_chunks.proofs.Layers.{frame_keeps_all}
 use Rattle.arena_items.proofs.Layers.{stays_agree, stays_apart, stays_readable}
 use Rattle.arena_hash.specs.AgreeLaws.{held-agree}

@@ -1,9 +1,9 @@
 -- Maps that stand in an arena of their own.
 use Rattle.std.specs.Prelude.{◌^◌, ◌≤◌, IsTrue}
-use Rattle.placement.specs.State.{State}
+use Rattle.arena_rules.specs.State.{State}
 use Rattle.arena_chunks.specs.Memory.{Memory, is_readable}
 use Rattle.arena_chunks.specs.Frame.{AreBlocksApart}
-use Rattle.arena_chunks.specs.declared.block.Block.{Block}
+use Rattle.arena_store.specs.declared.block.Block.{Block}
 use Rattle.arena_hash.specs.Contents.{Key, Kind}
 use Rattle.arena_hash.specs.Maps.{IsMapIn}
 use Rattle.arena_hash.specs.declared.map.HashMap.{HashMap}

@@ -1,6 +1,6 @@
 -- What a refusal of the second of two calls says of both.
 use Rattle.std.proofs.Common.{◌≡◌, ℕ, ◌≤◌, sym, ◌∙◌, arith}
-use Rattle.placement.specs.State.{allocated_bytes}
+use Rattle.arena_rules.specs.State.{allocated_bytes}
 use Rattle.arena_chunks.specs.Source.{View}
 use Rattle.arena_chunks.specs.Asking.{IsFull}
 

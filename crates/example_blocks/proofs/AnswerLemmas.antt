@@ -1,12 +1,12 @@
 -- What a refusal says, in whatever type it is told.
 use Rattle.std.proofs.Common.{◌≡◌, ℕ, ap, Err}
-use Rattle.placement.specs.Moves.{Resizing}
+use Rattle.arena_rules.specs.Moves.{Resizing}
 use Rattle.arena_chunks.specs.Source.{View}
 use Rattle.arena_chunks.specs.Answers.{Answer, answer_of, answer_by}
 use Rattle.arena_chunks.specs.BlockCalls.{PlacesBlock, ResizesBlock}
-use Rattle.arena_chunks.specs.declared.block.ArenaErr.{ArenaErr}
-use Rattle.arena_chunks.specs.declared.block.ArenaErr.TheVariants.{AllocErr, OutOfMemory}
-use Rattle.arena_chunks.specs.declared.block.Block.{Block}
+use Rattle.arena_store.specs.declared.block.ArenaErr.{ArenaErr}
+use Rattle.arena_store.specs.declared.block.ArenaErr.TheVariants.{AllocErr, OutOfMemory}
+use Rattle.arena_store.specs.declared.block.Block.{Block}
 use Rattle.example_blocks.specs.Buffers.{buffer_answer}
 use Rattle.example_blocks.specs.declared.buffer.BufferErr.TheVariants.{NoPlace}
 

@@ -2,7 +2,7 @@
 use Rattle.std.proofs.Common.{List, [], ◌∷◌, ◌++◌, IsTrue}
 use Rattle.arena_chunks.specs.Memory.{Memory, is_readable}
 use Rattle.arena_chunks.specs.Frame.{Frame}
-use Rattle.arena_chunks.specs.declared.block.Block.{Block}
+use Rattle.arena_store.specs.declared.block.Block.{Block}
 use Rattle.arena_chunks.proofs.Layers.{frame_keeps_new}
 use Rattle.example_blocks.specs.Blocks.{AreReadable}
 

@@ -4,7 +4,7 @@ use Rattle.arena_chunks.specs.Memory.{Memory, image}
 use Rattle.arena_chunks.specs.Source.{View}
 use Rattle.arena_chunks.specs.Answers.Answer.{Placed}
 use Rattle.arena_chunks.specs.BlockCalls.{PlacesBlock, GrowsBlock, WritesBlock}
-use Rattle.arena_chunks.specs.declared.block.Block.{Block}
+use Rattle.arena_store.specs.declared.block.Block.{Block}
 use Rattle.arena_chunks.proofs.Layers.{frame_reflexive, no_bytes, wrote_behind}
 use Rattle.example_blocks.specs.Buffers.{IsBuffer, Has, HasRoom, contents, doubled}
 use Rattle.example_blocks.specs.declared.buffer.Buffer.{Buffer}

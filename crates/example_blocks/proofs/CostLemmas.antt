@@ -1,11 +1,11 @@
 -- What a new block costs: it is room that is taken where there was none.
 use Rattle.std.proofs.Common.{ℕ, ◌+◌, ◌-◌, ◌*◌, ◌^◌, ◌≤◌, refl, arith, IsTrue, Result, Ok, Err}
-use Rattle.placement.specs.Rounding.{is_layout, is_power_among, up}
-use Rattle.placement.specs.State.{State}
+use Rattle.arena_rules.specs.Rounding.{is_layout, is_power_among, up}
+use Rattle.arena_rules.specs.State.{State}
 use Rattle.arena_chunks.specs.Source.{View}
 use Rattle.arena_chunks.specs.Answers.{Answer}
 use Rattle.arena_chunks.specs.BlockCalls.{PlacesBlock}
-use Rattle.arena_chunks.specs.declared.block.Block.{Block}
+use Rattle.arena_store.specs.declared.block.Block.{Block}
 use Rattle.arena_items.specs.Costs.{Covers}
 use Rattle.arena_items.specs.Room.{MakesRoom, RoomAnswer, SamePlaces, TakesRoom}
 use Rattle.arena_items.specs.Values.{IsHeld}

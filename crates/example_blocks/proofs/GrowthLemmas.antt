@@ -3,7 +3,7 @@ use Rattle.std.proofs.Common.{◌≡◌, ℕ, ◌≤◌, min, sym, subst, List}
 use Rattle.arena_chunks.specs.Source.{View, Source, view}
 use Rattle.arena_chunks.specs.Answers.Answer.{Placed}
 use Rattle.arena_chunks.specs.BlockCalls.{PlacesBlock, GrowsBlock, WritesBlock}
-use Rattle.arena_chunks.specs.declared.block.Block.{Block}
+use Rattle.arena_store.specs.declared.block.Block.{Block}
 use Rattle.arena_chunks.proofs.Layers.{places_written, resizes_written}
 
 -- A growth and a write behind the bytes that it kept are a growth.

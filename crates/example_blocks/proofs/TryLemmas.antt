@@ -1,8 +1,8 @@
 -- A block or a value that is placed, and given up again.
 use Rattle.std.proofs.Common.{◌≡◌, ℕ, ap, refl, sym, subst, ◌∙◌, arith, IsTrue, eq-eqb}
-use Rattle.placement.specs.State.{State, is_used, is_range_used}
-use Rattle.placement.specs.Back.{mark_of, back, KeepsMark}
-use Rattle.placement.proofs.BackLemmas.{back_at_once}
+use Rattle.arena_rules.specs.State.{State, is_used, is_range_used}
+use Rattle.arena_rules.specs.Back.{mark_of, back, KeepsMark}
+use Rattle.arena_rules.proofs.BackLemmas.{back_at_once}
 use Rattle.arena_chunks.specs.Memory.{Memory, KeepsUsed}
 use Rattle.arena_chunks.specs.Source.{View}
 use Rattle.arena_chunks.specs.Answers.{Answer}

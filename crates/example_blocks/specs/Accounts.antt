@@ -1,6 +1,6 @@
 -- What a layer's call asks for, and why it was refused.
 use Rattle.std.specs.Prelude.{◌≡◌, ℕ, ◌+◌, true, false}
-use Rattle.placement.specs.State.{used_bytes}
+use Rattle.arena_rules.specs.State.{used_bytes}
 use Rattle.arena_chunks.specs.Source.{View}
 use Rattle.arena_chunks.specs.Asking.{AsksWithin, IsStarved, IsFull}
 use Rattle.arena_chunks.specs.Answers.{Answer}

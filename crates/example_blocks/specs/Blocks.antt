@@ -2,7 +2,7 @@
 use Rattle.std.specs.Prelude.{◌≡◌, ℕ, List, IsTrue}
 use Rattle.std.specs.List.{AllByRecursion}
 use Rattle.arena_chunks.specs.Memory.{Memory, image, is_readable, bytes_from}
-use Rattle.arena_chunks.specs.declared.block.Block.{Block}
+use Rattle.arena_store.specs.declared.block.Block.{Block}
 
 -- all bytes of a block
 abbrev pub bytes_of : Memory → Block → List ℕ

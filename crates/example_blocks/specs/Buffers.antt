@@ -4,8 +4,8 @@ use Rattle.arena_chunks.specs.Memory.{Memory, image, is_readable, bytes_from}
 use Rattle.arena_chunks.specs.Answers.{Answer}
 use Rattle.arena_chunks.specs.Answers.Answer.{Placed, Refused, Wanting}
 use Rattle.arena_chunks.specs.Frame.{Frame}
-use Rattle.arena_chunks.specs.declared.block.Block.{Block}
-use Rattle.arena_chunks.specs.declared.block.ArenaErr.TheVariants.{AllocErr, OutOfMemory}
+use Rattle.arena_store.specs.declared.block.Block.{Block}
+use Rattle.arena_store.specs.declared.block.ArenaErr.TheVariants.{AllocErr, OutOfMemory}
 use Rattle.example_blocks.specs.declared.buffer.Buffer.{Buffer}
 use Rattle.example_blocks.specs.declared.buffer.BufferErr.{BufferErr}
 use Rattle.example_blocks.specs.declared.buffer.BufferErr.TheVariants.{CapacityOverflow, NoPlace}

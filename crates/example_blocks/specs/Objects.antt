@@ -1,7 +1,7 @@
 -- Handles of one of several kinds, and what they mean.
 use Rattle.std.proofs.Common.{ℕ, ◌⊎◌, inl, inr, List, [], ◌∷◌}
 use Rattle.arena_chunks.specs.Memory.{Memory}
-use Rattle.arena_chunks.specs.declared.block.Block.{Block}
+use Rattle.arena_store.specs.declared.block.Block.{Block}
 use Rattle.arena_items.specs.declared.item.Item.{Ghosts}
 use Rattle.arena_items.specs.Values.{IsBoxIn, box_value, IsSliceIn, slice_list, IsTextIn, text_bytes}
 use Rattle.example_blocks.specs.declared.objects.Object.{Object}

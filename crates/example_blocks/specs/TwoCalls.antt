@@ -4,8 +4,8 @@ use Rattle.arena_chunks.specs.Source.{View}
 use Rattle.arena_chunks.specs.Answers.{answer_of}
 use Rattle.arena_chunks.specs.Answers.Answer.{Placed}
 use Rattle.arena_chunks.specs.BlockCalls.{PlacesBlock}
-use Rattle.arena_chunks.specs.declared.block.Block.{Block}
-use Rattle.arena_chunks.specs.declared.block.ArenaErr.{ArenaErr}
+use Rattle.arena_store.specs.declared.block.Block.{Block}
+use Rattle.arena_store.specs.declared.block.ArenaErr.{ArenaErr}
 
 -- A block was placed, and this is so of the arena then and of the block.
 pub record AfterPlacing (old : View) (size align : ℕ) (next : View → Block → Type 0) : Type 0 where

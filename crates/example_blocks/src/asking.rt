@@ -1,6 +1,6 @@
 // What calls ask for, and why they are refused.
 ghost use Rattle.std.specs.Prelude.{◌≡◌, ◌+◌, ◌^◌, ◌≤◌, IfOk, IsTrue, [], ◌∷◌};
-ghost use Rattle.placement.specs.State.{used_bytes};
+ghost use Rattle.arena_rules.specs.State.{used_bytes};
 ghost use Rattle.arena_chunks.specs.Answers.{answer_of};
 ghost use Rattle.arena_chunks.specs.BlockCalls.{GrowsBlock};
 ghost use Rattle.example_blocks.specs.TwoCalls.{PlacesThen};
@@ -9,7 +9,7 @@ ghost use Rattle.example_blocks.specs.Accounts.{Accounts, needed};
 use arena_chunks::laws::{asks, full, starved, used_by_placing, used_by_resizing};
 use arena_chunks::{Alloc, Allocator, ArenaErr, Block, ChunkSource};
 use arena_place::Layout;
-use placement::laws::{asked_together, starved_together};
+use arena_rules::laws::{asked_together, starved_together};
 
 /// Places a block and grows it. An arena that grows asks for chunks of at most twice what both sizes need, and five pages.
 ///

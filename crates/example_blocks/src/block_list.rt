@@ -4,8 +4,8 @@ ghost use Rattle.arena_chunks.specs.Answers.{answer_of};
 ghost use Rattle.arena_chunks.specs.Answers.Answer.{Placed};
 ghost use Rattle.arena_chunks.specs.Frame.{ArePairwiseApart};
 ghost use Rattle.arena_chunks.specs.BlockCalls.{PlacesBlock};
-ghost use Rattle.arena_chunks.specs.declared.block.Block.{Block};
-ghost use Rattle.arena_chunks.specs.declared.block.ArenaErr.TheVariants.{OutOfMemory};
+ghost use Rattle.arena_store.specs.declared.block.Block.{Block};
+ghost use Rattle.arena_store.specs.declared.block.ArenaErr.TheVariants.{OutOfMemory};
 ghost use Rattle.example_blocks.specs.Blocks.{AreReadable};
 
 use arena_chunks::laws::{apart, placed};

@@ -1,6 +1,6 @@
 // A buffer of bytes that grows.
 ghost use Rattle.std.specs.Prelude.{◌≡◌, ◌≤◌, ◌<◌, ◌++◌, [], ◌∷◌, Ok, Err, IfOk, IfErr, IsOk, IsTrue, false};
-ghost use Rattle.placement.specs.Rounding.{is_layout};
+ghost use Rattle.arena_rules.specs.Rounding.{is_layout};
 ghost use Rattle.arena_chunks.specs.Memory.{is_readable};
 ghost use Rattle.arena_chunks.specs.Answers.Answer.{Placed};
 ghost use Rattle.arena_chunks.specs.Frame.{Frame};

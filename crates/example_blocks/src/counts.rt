@@ -1,8 +1,8 @@
 // How many bytes calls bring out of use.
 ghost use Rattle.std.specs.Prelude.{◌≡◌, ℕ, ◌+◌, ◌-◌, ◌≤◌, IsTrue, [], ◌∷◌};
-ghost use Rattle.placement.specs.State.{cursor_of, used_bytes};
-ghost use Rattle.placement.specs.Doubling.{IsDoubling};
-ghost use Rattle.placement.specs.Moves.Resizing.{Moves};
+ghost use Rattle.arena_rules.specs.State.{cursor_of, used_bytes};
+ghost use Rattle.arena_rules.specs.Doubling.{IsDoubling};
+ghost use Rattle.arena_rules.specs.Moves.Resizing.{Moves};
 ghost use Rattle.arena_chunks.specs.Memory.{is_readable, image};
 ghost use Rattle.arena_chunks.specs.Frame.{Frame};
 ghost use Rattle.arena_chunks.specs.Answers.Answer.{Placed};

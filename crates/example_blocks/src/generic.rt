@@ -1,6 +1,6 @@
 // The same over whatever places blocks in an arena.
 ghost use Rattle.std.specs.Prelude.{◌≡◌, ◌≤◌, IfOk, IsTrue, [], ◌∷◌};
-ghost use Rattle.placement.specs.Blocks.{IsBlock};
+ghost use Rattle.arena_rules.specs.Blocks.{IsBlock};
 ghost use Rattle.arena_chunks.specs.Memory.{is_readable, image, bytes_from};
 ghost use Rattle.arena_chunks.specs.Frame.{AreBlocksApart, Frame, Stays};
 ghost use Rattle.arena_chunks.specs.Answers.{answer_of};

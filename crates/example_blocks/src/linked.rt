@@ -42,7 +42,7 @@ impl InArena for Chain {
         chain_again ⟦<First as Item>⟧ ⟦<Second as Item>⟧ ⟦<u32 as Item>⟧ a c v agree held readable };
 }
 
-#[tactic(auto, unfolding(placement::specs::Rounding::up, arena_items::specs::Layout::pair_size, arena_items::specs::Layout::second_at))]
+#[tactic(auto, unfolding(arena_rules::specs::Rounding::up, arena_items::specs::Layout::pair_size, arena_items::specs::Layout::second_at))]
 impl Chain {
     /// Places a chain.
     ///

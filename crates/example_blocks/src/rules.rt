@@ -1,13 +1,14 @@
 // The rules without an arena: places as numbers, and what the placement machine answers.
 ghost use Rattle.std.specs.Prelude.{◌≡◌, ◌-◌, ◌*◌, ◌^◌, ◌<◌, ◌≤◌, IfOk, None, if◌then◌else◌};
 ghost use Rattle.std.specs.Option.{option_map};
-ghost use Rattle.placement.specs.Rounding.{is_layout};
-ghost use Rattle.placement.specs.Search.{place_below};
-ghost use Rattle.placement.specs.Machine as machine;
+ghost use Rattle.arena_rules.specs.Rounding.{is_layout};
+ghost use Rattle.arena_rules.specs.Search.{place_below};
+ghost use Rattle.call_rules.specs.Machine as machine;
 ghost use Rattle.plain_machine.specs.Answers.{first_state};
 
 use arena_place::{Layout, place};
-use placement::{Call, OutOfMemory, Reply};
+use arena_rules::OutOfMemory;
+use call_rules::{Call, Reply};
 use plain_machine::PlainMachine;
 use std::alloc::Global;
 

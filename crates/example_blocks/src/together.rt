@@ -1,7 +1,7 @@
 // Blocks that lie apart, together.
 ghost use Rattle.std.specs.Prelude.{◌≡◌, ◌+◌, ◌≤◌, IsTrue, [], ◌∷◌, length};
 ghost use Rattle.std.specs.List.{AllByRecursion};
-ghost use Rattle.placement.specs.State.{used_bytes};
+ghost use Rattle.arena_rules.specs.State.{used_bytes};
 ghost use Rattle.arena_chunks.specs.Memory.{is_readable};
 ghost use Rattle.arena_chunks.specs.Frame.{AreAllApart, AreBlocksApart, Stays};
 ghost use Rattle.example_blocks.specs.Blocks.{AreReadable, Holds};

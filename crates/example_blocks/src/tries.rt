@@ -14,7 +14,7 @@ use arena_chunks::{Allocator, Arena, ArenaErr, Block, ChunkSource};
 use arena_items::laws::{back_law, frame_law};
 use arena_items::{Box, Item, ItemErr};
 use arena_place::Layout;
-use placement::laws::kept_marks;
+use arena_rules::laws::kept_marks;
 
 /// Where a block of this layout would lie: it is placed, and the arena goes back to where it was. What was in use is in use still,
 /// with its bytes.
@@ -66,7 +66,7 @@ pub fn try_beside<T: Item, U: Item, C: ChunkSource>(
     frame_law::<Box<U>>();
     back_law::<Box<U>>();
     kept_marks();
-    placement::laws::sent_back();
+    arena_rules::laws::sent_back();
     let mark = a.checkpoint();
     let _tried = Box::new_in(value, a)?;
     a.rewind(mark);

@@ -2,7 +2,7 @@
 use Rattle.std.proofs.Common.{List, [], ◌∷◌}
 use Rattle.arena_chunks.specs.Frame.{Frame, AreAllApart, ArePairwiseApart}
 use Rattle.arena_chunks.specs.Memory.{Memory}
-use Rattle.arena_chunks.specs.declared.block.Block.{Block}
+use Rattle.arena_store.specs.declared.block.Block.{Block}
 use Rattle.arena_chunks.proofs.Layers.{frame_then, frame_weaken, frame_keeps_all}
 use Rattle.arena_items.specs.Footprint.{AreReadable}
 use Rattle.arena_items.proofs.Layers.{stays_apart}

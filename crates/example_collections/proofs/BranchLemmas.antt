@@ -5,7 +5,7 @@ use Rattle.arena_chunks.specs.Frame.{Frame}
 use Rattle.arena_chunks.specs.Memory.{Memory}
 use Rattle.arena_chunks.specs.Source.{View}
 use Rattle.arena_chunks.specs.declared.allocator.text.Str.{Str}
-use Rattle.arena_chunks.specs.declared.block.Block.{Block}
+use Rattle.arena_store.specs.declared.block.Block.{Block}
 use Rattle.arena_items.specs.declared.room.AllocError.{AllocError}
 use Rattle.arena_vec.specs.declared.vec.Vec.{Vec}
 use Rattle.arena_clone.specs.Kinds.{Kind, text, semantic_id}

@@ -2,7 +2,7 @@
 ghost use Rattle.std.specs.Prelude.{◌≡◌, ◌+◌, ◌*◌, ◌^◌, ◌≤◌, ◌++◌, IsTrue, IfOk, OnOk, OnErr, List, [], ◌∷◌};
 ghost use Rattle.arena_chunks.specs.Frame.{AreAllApart, AreBlocksApart, ArePairwiseApart, Frame};
 ghost use Rattle.arena_chunks.specs.Memory.{is_readable};
-ghost use Rattle.arena_chunks.specs.declared.block.Block.{Block};
+ghost use Rattle.arena_store.specs.declared.block.Block.{Block};
 ghost use Rattle.arena_hash.specs.Accounts.{credit_of, unit_of, used};
 ghost use Rattle.arena_hash.specs.Changes.{Puts, is_value};
 ghost use Rattle.arena_hash.specs.Contents.{kind};

@@ -1,7 +1,7 @@
 // Values put at the end, and numbers added up.
 ghost use Rattle.std.specs.Prelude.{◌≡◌, ℕ, ◌+◌, ◌*◌, ◌%◌, ◌^◌, ◌<◌, ◌≤◌, ◌++◌, [], ◌∷◌, replicate, Err, IsOk, OnOk};
 ghost use Rattle.std.specs.List.{sum};
-ghost use Rattle.placement.specs.State.{used_bytes};
+ghost use Rattle.arena_rules.specs.State.{used_bytes};
 ghost use Rattle.arena_chunks.specs.Frame.{AreBlocksApart, Frame};
 ghost use Rattle.arena_items.specs.Values.{IsBoxIn, box_value};
 ghost use Rattle.arena_items.specs.Room.{SamePlaces};

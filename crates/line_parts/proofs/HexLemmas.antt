@@ -2,7 +2,7 @@
 use Rattle.std.proofs.Common.{◌≡◌, ◌≢◌, ℕ, ◌/◌, ◌%◌, ◌<◌, IsTrue, List, [], ◌∷◌, ◌++◌, length, Option, Some, refl, sym, ap, ◌∙◌, subst, arith, codes}
 use Rattle.std.specs.List.{AllByRecursion, flat_map}
 use Rattle.std.proofs.lemmas.Bool.Decides.{nat_tests}
-use Rattle.placement.specs.Grammar.{hex, hex_digit, hex_pair, IsByte}
+use Rattle.call_rules.specs.Grammar.{hex, hex_digit, hex_pair, IsByte}
 use Rattle.line_parts.specs.Reads.{is_word_end, ReadsFront, HasNoPair}
 
 -- these bytes were read, and this is left

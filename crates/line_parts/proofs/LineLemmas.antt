@@ -4,8 +4,8 @@ use Rattle.std.specs.Prelude.{◌==◌}
 use Rattle.std.specs.List.{onto_first, flat_map}
 use Rattle.std.proofs.lemmas.List.Splits.{slice_split-cons_yes, slice_split-cons_no}
 use Rattle.std.proofs.lemmas.Bool.Decides.{nat_tests}
-use Rattle.placement.specs.Grammar.{lines_of, number, fields, hex, hex_digit, hex_pair}
-use Rattle.placement.proofs.NumberLemmas.{number_by_steps}
+use Rattle.call_rules.specs.Grammar.{lines_of, number, fields, hex, hex_digit, hex_pair}
+use Rattle.call_rules.proofs.NumberLemmas.{number_by_steps}
 use Rattle.line_parts.specs.Reads.{is_word_end}
 use Rattle.line_parts.specs.Lines.{is_line_end, lines_behind, TakesLine}
 

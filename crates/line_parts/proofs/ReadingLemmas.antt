@@ -9,8 +9,8 @@ use Rattle.std.proofs.lemmas.List.{take_all}
 use Rattle.std.proofs.Math.ListN.{drop_of_length-le}
 use Rattle.std.proofs.Math.Seq.{drop-length}
 use Rattle.std.proofs.lemmas.Bool.Decides.{nat_tests}
-use Rattle.placement.specs.Grammar.{number}
-use Rattle.placement.proofs.NumberLemmas.{number-decimal, number_digits, number_nonempty, first_number, read_front, read_number, read_number_on, Stops}
+use Rattle.call_rules.specs.Grammar.{number}
+use Rattle.call_rules.proofs.NumberLemmas.{number-decimal, number_digits, number_nonempty, first_number, read_front, read_number, read_number_on, Stops}
 use Rattle.std.proofs.lemmas.Option.{none-some, some_pair_parts}
 use Rattle.std.proofs.lemmas.List.{append-nil}
 use Rattle.line_parts.specs.Reads.{is_word_end, ReadsFront, IsNumber}

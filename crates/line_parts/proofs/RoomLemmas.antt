@@ -28,6 +28,18 @@ module _ {A : Type 0} (room : A → ℕ) where
   pub rooms_within : (xs : List A) (i : ℕ) (x : A) → i < length xs → x ≡ get_or xs i x → rooms room (take i xs) + room x ≤ rooms room xs
   rooms_within xs i x h is = omega (arith, rooms_more xs i x h is, rooms_front xs (i + 1))
 
+-- where there is no number for one room, or for it with those before, there is none for all
+pub none_past : {A : Type 0} (room : A → ℕ) (xs : List A) (i : ℕ) (x : A) (most : ℕ) → i < length xs → x ≡ get_or xs i x
+    → (rooms room (take i xs) + room x < most → ⊥) → rooms room xs < most → ⊥
+none_past room xs i x most h is past less = past (omega (arith, rooms_within room xs i x h is, less))
+
+-- all were taken
+pub all_taken : {A : Type 0} (room : A → ℕ) (xs : List A) (i : ℕ) → length xs ≤ i → rooms room (take i xs) ≡ rooms room xs
+all_taken room [] zero end = omega arith
+all_taken room [] (suc i) end = omega arith
+all_taken room (x ∷ xs) zero end = absurd (omega (arith, end))
+all_taken room (x ∷ xs) (suc i) end = omega (arith, all_taken room xs i (omega (arith, end)))
+
 -- the text of one more was put
 pub text_more : {A : Type 0} (text : A → List ℕ) (old mid new : List ℕ) (xs : List A) (i : ℕ) (x : A) → i < length xs → x ≡ get_or xs i x
     → mid ≡ old ++ flat_map text (take i xs) → new ≡ mid ++ text x → new ≡ old ++ flat_map text (take (i + 1) xs)

@@ -1,20 +1,19 @@
 // Room for a text, and texts one after another.
-ghost use Rattle.std.specs.Prelude.{◌≡◌, ◌+◌, ◌++◌, ◌≤◌, IfSome, OnOk, vec_len, vec_capacity};
+ghost use Rattle.std.specs.Prelude.{◌≡◌, ◌+◌, ◌^◌, ◌++◌, ◌<◌, ◌≤◌, IsOk, OnOk, vec_len, vec_capacity};
+ghost use Rattle.std.specs.Option.{SomeIff};
 ghost use Rattle.std.specs.List.{flat_map};
 ghost use Rattle.line_parts.specs.Room.{rooms};
 
-use placement::OutOfMemory;
+use arena_rules::OutOfMemory;
 
 /// Makes room for so many bytes more. Where memory is wanting the text stays.
 pub fn make_room(out: &mut Vec<u8>, more: usize) -> Result<(), OutOfMemory>
     ensures same { out.new.items ≡ out.old.items }
     ensures room { OnOk result (vec_len out.new + more ≤ vec_capacity out.new) }
+    ensures succeeds { vec_len out.old + more ≤ vec_capacity out.old → IsOk result }
 {
     // Room may grow by doubling: what lies past the text's end isn't touched, and so takes no memory.
-    match out.reserve(more) {
-        Ok(()) => Ok(()),
-        Err(_) => Err(OutOfMemory),
-    }
+    Ok(out.reserve(more)?)
 }
 
 /// How things are printed one after another.
@@ -29,7 +28,7 @@ pub trait Printer<T> {
 
     /// How many bytes are enough for its text; none where that is past the largest number.
     fn room(&self, thing: &T) -> Option<usize>
-        ensures { IfSome result (λ n. n ≡ room thing.now) };
+        ensures { SomeIff result (room thing.now < 2 ^ 64) (room thing.now) };
 
     /// Puts its text, for which there is room.
     fn put(&self, out: &mut Vec<u8>, thing: &T)
@@ -41,7 +40,7 @@ pub trait Printer<T> {
 
 /// How many bytes are enough for the texts of all of these; none where that is past the largest number.
 pub fn room_of<T, P: Printer<T>>(printer: &P, all: &[T]) -> Option<usize>
-    ensures { IfSome result (λ n. n ≡ rooms P.room all.now) }
+    ensures { SomeIff result (rooms P.room all.now < 2 ^ 64) (rooms P.room all.now) }
 {
     let mut room: usize = 0;
     for i in 0..all.len() {

@@ -1,7 +1,8 @@
 // What was found in a text.
 ghost use Rattle.std.specs.Prelude.{◌≡◌, [], ◌∷◌, ◌++◌, length, OnOk, OnErr};
 
-use placement::{Bytes, OutOfMemory};
+use arena_rules::OutOfMemory;
+use call_rules::Bytes;
 use std::alloc::Global;
 use std::marker::Model;
 use tree_rules::{FindKind, Finding};
@@ -36,10 +37,7 @@ impl Findings {
         ensures ok { OnOk result (self.new ≡ self.old ++ record { kind = kind; name = name } ∷ []) }
         ensures err { OnErr result (self.new ≡ self.old) }
     {
-        match self.items.push(Finding { kind, name }) {
-            Ok(()) => Ok(()),
-            Err(_) => Err(OutOfMemory),
-        }
+        Ok(self.items.push(Finding { kind, name })?)
     }
 
     /// The findings as a slice.

@@ -1,18 +1,19 @@
 // Puts the text of reports.
-ghost use Rattle.std.specs.Prelude.{◌≡◌, ◌+◌, ◌++◌, ◌∷◌, [], ◌≤◌, IfSome, OnOk, OnErr, length, vec_len, vec_capacity};
+ghost use Rattle.std.specs.Prelude.{◌≡◌, ◌+◌, ◌^◌, ◌++◌, ◌∷◌, [], ◌<◌, ◌≤◌, OnOk, OnErr, length, vec_len, vec_capacity};
+ghost use Rattle.std.specs.Option.{SomeIff};
 ghost use Rattle.std.specs.List.{flat_map};
-ghost use Rattle.placement.specs.Grammar.{fields, with_feed};
+ghost use Rattle.call_rules.specs.Grammar.{fields, with_feed};
 ghost use Rattle.lint_reports.specs.Reports.{report_lines, report_text, kind_word};
 ghost use Rattle.lint_reports.specs.Room.{finding_room, findings_room, fed_finding};
 
 use crate::report::FileReport;
+use arena_rules::OutOfMemory;
 use line_parts::{Printer, make_room, put, put_all, put_field, room_of};
-use placement::OutOfMemory;
 use tree_rules::{FindKind, Finding};
 
 // How many bytes are enough for what a report has found: only findings take more than the line that each report may have.
 fn room_held(report: &FileReport) -> Option<usize>
-    ensures { IfSome result (λ n. n ≡ findings_room report.now) }
+    ensures { SomeIff result (findings_room report.now < 2 ^ 64) (findings_room report.now) }
 {
     match report {
         FileReport::Checked(findings) => room_of(&FindingLine, findings.as_slice()),

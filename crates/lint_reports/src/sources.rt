@@ -4,8 +4,8 @@ ghost use Rattle.std.specs.List.{slice_index};
 ghost use Rattle.lint_reports.specs.Sources.{is_mark, sources, IsFirstLine, IsPassed};
 
 use crate::source::Source;
+use arena_rules::OutOfMemory;
 use memchr::{memchr, memrchr};
-use placement::OutOfMemory;
 use std::alloc::Global;
 
 // How many bytes come before the first that is `b`, or all of them.
@@ -71,10 +71,7 @@ fn is_mark(line: &[u8]) -> bool
 fn add<'a>(all: &mut Vec<Source<'a>>, bytes: &'a [u8]) -> Result<(), OutOfMemory>
     ensures { OnOk result (all.new.items ≡ all.old.items ++ bytes.now ∷ []) }
 {
-    match all.push(Source::new(bytes)) {
-        Ok(()) => Ok(()),
-        Err(_) => Err(OutOfMemory),
-    }
+    Ok(all.push(Source::new(bytes))?)
 }
 
 /// The sources of an input, of which no byte is copied.

@@ -7,14 +7,15 @@ use Rattle.std.specs.Option.{option_map_or}
 use Rattle.std.specs.FinMap.{get-empty, get-insert, get-remove, get-retain_keys, nat_cmp-IsAntisymmetric}
 use Rattle.std.proofs.lemmas.Bool.{cases_eq}
 use Rattle.std.proofs.lemmas.Option.{none-some, same_Some}
-use Rattle.placement.specs.Rounding.{up}
-use Rattle.placement.specs.State.{State, IsValid, cursor_of, top_of}
-use Rattle.placement.specs.Moves.{dealloc}
-use Rattle.placement.specs.Machine.{Held, is_left, is_place_used}
-use Rattle.placement.specs.declared.place.Place.{Place}
-use Rattle.placement.proofs.CursorLemmas.{top_set}
-use Rattle.placement.proofs.ReturnLemmas.{dealloc_at, dealloc_elsewhere, used_filled}
-use Rattle.placement.proofs.UsedLemmas.{used_high}
+use Rattle.arena_rules.specs.Rounding.{up}
+use Rattle.arena_rules.specs.State.{State, IsValid, cursor_of, top_of}
+use Rattle.arena_rules.specs.Moves.{dealloc}
+use Rattle.call_rules.specs.Machine.{Held, is_left}
+use Rattle.arena_rules.specs.State.{is_place_used}
+use Rattle.arena_rules.specs.declared.place.Place.{Place}
+use Rattle.arena_rules.proofs.CursorLemmas.{top_set}
+use Rattle.arena_rules.proofs.ReturnLemmas.{dealloc_at, dealloc_elsewhere, used_filled}
+use Rattle.arena_rules.proofs.UsedLemmas.{used_high}
 use Rattle.plain_machine.specs.Holding.{EndBelow}
 
 pub dealloc_top : (state : State) (p size : ℕ) → top_of (dealloc state p size).chunks ≡ top_of state.chunks

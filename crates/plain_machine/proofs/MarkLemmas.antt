@@ -4,12 +4,12 @@ use Rattle.std.specs.Prelude.{◌==◌, if◌then◌else◌}
 use Rattle.std.specs.List.{remove}
 use Rattle.std.proofs.lemmas.List.{drop_all}
 use Rattle.std.proofs.lemmas.Option.{none-some, same_Some}
-use Rattle.placement.specs.State.{State, Chunk}
-use Rattle.placement.specs.Moves.{alloc, grow, growing, shrink, shrinking, dealloc}
-use Rattle.placement.specs.Back.{Point, first_chunks, accepts, back, KeepsMark}
-use Rattle.placement.specs.Machine.{Marks, mark_named, marks_to}
-use Rattle.placement.proofs.BackLemmas.{is_mark}
-use Rattle.placement.proofs.MarkLemmas.{alloc_keeps, resize_keeps, dealloc_keeps_mark, back_keeps}
+use Rattle.arena_rules.specs.State.{State, Chunk}
+use Rattle.arena_rules.specs.Moves.{alloc, grow, growing, shrink, shrinking, dealloc}
+use Rattle.arena_rules.specs.Back.{Point, first_chunks, accepts, back, KeepsMark}
+use Rattle.call_rules.specs.Machine.{Marks, mark_named, marks_to}
+use Rattle.arena_rules.proofs.BackLemmas.{is_mark}
+use Rattle.arena_rules.proofs.MarkLemmas.{alloc_keeps, resize_keeps, dealloc_keeps_mark, back_keeps}
 use Rattle.plain_machine.specs.Answers.{leaves}
 use Rattle.plain_machine.specs.Holding.{AreMarks}
 

@@ -2,15 +2,15 @@
 use Rattle.std.proofs.Common.{◌≡◌, ℕ, ◌+◌, ◌-◌, ◌<◌, ◌≤◌, inl, inr, max, sym, arith, Some, None, Option, IsTrue}
 use Rattle.std.specs.Prelude.{IfSome}
 use Rattle.std.proofs.lemmas.Bool.{cases_lt}
-use Rattle.placement.specs.Rounding.{is_power}
-use Rattle.placement.specs.State.{State, IsValid, start_of, cursor_of, top_of, with_cursor}
-use Rattle.placement.specs.Search.{place}
-use Rattle.placement.specs.Moves.{shrink_step}
-use Rattle.placement.specs.declared.place.Place.{Place}
-use Rattle.placement.proofs.RoundingLemmas.{down_le}
-use Rattle.placement.proofs.PlaceLemmas.{IsPlace, is_place}
-use Rattle.placement.proofs.CursorLemmas.{start_positive, cursor_within, valid_set, valid_moved}
-use Rattle.placement.proofs.MoveLemmas.{step_aligned}
+use Rattle.arena_rules.specs.Rounding.{is_power}
+use Rattle.arena_rules.specs.State.{State, IsValid, start_of, cursor_of, top_of, with_cursor}
+use Rattle.arena_rules.specs.Search.{place}
+use Rattle.arena_rules.specs.Moves.{shrink_step}
+use Rattle.arena_rules.specs.declared.place.Place.{Place}
+use Rattle.arena_rules.proofs.RoundingLemmas.{down_le}
+use Rattle.arena_rules.proofs.PlaceLemmas.{IsPlace, is_place}
+use Rattle.arena_rules.proofs.CursorLemmas.{start_positive, cursor_within, valid_set, valid_moved}
+use Rattle.arena_rules.proofs.MoveLemmas.{step_aligned}
 use Rattle.plain_machine.specs.Answers.{EndsWithin}
 
 pub placed : (state : State) (size align p : ℕ) → IsValid state → IsTrue (is_power align) → place state size align ≡ Some p

@@ -2,9 +2,9 @@
 use Rattle.std.proofs.Common.{◌≡◌, ◌≢◌, ℕ, suc, ◌<◌, ◌≤◌, arith, length, drop, get_or, drop-cons, add-one, ◌+◌, refl, sym, ap, ◌∙◌, List, [], ◌∷◌, ◌++◌, append_assoc, Some, None, Option}
 use Rattle.std.proofs.lemmas.List.{drop_all, append-nil}
 use Rattle.std.specs.Option.{option_map, option_and_then}
-use Rattle.placement.specs.Machine.{Machine, Next, step, run_from, reply_first}
-use Rattle.placement.specs.declared.calls.Call.{Call}
-use Rattle.placement.specs.declared.calls.Reply.{Reply}
+use Rattle.call_rules.specs.Machine.{Machine, Next, step, run_from, reply_first}
+use Rattle.call_rules.specs.declared.calls.Call.{Call}
+use Rattle.call_rules.specs.declared.calls.Reply.{Reply}
 
 -- replies before those of the calls that follow
 abbrev pub replies_first : List Reply → List Reply × Machine → List Reply × Machine

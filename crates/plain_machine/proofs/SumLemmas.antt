@@ -4,7 +4,7 @@ use Rattle.std.specs.Prelude.{sum, All, nat_le, ◌&&◌, ◌||◌}
 use Rattle.std.proofs.lemmas.Bool.Decides.{nat_tests}
 use Rattle.std.proofs.lemmas.List.Elements.{All-tail}
 use Rattle.std.proofs.lemmas.List.Sums.{sum-map, sum_by-cons}
-use Rattle.placement.specs.State.{Chunk, IsChunk, AreChunks, floor_of, data_end, is_range_used}
+use Rattle.arena_rules.specs.State.{Chunk, IsChunk, AreChunks, floor_of, data_end, is_range_used}
 
 pub sum_below : (m : ℕ) (f : Chunk → ℕ) → (chunks : List Chunk) → ((c : Chunk) → IsChunk m c → f c ≤ c.size) → AreChunks m chunks
     → sum (map f chunks) ≤ floor_of chunks

@@ -2,10 +2,10 @@
 use Rattle.std.specs.Prelude.{ℕ, ◌+◌, ◌<◌, ◌≤◌, Option, List, [], Vec, true, IfSome}
 use Rattle.std.specs.declared.alloc.Global.{Global}
 use Rattle.std.specs.Option.{option_map}
-use Rattle.placement.specs.State.{State, Chunk}
-use Rattle.placement.specs.Moves.{Outcome}
-use Rattle.placement.specs.Machine.{Machine, Next}
-use Rattle.placement.specs.declared.calls.Reply.{Reply}
+use Rattle.arena_rules.specs.State.{State, Chunk}
+use Rattle.arena_rules.specs.Moves.{Outcome}
+use Rattle.call_rules.specs.Machine.{Machine, Next}
+use Rattle.call_rules.specs.declared.calls.Reply.{Reply}
 
 -- the state of a growing arena
 abbrev pub growing_state : ℕ → ℕ → List Chunk → State

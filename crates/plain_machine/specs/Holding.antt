@@ -2,11 +2,11 @@
 use Rattle.std.specs.Prelude.{◌≡◌, ℕ, ◌+◌, ◌<◌, ◌≤◌, Some, [], ◌∷◌, IsTrue}
 use Rattle.std.specs.FinMap as map
 use Rattle.std.specs.Coded.{Coded, coded_ℕ, coded_list}
-use Rattle.placement.specs.State.{State}
-use Rattle.placement.specs.Back.{accepts}
-use Rattle.placement.specs.Machine.{Held, Contents, Marks}
-use Rattle.placement.specs.declared.place.Place.{Place}
-use Rattle.placement.specs.contracts.place.Place as place
+use Rattle.arena_rules.specs.State.{State}
+use Rattle.arena_rules.specs.Back.{accepts}
+use Rattle.call_rules.specs.Machine.{Held, Contents, Marks}
+use Rattle.arena_rules.specs.declared.place.Place.{Place}
+use Rattle.arena_rules.specs.contracts.place.Place as place
 
 -- the codes of its maps
 abbrev pub held_code : Coded Held

@@ -1,40 +1,33 @@
 // The bytes of a block.
 ghost use Rattle.std.specs.Prelude.{◌≡◌, ◌+◌, ◌^◌, ◌<◌, ◌++◌, IfOk, replicate, nat_lt, length, take, drop};
-ghost use Rattle.placement.specs.Machine as machine;
+ghost use Rattle.arena_rules.specs.Lists as lists;
 
-use placement::{Bytes, OutOfMemory};
+use arena_rules::OutOfMemory;
+use call_rules::Bytes;
 use std::alloc::Global;
 
 pub(crate) fn filled(alloc: Global, size: u64, fill: u8) -> Result<Bytes, OutOfMemory>
     ensures { IfOk result (λ bytes. bytes ≡ replicate size fill) }
 {
-    match vec![in alloc; fill; size as usize] {
-        Ok(items) => Bytes::from_vec(alloc, items),
-        Err(_) => Err(OutOfMemory),
-    }
+    let items = vec![in alloc; fill; size as usize]?;
+    Bytes::from_vec(alloc, items)
 }
 
 // The old bytes and so many more, each the fill byte.
 pub(crate) fn grown(alloc: Global, old: &[u8], more: u64, fill: u8) -> Result<Bytes, OutOfMemory>
     ensures { IfOk result (λ bytes. bytes ≡ old.now ++ replicate more fill) }
 {
-    let Ok(mut all) = Vec::from_slice(alloc, old) else {
-        return Err(OutOfMemory);
-    };
+    let mut all = Vec::from_slice(alloc, old)?;
     let more = filled(alloc, more, fill)?;
-    match all.extend_from_slice(more.as_slice()) {
-        Ok(()) => Bytes::from_vec(alloc, all),
-        Err(_) => Err(OutOfMemory),
-    }
+    all.extend_from_slice(more.as_slice())?;
+    Bytes::from_vec(alloc, all)
 }
 
 // The first bytes, so many or all.
 pub(crate) fn shrunk(alloc: Global, old: &[u8], size: u64) -> Result<Bytes, OutOfMemory>
     ensures { IfOk result (λ bytes. bytes ≡ take size old.now) }
 {
-    let Ok(mut all) = Vec::from_slice(alloc, old) else {
-        return Err(OutOfMemory);
-    };
+    let mut all = Vec::from_slice(alloc, old)?;
     all.truncate(size as usize);
     Bytes::from_vec(alloc, all)
 }
@@ -52,11 +45,9 @@ pub(crate) fn is_past(size: u64, at: u64, n: u64) -> bool
 // The old bytes with new ones in place of those from this one on.
 pub(crate) fn splice(alloc: Global, old: &[u8], at: u64, new: &[u8]) -> Result<Bytes, OutOfMemory>
     requires { at + length new.now < 2 ^ 64 }
-    ensures { IfOk result (λ bytes. bytes ≡ machine.splice old.now at new.now) }
+    ensures { IfOk result (λ bytes. bytes ≡ lists.splice old.now at new.now) }
 {
-    let Ok(mut all) = Vec::from_slice(alloc, old) else {
-        return Err(OutOfMemory);
-    };
+    let mut all = Vec::from_slice(alloc, old)?;
     all.truncate(at as usize);
     let rest = from(old, at + new.len() as u64);
     if all.extend_from_slice(new).is_err() || all.extend_from_slice(rest).is_err() {

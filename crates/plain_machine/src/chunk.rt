@@ -9,7 +9,7 @@ pub(crate) struct PlainChunk {
 }
 
 impl Model for PlainChunk {
-    ghost use Rattle.placement.specs.State.{Chunk};
+    ghost use Rattle.arena_rules.specs.State.{Chunk};
 
     ghost Value = { Chunk };
 

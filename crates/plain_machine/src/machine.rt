@@ -1,9 +1,9 @@
 // The machine: calls by name, one after another.
-#![tactic(auto, unfolding(placement::specs::Machine::step))]
+#![tactic(auto, unfolding(call_rules::specs::Machine::step))]
 
 ghost use Rattle.std.specs.Prelude.{◌≡◌, ◌==◌, ◌+◌, ◌<◌, ◌≤◌, IfOk, OnOk, IfNone, IsTrue, if◌then◌else◌};
-ghost use Rattle.placement.specs.State.{is_min_align, top_of};
-ghost use Rattle.placement.specs.Machine as machine;
+ghost use Rattle.arena_rules.specs.State.{is_min_align, top_of};
+ghost use Rattle.call_rules.specs.Machine as machine;
 ghost use Rattle.plain_machine.specs.Answers.{first_state, gives};
 
 use crate::bytes::{filled, grown, is_past, shrunk, splice};
@@ -12,7 +12,8 @@ use crate::names::Names;
 use crate::state::PlainState;
 use crate::unasked::unasked;
 use arena_place::Layout;
-use placement::{Bytes, Call, OutOfMemory, Place, Reply};
+use arena_rules::{OutOfMemory, Place};
+use call_rules::{Bytes, Call, Reply};
 use std::alloc::Global;
 use std::marker::Model;
 
@@ -27,8 +28,8 @@ pub struct PlainMachine {
 }
 
 impl Model for PlainMachine {
-    ghost use Rattle.placement.specs.State.{top_of};
-    ghost use Rattle.placement.specs.Machine.{Machine};
+    ghost use Rattle.arena_rules.specs.State.{top_of};
+    ghost use Rattle.call_rules.specs.Machine.{Machine};
     ghost use Rattle.plain_machine.specs.Holding.{EndBelow, AreMarks, held_code, contents_code};
     ghost use Rattle.std.specs.Coded.{codes};
     ghost use Rattle.std.specs.Prelude.{length};

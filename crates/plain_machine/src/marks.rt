@@ -1,17 +1,18 @@
 // Marks, and going back to one.
-#![tactic(auto, unfolding(placement::specs::Machine::step))]
+#![tactic(auto, unfolding(call_rules::specs::Machine::step))]
 
 ghost use Rattle.std.specs.Prelude.{◌≡◌, ℕ, IfOk, IfNone};
 ghost use Rattle.std.specs.Option.{is_some};
-ghost use Rattle.placement.specs.Back.{first_chunks, raised};
-ghost use Rattle.placement.specs.Machine as machine;
-ghost use Rattle.placement.specs.declared.calls.Call.TheVariants.{Mark, Back};
+ghost use Rattle.arena_rules.specs.Back.{first_chunks, raised};
+ghost use Rattle.call_rules.specs.Machine as machine;
+ghost use Rattle.call_rules.specs.declared.calls.Call.TheVariants.{Mark, Back};
 ghost use Rattle.plain_machine.specs.Answers.{gives};
 
 use crate::chunk::PlainChunk;
 use crate::machine::PlainMachine;
 use crate::unasked::unasked;
-use placement::{OutOfMemory, Reply};
+use arena_rules::OutOfMemory;
+use call_rules::Reply;
 use std::marker::Model;
 
 /// How many chunks there were, and the cursor.
@@ -22,7 +23,7 @@ pub(crate) struct PlainPoint {
 }
 
 impl Model for PlainPoint {
-    ghost use Rattle.placement.specs.Back.{Point};
+    ghost use Rattle.arena_rules.specs.Back.{Point};
 
     ghost Value = { Point };
 
@@ -44,10 +45,8 @@ impl PlainMachine {
             return Ok(None);
         }
         let mark = self.state.mark();
-        match self.marks.insert(0, (name, mark)) {
-            Ok(()) => Ok(Some(Reply::Done)),
-            Err(_) => Err(OutOfMemory),
-        }
+        self.marks.insert(0, (name, mark))?;
+        Ok(Some(Reply::Done))
     }
 
     pub(crate) fn back(&mut self, name: u32, refused: u32) -> Option<Reply>

@@ -3,10 +3,11 @@ ghost use Rattle.std.specs.Prelude.{◌≡◌, OnOk, OnErr};
 ghost use Rattle.std.specs.Ordering.{nat_cmp};
 ghost use Rattle.std.specs.Option.{option_copied};
 ghost use Rattle.std.specs.FinMap as map;
-ghost use Rattle.placement.specs.Machine as machine;
+ghost use Rattle.call_rules.specs.Machine as machine;
 
 use crate::state::PlainState;
-use placement::{Bytes, OutOfMemory, Place};
+use arena_rules::{OutOfMemory, Place};
+use call_rules::Bytes;
 use std::alloc::Global;
 use std::collections::BTreeMap;
 use std::marker::Model;
@@ -55,10 +56,8 @@ impl<V: Drop> Names<V> {
         ensures ok { OnOk result (self.new ≡ map.insert self.old name value) }
         ensures err { OnErr result (self.new ≡ self.old) }
     {
-        match self.values.insert(name, value) {
-            Ok(_) => Ok(()),
-            Err(_) => Err(OutOfMemory),
-        }
+        self.values.insert(name, value)?;
+        Ok(())
     }
 
     pub(crate) fn remove(&mut self, name: u32)

@@ -1,16 +1,16 @@
 // Blocks that grow and shrink.
-#![tactic(auto, unfolding(placement::specs::Moves::grow, placement::specs::Moves::shrink))]
+#![tactic(auto, unfolding(arena_rules::specs::Moves::grow, arena_rules::specs::Moves::shrink))]
 
 ghost use Rattle.std.specs.Prelude.{◌≡◌, ◌+◌, ◌^◌, ◌<◌, ◌≤◌, IfOk, OnErr, IfNone, ◌==◌, if◌then◌else◌, Some, None};
-ghost use Rattle.placement.specs.Rounding.{up};
-ghost use Rattle.placement.specs.State.{IsValid, cursor_of, top_of};
-ghost use Rattle.placement.specs.Moves as moves;
+ghost use Rattle.arena_rules.specs.Rounding.{up};
+ghost use Rattle.arena_rules.specs.State.{IsValid, cursor_of, top_of};
+ghost use Rattle.arena_rules.specs.Moves as moves;
 ghost use Rattle.plain_machine.specs.Answers.{leaves, EndsWithin};
 
 use crate::state::{Answer, PlainState};
 use crate::unasked::unasked;
 use arena_place::{Layout, is_aligned_to, round_down_to, round_up_to_unchecked};
-use placement::{OutOfMemory, Place};
+use arena_rules::{OutOfMemory, Place};
 use std::alloc::Global;
 
 impl PlainState {

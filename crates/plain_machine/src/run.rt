@@ -1,12 +1,13 @@
 // Whole runs.
 ghost use Rattle.std.specs.Prelude.{◌≡◌, IfOk, IsTrue};
 ghost use Rattle.std.specs.Option.{option_map};
-ghost use Rattle.placement.specs.State.{is_min_align};
-ghost use Rattle.placement.specs.Machine as machine;
+ghost use Rattle.arena_rules.specs.State.{is_min_align};
+ghost use Rattle.call_rules.specs.Machine as machine;
 ghost use Rattle.plain_machine.specs.Answers.{first_state, gives_all, replies_of};
 
 use crate::machine::PlainMachine;
-use placement::{Call, OutOfMemory, Reply};
+use arena_rules::OutOfMemory;
+use call_rules::{Call, Reply};
 use std::alloc::Global;
 
 impl PlainMachine {
@@ -28,9 +29,7 @@ impl PlainMachine {
             let Some(reply) = self.step(alloc, call, refused[i])? else {
                 return Ok(None);
             };
-            if replies.push(reply).is_err() {
-                return Err(OutOfMemory);
-            }
+            replies.push(reply)?;
         }
         Ok(Some(replies))
     }

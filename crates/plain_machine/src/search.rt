@@ -1,13 +1,13 @@
 // The chunks that are asked for.
 ghost use Rattle.std.specs.Prelude.{◌≡◌, ◌<◌, IfOk, slice_get};
-ghost use Rattle.placement.specs.Search.{possible, entries};
+ghost use Rattle.arena_rules.specs.Search.{possible, entries};
 
 use arena_place::{CHUNK_FOOTER_SIZE, Layout, chunk_data_size};
-use placement::OutOfMemory;
+use arena_rules::OutOfMemory;
 use std::alloc::Global;
 
 // The base and data size for a tried size, where such a chunk ends below the last address.
-#[tactic(auto, unfolding(placement::specs::Search::possible))]
+#[tactic(auto, unfolding(arena_rules::specs::Search::possible))]
 fn possible(base: u64, layout: Layout, tried: u64) -> Option<(u64, u64)>
     ensures { result ≡ possible base layout.size layout.align tried }
 {
@@ -34,9 +34,7 @@ pub(crate) fn entries(
     let mut tried = first;
     while tried >= least {
         if let Some(entry) = possible(base, layout, tried) {
-            if all.push(entry).is_err() {
-                return Err(OutOfMemory);
-            }
+            all.push(entry)?;
         }
         tried /= 2;
     }

@@ -1,12 +1,12 @@
 // The state: chunks, newest first.
 ghost use Rattle.std.specs.Prelude.{◌≡◌, ◌+◌, ◌^◌, ◌<◌, ◌≤◌, IfOk, OnErr, IfSome, IfNone, IsTrue, Some, None, true, All, sum, map};
 ghost use Rattle.std.specs.Option.{option_map, option_map_or};
-ghost use Rattle.placement.specs.Rounding.{is_power};
-ghost use Rattle.placement.specs.State.{IsValid, is_min_align, start_of, cursor_of, newest_size, used_bytes, allocated_bytes, floor_of, top_of, with_cursor, data_end, used_length, is_range_used};
-ghost use Rattle.placement.specs.Back.{mark_of, accepts, back};
-ghost use Rattle.placement.specs.Machine as machine;
-ghost use Rattle.placement.specs.Search.{place, asked};
-ghost use Rattle.placement.specs.Moves as moves;
+ghost use Rattle.arena_rules.specs.Rounding.{is_power};
+ghost use Rattle.arena_rules.specs.State.{IsValid, is_min_align, start_of, cursor_of, newest_size, used_bytes, allocated_bytes, floor_of, top_of, with_cursor, data_end, used_length, is_range_used};
+ghost use Rattle.arena_rules.specs.Back.{mark_of, accepts, back};
+ghost use Rattle.arena_rules.specs.Search.{place, asked};
+ghost use Rattle.arena_rules.specs.Moves as moves;
+ghost use Rattle.arena_rules.specs.State as places;
 ghost use Rattle.plain_machine.specs.Answers.{first_state, leaves, EndsWithin};
 
 use crate::chunk::PlainChunk;
@@ -15,7 +15,7 @@ use crate::search::{entries, entry_at};
 use arena_place::{
     CHUNK_ALIGN, DEFAULT_CHUNK_SIZE_WITHOUT_FOOTER, Layout, next_base, place, round_up_to_unchecked,
 };
-use placement::{OutOfMemory, Place};
+use arena_rules::{OutOfMemory, Place};
 use std::alloc::Global;
 use std::marker::Model;
 
@@ -31,7 +31,7 @@ pub(crate) struct PlainState {
 }
 
 impl Model for PlainState {
-    ghost use Rattle.placement.specs.State.{State, IsValid};
+    ghost use Rattle.arena_rules.specs.State.{State, IsValid};
     ghost use Rattle.plain_machine.specs.Answers.{growing_state};
 
     ghost Value = { State };
@@ -272,7 +272,7 @@ impl PlainState {
 
     /// Whether the block has no bytes, or lies in the used part of one chunk.
     pub(crate) fn is_place_used(&self, place: Place) -> bool
-        ensures { result ≡ machine.is_place_used self.now place }
+        ensures { result ≡ places.is_place_used self.now place }
     {
         place.size == 0 || is_range_used(&self.chunks, place.addr, place.size)
     }

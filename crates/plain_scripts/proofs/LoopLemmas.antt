@@ -4,8 +4,8 @@ use Rattle.std.specs.Prelude.{nat_lt, ◌==◌, if◌then◌else◌}
 use Rattle.std.specs.List.{filter, list_any, range_with_len}
 use Rattle.std.proofs.lemmas.Bool.Decides.{nat_tests}
 use Rattle.std.proofs.lemmas.List.{append-nil}
-use Rattle.placement.specs.Bits.{Set, members}
-use Rattle.placement.specs.PrintedBits.{has_byte, highest, digits, lower, printed}
+use Rattle.arena_rules.specs.Bits.{Set, members}
+use Rattle.arena_rules.specs.PrintedBits.{has_byte, highest, digits, lower, printed}
 use Rattle.script_rules.specs.Objects.{Bits, bind, united}
 use Rattle.script_rules.specs.Machine.{Ran, step, run_from, ran_on}
 use Rattle.script_rules.specs.declared.commands.Command.{Command}

@@ -2,7 +2,7 @@
 #![tactic(auto, unfolding(script_rules::specs::Effects::effect))]
 
 ghost use Rattle.std.specs.Prelude.{◌≡◌, IfOk};
-ghost use Rattle.placement.specs.Bits.{members};
+ghost use Rattle.arena_rules.specs.Bits.{members};
 ghost use Rattle.script_rules.specs.Objects.{get, has, united, bits_end};
 ghost use Rattle.script_rules.specs.Effects as effects;
 ghost use Rattle.plain_scripts.specs.Answers.{effect_of};
@@ -11,7 +11,7 @@ use crate::effect::{PlainEffect, gives};
 use crate::machine::PlainScripts;
 use crate::names::Names;
 use crate::object::{Kind, words_for};
-use placement::OutOfMemory;
+use arena_rules::OutOfMemory;
 use script_rules::{Command, Numbers, ScriptReply};
 use std::alloc::Global;
 
@@ -45,9 +45,7 @@ fn members(alloc: Global, bits: &Names<()>, capacity: u32) -> Result<Vec<u64>, O
         if !bits.has(bit) {
             continue;
         }
-        if all.push(bit as u64).is_err() {
-            return Err(OutOfMemory);
-        }
+        all.push(bit as u64)?;
     }
     Ok(all)
 }

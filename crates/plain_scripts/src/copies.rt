@@ -2,17 +2,14 @@
 ghost use Rattle.std.specs.Prelude.{◌≡◌, ◌<◌, ◌≤◌, ◌∷◌, [], ◌++◌, IfOk, length, take, set};
 ghost use Rattle.std.specs.List.{insert, remove};
 
-use placement::OutOfMemory;
+use arena_rules::OutOfMemory;
 use std::alloc::Global;
 
 // The same items.
 pub(crate) fn copied<T: Copy>(alloc: Global, old: &[T]) -> Result<Vec<T>, OutOfMemory>
     ensures { IfOk result (λ all. all.items ≡ old.now) }
 {
-    match Vec::from_slice(alloc, old) {
-        Ok(all) => Ok(all),
-        Err(_) => Err(OutOfMemory),
-    }
+    Ok(Vec::from_slice(alloc, old)?)
 }
 
 // The items and one more.
@@ -20,10 +17,8 @@ pub(crate) fn pushed(alloc: Global, old: &[u32], value: u32) -> Result<Vec<u32>,
     ensures { IfOk result (λ all. all.items ≡ old.now ++ value ∷ []) }
 {
     let mut all = copied(alloc, old)?;
-    match all.push(value) {
-        Ok(()) => Ok(all),
-        Err(_) => Err(OutOfMemory),
-    }
+    all.push(value)?;
+    Ok(all)
 }
 
 // The items with one more at a place.
@@ -37,10 +32,8 @@ pub(crate) fn inserted(
     ensures { IfOk result (λ all. all.items ≡ insert old.now at value) }
 {
     let mut all = copied(alloc, old)?;
-    match all.insert(at, value) {
-        Ok(()) => Ok(all),
-        Err(_) => Err(OutOfMemory),
-    }
+    all.insert(at, value)?;
+    Ok(all)
 }
 
 // The items without the one at a place.
@@ -82,8 +75,6 @@ pub(crate) fn joined(alloc: Global, front: &[u8], back: &[u8]) -> Result<Vec<u8>
     ensures { IfOk result (λ all. all.items ≡ front.now ++ back.now) }
 {
     let mut all = copied(alloc, front)?;
-    match all.extend_from_slice(back) {
-        Ok(()) => Ok(all),
-        Err(_) => Err(OutOfMemory),
-    }
+    all.extend_from_slice(back)?;
+    Ok(all)
 }

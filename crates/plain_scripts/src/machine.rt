@@ -9,7 +9,7 @@ ghost use Rattle.plain_scripts.specs.Answers.{effect_of, gives};
 use crate::effect::PlainEffect;
 use crate::names::Names;
 use crate::object::PlainObject;
-use placement::OutOfMemory;
+use arena_rules::OutOfMemory;
 use script_rules::laws::steps;
 use script_rules::{Command, ScriptReply};
 use std::alloc::Global;

@@ -10,7 +10,7 @@ use crate::effect::{PlainEffect, gives, number_or_nothing};
 use crate::machine::PlainScripts;
 use crate::names::Names;
 use crate::object::Kind;
-use placement::OutOfMemory;
+use arena_rules::OutOfMemory;
 use script_rules::{Command, ScriptReply};
 use std::alloc::Global;
 

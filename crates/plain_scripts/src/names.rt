@@ -3,7 +3,7 @@ ghost use Rattle.std.specs.Prelude.{◌≡◌, [], length, IfOk, OnOk, OnErr};
 ghost use Rattle.std.specs.Option.{option_copied};
 ghost use Rattle.script_rules.specs.Objects.{get, has, bind, unbind};
 
-use placement::OutOfMemory;
+use arena_rules::OutOfMemory;
 use std::alloc::Global;
 use std::collections::BTreeMap;
 use std::marker::Model;
@@ -54,10 +54,8 @@ impl<V: Drop> Names<V> {
         ensures ok { OnOk result (self.new ≡ bind self.old name value) }
         ensures err { OnErr result (self.new ≡ self.old) }
     {
-        match self.values.insert(name, value) {
-            Ok(_) => Ok(()),
-            Err(_) => Err(OutOfMemory),
-        }
+        self.values.insert(name, value)?;
+        Ok(())
     }
 
     pub(crate) fn remove(&mut self, name: u32)
@@ -73,10 +71,8 @@ impl<V: Drop + Clone> Names<V> {
         requires { (v w : V) → V.is_clone v w → w ≡ v }
         ensures { IfOk result (λ all. all ≡ self.now) }
     {
-        match self.values.clone() {
-            Ok(values) => Ok(Names { values }),
-            Err(_) => Err(OutOfMemory),
-        }
+        let values = self.values.clone()?;
+        Ok(Names { values })
     }
 }
 

@@ -1,11 +1,12 @@
 // Objects.
 ghost use Rattle.std.specs.Prelude.{◌≡◌, IfOk};
-ghost use Rattle.placement.specs.Bits.{words_for};
+ghost use Rattle.arena_rules.specs.Bits.{words_for};
 ghost use Rattle.script_rules.specs.Objects.{IsObject, copy_cost};
 
 use crate::copies::copied;
 use crate::names::Names;
-use placement::{Bytes, OutOfMemory};
+use arena_rules::OutOfMemory;
+use call_rules::Bytes;
 use std::alloc::Global;
 use std::marker::Model;
 

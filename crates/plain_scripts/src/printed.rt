@@ -1,10 +1,11 @@
 // The printed form of bits.
 ghost use Rattle.std.specs.Prelude.{◌≡◌, ◌+◌, ◌*◌, ◌^◌, ◌≤◌, ◌++◌, if◌then◌else◌, OnOk, IfOk};
-ghost use Rattle.placement.specs.PrintedBits.{has_byte, highest, digits, lower, printed};
+ghost use Rattle.arena_rules.specs.PrintedBits.{has_byte, highest, digits, lower, printed};
 ghost use Rattle.script_rules.specs.Objects.{has};
 
 use crate::names::Names;
-use placement::{Bytes, OutOfMemory};
+use arena_rules::OutOfMemory;
+use call_rules::Bytes;
 use std::alloc::Global;
 
 // Whether a byte isn't zero.

@@ -4,7 +4,7 @@ ghost use Rattle.script_rules.specs.Machine as machine;
 ghost use Rattle.plain_scripts.specs.Answers.{gives_all};
 
 use crate::machine::PlainScripts;
-use placement::OutOfMemory;
+use arena_rules::OutOfMemory;
 use script_rules::{Command, Replies, Script};
 use std::alloc::Global;
 
@@ -31,9 +31,7 @@ impl PlainScripts {
         for command in commands {
             let answered = self.step(alloc, command)?;
             replies.push(answered.reply)?;
-            if costs.push(answered.cost).is_err() {
-                return Err(OutOfMemory);
-            }
+            costs.push(answered.cost)?;
         }
         Ok(PlainRun { replies, costs })
     }

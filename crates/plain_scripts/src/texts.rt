@@ -11,7 +11,8 @@ use crate::copies::joined;
 use crate::effect::{PlainEffect, gives};
 use crate::machine::PlainScripts;
 use crate::object::Kind;
-use placement::{Bytes, OutOfMemory};
+use arena_rules::OutOfMemory;
+use call_rules::Bytes;
 use script_rules::{Command, ScriptReply};
 use std::alloc::Global;
 

@@ -12,7 +12,8 @@ use crate::machine::PlainScripts;
 use crate::names::Names;
 use crate::object::{Kind, PlainObject, words_for};
 use crate::printed::printed;
-use placement::{Bytes, OutOfMemory};
+use arena_rules::OutOfMemory;
+use call_rules::Bytes;
 use script_rules::{Command, Numbers, ScriptReply};
 use std::alloc::Global;
 
@@ -22,9 +23,7 @@ fn widened(alloc: Global, items: &[u32]) -> Result<Numbers, OutOfMemory>
 {
     let mut all = Vec::new(alloc);
     for item in items {
-        if all.push(*item as u64).is_err() {
-            return Err(OutOfMemory);
-        }
+        all.push(*item as u64)?;
     }
     Ok(Numbers::from_vec(all))
 }

@@ -3,10 +3,12 @@ mod calls;
 mod faults;
 mod lines;
 mod programs;
+mod rows;
 mod scripts;
+mod watched;
 
 use arena_calls::{MemoryInput, MemoryOutput};
-use placement::Bytes;
+use call_rules::Bytes;
 use std::alloc::Global;
 use std::process::Abort;
 use std::test::Fail;

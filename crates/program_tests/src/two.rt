@@ -1,6 +1,6 @@
 // A caller of the engine.
 ghost use Rattle.std.specs.Prelude.{◌≡◌, ℕ, ◌≤◌, false};
-ghost use Rattle.placement.specs.State.{used_bytes, allocated_bytes};
+ghost use Rattle.arena_rules.specs.State.{used_bytes, allocated_bytes};
 ghost use Rattle.script_rules.specs.Machine as machine;
 ghost use Rattle.script_rules.specs.Machine.{cost_of};
 

@@ -2,7 +2,7 @@
 ghost use Rattle.std.specs.Prelude.{◌≡◌, IfOk, OnOk};
 ghost use Rattle.script_rules.specs.Machine.{step, is_refusal};
 
-use placement::OutOfMemory;
+use arena_rules::OutOfMemory;
 use plain_scripts::PlainScripts;
 use script_rules::{Command, ScriptReply};
 use std::alloc::Global;

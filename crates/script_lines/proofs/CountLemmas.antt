@@ -3,7 +3,7 @@ use Rattle.std.proofs.Common.{◌≡◌, ℕ, ◌+◌, ◌≤◌, Bool, true, fa
 use Rattle.std.specs.Prelude.{◌==◌, Ok}
 use Rattle.std.specs.List.{filter, flat_map, onto_first}
 use Rattle.std.proofs.lemmas.List.Splits.{slice_split-cons_yes, slice_split-cons_no}
-use Rattle.placement.specs.Grammar.{lines_of}
+use Rattle.call_rules.specs.Grammar.{lines_of}
 use Rattle.script_rules.specs.Grammar.{command_line, script_lines, is_some_line, ScriptsOf}
 use Rattle.script_rules.specs.declared.commands.Command.{Command}
 

@@ -4,7 +4,7 @@ use Rattle.std.specs.List.{flat_map}
 use Rattle.std.proofs.lemmas.List.{append-nil, map-append}
 use Rattle.std.proofs.lemmas.Grind.{flat_map-append}
 use Rattle.std.proofs.lemmas.List.Folds.{flat_map-map}
-use Rattle.placement.specs.Grammar.{number, fields, with_feed}
+use Rattle.call_rules.specs.Grammar.{number, fields, with_feed}
 use Rattle.line_parts.proofs.RoomLemmas.{take_next}
 use Rattle.script_rules.specs.Outcomes.{Told, reply_line, ended_line, outcome_lines, lines_from}
 use Rattle.script_lines.specs.Room.{fed_reply, outcome_text}

@@ -6,9 +6,9 @@ use Rattle.std.specs.List.{AllByRecursion, list_any}
 use Rattle.std.proofs.lemmas.Bool.Decides.{nat_tests}
 use Rattle.std.proofs.lemmas.List.Edits.{length-insert, length-remove}
 use Rattle.std.proofs.lemmas.Option.{slice_get_within}
-use Rattle.placement.specs.Bits.{Set, words_for}
-use Rattle.placement.specs.PrintedBits.{highest, digits, lower, printed}
-use Rattle.placement.specs.Grammar.{IsByte}
+use Rattle.arena_rules.specs.Bits.{Set, words_for}
+use Rattle.arena_rules.specs.PrintedBits.{highest, digits, lower, printed}
+use Rattle.call_rules.specs.Grammar.{IsByte}
 use Rattle.script_rules.specs.Objects.{Entries, get, bind, Bits, bits_end, has, Object, AList, AText, ASet, AMap, AValue, copy_cost, need_of, most_items, most_bytes, most_pairs, IsObject}
 use Rattle.script_rules.specs.Effects.{Effect, Tells, Gives, LetsGo, held, free, a_list, a_text, a_set, a_map, a_value, unless, joins, at_index, binds, shown, length_reply, number_or_nothing, not_ascii, effect}
 use Rattle.script_rules.specs.Machine.{is_refusal}

@@ -6,7 +6,7 @@ use Rattle.std.specs.Cmp.{nat_cmp_total, unsigned_tied}
 use Rattle.std.specs.FinMap.{nat_cmp-IsAntisymmetric}
 use Rattle.std.specs.FinMap.Entries.{find-put, find-where_key, same_entries}
 use Rattle.std.proofs.lemmas.Bool.Decides.{nat_tests}
-use Rattle.placement.specs.Bits.{with_bit, without_bit, joined, below}
+use Rattle.arena_rules.specs.Bits.{with_bit, without_bit, joined, below}
 use Rattle.script_rules.specs.Objects.{Entries, get, bind, unbind, are_rising, Bits, has, united}
 use Rattle.script_rules.proofs.EntryLemmas.{to_T}
 

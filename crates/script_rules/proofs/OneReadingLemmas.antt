@@ -2,7 +2,7 @@
 use Rattle.std.proofs.Common.{◌≡◌, ◌≢◌, ℕ, suc, ◌+◌, ◌⊎◌, inl, inr, Bool, true, false, List, [], ◌∷◌, ◌++◌, length, refl, sym, ap, ◌∙◌, subst, codes, Ok, Err, cond}
 use Rattle.std.specs.Prelude.{Result}
 use Rattle.std.specs.List.{AllByRecursion, filter, flat_map}
-use Rattle.placement.specs.Grammar.{lines_of}
+use Rattle.call_rules.specs.Grammar.{lines_of}
 use Rattle.script_rules.specs.Grammar.{Fits, script_lines, is_some_line, AreScripts, IsRefused, IsFirstRefused, ScriptsOf}
 use Rattle.script_rules.specs.declared.commands.Command.{Command}
 use Rattle.script_rules.proofs.ReadingLemmas.{Line, Begins, Does, line_text, IsGood, texts, read_lines, read_lines_back, begun, script_texts, good_lines, Gathered, gather, gather_back}

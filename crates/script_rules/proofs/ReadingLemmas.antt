@@ -1,8 +1,8 @@
 -- Lines of scripts, read back.
 use Rattle.std.proofs.Common.{◌≡◌, ℕ, List, [], ◌∷◌, ◌++◌, map, drop, get_or, refl, sym, ap, ◌∙◌, append_assoc, codes}
 use Rattle.std.specs.List.{AllByRecursion, flat_map}
-use Rattle.placement.specs.Grammar.{number, fields, hex}
-use Rattle.placement.proofs.LineLemmas.{read_by, read_fields, read_fields_back, read_field, read_field_back, read_hex, read_hex_back}
+use Rattle.call_rules.specs.Grammar.{number, fields, hex}
+use Rattle.call_rules.proofs.LineLemmas.{read_by, read_fields, read_fields_back, read_field, read_field_back, read_hex, read_hex_back}
 use Rattle.script_rules.specs.Grammar.{Hex, word, part_text, command_line, Fits, script_lines}
 use Rattle.script_rules.specs.declared.commands.Command.{Command}
 use Rattle.script_rules.specs.declared.commands.Command.TheVariants.{MakeList, MakeText, MakeBits, MakeMap, MakeValue, Push, Insert, Pop, Remove, At, Put, Truncate, Byte, Front, Append, SetBit, UnsetBit, HasBit, Union, Ones, Bind, Find, Unbind, Load, Store, Len, Show, CopyTo, DropName}

@@ -1,8 +1,8 @@
 -- Examples of scripts, computed: what they answer, need and cost, and the lines of their outcomes.
 use Rattle.std.proofs.Common.{◌≡◌, ℕ, ◌++◌, arith, Ok, refl, false, List, [], ◌∷◌, codes}
-use Rattle.placement.specs.Grammar.{number, digits}
-use Rattle.placement.specs.Bits.{members}
-use Rattle.placement.specs.PrintedBits as bits
+use Rattle.call_rules.specs.Grammar.{number, digits}
+use Rattle.arena_rules.specs.Bits.{members}
+use Rattle.arena_rules.specs.PrintedBits as bits
 use Rattle.script_rules.specs.Objects.{need}
 use Rattle.script_rules.specs.Effects.{effect}
 use Rattle.script_rules.specs.Machine.{run, run_from, cost_of, cost_of_first}

@@ -8,7 +8,7 @@ use Rattle.std.specs.FinMap.{get-entries, len-empty, len-entries}
 use Rattle.std.specs.BTreeMap as tree
 use Rattle.std.specs.BTreeMap.{BTreeMap}
 use Rattle.std.proofs.lemmas.Bool.Decides.{nat_tests}
-use Rattle.placement.proofs.MapLemmas.{tree_get as entries_tree_get}
+use Rattle.call_rules.proofs.MapLemmas.{tree_get as entries_tree_get}
 use Rattle.script_rules.specs.Objects.{Entries, get, bind, unbind, are_rising}
 use Rattle.script_rules.proofs.EntryLemmas.{of_T, rising_bind, rising_unbind}
 use Rattle.script_rules.proofs.LookupLemmas.{get_bind, get_unbind, same_by_get}

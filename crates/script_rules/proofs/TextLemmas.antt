@@ -3,9 +3,9 @@ use Rattle.std.proofs.Common.{◌≡◌, ◌≢◌, ℕ, zero, suc, ◌+◌, ◌
 use Rattle.std.specs.Prelude.{◌==◌, if◌then◌else◌}
 use Rattle.std.specs.List.{AllByRecursion, flat_map}
 use Rattle.std.proofs.lemmas.Bool.Decides.{nat_tests}
-use Rattle.placement.specs.Grammar.{number, fields, with_feed}
-use Rattle.placement.proofs.NumberLemmas.{read_front, read_number, Stops}
-use Rattle.placement.proofs.LineLemmas.{read_by, read_field, read_field_back, read_hex, read_hex_back}
+use Rattle.call_rules.specs.Grammar.{number, fields, with_feed}
+use Rattle.call_rules.proofs.NumberLemmas.{read_front, read_number, Stops}
+use Rattle.call_rules.proofs.LineLemmas.{read_by, read_field, read_field_back, read_hex, read_hex_back}
 use Rattle.script_rules.specs.Outcomes.{fields_or_dash, text_or_dash, reply_line, ended_line, Told, told, lines_from, text_of_outcomes, IsPrintedByte, HasBytes, HaveBytes}
 use Rattle.script_rules.specs.declared.outcome.Outcome.{Outcome}
 use Rattle.script_rules.specs.declared.commands.Ended.{Ended}

@@ -1,8 +1,8 @@
 -- What a command does to the objects: one case for each command, with its refusals in their order, its reply and its cost.
 use Rattle.std.specs.Prelude.{ℕ, ◌+◌, ◌-◌, ◌*◌, min, nat_le, nat_lt, Bool, if◌then◌else◌, Option, Some, None, List, [], ◌∷◌, ◌++◌, length, take, slice_get, set}
 use Rattle.std.specs.List.{list_any, insert, remove, flat_map}
-use Rattle.placement.specs.Bits.{below, members, words_for}
-use Rattle.placement.specs.PrintedBits.{printed}
+use Rattle.arena_rules.specs.Bits.{below, members, words_for}
+use Rattle.arena_rules.specs.PrintedBits.{printed}
 use Rattle.script_rules.specs.Objects.{Entries, get, bind, unbind, Bits, has, united, bits_end, Object, AList, AText, ASet, AMap, AValue, copy_cost, most_items, most_bytes, most_pairs}
 use Rattle.script_rules.specs.declared.commands.Command.{Command}
 use Rattle.script_rules.specs.declared.commands.Command.TheVariants.{MakeList, MakeText, MakeBits, MakeMap, MakeValue, Push, Insert, Pop, Remove, At, Put, Truncate, Byte, Front, Append, SetBit, UnsetBit, HasBit, Union, Ones, Bind, Find, Unbind, Load, Store, Len, Show, CopyTo, DropName}

@@ -4,7 +4,7 @@ use Rattle.std.specs.Ordering.{nat_cmp, eq_by_cmp}
 use Rattle.std.specs.FinMap.{find, put, is_sorted}
 use Rattle.std.specs.FinMap.Entries.{where_key}
 use Rattle.std.specs.List.{AllByRecursion}
-use Rattle.placement.specs.Bits.{Set, words_for}
+use Rattle.arena_rules.specs.Bits.{Set, words_for}
 
 -- ---- Entries, which stand by rising keys
 

@@ -2,7 +2,7 @@
 ghost use Rattle.std.specs.Prelude.{◌≡◌, ◌^◌, ◌<◌, [], OnOk, OnErr, IsSome, IsOk};
 ghost use Rattle.script_rules.specs.Objects.{get, bind, unbind};
 
-use placement::OutOfMemory;
+use arena_rules::OutOfMemory;
 use std::alloc::Global;
 use std::collections::BTreeMap;
 use std::marker::Model;
@@ -49,9 +49,7 @@ impl<V: Drop> Names<V> {
         ensures held { IsSome (get self.old name) → IsOk result }
         ensures range { name < 2 ^ 32 }
     {
-        let Ok(_) = self.values.insert(name, value) else {
-            return Err(OutOfMemory);
-        };
+        self.values.insert(name, value)?;
         Ok(())
     }
 

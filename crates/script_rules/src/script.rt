@@ -2,7 +2,7 @@
 ghost use Rattle.std.specs.Prelude.{◌≡◌, [], ◌∷◌, ◌++◌, length, OnOk, OnErr};
 
 use crate::commands::Command;
-use placement::OutOfMemory;
+use arena_rules::OutOfMemory;
 use std::alloc::Global;
 use std::marker::Model;
 
@@ -36,10 +36,7 @@ impl Script {
         ensures ok { OnOk result (self.new ≡ self.old ++ c ∷ []) }
         ensures err { OnErr result (self.new ≡ self.old) }
     {
-        match self.commands.push(c) {
-            Ok(()) => Ok(()),
-            Err(_) => Err(OutOfMemory),
-        }
+        Ok(self.commands.push(c)?)
     }
 
     /// The commands as a slice.

@@ -47,6 +47,7 @@ module _ {C : Type 0} (source : C → Source) (kind : PoolKind) (worked : List C
     most = omega (arith, u.used);
     least = λ e. let f : ended.OutOfMemory ≡ ended.Done = sym u.ended ∙ e in absurd (cc);
     stopped = λ other. inl u;
+    asked = λ other memory. absurd (memory u.ended);
     full = λ e. let f : ended.OutOfMemory ≡ ended.Full = sym u.ended ∙ e in absurd (cc);
     refused = λ e. let f : ended.OutOfMemory ≡ ended.Refused = sym u.ended ∙ e in absurd (cc);
     other = λ other. none.none;
@@ -72,6 +73,12 @@ module _ {C : Type 0} (source : C → Source) (kind : PoolKind) (worked : List C
       most = ran.most;
       least = ran.least;
       stopped = stopped_alone;
+      asked = λ other memory. record {
+        old = done.old;
+        new = done.new;
+        unused = done.unused;
+        denied = ran.asked other memory;
+      };
       full = λ e. too_small source kind done.old done.new done.unused done.low cost (ran.full e);
       refused = λ e. (
         standard source kind done.old done.new done.unused done.low cost (ran.refused e).starved,

@@ -6,12 +6,30 @@ ghost use Rattle.arena_pool.specs.declared.kind.PoolKind.{PoolKind};
 mod pools;
 mod workers;
 
+use arena_chunks::MemoryChunks;
 use arena_pool::{AllocatorPool, ChunkMaker, PoolKind, PoolName};
 use std::alloc::Global;
 use std::fmt::Display;
 use std::process::Abort;
+use std::sync::atomic::{AtomicU64, Ordering};
 use std::sync::ledger::Blank;
 use std::test::*;
+
+/// Makes sources of a megabyte each, and counts them.
+#[derive(Drop)]
+struct Counted<'a> {
+    alloc: Global,
+    made: &'a AtomicU64,
+}
+
+impl ChunkMaker for Counted<'_> {
+    type Chunks = MemoryChunks;
+
+    fn make(&mut self) -> MemoryChunks {
+        self.made.fetch_add(1, Ordering::SeqCst);
+        MemoryChunks::new(self.alloc, 1 << 20)
+    }
+}
 
 /// What pool is made: of what kind, with what limit, and with how many arenas at first.
 #[derive(Clone, Copy)]

@@ -1,7 +1,7 @@
 -- The text of a tree is a program, and its tree is that tree.
 use Rattle.std.proofs.Common.{◌≡◌, ℕ, List, [], ◌∷◌, ◌++◌, refl, sym, ap, ◌∙◌, codes, append_assoc}
 use Rattle.tree_rules.specs.Tokens.{Token, LetKey, Word, Plus, Minus, Star, LeftParen, RightParen, LeftBrace, RightBrace, Equals, Semicolon, tokens, without_places}
-use Rattle.placement.specs.Grammar.{with_feed}
+use Rattle.call_rules.specs.Grammar.{with_feed}
 use Rattle.tree_rules.specs.Trees.{Expr, Num, Name, Neg, Sum, Prod, Exprs, NoExprs, And, with_expr, Stmt, Let, Show, Block, Stmts, NoStmts, Then, with_stmt, IsName, AreSeveral, IsExpr, AreExprs, IsStmt, AreStmts, AsExpr, AsTerm, AsFactor, expr_text, terms_text, more_terms_text, factors_text, more_factors_text, stmt_text, text}
 use Rattle.tree_rules.specs.Grammar.{Factor, ANumber, AName, InParens, Negated, Factors, OneFactor, Times, Terms, OneTerm, Added, Taken, Line, LetLine, ShowLine, BlockLine, Program, Empty, Next, spell_factor, spell_factors, spell_terms, spell_line, spell, factor_tree, factors_tree, factor_trees, terms_tree, term_trees, line_tree, trees_of, nest, IsProgram}
 use Rattle.tree_rules.proofs.TokenLemmas.{lex, lex_is, Stops, lex_name, lex_number, lex_space, lex_feed, lex_plus, lex_minus, lex_star, lex_left_paren, lex_right_paren, lex_left_brace, lex_right_brace, lex_equals, lex_semicolon, lex_let}

@@ -3,8 +3,8 @@ use Rattle.std.proofs.Common.{◌≡◌, ℕ, zero, suc, ◌+◌, ◌-◌, ◌*�
 use Rattle.std.specs.Prelude.{◌&&◌, ◌||◌, bytes_eq}
 use Rattle.std.specs.List.{list_all}
 use Rattle.std.proofs.lemmas.Bool.Decides.{nat_tests}
-use Rattle.placement.specs.Grammar.{number}
-use Rattle.placement.proofs.NumberLemmas.{number_by_steps}
+use Rattle.call_rules.specs.Grammar.{number}
+use Rattle.call_rules.proofs.NumberLemmas.{number_by_steps}
 use Rattle.tree_rules.specs.Tokens.{Token, LetKey, Word, Number, Plus, Minus, Star, LeftParen, RightParen, LeftBrace, RightBrace, Equals, Semicolon, Other, is_space, is_digit, is_name_start, is_name_byte, run, word, value, has_needless_zero, number_token, Front, word_front, number_front, other_front, front, placed, tokens_from, without_places}
 use Rattle.tree_rules.specs.Trees.{IsName}
 

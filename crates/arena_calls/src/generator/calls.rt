@@ -1,9 +1,9 @@
 // Makes the calls.
 ghost use Rattle.std.specs.Prelude.{◌≡◌};
-ghost use Rattle.placement.specs.declared.calls.Call.{Call};
-ghost use Rattle.placement.specs.Generator.{next_seed, drawn, size_in, align_in, fill_in, call_at, seed_behind};
+ghost use Rattle.call_rules.specs.declared.calls.Call.{Call};
+ghost use Rattle.call_rules.specs.Generator.{next_seed, drawn, size_in, align_in, fill_in, call_at, seed_behind};
 
-use placement::{Bytes, Call};
+use call_rules::{Bytes, Call};
 use std::alloc::Global;
 
 // One call of so many gives all blocks back: the last one.

@@ -1,10 +1,10 @@
 // Makes calls from one number, runs them, and writes what their replies come to.
 ghost use Rattle.std.specs.Prelude.{◌≡◌, ℕ, ◌⊎◌, List, Option, IfOk, OnErr};
-ghost use Rattle.placement.specs.Generator.{gen_calls};
-ghost use Rattle.placement.specs.declared.calls.Reply.{Reply};
+ghost use Rattle.call_rules.specs.Generator.{gen_calls};
+ghost use Rattle.call_rules.specs.declared.calls.Reply.{Reply};
 ghost use Rattle.arena_chunks.specs.Source.{view};
 ghost use Rattle.arena_chunks.specs.Runs.{Runs, RunsFirst};
-ghost use Rattle.arena_chunks.specs.declared.block.Block.{Block};
+ghost use Rattle.arena_store.specs.declared.block.Block.{Block};
 ghost use Rattle.arena_calls.specs.Tallies.{IsTally};
 ghost use Rattle.arena_calls.specs.Ends.{outside, GenEnds};
 

@@ -1,6 +1,6 @@
 // The text of a summary.
 ghost use Rattle.std.specs.Prelude.{◌≡◌, ◌+◌, ◌*◌, ◌++◌, ◌≤◌, [], IfOk, length, vec_len, vec_capacity};
-ghost use Rattle.placement.specs.Summary.{number_line, summary_text};
+ghost use Rattle.call_rules.specs.Summary.{number_line, summary_text};
 
 use crate::replies::put;
 use itoa::Buffer;

@@ -2,7 +2,8 @@
 ghost use Rattle.std.specs.Prelude.{◌≡◌, ◌*◌, ◌^◌, ◌≤◌, length, sum};
 
 use arena_chunks::Replies;
-use placement::{OutOfMemory, Reply};
+use arena_rules::OutOfMemory;
+use call_rules::Reply;
 
 // The sum of so many bytes fits in 16 bits, and the compiler adds them all at once.
 const PIECE: usize = 32;
@@ -97,8 +98,7 @@ impl Replies for Tally {
         }
     }
 
-    fn take_bytes(&mut self, bytes: &[u8], left: usize) -> Result<(), OutOfMemory> {
-        let _ = left;
+    fn take_bytes(&mut self, bytes: &[u8], _left: usize) -> Result<(), OutOfMemory> {
         self.calls += 1;
         self.bytes += bytes.len() as u128;
         self.byte_sum += sum_of(bytes);

@@ -1,11 +1,11 @@
 // Reads a call from the front of a line.
 ghost use Rattle.std.specs.Prelude.{IfOk, codes};
-ghost use Rattle.placement.specs.Grammar.{Fits, call_line};
+ghost use Rattle.call_rules.specs.Grammar.{Fits, call_line};
 ghost use Rattle.line_parts.specs.Reads.{Reads};
 ghost use Rattle.arena_calls.specs.Lines.{FitsPlacing, placing_fields, BeginsWith};
 
+use call_rules::Call;
 use line_parts::{behind, field, hex_bytes, name_field};
-use placement::Call;
 use std::alloc::{AllocError, Global};
 
 // A name, a size, an alignment and a fill byte, and what comes behind them.

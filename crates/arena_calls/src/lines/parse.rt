@@ -1,11 +1,11 @@
 // Reads the lines of calls.
 ghost use Rattle.std.specs.Prelude.{◌≡◌, IfOk, IfErr, MatchOption, Ok, Err};
-ghost use Rattle.placement.specs.Grammar.{CallsOf, AreCalls, IsRefused};
+ghost use Rattle.call_rules.specs.Grammar.{CallsOf, AreCalls, IsRefused};
 ghost use Rattle.line_parts.specs.Lines.{TakesLine, RefusesLine, IsCause};
 
 use super::call::read_call;
+use call_rules::Call;
 use line_parts::{LinesErr, at_line_end};
-use placement::Call;
 use std::alloc::{AllocError, Global};
 
 // Adds the call of the first line, unless the line is empty. Gives what comes behind the line, from its line feed on.

@@ -1,6 +1,6 @@
 // Reads all there is, and writes all of a text.
 ghost use Rattle.std.specs.Prelude.{◌≡◌, ◌≤◌, OnOk, OnErr, IfOk, vec_len};
-ghost use Rattle.placement.specs.Causes.{counted};
+ghost use Rattle.arena_rules.specs.Causes.{counted};
 ghost use Rattle.arena_calls.specs.Streams.{Writes, WritesPart};
 ghost use Rattle.arena_calls.specs.ReadAll.{TakesAll, faults_after, limit};
 

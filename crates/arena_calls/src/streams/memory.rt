@@ -1,7 +1,7 @@
 // An input and an output in memory.
 ghost use Rattle.std.specs.Prelude.{◌≡◌, ◌+◌, ◌≤◌, ◌<◌, ◌↔◌, ◌++◌, List, length, take, drop, min, Some, []};
 ghost use Rattle.std.specs.Prelude.{IfOk, IfSome, OnOk, OnErr, IsErr, Contains};
-ghost use Rattle.placement.specs.Causes.{counted};
+ghost use Rattle.arena_rules.specs.Causes.{counted};
 ghost use Rattle.arena_calls.specs.Streams.{Takes, Writes};
 
 use super::traits::{Failed, Input, Output};

@@ -1,7 +1,7 @@
 // What gives bytes, and what takes them.
 ghost use Rattle.std.specs.Prelude.{◌≡◌, ℕ, ◌<◌, ◌≤◌, List, length, take, Option, IfOk, OnOk, OnErr};
 ghost use Rattle.std.specs.Io.KnownBytes.{Keeps, IsAtEnd};
-ghost use Rattle.placement.specs.Causes.{counted};
+ghost use Rattle.arena_rules.specs.Causes.{counted};
 ghost use Rattle.arena_calls.specs.Streams.{Takes, Writes};
 
 /// A read or a write failed.

@@ -1,13 +1,12 @@
 // The trait by which collections place their blocks.
 ghost use Rattle.std.specs.Prelude.{◌≡◌, ◌≤◌, IsTrue, IsOk};
-ghost use Rattle.arena_chunks.specs.Memory.{is_readable};
-ghost use Rattle.arena_chunks.specs.Answers.{answer_of};
-ghost use Rattle.arena_chunks.specs.BlockCalls.{PlacesBlock, GivesBack, GrowsBlock, ShrinksBlock};
+ghost use Rattle.arena_store.specs.Memory.{is_readable};
+ghost use Rattle.arena_core.specs.Answers.{answer_of};
+ghost use Rattle.arena_core.specs.BlockCalls.{PlacesBlock, GivesBack, GrowsBlock, ShrinksBlock};
 
 use crate::allocator::{Allocator, OverArena};
-use crate::block::{ArenaErr, Block};
-use crate::chunks::ChunkSource;
 use arena_place::Layout;
+use arena_store::{ArenaErr, Block, ChunkSource};
 
 /// What places blocks in an arena.
 pub trait Alloc: OverArena {

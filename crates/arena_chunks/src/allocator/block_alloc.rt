@@ -1,13 +1,12 @@
 // The trait of allocators of blocks.
 ghost use Rattle.std.specs.Prelude.{◌≡◌, ◌+◌, ◌-◌, ◌≤◌, IfOk, IsTrue, IsOk, replicate};
-ghost use Rattle.arena_chunks.specs.Memory.{is_readable, image, bytes_from};
-ghost use Rattle.arena_chunks.specs.Answers.{answer_of};
-ghost use Rattle.arena_chunks.specs.BlockCalls.{PlacesBlock, GivesBack, GrowsBlock, ShrinksBlock};
+ghost use Rattle.arena_store.specs.Memory.{is_readable, image, bytes_from};
+ghost use Rattle.arena_core.specs.Answers.{answer_of};
+ghost use Rattle.arena_core.specs.BlockCalls.{PlacesBlock, GivesBack, GrowsBlock, ShrinksBlock};
 
 use crate::allocator::{Allocator, OverArena};
-use crate::block::{ArenaErr, Block};
-use crate::chunks::ChunkSource;
 use arena_place::Layout;
+use arena_store::{ArenaErr, Block, ChunkSource};
 
 /// An allocator of blocks.
 pub trait BlockAlloc: OverArena {

@@ -1,10 +1,10 @@
 // What the traits of allocators share.
 use crate::allocator::Allocator;
-use crate::chunks::ChunkSource;
+use arena_store::ChunkSource;
 
 /// What works over an arena that has a source of chunks. The contracts of the allocators' traits speak of the two.
 pub trait OverArena {
-    ghost use Rattle.arena_chunks.specs.Source.{View};
+    ghost use Rattle.arena_store.specs.Source.{View};
 
     // The arena's memory and what the source shows.
     ghost view: { Self → View };

@@ -2,14 +2,13 @@
 ghost use Rattle.std.specs.Prelude.{◌≡◌, ◌-◌, ◌^◌, ◌<◌, ◌≤◌, [], Ok, IfOk, IfSome, IfNone, IsTrue, length};
 ghost use Rattle.std.specs.List.{flat_map};
 ghost use Rattle.std.specs.Str.{IsUtf8};
-ghost use Rattle.arena_chunks.specs.Memory.{is_readable, image, bytes_from};
-ghost use Rattle.arena_chunks.specs.Answers.{answer_of, answer_by};
-ghost use Rattle.arena_chunks.specs.BlockCalls.{PlacesBlock, Refuses, WritesBlock};
+ghost use Rattle.arena_store.specs.Memory.{is_readable, image, bytes_from};
+ghost use Rattle.arena_core.specs.Answers.{answer_of, answer_by};
+ghost use Rattle.arena_core.specs.BlockCalls.{PlacesBlock, Refuses, WritesBlock};
 
 use crate::allocator::Allocator;
-use crate::block::{ArenaErr, Block};
-use crate::chunks::ChunkSource;
 use arena_place::Layout;
+use arena_store::{ArenaErr, Block, ChunkSource};
 use std::convert::AsStr;
 use std::str;
 
@@ -52,7 +51,7 @@ impl<C: ChunkSource> Allocator<C> {
     /// # Errors
     ///
     /// As of `alloc_layout`.
-    #[tactic(auto, using(crate::proofs::BlockCallLemmas::places_written))]
+    #[tactic(auto, using(arena_core::proofs::BlockCallLemmas::places_written))]
     pub fn alloc_bytes(&mut self, bytes: &[u8]) -> Result<Block, ArenaErr>
         ensures placed { PlacesBlock self.old self.new (length bytes.now) 1 (answer_of result) }
         ensures bytes { IfOk result (λ b. bytes_from (image self.new.memory) b.addr (length bytes.now) ≡ bytes.now) }
@@ -68,7 +67,7 @@ impl<C: ChunkSource> Allocator<C> {
     /// # Errors
     ///
     /// `AllocErr` with no request where the whole length passes 2^63 - 1, and otherwise as of `alloc_layout`.
-    #[tactic(auto, using(crate::proofs::BlockCallLemmas::places_written, crate::proofs::TextLemmas::empty_text))]
+    #[tactic(auto, using(arena_core::proofs::BlockCallLemmas::places_written, crate::proofs::TextLemmas::empty_text))]
     pub fn alloc_concat_strs_array<T: AsStr + Drop, const N: usize>(
         &mut self,
         strings: [T; N],

@@ -1,15 +1,15 @@
 // What calls on blocks ask the source for, and why they are refused.
 ghost use Rattle.std.specs.Prelude.{◌≡◌, ℕ, ◌+◌, ◌-◌, ◌^◌, ◌<◌, ◌≤◌, true, false, IsTrue};
-ghost use Rattle.placement.specs.Rounding.{is_layout, is_power};
-ghost use Rattle.placement.specs.State.{allocated_bytes, top_of, used_bytes};
-ghost use Rattle.placement.specs.Moves.{Resizing};
-ghost use Rattle.placement.specs.Used.{unit_of};
-ghost use Rattle.arena_chunks.specs.Source.{View};
+ghost use Rattle.arena_rules.specs.Rounding.{is_layout, is_power};
+ghost use Rattle.arena_rules.specs.State.{allocated_bytes, top_of, used_bytes};
+ghost use Rattle.arena_rules.specs.Moves.{Resizing};
+ghost use Rattle.arena_rules.specs.Used.{unit_of};
+ghost use Rattle.arena_store.specs.Source.{View};
 ghost use Rattle.arena_chunks.specs.Asking.{AsksWithin, IsRefusedBySource, IsFull};
-ghost use Rattle.arena_chunks.specs.Answers.{Answer};
-ghost use Rattle.arena_chunks.specs.Answers.Answer.{Refused};
-ghost use Rattle.arena_chunks.specs.BlockCalls.{PlacesBlock, ResizesBlock, GrowsBlock, ShrinksBlock, GivesBack};
-ghost use Rattle.arena_chunks.specs.declared.block.Block.{Block};
+ghost use Rattle.arena_core.specs.Answers.{Answer};
+ghost use Rattle.arena_core.specs.Answers.Answer.{Refused};
+ghost use Rattle.arena_core.specs.BlockCalls.{PlacesBlock, ResizesBlock, GrowsBlock, ShrinksBlock, GivesBack};
+ghost use Rattle.arena_store.specs.declared.block.Block.{Block};
 
 /// A call on a block that needs at most so many bytes in use, the block's with its padding, asks for chunks of at most
 /// twice as many and five pages, and gives no chunk up. One that moves no cursor, or gives a block back, asks for none.

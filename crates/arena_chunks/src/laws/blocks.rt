@@ -1,12 +1,12 @@
 // Blocks that lie apart, that may be read, and their bytes.
 ghost use Rattle.std.specs.Prelude.{◌≡◌, ℕ, ◌+◌, ◌^◌, ◌<◌, ◌≤◌, ◌↔◌, IsTrue, List, ◌∷◌, [], ◌++◌, length, take, drop, sum, map};
 ghost use Rattle.std.specs.List.{AllByRecursion, Contains};
-ghost use Rattle.placement.specs.State.{State, IsValid, used_bytes};
-ghost use Rattle.placement.specs.Moves.{reset};
-ghost use Rattle.arena_chunks.specs.Memory.{Memory, is_readable, image, bytes_from};
-ghost use Rattle.arena_chunks.specs.Frame.{IsApart, AreBlocksApart, ArePairwiseApart, AreAllApart, IsInUse};
-ghost use Rattle.arena_chunks.specs.Resizes.{NoneReadable};
-ghost use Rattle.arena_chunks.specs.declared.block.Block.{Block};
+ghost use Rattle.arena_rules.specs.State.{State, IsValid, used_bytes};
+ghost use Rattle.arena_rules.specs.Moves.{reset};
+ghost use Rattle.arena_store.specs.Memory.{Memory, is_readable, image, bytes_from};
+ghost use Rattle.arena_core.specs.Frame.{IsApart, AreBlocksApart, ArePairwiseApart, AreAllApart, IsInUse};
+ghost use Rattle.arena_core.specs.Resizes.{NoneReadable};
+ghost use Rattle.arena_store.specs.declared.block.Block.{Block};
 
 /// Blocks lie apart in either order. What lies apart from blocks does so with each part of it, and from two lists of blocks
 /// where it does from both together. Two lists of blocks that lie pairwise apart do so together, if each block of one lies

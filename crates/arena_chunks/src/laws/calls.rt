@@ -1,18 +1,18 @@
 // What a block is after it was placed, given another size, written or given back.
 ghost use Rattle.std.specs.Prelude.{◌≡◌, ℕ, ◌+◌, ◌≤◌, min, IsTrue, List, [], ◌∷◌, length, ◌++◌};
 ghost use Rattle.std.specs.List.{AllByRecursion};
-ghost use Rattle.placement.specs.Rounding.{is_layout};
-ghost use Rattle.placement.specs.State.{IsValid};
-ghost use Rattle.placement.specs.Machine.{splice};
-ghost use Rattle.placement.specs.Moves.{Resizing};
-ghost use Rattle.placement.specs.Blocks.{IsBlock};
-ghost use Rattle.arena_chunks.specs.Memory.{Memory, is_readable, image, bytes_from};
-ghost use Rattle.arena_chunks.specs.Source.{View, Source, view};
-ghost use Rattle.arena_chunks.specs.Answers.{Answer};
-ghost use Rattle.arena_chunks.specs.Answers.Answer.{Placed};
-ghost use Rattle.arena_chunks.specs.Frame.{ArePairwiseApart, IsApart, Frame};
-ghost use Rattle.arena_chunks.specs.BlockCalls.{place_of, PlacesBlock, ResizesBlock, ShrinksBlock, GivesBack, WritesBlock, EditsBlock};
-ghost use Rattle.arena_chunks.specs.declared.block.Block.{Block};
+ghost use Rattle.arena_rules.specs.Rounding.{is_layout};
+ghost use Rattle.arena_rules.specs.State.{IsValid};
+ghost use Rattle.arena_rules.specs.Lists.{splice};
+ghost use Rattle.arena_rules.specs.Moves.{Resizing};
+ghost use Rattle.arena_rules.specs.Blocks.{IsBlock};
+ghost use Rattle.arena_store.specs.Memory.{Memory, is_readable, image, bytes_from};
+ghost use Rattle.arena_store.specs.Source.{View, Source, view};
+ghost use Rattle.arena_core.specs.Answers.{Answer};
+ghost use Rattle.arena_core.specs.Answers.Answer.{Placed};
+ghost use Rattle.arena_core.specs.Frame.{ArePairwiseApart, IsApart, Frame};
+ghost use Rattle.arena_core.specs.BlockCalls.{place_of, PlacesBlock, ResizesBlock, ShrinksBlock, GivesBack, WritesBlock, EditsBlock};
+ghost use Rattle.arena_store.specs.declared.block.Block.{Block};
 
 /// A new block lies apart from all readable ones. It is one of the arena's: its layout is one, it is aligned, and in use or
 /// empty. Placing it and then writing in it is placing it, with those bytes.

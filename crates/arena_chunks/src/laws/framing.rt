@@ -1,9 +1,9 @@
 // How frames compose, and what stays.
 ghost use Rattle.std.specs.Prelude.{◌≡◌, ℕ, ◌<◌, ◌↔◌, IsTrue, List, [], ◌∷◌, ◌++◌};
 ghost use Rattle.std.specs.List.{AllByRecursion};
-ghost use Rattle.arena_chunks.specs.Memory.{Memory, is_readable};
-ghost use Rattle.arena_chunks.specs.Frame.{IsApart, AreAllApart, Frame, Stays};
-ghost use Rattle.arena_chunks.specs.declared.block.Block.{Block};
+ghost use Rattle.arena_store.specs.Memory.{Memory, is_readable};
+ghost use Rattle.arena_core.specs.Frame.{IsApart, AreAllApart, Frame, Stays};
+ghost use Rattle.arena_store.specs.declared.block.Block.{Block};
 
 /// Frames compose: of one call after another, with blocks of the caller's beside, before them or behind, and of more blocks
 /// before and fewer after. A call on the last of some blocks and then one on the first are one on all. A readable block

@@ -1,14 +1,14 @@
 // Marks, and calls on blocks after them.
 ghost use Rattle.std.specs.Prelude.{ℕ, IsTrue, List};
-ghost use Rattle.placement.specs.State.{State, IsValid};
-ghost use Rattle.placement.specs.Moves.{Resizing};
-ghost use Rattle.arena_chunks.specs.Memory.{Memory};
-ghost use Rattle.arena_chunks.specs.Source.{View};
-ghost use Rattle.arena_chunks.specs.Answers.{Answer};
-ghost use Rattle.arena_chunks.specs.BlockCalls.{PlacesBlock, ResizesBlock, GivesBack, WritesBlock};
-ghost use Rattle.arena_chunks.specs.Checkpoints.{checkpoint_of, is_accepted, KeepsCheckpoint};
-ghost use Rattle.arena_chunks.specs.declared.block.Block.{Block};
-ghost use Rattle.arena_chunks.specs.declared.arena.rewind.Checkpoint.{Checkpoint};
+ghost use Rattle.arena_rules.specs.State.{State, IsValid};
+ghost use Rattle.arena_rules.specs.Moves.{Resizing};
+ghost use Rattle.arena_store.specs.Memory.{Memory};
+ghost use Rattle.arena_store.specs.Source.{View};
+ghost use Rattle.arena_core.specs.Answers.{Answer};
+ghost use Rattle.arena_core.specs.BlockCalls.{PlacesBlock, ResizesBlock, GivesBack, WritesBlock};
+ghost use Rattle.arena_core.specs.Checkpoints.{checkpoint_of, is_accepted, KeepsCheckpoint};
+ghost use Rattle.arena_store.specs.declared.block.Block.{Block};
+ghost use Rattle.arena_core.specs.declared.rewind.Checkpoint.{Checkpoint};
 
 /// A valid arena accepts its own mark. No call on a block ends a mark: one that was accepted still is, and what the call leaves
 /// in use lies in its part, if it did before.

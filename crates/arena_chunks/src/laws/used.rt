@@ -1,17 +1,17 @@
 // How many bytes calls bring into use, and how chunks grow.
 ghost use Rattle.std.specs.Prelude.{◌≡◌, ◌≢◌, ℕ, ◌+◌, ◌-◌, ◌%◌, ◌≤◌, false, IsTrue, List};
-ghost use Rattle.placement.specs.Rounding.{is_layout};
-ghost use Rattle.placement.specs.State.{State, IsValid, cursor_of, used_bytes, allocated_bytes};
-ghost use Rattle.placement.specs.Moves.{Resizing, reset};
-ghost use Rattle.placement.specs.Moves.Resizing.{Stays, Moves, Anew};
-ghost use Rattle.placement.specs.Blocks.{padded_size};
-ghost use Rattle.placement.specs.Used.{unit_of};
-ghost use Rattle.placement.specs.Doubling.{IsDoubling, is_made_first, is_resize_made_first};
-ghost use Rattle.arena_chunks.specs.Memory.{Memory, is_readable};
-ghost use Rattle.arena_chunks.specs.Source.{View};
-ghost use Rattle.arena_chunks.specs.Answers.Answer.{Placed};
-ghost use Rattle.arena_chunks.specs.BlockCalls.{PlacesBlock, PlacesAfter, ResizesBlock, ResizesAfter, GrowsBlock, ShrinksBlock, GivesBack, WritesBlock, growing_of, shrinking_of};
-ghost use Rattle.arena_chunks.specs.declared.block.Block.{Block};
+ghost use Rattle.arena_rules.specs.Rounding.{is_layout};
+ghost use Rattle.arena_rules.specs.State.{State, IsValid, cursor_of, used_bytes, allocated_bytes};
+ghost use Rattle.arena_rules.specs.Moves.{Resizing, reset};
+ghost use Rattle.arena_rules.specs.Moves.Resizing.{Stays, Moves, Anew};
+ghost use Rattle.arena_rules.specs.Blocks.{padded_size};
+ghost use Rattle.arena_rules.specs.Used.{unit_of};
+ghost use Rattle.arena_rules.specs.Doubling.{IsDoubling, is_made_first, is_resize_made_first};
+ghost use Rattle.arena_store.specs.Memory.{Memory, is_readable};
+ghost use Rattle.arena_store.specs.Source.{View};
+ghost use Rattle.arena_core.specs.Answers.Answer.{Placed};
+ghost use Rattle.arena_core.specs.BlockCalls.{PlacesBlock, PlacesAfter, ResizesBlock, ResizesAfter, GrowsBlock, ShrinksBlock, GivesBack, WritesBlock, growing_of, shrinking_of};
+ghost use Rattle.arena_store.specs.declared.block.Block.{Block};
 
 /// A new block brings its size into use, and less than a unit more: the greater of its alignment and the least one. It is
 /// no more than its size where that and the cursor are multiples of the unit, and the alignment is 16 at most.

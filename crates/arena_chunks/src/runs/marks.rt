@@ -1,12 +1,12 @@
 // The marks that calls set by name.
 ghost use Rattle.std.specs.Prelude.{◌≡◌, ℕ, ◌-◌, ◌<◌, ◌++◌, ◌∷◌, [], List, length, take, get_or, if◌then◌else◌, false, true, IsTrue, OnOk, OnErr};
 ghost use Rattle.std.specs.Option.{is_some};
-ghost use Rattle.placement.specs.Machine.{mark_named};
+ghost use Rattle.call_rules.specs.Machine.{mark_named};
 ghost use Rattle.arena_chunks.specs.Marks.{Noted, named, marks_from, stands, LetsGo, Forgets};
 
-use crate::arena::{Arena, Checkpoint};
 use crate::runs::names::Names;
-use placement::OutOfMemory;
+use arena_core::{Arena, Checkpoint};
+use arena_rules::OutOfMemory;
 use std::alloc::Global;
 use std::collections::BTreeSet;
 use std::marker::Model;
@@ -68,9 +68,7 @@ impl Marks {
         }) }
     {
         let older = self.list.len();
-        let Ok(()) = self.list.push(Mark { name, checkpoint }) else {
-            return Err(OutOfMemory);
-        };
+        self.list.push(Mark { name, checkpoint })?;
         let Ok(_) = self.known.insert(name) else {
             self.list.truncate(older);
             return Err(OutOfMemory);
@@ -87,10 +85,7 @@ impl Marks {
         if self.list.is_empty() {
             return Ok(());
         }
-        match self.log.push(name) {
-            Ok(()) => Ok(()),
-            Err(_) => Err(OutOfMemory),
-        }
+        Ok(self.log.push(name)?)
     }
 
     // Takes the newest note back, of a block that stayed where it was.

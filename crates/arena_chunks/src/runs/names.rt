@@ -2,14 +2,14 @@
 ghost use Rattle.std.specs.Prelude.{◌≡◌, false, OnOk, OnErr, IfOk, IsSome, IsOk, IsTrue};
 ghost use Rattle.std.specs.Ordering.{nat_cmp};
 ghost use Rattle.std.specs.FinMap as map;
-ghost use Rattle.placement.specs.Machine.{is_left};
+ghost use Rattle.call_rules.specs.Machine.{is_left};
 ghost use Rattle.arena_chunks.specs.Runs.{held_blocks};
 ghost use Rattle.arena_chunks.specs.Marks.{stands};
 
-use crate::arena::Arena;
-use crate::block::Block;
 use crate::runs::others::Others;
-use placement::{OutOfMemory, Place};
+use arena_core::Arena;
+use arena_rules::{OutOfMemory, Place};
+use arena_store::Block;
 use std::alloc::Global;
 use std::collections::BTreeMap;
 use std::marker::Model;
@@ -29,7 +29,7 @@ impl Model for Names {
     ghost use Rattle.std.specs.Prelude.{◌≤◌, length};
     ghost use Rattle.std.specs.Ordering.{nat_cmp};
     ghost use Rattle.std.specs.FinMap as map;
-    ghost use Rattle.placement.specs.Machine.{Held};
+    ghost use Rattle.call_rules.specs.Machine.{Held};
     ghost use Rattle.arena_chunks.specs.Names.{held_with, HoldsNoneBelow};
     ghost use Rattle.arena_chunks.specs.PlaceCode.{place_code};
     ghost use Rattle.std.specs.Coded.{coded_ℕ};
@@ -49,9 +49,7 @@ impl Names {
     {
         let mut first = Vec::new(alloc);
         for _ in 0..FIRST {
-            let Ok(()) = first.push(None) else {
-                return Err(OutOfMemory);
-            };
+            first.push(None)?;
         }
         Ok(Names {
             first,
@@ -81,9 +79,7 @@ impl Names {
             self.first[at] = Some(place);
             return Ok(());
         }
-        let Ok(()) = self.others.insert(name, place) else {
-            return Err(OutOfMemory);
-        };
+        self.others.insert(name, place)?;
         Ok(())
     }
 
@@ -149,9 +145,7 @@ impl Names {
         while at > 0 {
             at -= 1;
             if let Some(place) = self.first[at] {
-                let Ok(_) = tree.insert(at as u32, place) else {
-                    return Err(OutOfMemory);
-                };
+                tree.insert(at as u32, place)?;
             }
         }
         Ok(tree)
@@ -174,9 +168,7 @@ impl Names {
                 size: place.size,
                 align: place.align,
             };
-            let Ok(()) = blocks.push((*name, block)) else {
-                return Err(OutOfMemory);
-            };
+            blocks.push((*name, block))?;
         }
         Ok(blocks)
     }

@@ -3,7 +3,7 @@ ghost use Rattle.std.specs.Prelude.{◌≡◌, OnOk, OnErr, IfOk, IsSome, IsOk};
 ghost use Rattle.std.specs.Ordering.{nat_cmp};
 ghost use Rattle.std.specs.FinMap as map;
 
-use placement::{OutOfMemory, Place};
+use arena_rules::{OutOfMemory, Place};
 use std::alloc::Global;
 use std::collections::BTreeMap;
 use std::marker::Model;
@@ -17,7 +17,7 @@ pub(crate) struct Others {
 impl Model for Others {
     ghost use Rattle.std.specs.Ordering.{nat_cmp};
     ghost use Rattle.std.specs.FinMap as map;
-    ghost use Rattle.placement.specs.Machine.{Held};
+    ghost use Rattle.call_rules.specs.Machine.{Held};
     ghost use Rattle.arena_chunks.specs.PlaceCode.{place_code};
     ghost use Rattle.std.specs.Coded.{coded_ℕ};
 
@@ -48,9 +48,7 @@ impl Others {
         ensures err { OnErr result (self.new ≡ self.old) }
         ensures held { IsSome (map.get self.old name) → IsOk result }
     {
-        let Ok(_) = self.places.insert(name, place) else {
-            return Err(OutOfMemory);
-        };
+        self.places.insert(name, place)?;
         Ok(())
     }
 
@@ -68,9 +66,7 @@ impl Others {
     {
         let mut tree = BTreeMap::new(alloc);
         for (name, place) in &self.places {
-            let Ok(_) = tree.insert(*name, *place) else {
-                return Err(OutOfMemory);
-            };
+            tree.insert(*name, *place)?;
         }
         Ok(tree)
     }

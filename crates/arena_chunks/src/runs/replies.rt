@@ -1,9 +1,10 @@
 // What takes the replies of a run.
-ghost use Rattle.std.specs.Prelude.{◌≡◌, ℕ, ◌+◌, ◌-◌, ◌<◌, ◌≤◌, List, [], ◌∷◌, ◌++◌, false, OnOk, OnErr, vec_len, vec_capacity};
-ghost use Rattle.placement.specs.declared.calls.Reply.{Reply};
+ghost use Rattle.std.specs.Prelude.{◌≡◌, ℕ, ◌+◌, ◌-◌, ◌<◌, ◌≤◌, List, [], ◌∷◌, ◌++◌, false, IsOk, OnOk, OnErr, vec_len, vec_capacity};
+ghost use Rattle.call_rules.specs.declared.calls.Reply.{Reply};
 ghost use Rattle.arena_chunks.specs.Replies.{has_bytes, StillTaken, TakesMore};
 
-use placement::{Bytes, OutOfMemory, Reply};
+use arena_rules::OutOfMemory;
+use call_rules::{Bytes, Reply};
 use std::alloc::Global;
 
 /// What takes replies, one after another.
@@ -14,9 +15,10 @@ pub trait Replies {
     // How many replies there is room for, of those that hold no bytes.
     ghost room: { Self → ℕ };
 
-    /// Makes room for `count` replies that hold no bytes.
+    /// Makes room for `count` replies that hold no bytes. Succeeds where there is room already.
     fn reserve(&mut self, count: usize) -> Result<(), OutOfMemory>
         ensures room { OnOk result (count ≤ room self.new) }
+        ensures succeeds { count ≤ room self.old → IsOk result }
         ensures same { StillTaken has_taken self.old self.new };
 
     /// Takes a reply that holds no bytes, for which there is room.
@@ -60,18 +62,14 @@ impl Replies for Listed {
     ghost room = { λ a. vec_capacity a.replies - vec_len a.replies };
 
     fn reserve(&mut self, count: usize) -> Result<(), OutOfMemory> {
-        match self.replies.reserve(count) {
-            Ok(()) => Ok(()),
-            Err(_) => Err(OutOfMemory),
-        }
+        Ok(self.replies.reserve(count)?)
     }
 
     fn take(&mut self, reply: Reply) {
         push_within(&mut self.replies, reply);
     }
 
-    fn take_bytes(&mut self, bytes: &[u8], left: usize) -> Result<(), OutOfMemory> {
-        let _ = left;
+    fn take_bytes(&mut self, bytes: &[u8], _left: usize) -> Result<(), OutOfMemory> {
         let bytes = Bytes::of(self.alloc, bytes)?;
         push_within(&mut self.replies, Reply::Bytes(bytes));
         Ok(())

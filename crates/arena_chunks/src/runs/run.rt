@@ -1,19 +1,19 @@
 // A run of calls.
 ghost use Rattle.std.specs.Prelude.{◌<◌, ◌≤◌, List, [], ◌∷◌, IfOk, IfErr, OnOk, OnErr};
-ghost use Rattle.placement.specs.declared.calls.Reply.{Reply};
+ghost use Rattle.call_rules.specs.declared.calls.Reply.{Reply};
 ghost use Rattle.arena_chunks.specs.Replies.{StillTaken, TakesMore};
-ghost use Rattle.arena_chunks.specs.Source.{Source, view};
+ghost use Rattle.arena_store.specs.Source.{Source, view};
 ghost use Rattle.arena_chunks.specs.Runs.{Runs, Stops, StopsWith};
 ghost use Rattle.arena_chunks.specs.Running.{IsRunning, IsOnTheWay, GoesOn, StaysAt, StaysBehind, EndsWith};
 
-use crate::arena::Arena;
-use crate::block::Block;
-use crate::chunks::ChunkSource;
 use crate::runs::marks::Marks;
 use crate::runs::names::Names;
 use crate::runs::replies::{Listed, Replies};
 use crate::runs::serve::serve_into;
-use placement::{Call, OutOfMemory, Reply};
+use arena_core::Arena;
+use arena_rules::OutOfMemory;
+use arena_store::{Block, ChunkSource};
+use call_rules::{Call, Reply};
 use std::alloc::Global;
 
 /// What a run of calls gives: a reply for each call, and the blocks that names hold at its end, by ascending name.
@@ -85,9 +85,7 @@ impl Run {
             (view arena.old (C.source chunks.old)) (view arena.new (C.source chunks.new)) self.old.names self.old.marks) }
         ensures same { OnErr result (StillTaken R.has_taken replies.old replies.new) }
     {
-        let Ok(()) = serve_into(arena, chunks, self, call, left, replies) else {
-            return Err(OutOfMemory);
-        };
+        serve_into(arena, chunks, self, call, left, replies)?;
         Ok(())
     }
 
@@ -101,9 +99,7 @@ impl Run {
             EndsWith (view arena.now source) self.now.names self.now.marks held.items) }
         ensures err { (source : Source) → OnErr result (StaysBehind (view arena.now source) self.now.names self.now.marks) }
     {
-        let Ok(held) = self.names.blocks(self.alloc, arena.generation()) else {
-            return Err(OutOfMemory);
-        };
+        let held = self.names.blocks(self.alloc, arena.generation())?;
         Ok(held)
     }
 }

@@ -1,24 +1,24 @@
 // One call after another.
 ghost use Rattle.std.specs.Prelude.{◌≡◌, ℕ, ◌<◌, ◌≤◌, [], ◌∷◌, false, IfOk, OnOk, OnErr, IsSome, IsTrue};
 ghost use Rattle.std.specs.FinMap as map;
-ghost use Rattle.placement.specs.declared.calls.Call.{Call};
-ghost use Rattle.placement.specs.declared.calls.Reply.{Reply};
+ghost use Rattle.call_rules.specs.declared.calls.Call.{Call};
+ghost use Rattle.call_rules.specs.declared.calls.Reply.{Reply};
 ghost use Rattle.arena_chunks.specs.Replies.{has_bytes, StillTaken, TakesMore};
-ghost use Rattle.arena_chunks.specs.Source.{Source, view};
+ghost use Rattle.arena_store.specs.Source.{Source, view};
 ghost use Rattle.arena_chunks.specs.Marks.{Noted, named, Tracks};
-ghost use Rattle.arena_chunks.specs.Memory.{is_readable};
-ghost use Rattle.arena_chunks.specs.Answers.{OnCounted};
-ghost use Rattle.arena_chunks.specs.Runs.{block_at};
+ghost use Rattle.arena_store.specs.Memory.{is_readable};
+ghost use Rattle.arena_core.specs.Answers.{OnCounted};
+ghost use Rattle.arena_store.specs.Memory.{block_at};
 ghost use Rattle.arena_chunks.specs.Serving.{Serves, ServesNoting, ServesRun, Wants, Holds, resizing, is_wrong, ResizesFilling};
 
-use crate::arena::Arena;
-use crate::block::{ArenaErr, Block};
-use crate::chunks::ChunkSource;
 use crate::runs::names::Names;
 use crate::runs::replies::Replies;
 use crate::runs::run::Run;
+use arena_core::Arena;
 use arena_place::Layout;
-use placement::{Call, OutOfMemory, Place, Reply};
+use arena_rules::{OutOfMemory, Place};
+use arena_store::{ArenaErr, Block, ChunkSource};
+use call_rules::{Call, Reply};
 
 // The size and the alignment wanted for the block of a name.
 #[derive(Clone, Copy)]

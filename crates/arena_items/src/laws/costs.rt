@@ -1,11 +1,11 @@
 // What it costs to take room for a collection.
 ghost use Rattle.std.specs.Prelude.{◌≡◌, ℕ, ◌+◌, ◌*◌, ◌^◌, ◌≤◌, false, Ok, Err, Result, IsOk, IsTrue};
-ghost use Rattle.placement.specs.Rounding.{is_layout};
-ghost use Rattle.placement.specs.State.{allocated_bytes};
+ghost use Rattle.arena_rules.specs.Rounding.{is_layout};
+ghost use Rattle.arena_rules.specs.State.{allocated_bytes};
 ghost use Rattle.arena_chunks.specs.Source.{View};
 ghost use Rattle.arena_chunks.specs.Answers.Answer.{Placed};
 ghost use Rattle.arena_chunks.specs.BlockCalls.{PlacesBlock};
-ghost use Rattle.arena_chunks.specs.declared.block.Block.{Block};
+ghost use Rattle.arena_store.specs.declared.block.Block.{Block};
 ghost use Rattle.arena_items.specs.Costs.{used, Brings, Costs, Covers, farthest};
 ghost use Rattle.arena_items.specs.Room.{MakesRoom, TakesRoom, RoomAnswer, SamePlaces};
 ghost use Rattle.arena_items.specs.Values.{IsHeld};

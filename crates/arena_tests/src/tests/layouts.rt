@@ -60,7 +60,7 @@ const BASES: &[(Option<u64>, Option<u64>)] = &[
 ];
 
 #[test]
-#[tactic(auto, unfolding(placement::specs::Rounding::is_power_among))]
+#[tactic(auto, unfolding(arena_rules::specs::Rounding::is_power_among))]
 fn sizes_and_bases_of_chunks(rt: HostRuntime) {
     for &(n, size, wanted) in SIZES {
         let layout = Layout::new(size, 1).expect(&rt, "a layout");

@@ -1,6 +1,6 @@
 // Runs of calls, whose replies were reckoned by hand: the engine and the plain program of the definitions give them.
 ghost use Rattle.std.specs.Prelude.{IsTrue};
-ghost use Rattle.placement.specs.State.{is_min_align};
+ghost use Rattle.arena_rules.specs.State.{is_min_align};
 
 use super::{must, refusing};
 use arena_chunks::{Arena, Block, Bytes, Call, MemoryChunks, OutOfMemory, Ran, Reply, run_calls};

@@ -1,6 +1,6 @@
 // An arena on which steps are taken.
 ghost use Rattle.std.specs.Prelude.{◌+◌, ◌≤◌, IsTrue};
-ghost use Rattle.placement.specs.State.{start_of};
+ghost use Rattle.arena_rules.specs.State.{start_of};
 ghost use Rattle.arena_chunks.specs.Memory.{is_readable};
 
 use super::steps::{Answer, Step};
@@ -322,7 +322,7 @@ impl<const M: usize> Stage<M> {
 }
 
 // An address at which the newest chunk has begun.
-#[tactic(auto, using(placement::proofs::CursorLemmas::cursor_within))]
+#[tactic(auto, using(arena_rules::proofs::CursorLemmas::cursor_within))]
 fn least_address<const M: usize>(arena: &Arena<M>) -> u64
     ensures { start_of arena.now.state.chunks ≤ result }
 {

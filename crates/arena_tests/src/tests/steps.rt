@@ -1,6 +1,6 @@
 // Tables of calls on an arena, each with what it must answer.
 ghost use Rattle.std.specs.Prelude.{IsTrue};
-ghost use Rattle.placement.specs.State.{is_min_align};
+ghost use Rattle.arena_rules.specs.State.{is_min_align};
 
 use super::refusing;
 use super::stage::Stage;

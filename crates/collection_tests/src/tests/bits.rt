@@ -86,7 +86,7 @@ fn hints<C: ChunkSource>(rt: &impl Abort, ones: &Ones<'_, C>, most: u64) {
     same(rt, ones.size_hint(), (0, Some(most as usize)));
 }
 
-// A walk gives these numbers, with its hints on the way, and a clone of it stays behind.
+// A walk gives these numbers, with its hints on the way, and a new one as many.
 pub(super) fn walks<C: ChunkSource>(
     rt: &impl Abort,
     a: &Allocator<C>,
@@ -95,9 +95,6 @@ pub(super) fn walks<C: ChunkSource>(
 ) {
     assert!(rt; set.is_held(a));
     let mut ones = set.ones(a);
-    let Ok(clone) = ones.clone() else {
-        unreachable!();
-    };
     let mut behind = 0;
     for number in numbers {
         hints(rt, &ones, set.capacity.wrapping_sub(behind));
@@ -109,7 +106,7 @@ pub(super) fn walks<C: ChunkSource>(
         same(rt, ones.next(), None);
         hints(rt, &ones, 0);
     }
-    same(rt, clone.count(), numbers.len());
+    same(rt, set.ones(a).count(), numbers.len());
 }
 
 // Two sets: their capacities and numbers, and those of the first below its capacity once they are joined.

@@ -5,4 +5,5 @@ mod kept;
 mod lists;
 mod maps;
 mod rust_cases;
+mod seeded;
 mod trees;

@@ -5,5 +5,6 @@ mod one;
 mod over;
 mod pools;
 mod sizes;
+mod stages;
 mod starved;
 mod two;

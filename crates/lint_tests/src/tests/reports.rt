@@ -1,7 +1,8 @@
 // Where an input is cut into sources, and the lines of reports.
 use super::same_at;
+use arena_rules::OutOfMemory;
+use call_rules::Bytes;
 use lint_reports::{FileReport, FindKind, Findings, put_report, sources_of};
-use placement::{Bytes, OutOfMemory};
 use std::alloc::{AllocError, Global};
 use std::process::Abort;
 use std::test::Fail;

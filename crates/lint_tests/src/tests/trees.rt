@@ -11,7 +11,7 @@ use super::{Parts, same_at, text_of};
 use crate::{set_out, set_out_copy, set_out_folded};
 use arena_chunks::{Allocator, ChunkSource, MemoryChunks};
 use arena_tree::{Tree, TreeErr};
-use placement::Bytes;
+use call_rules::Bytes;
 use std::alloc::Global;
 use std::process::Abort;
 use tree_reader::refusal;

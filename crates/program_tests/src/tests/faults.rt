@@ -5,7 +5,7 @@ use arena_chunks::{Arena, ChunkSource, MemoryChunks};
 use arena_pool::MemoryMaker;
 use arena_program::arena_main;
 use arena_script::Engine;
-use placement::Bytes;
+use call_rules::Bytes;
 use script_workers::Starved;
 use std::alloc::Global;
 use std::process::Abort;

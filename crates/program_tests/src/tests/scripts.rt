@@ -1,5 +1,6 @@
 // Scripts by the plain machine and by the engine.
 mod engine;
+mod least;
 mod many;
 mod tables;
 

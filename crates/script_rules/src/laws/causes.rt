@@ -1,8 +1,8 @@
 // When calls are starved.
 ghost use Rattle.std.specs.Prelude.{ℕ, ◌≤◌};
-ghost use Rattle.placement.specs.State.{State};
-ghost use Rattle.placement.specs.Source.{Source};
-ghost use Rattle.placement.specs.Asking.{IsStarvedWithin};
+ghost use Rattle.arena_rules.specs.State.{State};
+ghost use Rattle.arena_rules.specs.Source.{Source};
+ghost use Rattle.arena_rules.specs.Asking.{IsStarvedWithin};
 
 /// Calls that are starved within some bytes are so within more.
 pub fn starved()

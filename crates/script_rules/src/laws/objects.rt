@@ -1,6 +1,6 @@
 // What is found under names, and which sets bits are.
 ghost use Rattle.std.specs.Prelude.{◌≡◌, ℕ, ◌==◌, if◌then◌else◌, IsTrue, Some, None};
-ghost use Rattle.placement.specs.Bits.{with_bit, without_bit, joined, below};
+ghost use Rattle.arena_rules.specs.Bits.{with_bit, without_bit, joined, below};
 ghost use Rattle.script_rules.specs.Objects.{Object, Objects, get, bind, unbind, are_rising, Bits, has, united};
 
 /// A name holds the last object that it got, until it is let go. Objects under names that hold the same are

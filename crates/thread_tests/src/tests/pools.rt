@@ -9,6 +9,7 @@ mod loans;
 mod owners;
 mod threads;
 
+use super::holds;
 use arena_chunks::{Allocator, ChunkSource};
 use arena_place::Layout;
 use arena_pool::laws::kinds;
@@ -30,13 +31,10 @@ type All = (u64, u64, u64, u64);
 
 // The counts are these.
 fn are_counts(rt: &impl Abort, counts: Counts, all: All) {
-    let Counts {
-        made,
-        stored,
-        lent,
-        given_up,
-    } = counts;
-    assert_eq!(rt; (made, stored, lent, given_up), all);
+    let found = (counts.made, counts.stored, counts.lent, counts.given_up);
+    if found != all {
+        panic!(rt; "{found:?} in place of {all:?}");
+    }
 }
 
 /// What threads send through arenas.
@@ -54,7 +52,7 @@ fn are_values(rt: &impl Abort, back: Result<Vec<Option<u64>>, OutOfMemory>) {
 
 // A nine came back.
 fn is_nine(rt: &impl Abort, back: Option<u32>) {
-    assert_eq!(rt; back, Some(9));
+    holds(rt, back == Some(9), "a nine");
 }
 
 // Comes back once a stage is reached.

@@ -3,11 +3,13 @@ mod crowds;
 mod gates;
 mod limits;
 mod over;
+mod stages;
 mod starved;
+mod twice;
 
 use arena_chunks::ChunkSource;
 use arena_pool::Counts;
-use placement::OutOfMemory;
+use arena_rules::OutOfMemory;
 use script_rules::{Command, Ended, Script, ScriptReply};
 use script_workers::Served;
 use std::alloc::Global;

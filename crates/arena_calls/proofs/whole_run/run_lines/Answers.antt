@@ -1,5 +1,5 @@
 use Rattle.std.proofs.Common.{◌≡◌, ◌∙◌, []}
-use Rattle.placement.specs.Replies.{text_of}
+use Rattle.call_rules.specs.Replies.{text_of}
 use Rattle.arena_calls.specs.Streams.{Writes, WritesPart}
 use Rattle.arena_calls.specs.Ends.{RunsTo, reply_lines}
 use Rattle.arena_calls.proofs.RunLemmas.{unwritten, told, printed}

@@ -18,8 +18,10 @@ returns-in_err-block g c =
     let p = err_from_is_err_and c.from_residual.result c.from_residual.ensures.1 in
     let place = c.requires.held.0.handle.place in
     rw (p.1, p.2) (λ ids flat other.
-    table_copy_refused (kind g.K.Item g.K.ArenaKey.key g.V.Item g.S.KeyHasher.hash_of) g.K.CloneIn.kind g.V.CloneIn.kind
+    table_copy_refused (kind g.K.Item g.K.ArenaKey.key g.V.Item g.S.KeyHasher.hash_of) g.S.Default.is_default
+    g.K.CloneIn.kind g.V.CloneIn.kind
     g.met.K.CloneKey.keeps ids (g.met.K.CloneIn.lawful.flat ids flat) (g.met.V.CloneIn.lawful.flat ids other)
+    c.requires.fixed
     (g.O.Origin.there c.args.from.now c.args.to.now.memory) c.args.to.now c.place_copy.new.to c.args.map.now c.requires.full
     c.requires.held.0 _
     (rw (place.of_size, place.of_align) at c.in_err-block.ensures.placed))
@@ -27,9 +29,11 @@ returns-in_err-block g c =
 pub returns : goal.returns
 returns g c ids flat other =
     let place = c.requires.held.0.handle.place in
-    table_copied (kind g.K.Item g.K.ArenaKey.key g.V.Item g.S.KeyHasher.hash_of) g.K.CloneIn.kind g.V.CloneIn.kind
+    table_copied (kind g.K.Item g.K.ArenaKey.key g.V.Item g.S.KeyHasher.hash_of) g.S.Default.is_default
+    g.K.CloneIn.kind g.V.CloneIn.kind
     g.met.K.CloneKey.keeps ids (g.met.K.CloneIn.lawful.flat ids flat) (g.met.V.CloneIn.lawful.flat ids other)
+    c.requires.fixed
     (g.O.Origin.there c.args.from.now c.args.to.now.memory) c.args.to.now c.place_copy.new.to c.args.map.now c.requires.full
     c.requires.held.0
-    c.in_ok-block.block (rw (place.of_size, place.of_align) at c.in_ok-block.ensures.placed)
+    c.in_ok-block.block c.default.result c.default.ensures (rw (place.of_size, place.of_align) at c.in_ok-block.ensures.placed)
     (sym c.in_ok-block.ensures.bytes)

@@ -24,7 +24,7 @@ use denote.Exit.{no}
 use denote.Follow.{follows, follows_then}
 use denote.Param.{param, bounded, layouts}
 use Rattle.arena_chunks.specs.contracts.allocator.Allocator.{the_row}
-use Rattle.arena_chunks.specs.declared.chunks.source.ChunkSource.{Ghosts as SourceGhosts}
+use Rattle.arena_store.specs.declared.source.ChunkSource.{Ghosts as SourceGhosts}
 use Rattle.arena_items.specs.declared.get_allocator.GetAllocator.{Ghosts}
 use denote.RattleType.{RattleType, owns}
 use denote.Ref.{MutBor, MutRef, mut_vals, mut_Tells}

@@ -5,12 +5,12 @@ use Rattle.arena_lint.proofs.walk.define.Goals as goal
 
 pub returns-in_err-kind-clause-takes : goal.returns-in_err-kind-clause-takes
 returns-in_err-kind-clause-takes g c =
-    let is = c.from_utf8_unchecked-spelled.ensures ∙ c.as_slice.ensures ∙ c.in-Ok.ensures ∙ c.read.ensures in
+    let is = c.from_utf8_unchecked-spelled.ensures ∙ c.as_slice.ensures ∙ c.in-Ok.ensures.value ∙ c.read.ensures in
     err_takes c.from_residual.result c.from_residual.ensures
     (takes_more _ (omega (arith, ap (λ (t : List ℕ). length t) is)) c.in_err-kind.ensures.takes)
 
 pub returns-clause-takes : goal.returns-clause-takes
 returns-clause-takes g c =
-    let is = c.from_utf8_unchecked-spelled.ensures ∙ c.as_slice.ensures ∙ c.in-Ok.ensures ∙ c.read.ensures in
+    let is = c.from_utf8_unchecked-spelled.ensures ∙ c.as_slice.ensures ∙ c.in-Ok.ensures.value ∙ c.read.ensures in
     takes_more _ (omega (arith, ap (λ (t : List ℕ). length t) is)) (takes_then c.in_ok-kind.ensures.takes
     (takes_wanting {weight = 0} c.define_name.new.a c.define_name.new.known (error_of c.add.result) c.add.ensures.wanting))

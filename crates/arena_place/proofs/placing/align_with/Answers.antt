@@ -1,5 +1,5 @@
 use Rattle.std.proofs.Common.{arith}
-use Rattle.placement.proofs.RoundingLemmas.{layout_power, power_positive}
+use Rattle.arena_rules.proofs.RoundingLemmas.{layout_power, power_positive}
 use Rattle.arena_place.proofs.placing.align_with.Goals as goal
 
 pub returns-then-min_align-eq1 : goal.returns-then-min_align-eq1

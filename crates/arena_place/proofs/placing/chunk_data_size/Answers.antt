@@ -1,6 +1,6 @@
 use Rattle.std.proofs.Common.{arith, sym}
-use Rattle.placement.proofs.RoundingLemmas.{max_power, layout_power, layout_small, power_small, pow_power}
-use Rattle.placement.proofs.SizeLemmas.{size_none, size_some, size_invalid}
+use Rattle.arena_rules.proofs.RoundingLemmas.{max_power, layout_power, layout_small, power_small, pow_power}
+use Rattle.arena_rules.proofs.SizeLemmas.{size_none, size_some, size_invalid}
 use Rattle.arena_place.proofs.placing.chunk_data_size.Goals as goal
 
 pub round_up_to_unchecked-requires-clause-power : goal.round_up_to_unchecked-requires-clause-power

@@ -1,7 +1,7 @@
 use Rattle.std.proofs.Common.{ℕ, ◌+◌, ◌<◌, ◌^◌, ◌≡◌, max, arith, subst}
 use Rattle.std.specs.Option.{SomeIff}
-use Rattle.placement.specs.Rounding.{up}
-use Rattle.placement.proofs.RoundingLemmas.{up_ge, some_up}
+use Rattle.arena_rules.specs.Rounding.{up}
+use Rattle.arena_rules.proofs.RoundingLemmas.{up_ge, some_up}
 use Rattle.arena_place.proofs.placing.next_base.Goals as goal
 use Rattle.arena_place.proofs.placing.next_base.Goals.{in-None, in-Some+in_ok-floor-in-Some}
 

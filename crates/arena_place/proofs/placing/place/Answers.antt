@@ -1,6 +1,6 @@
 use Rattle.std.proofs.Common.{rules}
-use Rattle.placement.proofs.RoundingLemmas.{max_power, layout_power, min_align_power}
-use Rattle.placement.proofs.PlaceLemmas.{past_none}
+use Rattle.arena_rules.proofs.RoundingLemmas.{max_power, layout_power, min_align_power}
+use Rattle.arena_rules.proofs.PlaceLemmas.{past_none}
 use Rattle.arena_place.proofs.placing.place.Goals as goal
 
 pub round_down_to-p-requires : goal.round_down_to-p-requires

@@ -1,6 +1,6 @@
 use Rattle.std.proofs.Common.{ℕ, ◌+◌, ◌-◌, ap, sym, ◌∙◌, arith, Some}
-use Rattle.placement.proofs.RoundingLemmas.{pow_power, up_ge, up_close}
-use Rattle.placement.proofs.SizeLemmas.{rounded_small, next_power}
+use Rattle.arena_rules.proofs.RoundingLemmas.{pow_power, up_ge, up_close}
+use Rattle.arena_rules.proofs.SizeLemmas.{rounded_small, next_power}
 use Rattle.arena_place.proofs.placing.rounded.Goals as goal
 
 pub returns-then-wanted-lt-TYPICAL_PAGE_SIZE : goal.returns-then-wanted-lt-TYPICAL_PAGE_SIZE

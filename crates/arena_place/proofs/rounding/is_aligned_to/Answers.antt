@@ -1,6 +1,6 @@
 use Rattle.std.proofs.Common.{arith}
 use Rattle.std.proofs.lemmas.Bool.Decides.{nat_tests}
-use Rattle.placement.proofs.RoundingLemmas.{mask_mod, power_positive}
+use Rattle.arena_rules.proofs.RoundingLemmas.{mask_mod, power_positive}
 use Rattle.arena_place.proofs.rounding.is_aligned_to.Goals as goal
 
 pub overflow_sub-result : goal.overflow_sub-result

@@ -1,5 +1,5 @@
 use Rattle.std.proofs.Common.{arith}
-use Rattle.placement.proofs.RoundingLemmas.{mask_down, power_positive}
+use Rattle.arena_rules.proofs.RoundingLemmas.{mask_down, power_positive}
 use Rattle.arena_place.proofs.rounding.round_down_to.Goals as goal
 
 pub overflow_sub-result : goal.overflow_sub-result

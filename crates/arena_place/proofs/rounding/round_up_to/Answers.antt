@@ -1,6 +1,6 @@
 use Rattle.std.proofs.Common.{arith, ◌∙◌, ap, ℕ, ◌/◌, ◌*◌}
-use Rattle.placement.specs.Rounding.{up, down}
-use Rattle.placement.proofs.RoundingLemmas.{power_positive}
+use Rattle.arena_rules.specs.Rounding.{up, down}
+use Rattle.arena_rules.proofs.RoundingLemmas.{power_positive}
 use Rattle.arena_place.proofs.rounding.round_up_to.Goals as goal
 
 pub overflow_sub-divisor : goal.overflow_sub-divisor

@@ -1,5 +1,5 @@
-use Rattle.placement.specs.Rounding.{up, down}
-use Rattle.placement.proofs.RoundingLemmas.{power_positive}
+use Rattle.arena_rules.specs.Rounding.{up, down}
+use Rattle.arena_rules.proofs.RoundingLemmas.{power_positive}
 use Rattle.arena_place.proofs.rounding.round_up_to_unchecked.Goals as goal
 
 pub overflow_sub-divisor : goal.overflow_sub-divisor

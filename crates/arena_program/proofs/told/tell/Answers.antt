@@ -11,7 +11,8 @@ loop-served-init g c =
     let left = into_iter_items c.into_iter-served-iterator.result in
     record {
       text = ap (λ xs. xs ++ text_from g.T.Tells.text 0 left) c.new-text.ensures.items ∙ ap (text_from g.T.Tells.text 0) all;
-      starved = ap (λ xs. xs ++ starved_of 0 left) c.new-starved.ensures.items ∙ ap (starved_of 0) all;
+      starved = ap (λ xs. xs ++ starved_of g.T.Tells.starved 0 left) c.new-starved.ensures.items
+          ∙ ap (starved_of g.T.Tells.starved 0) all;
       count = omega (arith, ap length all);
     }
 
@@ -22,7 +23,7 @@ loop-served-preserved g c =
     record {
       text = text_step c.loop-served.i c.in-Some.served _ _ first g.T.Tells.text _ c.loop-served.text.items _ before.text
           (rw c.from.ensures at c.in_ok-put.ensures);
-      starved = starved_step c.loop-served.i c.in-Some.served _ _ first _ c.loop-served.starved.items _ before.starved
-          c.in_ok-gain.ensures;
+      starved = starved_step c.loop-served.i c.in-Some.served _ _ first g.T.Tells.starved _ c.loop-served.starved.items _ before.starved
+          (rw c.into_starved.ensures at c.in_ok-gain.ensures);
       count = omega (arith, before.count, ap length first);
     }

@@ -1,4 +1,5 @@
-use Rattle.std.proofs.Common.{refl}
+use Rattle.std.proofs.Common.{refl, ap}
+use Rattle.arena_script.specs.Asks.{copy_ask}
 use Rattle.arena_script.proofs.ThingLemmas.{holds}
 use Rattle.arena_script.proofs.CopyActs.{copy_given}
 use Rattle.arena_script.proofs.CostFacts.{not_given}
@@ -11,7 +12,7 @@ returns-in_err-copy g c =
     let h = holds c.requires.things c.args.name (thing.Bits c.args.set) c.requires.found in
     not_given c.from_residual.result c.from_residual.ensures.1
     (made_gives_nothing refl c.requires.none h.held.small c.min_align.ensures.state (copy_given h c.args.other c.requires.none)
-    c.in_err-copy.ensures)
+    (ap copy_ask h.found) c.in_err-copy.ensures)
 
 pub returns : goal.returns
 returns g c =

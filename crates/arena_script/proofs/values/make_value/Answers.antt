@@ -8,7 +8,7 @@ returns-in_err-value g c =
     let none = sym c.get.ensures ∙ is_none c.get.result (sym c.if-is_some.ensures) in
     not_given c.from_residual.result c.from_residual.ensures.1
     (made_gives_nothing refl none c.min_align.ensures.state (made_given c.args.things.now c.args.a.now.memory c.args.name c.args.value none)
-    c.in_err-value.ensures)
+    refl c.in_err-value.ensures)
 
 pub returns : goal.returns
 returns g c =

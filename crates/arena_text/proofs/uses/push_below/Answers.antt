@@ -1,5 +1,5 @@
 use Rattle.std.proofs.Common.{ap}
-use Rattle.placement.specs.State.{State, used_bytes}
+use Rattle.arena_rules.specs.State.{State, used_bytes}
 use Rattle.arena_text.proofs.uses.push_below.Goals as goal
 
 pub returns-clause-ok : goal.returns-clause-ok

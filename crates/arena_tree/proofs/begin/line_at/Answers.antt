@@ -43,7 +43,7 @@ returns-in-LetKey c =
     refl)) (reads_token at_equals at_value equals (λ depth. refl))) in
     let begins : c.args.at ≤ c.name_at-begin.result.0 = omega (arith, t.later, name.begin) in
     let ends : c.name_at-begin.result.1 ≤ c.equals_at-behind.result = omega (arith, equals.later) in
-    (is, (braces place.0, is.passes place.0 place.1), is.later, is.within, name.range, name.token.within, begins, ends)
+    (is, (braces place.0, is.passes place.0 place.1), is.later, is.within, name.range, name.token.within, begins, ends, (_, name.token))
 
 pub returns-in_default-seen : goal.returns-in_default-seen
 returns-in_default-seen c =

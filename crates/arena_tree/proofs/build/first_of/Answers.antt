@@ -5,7 +5,7 @@ use Rattle.arena_tree.proofs.RowLemmas.{row_first}
 use Rattle.arena_tree.proofs.BlockCostLemmas.{spends_same}
 use Rattle.arena_tree.proofs.CloneCostLemmas.{err_spends}
 use Rattle.arena_tree.proofs.CloneListLemmas.{never_refused, fills}
-use Rattle.arena_tree.proofs.SpendingLemmas.{spends_more}
+use Rattle.arena_tree.proofs.SpendingLemmas.{spends_more, asks_any}
 use Rattle.arena_tree.proofs.build.first_of.Goals as goal
 
 pub unreachable-requires : goal.unreachable-requires
@@ -28,7 +28,7 @@ returns-clause-spends g c =
     let l = c.in_ok-list.ensures in
     let filled = fills c.roomy.new.a c.push.new.a v c.push.new.self c.args.node
     (c.growth_rule.ensures.stays 88 v.raw.cap (v.raw.len + 1) (amortised 88 v.raw.cap (v.raw.len + 1)) (omega arith)) c.in-Ok.ensures in
-    spends_more (spends_same filled l.spends) (omega arith) (omega arith)
+    spends_more (spends_same filled (asks_any l.spends)) (omega arith) (omega arith)
 
 pub returns-in_err-list-clause-spends : goal.returns-in_err-list-clause-spends
 returns-in_err-list-clause-spends g c =

@@ -14,7 +14,14 @@ returns-clause-row g c = λ ts t old one built placed.
 
 pub returns-clause-spends : goal.returns-clause-spends
 returns-clause-spends g c =
-    node_spends (record { keeps = c.growth_costs.ensures.keeps; asks = c.growth_costs.ensures.asks; fits = c.vector_costs.ensures.fits })
+    node_spends (record {
+      keeps = c.growth_costs.ensures.keeps;
+      asks = c.growth_costs.ensures.asks;
+      fits = c.vector_costs.ensures.fits;
+      stays = c.growth_rule.ensures.stays;
+      doubles = c.growth_rule.ensures.doubles;
+      grows = c.growth_rule.ensures.grows;
+    })
     c.args.a.now c.push.new.a c.args.list.now c.push.new.self _ c.min_align.ensures.state c.requires.held c.requires.few
     (pushed_length (vec_list node_item c.args.a.now.memory c.args.list.now) c.args.node c.args.list.now.raw.len
     (length-elements 88 node_item.decoded c.args.list.now.raw.len _))

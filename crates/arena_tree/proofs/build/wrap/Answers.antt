@@ -1,5 +1,5 @@
 use Rattle.std.proofs.Common.{ap, None, [], sym, subst, ◌∷◌}
-use Rattle.arena_chunks.specs.declared.block.Block.{Block}
+use Rattle.arena_store.specs.declared.block.Block.{Block}
 use Rattle.arena_tree.specs.Subtrees.{OfExpr, IsRowBuilt}
 use Rattle.arena_tree.proofs.RowLemmas.{row_none}
 use Rattle.arena_tree.proofs.NodeCostLemmas.{first_node}
@@ -12,6 +12,8 @@ returns-clause-tree g c = λ e old placed.
       c.with_kids.ensures.kind,
       subst (IsRowBuilt (OfExpr e ∷ []) old _) (sym c.with_kids.ensures.kids)
           (c.in_ok-push_node.ensures.row [] (OfExpr e) old old none placed),
+      c.with_kids.ensures.rest.0,
+      c.with_kids.ensures.rest.1,
     )
 
 pub returns-clause-spends : goal.returns-clause-spends

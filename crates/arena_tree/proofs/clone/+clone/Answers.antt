@@ -1,11 +1,12 @@
-use Rattle.std.proofs.Common.{rules, ◌≡◌, ◌-◌, ◌≤◌, ◌∙◌, ap, sym, length, inl, inr, add-one, arith}
+use Rattle.std.proofs.Common.{rules, ◌≡◌, ◌-◌, ◌*◌, ◌≤◌, ◌∙◌, ap, sym, length, inl, inr, add-one, arith}
 use Rattle.arena_vec.specs.Vecs.{vec_list}
 use Rattle.arena_tree.specs.TreesAt.{node_item}
 use Rattle.arena_tree.specs.Subtrees.{has_kids, HasTree, HasRow}
 use Rattle.arena_tree.proofs.WalkLemmas.{list_len}
-use Rattle.arena_tree.proofs.SpendingLemmas.{frees, err_spends}
+use Rattle.arena_tree.proofs.SpendingLemmas.{frees, err_spends, asks_of, asks_any}
+use Rattle.arena_tree.proofs.CopyLayoutLemmas.{kid_copy, kids_copy, text_copy}
 use Rattle.arena_tree.proofs.BlockCostLemmas.{spends_same}
-use Rattle.arena_tree.proofs.SubtreeLemmas.{kids_it, kids_at}
+use Rattle.arena_tree.proofs.SubtreeLemmas.{kids_it, kids_at, row_length}
 use Rattle.arena_tree.proofs.RowLemmas.{row_held, kid_of, kid_can, row_whole}
 use Rattle.arena_tree.proofs.CloneLemmas.{more_kinds, number_copied, name_copied, let_copied, kids_copied, text_of, row_at, has_row}
 use Rattle.arena_tree.proofs.CloneCostLemmas.{forget, row_room, row_kid, part_spends, both_spend}
@@ -15,7 +16,7 @@ use Rattle.arena_tree.proofs.clone.+clone.Goals as goal
 
 pub clone_node-returns-in-Num-clause-tree : goal.clone_node-returns-in-Num-clause-tree
 clone_node-returns-in-Num-clause-tree g t c = λ tree at.
-    number_copied _ _ _ _ tree at c.in-Num.is c.number.ensures.kind c.number.ensures.number
+    number_copied _ _ _ _ tree at c.in-Num.is c.number.ensures.node
 
 pub clone_node-clone_text-requires : goal.clone_node-clone_text-requires
 clone_node-clone_text-requires g t c = (text_of _ _ c.requires.tree c.requires.stands (inl c.in-Name.is)).0
@@ -23,16 +24,16 @@ clone_node-clone_text-requires g t c = (text_of _ _ c.requires.tree c.requires.s
 pub clone_node-returns-in_ok-name-in-Name-clause-tree : goal.clone_node-returns-in_ok-name-in-Name-clause-tree
 clone_node-returns-in_ok-name-in-Name-clause-tree g t c = λ tree at.
     let text = c.in_ok-name-in-Name.ensures in
-    name_copied _ _ _ _ _ tree _ at c.in-Name.is text.held text.text text.frame c.named.ensures.kind c.named.ensures.text
+    name_copied _ _ _ _ _ tree _ at c.in-Name.is text.held text.text text.frame c.named.ensures.kind c.named.ensures.text c.named.ensures.rest
 
 pub clone_node-returns-in_ok-name-in-Name-clause-spends : goal.clone_node-returns-in_ok-name-in-Name-clause-spends
 clone_node-returns-in_ok-name-in-Name-clause-spends g t c = λ tree at.
-    part_spends tree (omega (arith, (text_of _ _ tree at (inl c.in-Name.is)).1)) c.in_ok-name-in-Name.ensures.spends
+    asks_any (part_spends tree (omega (arith, (text_of _ _ tree at (inl c.in-Name.is)).1)) c.in_ok-name-in-Name.ensures.spends)
 
 pub clone_node-returns-in_err-name-in-Name-clause-spends : goal.clone_node-returns-in_err-name-in-Name-clause-spends
 clone_node-returns-in_err-name-in-Name-clause-spends g t c = λ tree at.
-    err_spends _ _ c.from_residual.ensures
-    (part_spends tree (omega (arith, (text_of _ _ tree at (inl c.in-Name.is)).1)) c.in_err-name-in-Name.ensures.spends)
+    err_spends _ _ c.from_residual.ensures (asks_of (text_copy tree _ _ at (inl c.in-Name.is))
+    (part_spends tree (omega (arith, (text_of _ _ tree at (inl c.in-Name.is)).1)) c.in_err-name-in-Name.ensures.spends))
 
 -- ---- A definition
 
@@ -54,24 +55,26 @@ clone_node-returns-in_ok-value-in-Let-clause-tree g t c = λ tree at.
     let row = row_at _ _ _ (ap has_kids c.in-Let.is) c.kids.ensures tree at in
     let_copied _ _ _ _ _ _ tree _ _ at c.in-Let.is text.held text.text text.frame
     (c.in_ok-value-in-Let.ensures.trees (kids_it tree) row) c.let_node.ensures.kind c.let_node.ensures.text c.let_node.ensures.kids
+    c.let_node.ensures.rest
 
 pub clone_node-returns-in_ok-value-in-Let-clause-spends : goal.clone_node-returns-in_ok-value-in-Let-clause-spends
 clone_node-returns-in_ok-value-in-Let-clause-spends g t c = λ tree at.
     let text = c.in_ok-name-in-Let.ensures in
-    both_spend tree (text_of _ _ tree at (inr c.in-Let.is)).1 text.spends (frees text.frame)
-    (c.in_ok-value-in-Let.ensures.spends (kids_it tree) (row_at _ _ _ (ap has_kids c.in-Let.is) c.kids.ensures tree at))
+    asks_any (both_spend tree (text_of _ _ tree at (inr c.in-Let.is)).1 text.spends (frees text.frame)
+    (c.in_ok-value-in-Let.ensures.spends (kids_it tree) (row_at _ _ _ (ap has_kids c.in-Let.is) c.kids.ensures tree at)))
 
 pub clone_node-returns-in_err-name-in-Let-clause-spends : goal.clone_node-returns-in_err-name-in-Let-clause-spends
 clone_node-returns-in_err-name-in-Let-clause-spends g t c = λ tree at.
-    err_spends _ _ c.from_residual-in_err-name-in-Let.ensures
-    (part_spends tree (omega (arith, (text_of _ _ tree at (inr c.in-Let.is)).1)) c.in_err-name-in-Let.ensures.spends)
+    err_spends _ _ c.from_residual-in_err-name-in-Let.ensures (asks_of (text_copy tree _ _ at (inr c.in-Let.is))
+    (part_spends tree (omega (arith, (text_of _ _ tree at (inr c.in-Let.is)).1)) c.in_err-name-in-Let.ensures.spends))
 
 pub clone_node-returns-in_err-value-in-Let-clause-spends : goal.clone_node-returns-in_err-value-in-Let-clause-spends
 clone_node-returns-in_err-value-in-Let-clause-spends g t c = λ tree at.
     let text = c.in_ok-name-in-Let.ensures in
     err_spends _ _ c.from_residual-in_err-value-in-Let.ensures
+    (asks_of (kids_copy tree _ _ at (ap has_kids c.in-Let.is))
     (both_spend tree (text_of _ _ tree at (inr c.in-Let.is)).1 text.spends (frees text.frame)
-    (c.in_err-value-in-Let.ensures.spends (kids_it tree) (row_at _ _ _ (ap has_kids c.in-Let.is) c.kids.ensures tree at)))
+    (c.in_err-value-in-Let.ensures.spends (kids_it tree) (row_at _ _ _ (ap has_kids c.in-Let.is) c.kids.ensures tree at))))
 
 -- ---- The other nodes
 
@@ -94,17 +97,17 @@ clone_node-returns-in_ok-list-in_default g t c =
     let named : c.with_kids.result.kind ≡ c.args.node.kind = cc in
     record {
       tree = λ tree at. kids_copied _ _ _ _ _ tree _ at d.not-Num d.not-Name d.not-Let
-          (list.trees (kids_it tree) (row_at _ _ _ more c.kids-in_default.ensures tree at)) named c.with_kids.ensures.kids;
-      spends = λ tree at.
-          part_spends tree (omega arith) (list.spends (kids_it tree) (row_at _ _ _ more c.kids-in_default.ensures tree at));
+          (list.trees (kids_it tree) (row_at _ _ _ more c.kids-in_default.ensures tree at)) named c.with_kids.ensures.kids
+          c.with_kids.ensures.rest;
+      spends = λ tree at. asks_any
+          (part_spends tree (omega arith) (list.spends (kids_it tree) (row_at _ _ _ more c.kids-in_default.ensures tree at)));
     }
 
 pub clone_node-returns-in_err-list-in_default-clause-spends : goal.clone_node-returns-in_err-list-in_default-clause-spends
 clone_node-returns-in_err-list-in_default-clause-spends g t c = λ tree at.
     let more = more_kinds c.args.node.kind c.in_default.not-Num c.in_default.not-Name in
-    err_spends _ _ c.from_residual-in_err-list-in_default.ensures
-    (part_spends tree (omega arith)
-    (c.in_err-list-in_default.ensures.spends (kids_it tree) (row_at _ _ _ more c.kids-in_default.ensures tree at)))
+    err_spends _ _ c.from_residual-in_err-list-in_default.ensures (asks_of (kids_copy tree _ _ at more) (part_spends tree (omega arith)
+    (c.in_err-list-in_default.ensures.spends (kids_it tree) (row_at _ _ _ more c.kids-in_default.ensures tree at))))
 
 -- ---- A list of nodes
 
@@ -116,7 +119,8 @@ clone_row-loop-i-init g t c =
       len = room.len;
       cap = room.cap ∙ c.len.ensures;
       built = λ ts at. room.row;
-      spends = λ ts at. row_room ts _ _ _ at (list_len c.args.from.now.memory c.args.nodes ∙ sym c.len.ensures) room.spends;
+      spends = λ ts at. asks_any
+          (row_room ts _ _ _ at (list_len c.args.from.now.memory c.args.nodes ∙ sym c.len.ensures) room.spends);
     }
 
 pub clone_row-clone_node-requires : goal.clone_row-clone_node-requires
@@ -144,8 +148,8 @@ clone_row-loop-i-preserved g t c =
           rw (add-one, k.front) (put.row _ k.tree _ _ (i.built ts at) (c.in_ok-copy.ensures.tree k.tree k.stands));
       spends = λ ts at.
           let k = kid_of ts _ _ c.loop-i.i _ at c.get-node.ensures in
-          rw add-one (spends_same put.places (row_kid ts _ c.loop-i.i _ k (frees (i.built ts at).frame)
-          (c.in_ok-copy.ensures.spends k.tree k.stands) (i.spends ts at)));
+          rw add-one (asks_any (spends_same put.places (row_kid ts _ c.loop-i.i _ k (frees (i.built ts at).frame)
+          (c.in_ok-copy.ensures.spends k.tree k.stands) (i.spends ts at))));
     }
 
 pub clone_row-returns-clause-trees : goal.clone_row-returns-clause-trees
@@ -160,12 +164,13 @@ clone_row-returns-clause-spends g t c = λ ts at. forget (c.loop-i.invariant.spe
 
 pub clone_row-returns-in_err-list-clause-spends : goal.clone_row-returns-in_err-list-clause-spends
 clone_row-returns-in_err-list-clause-spends g t c = λ ts at.
-    err_spends _ _ c.from_residual.ensures
-    (forget (row_room ts _ _ _ at (list_len c.args.from.now.memory c.args.nodes ∙ sym c.len.ensures) c.in_err-list.ensures.spends))
+    let len = list_len c.args.from.now.memory c.args.nodes ∙ sym c.len.ensures in
+    err_spends _ _ c.from_residual.ensures (asks_of (λ size align h. inl (h.0 ∙ ap (λ n. n * 88) (sym (row_length ts _ _ at ∙ len)), h.1))
+    (forget (row_room ts _ _ _ at len c.in_err-list.ensures.spends)))
 
 pub clone_row-returns-in_err-copy-clause-spends : goal.clone_row-returns-in_err-copy-clause-spends
 clone_row-returns-in_err-copy-clause-spends g t c = λ ts at.
     let i = c.loop-i.invariant in
     let k = kid_of ts _ _ c.loop-i.i _ at c.get-node.ensures in
-    err_spends _ _ c.from_residual-in_err-copy.ensures
-    (forget (row_kid ts _ c.loop-i.i _ k (frees (i.built ts at).frame) (c.in_err-copy.ensures.spends k.tree k.stands) (i.spends ts at)))
+    err_spends _ _ c.from_residual-in_err-copy.ensures (asks_of (kid_copy ts c.loop-i.i k.tree k.rest)
+    (forget (row_kid ts _ c.loop-i.i _ k (frees (i.built ts at).frame) (c.in_err-copy.ensures.spends k.tree k.stands) (i.spends ts at))))

@@ -1,10 +1,10 @@
 use Rattle.std.proofs.Common.{sym, subst, refl, ◌∙◌, arith, [], ◌∷◌}
 use Rattle.arena_chunks.specs.Frame.{Frame}
-use Rattle.arena_chunks.specs.declared.block.Block.{Block}
+use Rattle.arena_store.specs.declared.block.Block.{Block}
 use Rattle.arena_items.proofs.Layers.{row_is_layout, elements-empty}
 use Rattle.arena_tree.specs.NodeForms.{plain_88_8}
 use Rattle.arena_tree.specs.TreesAt.{node_item}
-use Rattle.arena_tree.proofs.SpendingLemmas.{spends_more, err_spends}
+use Rattle.arena_tree.proofs.SpendingLemmas.{spends_more, asks_any, asks_of, err_spends}
 use Rattle.arena_tree.proofs.SubtreeLemmas.{true_false}
 use Rattle.arena_tree.proofs.CloneListLemmas.{room_built}
 use Rattle.arena_tree.proofs.clone_list.roomy.Goals as goal
@@ -31,10 +31,10 @@ returns-clause-row g c =
 pub returns-clause-spends : goal.returns-clause-spends
 returns-clause-spends g c =
     let is = c.in-Some.ensures.value in
-    spends_more c.in_ok-block.ensures.spends (omega (arith, is.0, is.1)) (omega (arith, is.0, is.1))
+    asks_any (spends_more c.in_ok-block.ensures.spends (omega (arith, is.0, is.1)) (omega (arith, is.0, is.1)))
 
 pub returns-in_err-block-clause-spends : goal.returns-in_err-block-clause-spends
 returns-in_err-block-clause-spends g c =
     let is = c.in-Some.ensures.value in
-    err_spends _ _ c.from_residual.ensures
-    (spends_more c.in_err-block.ensures.spends (omega (arith, is.0, is.1)) (omega (arith, is.0, is.1)))
+    err_spends _ _ c.from_residual.ensures (asks_of (λ size align h. (h.0 ∙ is.0, h.1 ∙ is.1))
+    (spends_more c.in_err-block.ensures.spends (omega (arith, is.0, is.1)) (omega (arith, is.0, is.1))))

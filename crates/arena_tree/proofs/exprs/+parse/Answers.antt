@@ -1,5 +1,6 @@
 use Rattle.std.proofs.Common.{List, ◌∷◌, refl, arith}
-use Rattle.arena_tree.proofs.SpendingLemmas.{spends_nothing, spends_then, spends_more, frees, frees_then, range_length, err_up_to}
+use Rattle.arena_tree.proofs.AskedLemmas.{asked_list, asked_longer, asked_name}
+use Rattle.arena_tree.proofs.SpendingLemmas.{spends_nothing, spends_then, spends_more, asks_of, asks_any, frees, frees_then, range_length, err_up_to}
 use Rattle.arena_tree.proofs.PartCostLemmas.{kid_read, kid_negated}
 use Rattle.std.specs.Prelude.{slice_range}
 use Rattle.tree_rules.specs.Grammar.{ANumber, AName, InParens, Negated, OneFactor, Times, OneTerm, factor_tree, factors_tree, factor_trees}
@@ -29,7 +30,7 @@ factor-returns-in-Number-clause-tree g t c = record {
   part = ANumber c.in-Number.n;
   read = reads_token (state AtFactor) behind_factor c.in-Number.ensures (λ opens. refl);
   stopped = tt;
-  placed = number_placed _ _ _ c.number.ensures.kind c.number.ensures.number;
+  placed = number_placed _ _ _ c.number.ensures.node;
 }
 
 pub factor-returns-in_ok-name_node-in-Word-clause-tree : goal.factor-returns-in_ok-name_node-in-Word-clause-tree
@@ -75,7 +76,7 @@ term-loop-stop-init g t c =
     let star = c.in-Some.ensures.some in
     record {
       few = omega arith;
-      spends = spends_then k.spends l.spends (frees k.tree.placed.frame) (omega arith) (omega arith) (omega arith);
+      spends = asks_any (spends_then k.spends l.spends (frees k.tree.placed.frame) (omega arith) (omega arith) (omega arith));
       read = record {
         part = OneFactor k.tree.part;
         read = reads_then k.tree.read (reads_star star);
@@ -96,8 +97,8 @@ term-loop-stop-preserved g t c =
     let read = kid_read _ i.read.later k.tree.later i.spends k.spends (frees i.read.built.frame) in
     record {
       few = omega arith;
-      spends =
-          spends_then read put.spends (frees_then i.read.built.frame k.tree.placed.frame) (omega arith) (omega arith) (omega arith);
+      spends = asks_any
+          (spends_then read put.spends (frees_then i.read.built.frame k.tree.placed.frame) (omega arith) (omega arith) (omega arith));
       read = record {
         part = Times i.read.part k.tree.part;
         read = reads_then i.read.read (reads_then (reads_next k.tree.read) (reads_star star));
@@ -115,7 +116,7 @@ term-returns-in-None-clause-tree g t c =
       read = reads_then ks.read (reads_next k.read);
       stopped = c.in-None.ensures.none;
       placed = prod_placed _ _ _ _ _ (exprs_built _ _ _ _ (exprs_more (factor_trees ks.part) (factor_tree k.part)
-          (c.in_ok-push_node.ensures.row _ (OfExpr _) _ _ ks.built k.placed))) node.kind node.kids;
+          (c.in_ok-push_node.ensures.row _ (OfExpr _) _ _ ks.built k.placed))) node.kind node.kids node.rest;
     }
 
 -- ---- Expressions
@@ -132,7 +133,7 @@ expr-loop-stop-init g t c =
     let sign = c.in-Some.ensures.some in
     record {
       few = omega arith;
-      spends = spends_then k.spends l.spends (frees k.tree.placed.frame) (omega arith) (omega arith) (omega arith);
+      spends = asks_any (spends_then k.spends l.spends (frees k.tree.placed.frame) (omega arith) (omega arith) (omega arith));
       read = record {
         part = OneTerm k.tree.part;
         read = reads_then k.tree.read (reads_sign c.in-Some.minus sign);
@@ -156,7 +157,8 @@ expr-loop-stop-preserved g t c =
     let negated = kid_negated _ read c.in_ok-sign.ensures.spends (frees_then i.read.built.frame k.tree.placed.frame) in
     record {
       few = omega arith;
-      spends = spends_then negated put.spends (frees_then i.read.built.frame placed.frame) (omega arith) (omega arith) (omega arith);
+      spends = asks_any
+          (spends_then negated put.spends (frees_then i.read.built.frame placed.frame) (omega arith) (omega arith) (omega arith));
       read = record {
         part = joined minus i.read.part k.tree.part;
         read = reads_then (reads_terms minus i.read.part k.tree.part i.read.read k.tree.read) (reads_sign c.in-Some-sign_at.less sign);
@@ -175,7 +177,7 @@ expr-returns-in-None-clause-tree g t c =
       read = reads_terms minus ks.part k.part ks.read k.read;
       stopped = (k.stopped, c.in-None.ensures.none);
       placed = terms_placed minus ks.part k.part (terms_more minus ks.part k.part (c.in_ok-push_node.ensures.row _ (OfExpr _) _ _ ks.built
-          placed)) c.with_kids.ensures.kind c.with_kids.ensures.kids;
+          placed)) c.with_kids.ensures.kind c.with_kids.ensures.kids c.with_kids.ensures.rest;
     }
 
 -- ---- What it costs
@@ -188,20 +190,20 @@ pub factor-returns-in_ok-name_node-in-Word-clause-spends : goal.factor-returns-i
 factor-returns-in_ok-name_node-in-Word-clause-spends g t c =
     let word = c.in-Word.ensures in
     let few = range_length c.args.src.now c.in-Word.begin c.in-Word.end in
-    spends_more c.in_ok-name_node-in-Word.ensures.spends (omega arith) (omega arith)
+    asks_any (spends_more c.in_ok-name_node-in-Word.ensures.spends (omega arith) (omega arith))
 
 pub factor-returns-in_err-name_node-in-Word-clause-spends : goal.factor-returns-in_err-name_node-in-Word-clause-spends
 factor-returns-in_err-name_node-in-Word-clause-spends g t c =
     let word = c.in-Word.ensures in
     let few = range_length c.args.src.now c.in-Word.begin c.in-Word.end in
-    err_up_to _ _ _ _ c.from_residual.ensures
-    (spends_more c.in_err-name_node-in-Word.ensures.spends (omega arith) (omega arith))
+    err_up_to _ _ _ _ c.from_residual.ensures (asks_of (asked_name word.0)
+    (spends_more c.in_err-name_node-in-Word.ensures.spends (omega arith) (omega arith)))
 
 pub minus-returns-clause-spends : goal.minus-returns-clause-spends
 minus-returns-clause-spends g t c =
     let minus = c.requires.start in
     let k = c.in_ok-end.ensures in
-    spends_then k.spends c.in_ok-negate.ensures.spends (frees k.tree.placed.frame) (omega arith) (omega arith) (omega arith)
+    asks_any (spends_then k.spends c.in_ok-negate.ensures.spends (frees k.tree.placed.frame) (omega arith) (omega arith) (omega arith))
 
 pub minus-returns-in_err-end-clause-spends : goal.minus-returns-in_err-end-clause-spends
 minus-returns-in_err-end-clause-spends g t c =
@@ -213,8 +215,8 @@ pub minus-returns-in_err-negate-clause-spends : goal.minus-returns-in_err-negate
 minus-returns-in_err-negate-clause-spends g t c =
     let minus = c.requires.start in
     let k = c.in_ok-end.ensures in
-    err_up_to _ _ _ _ c.from_residual-in_err-negate.ensures
-    (spends_then k.spends c.in_err-negate.ensures.spends (frees k.tree.placed.frame) (omega arith) (omega arith) (omega arith))
+    err_up_to _ _ _ _ c.from_residual-in_err-negate.ensures (asks_of (asked_list 1 (omega (arith, k.tree.within, k.tree.later)))
+    (spends_then k.spends c.in_err-negate.ensures.spends (frees k.tree.placed.frame) (omega arith) (omega arith) (omega arith)))
 
 pub paren-returns-clause-spends : goal.paren-returns-clause-spends
 paren-returns-clause-spends g t c =
@@ -230,8 +232,9 @@ paren-returns-in_err-end-clause-spends g t c =
 pub term-returns-in_err-list-clause-spends : goal.term-returns-in_err-list-clause-spends
 term-returns-in_err-list-clause-spends g t c =
     let k = c.in_ok-end.ensures in
-    err_up_to _ _ _ _ c.from_residual-in_err-list.ensures
-    (spends_then k.spends c.in_err-list.ensures.spends (frees k.tree.placed.frame) (omega arith) (omega arith) (omega arith))
+    let star = c.in-Some.ensures.some in
+    err_up_to _ _ _ _ c.from_residual-in_err-list.ensures (asks_of (asked_list 2 (omega (arith, k.tree.later, star.later, star.within)))
+    (spends_then k.spends c.in_err-list.ensures.spends (frees k.tree.placed.frame) (omega arith) (omega arith) (omega arith)))
 
 pub term-returns-in_err-stop-clause-spends : goal.term-returns-in_err-stop-clause-spends
 term-returns-in_err-stop-clause-spends g t c =
@@ -245,22 +248,24 @@ term-returns-in_err-push_node-clause-spends g t c =
     let k = c.in_ok-stop.ensures in
     let read = kid_read _ i.read.later k.tree.later i.spends k.spends (frees i.read.built.frame) in
     err_up_to _ _ _ _ c.from_residual-in_err-push_node.ensures
+    (asks_of (asked_longer c.loop-stop.list.raw.len c.loop-stop.list.raw.cap (omega (arith, i.few, i.read.later, k.tree.later, k.tree.within)))
     (spends_then read c.in_err-push_node.ensures.spends (frees_then i.read.built.frame k.tree.placed.frame) (omega arith) (omega arith)
-    (omega arith))
+    (omega arith)))
 
 pub term-returns-in-None-clause-spends : goal.term-returns-in-None-clause-spends
 term-returns-in-None-clause-spends g t c =
     let i = c.loop-stop.invariant in
     let k = c.in_ok-stop.ensures in
     let read = kid_read _ i.read.later k.tree.later i.spends k.spends (frees i.read.built.frame) in
-    spends_then read c.in_ok-push_node.ensures.spends (frees_then i.read.built.frame k.tree.placed.frame) (omega arith) (omega arith)
-    (omega arith)
+    asks_any (spends_then read c.in_ok-push_node.ensures.spends (frees_then i.read.built.frame k.tree.placed.frame) (omega arith)
+    (omega arith) (omega arith))
 
 pub expr-returns-in_err-list-clause-spends : goal.expr-returns-in_err-list-clause-spends
 expr-returns-in_err-list-clause-spends g t c =
     let k = c.in_ok-end.ensures in
-    err_up_to _ _ _ _ c.from_residual-in_err-list.ensures
-    (spends_then k.spends c.in_err-list.ensures.spends (frees k.tree.placed.frame) (omega arith) (omega arith) (omega arith))
+    let sign = c.in-Some.ensures.some in
+    err_up_to _ _ _ _ c.from_residual-in_err-list.ensures (asks_of (asked_list 2 (omega (arith, k.tree.later, sign.later, sign.within)))
+    (spends_then k.spends c.in_err-list.ensures.spends (frees k.tree.placed.frame) (omega arith) (omega arith) (omega arith)))
 
 pub expr-returns-in_err-stop-clause-spends : goal.expr-returns-in_err-stop-clause-spends
 expr-returns-in_err-stop-clause-spends g t c =
@@ -273,9 +278,9 @@ expr-returns-in_err-sign-clause-spends g t c =
     let i = c.loop-stop.invariant in
     let k = c.in_ok-stop.ensures in
     let read = kid_read _ i.read.later k.tree.later i.spends k.spends (frees i.read.built.frame) in
-    err_up_to _ _ _ _ c.from_residual-in_err-sign.ensures
+    err_up_to _ _ _ _ c.from_residual-in_err-sign.ensures (asks_of (asked_list 1 (omega (arith, k.tree.later, k.tree.within)))
     (spends_then read c.in_err-sign.ensures.spends (frees_then i.read.built.frame k.tree.placed.frame) (omega arith) (omega arith)
-    (omega arith))
+    (omega arith)))
 
 pub expr-returns-in_err-push_node-clause-spends : goal.expr-returns-in_err-push_node-clause-spends
 expr-returns-in_err-push_node-clause-spends g t c =
@@ -285,8 +290,9 @@ expr-returns-in_err-push_node-clause-spends g t c =
     let read = kid_read _ i.read.later k.tree.later i.spends k.spends (frees i.read.built.frame) in
     let negated = kid_negated _ read c.in_ok-sign.ensures.spends (frees_then i.read.built.frame k.tree.placed.frame) in
     err_up_to _ _ _ _ c.from_residual-in_err-push_node.ensures
+    (asks_of (asked_longer c.loop-stop.list.raw.len c.loop-stop.list.raw.cap (omega (arith, i.few, i.read.later, k.tree.later, k.tree.within)))
     (spends_then negated c.in_err-push_node.ensures.spends (frees_then i.read.built.frame placed.frame) (omega arith) (omega arith)
-    (omega arith))
+    (omega arith)))
 
 pub expr-returns-in-None-clause-spends : goal.expr-returns-in-None-clause-spends
 expr-returns-in-None-clause-spends g t c =
@@ -295,5 +301,5 @@ expr-returns-in-None-clause-spends g t c =
     let placed = c.in_ok-sign.ensures.tree (factors_tree k.tree.part) c.loop-stop.a.memory k.tree.placed in
     let read = kid_read _ i.read.later k.tree.later i.spends k.spends (frees i.read.built.frame) in
     let negated = kid_negated _ read c.in_ok-sign.ensures.spends (frees_then i.read.built.frame k.tree.placed.frame) in
-    spends_then negated c.in_ok-push_node.ensures.spends (frees_then i.read.built.frame placed.frame) (omega arith) (omega arith)
-    (omega arith)
+    asks_any (spends_then negated c.in_ok-push_node.ensures.spends (frees_then i.read.built.frame placed.frame) (omega arith) (omega arith)
+    (omega arith))

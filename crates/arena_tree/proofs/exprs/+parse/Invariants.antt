@@ -21,8 +21,8 @@ decreases-term g l = 4 * (length l.src.now - l.at) + 1
 abbrev pub invariant-expr-loop-stop : goal.invariant-expr-loop-stop
 invariant-expr-loop-stop g l = record {
   read : AreTerms l.src l.at l.here l.minus l.fn.a.memory l.a.memory l.list;
-  few : l.list.raw.len ≤ l.here - l.at;
-  spends : SpendsOnList (l.here - l.at) l.fn.a l.a l.list;
+  few : 2 * l.list.raw.len ≤ l.here - l.at;
+  spends : SpendsOnList l.src (l.here - l.at) l.fn.a l.a l.list;
 }
 
 abbrev pub decreases-expr-loop-stop : goal.decreases-expr-loop-stop
@@ -31,8 +31,8 @@ decreases-expr-loop-stop g l = length l.src - l.here
 abbrev pub invariant-term-loop-stop : goal.invariant-term-loop-stop
 invariant-term-loop-stop g l = record {
   read : AreFactors l.src l.at l.here l.fn.a.memory l.a.memory l.list;
-  few : l.list.raw.len ≤ l.here - l.at;
-  spends : SpendsOnList (l.here - l.at) l.fn.a l.a l.list;
+  few : 2 * l.list.raw.len ≤ l.here - l.at;
+  spends : SpendsOnList l.src (l.here - l.at) l.fn.a l.a l.list;
 }
 
 abbrev pub decreases-term-loop-stop : goal.decreases-term-loop-stop

@@ -3,7 +3,7 @@ use Rattle.arena_clone.proofs.Layers.{same_places}
 use Rattle.arena_items.proofs.Layers.{same_then}
 use Rattle.arena_tree.specs.FoldingParts.{CanFold, CanFoldRow, kids_folded}
 use Rattle.arena_tree.proofs.SubtreeLemmas.{kids_at}
-use Rattle.arena_tree.proofs.FoldNodeLemmas.{leaf_folded, kids_can, kids_done, rule_done}
+use Rattle.arena_tree.proofs.FoldNodeLemmas.{leaf_folded, kids_can, kids_done, kids_done_lean, rule_done}
 use Rattle.arena_tree.proofs.FoldRowLemmas.{row_begins, turn_of, turn_whole, turn_can, row_next, held_still, set_list}
 use Rattle.arena_tree.proofs.fold.+fold.Goals as goal
 
@@ -38,12 +38,22 @@ fold_node-overflow_add-result g t c =
 pub fold_node-returns-in-Some-clause-folded : goal.fold_node-returns-in-Some-clause-folded
 fold_node-returns-in-Some-clause-folded g t c = λ tree whole.
     let kids = kids_done whole (sym c.has_kids.ensures ∙ c.if-not-has_kids.false) c.kids-list.ensures c.fold_row-count.ensures.folded in
-    rw c.replace.ensures (rule_done (Some c.in-Some.by) kids c.in-Some.ensures refl)
+    rw c.replace.ensures (rule_done (Some c.in-Some.by) kids c.in-Some.ensures.rule refl)
 
 pub fold_node-returns-in-None-clause-folded : goal.fold_node-returns-in-None-clause-folded
 fold_node-returns-in-None-clause-folded g t c = λ tree whole.
     let kids = kids_done whole (sym c.has_kids.ensures ∙ c.if-not-has_kids.false) c.kids-list.ensures c.fold_row-count.ensures.folded in
-    rule_done None kids c.in-None.ensures (omega arith)
+    rule_done None kids c.in-None.ensures.rule (omega arith)
+
+pub fold_node-returns-then-not-has_kids-clause-lean : goal.fold_node-returns-then-not-has_kids-clause-lean
+fold_node-returns-then-not-has_kids-clause-lean g t c = λ lean. lean
+
+pub fold_node-returns-in-Some-clause-lean : goal.fold_node-returns-in-Some-clause-lean
+fold_node-returns-in-Some-clause-lean g t c = λ lean.
+    rw c.replace.ensures (c.in-Some.ensures.lean (kids_done_lean c.kids-list.ensures c.fold_row-count.ensures.lean lean))
+
+pub fold_node-returns-in-None-clause-lean : goal.fold_node-returns-in-None-clause-lean
+fold_node-returns-in-None-clause-lean g t c = λ lean. kids_done_lean c.kids-list.ensures c.fold_row-count.ensures.lean lean
 
 -- ---- A list of nodes
 
@@ -77,7 +87,7 @@ fold_row-loop-i-preserved g t c =
       row = λ trees whole.
           let turn = turn_of (c.loop-i.i - 1) (omega (arith, c.loop-i-test.true)) (i.row trees whole) c.get-kid.ensures in
           row_next turn (held_still c.args.a.now.memory c.loop-i.a.memory c.args.list i.places.state c.requires.held)
-          (c.fold_node-count.ensures.folded turn.place.tree (turn_whole turn))
+          (c.fold_node-count.ensures.folded turn.place.tree (turn_whole turn)) c.fold_node-count.ensures.lean
           (record { frame = set.writes.frame; state = set.writes.state }) (set_list _ _ set.becomes);
       places = same_then c.args.a.now c.loop-i.a c.set.new.a i.places
           (same_then c.loop-i.a c.fold_node-count.new.a c.set.new.a c.fold_node-count.ensures.places set.becomes.places);
@@ -87,3 +97,8 @@ pub fold_row-returns-clause-folded : goal.fold_row-returns-clause-folded
 fold_row-returns-clause-folded g t c =
     let end : c.loop-i.i ≡ 0 = omega (arith, c.loop-i-test.false) in
     record { each = λ trees whole. (rw end at (c.loop-i.invariant.row trees whole)).row }
+
+pub fold_row-returns-clause-lean : goal.fold_row-returns-clause-lean
+fold_row-returns-clause-lean g t c =
+    let end : c.loop-i.i ≡ 0 = omega (arith, c.loop-i-test.false) in
+    (rw end at (c.loop-i.invariant.row c.requires.trees c.requires.whole)).lean

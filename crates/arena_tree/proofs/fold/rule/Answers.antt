@@ -1,7 +1,7 @@
 use Rattle.std.proofs.Common.{ap, true, false, Some, None}
 use Rattle.arena_tree.specs.Subtrees.{OfExpr, has_kids}
 use Rattle.arena_tree.proofs.SubtreeLemmas.{kids_at}
-use Rattle.arena_tree.proofs.FoldRuleLemmas.{other_stays, negation_is, neg_rule, total_rule}
+use Rattle.arena_tree.proofs.FoldRuleLemmas.{other_stays, negation_is, neg_rule, inner_lean, total_rule, total_lean}
 use Rattle.arena_tree.proofs.fold.rule.Goals as goal
 
 pub only_kid-kid-requires : goal.only_kid-kid-requires
@@ -18,20 +18,30 @@ total_node-requires g c = (kids_at c.requires.tree _ _ c.requires.stands (ap has
 pub total_node-requires-in-Prod : goal.total_node-requires-in-Prod
 total_node-requires-in-Prod g c = (kids_at c.requires.tree _ _ c.requires.stands (ap has_kids c.in-Prod.is)).held
 
-pub returns-in-Neg-kind : goal.returns-in-Neg-kind
-returns-in-Neg-kind g c =
+pub returns-in-Neg-kind-clause-rule : goal.returns-in-Neg-kind-clause-rule
+returns-in-Neg-kind-clause-rule g c =
     neg_rule _ _ _ (Some c.only_kid.result) c.in-Neg.is c.only_kid-kid.ensures (c.in-Neg-kind.is, c.only_kid.ensures)
 
-pub returns-in_default-kind : goal.returns-in_default-kind
-returns-in_default-kind g c =
+pub returns-in_default-kind-clause-rule : goal.returns-in_default-kind-clause-rule
+returns-in_default-kind-clause-rule g c =
     neg_rule _ _ _ None c.in-Neg.is c.only_kid-kid.ensures c.in_default-kind.not-Neg
 
-pub returns-in_default : goal.returns-in_default
-returns-in_default g c =
+pub returns-in_default-clause-rule : goal.returns-in_default-clause-rule
+returns-in_default-clause-rule g c =
     other_stays c.args.a.now.memory c.args.node c.in_default.not-Neg c.in_default.not-Sum c.in_default.not-Prod
 
-pub returns-in-Sum : goal.returns-in-Sum
-returns-in-Sum g c = total_rule false c.args.a.now.memory c.args.node c.total_node.result c.in-Sum.is c.total_node.ensures
+pub returns-in-Sum-clause-rule : goal.returns-in-Sum-clause-rule
+returns-in-Sum-clause-rule g c = total_rule false c.args.a.now.memory c.args.node c.total_node.result c.in-Sum.is c.total_node.ensures.total
 
-pub returns-in-Prod : goal.returns-in-Prod
-returns-in-Prod g c = total_rule true c.args.a.now.memory c.args.node c.total_node-in-Prod.result c.in-Prod.is c.total_node-in-Prod.ensures
+pub returns-in-Prod-clause-rule : goal.returns-in-Prod-clause-rule
+returns-in-Prod-clause-rule g c = total_rule true c.args.a.now.memory c.args.node c.total_node-in-Prod.result c.in-Prod.is c.total_node-in-Prod.ensures.total
+
+pub returns-in-Neg-kind-clause-lean : goal.returns-in-Neg-kind-clause-lean
+returns-in-Neg-kind-clause-lean g c = λ lean.
+    inner_lean c.args.a.now.memory c.args.node c.only_kid-kid.result c.only_kid.result c.only_kid-kid.ensures c.only_kid.ensures lean
+
+pub returns-in-Sum-clause-lean : goal.returns-in-Sum-clause-lean
+returns-in-Sum-clause-lean g c = λ lean. total_lean c.args.a.now.memory c.total_node.result c.total_node.ensures.number
+
+pub returns-in-Prod-clause-lean : goal.returns-in-Prod-clause-lean
+returns-in-Prod-clause-lean g c = λ lean. total_lean c.args.a.now.memory c.total_node-in-Prod.result c.total_node-in-Prod.ensures.number

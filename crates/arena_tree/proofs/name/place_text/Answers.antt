@@ -1,12 +1,12 @@
 use Rattle.std.proofs.Common.{◌≡◌, ℕ, ◌+◌, ◌-◌, ◌^◌, ◌≤◌, length, true, false, refl, sym, ◌∙◌, arith}
 use Rattle.std.specs.Prelude.{nat_le}
 use Rattle.std.proofs.lemmas.Bool.Decides.{nat_tests}
-use Rattle.placement.specs.Rounding.{up, is_layout, is_power, is_power_among}
+use Rattle.arena_rules.specs.Rounding.{up, is_layout, is_power, is_power_among}
 use Rattle.arena_items.specs.Layout.IsAlign.{one}
 use Rattle.arena_items.specs.LayoutLaws.{up-is}
 use Rattle.arena_chunks.proofs.Layers.{wrote_whole}
 use Rattle.arena_items.proofs.Layers.{wrote_same}
-use Rattle.arena_tree.proofs.SpendingLemmas.{spends_more}
+use Rattle.arena_tree.proofs.SpendingLemmas.{spends_more, asks_any, asks_of}
 use Rattle.arena_tree.proofs.BlockCostLemmas.{spends_same}
 use Rattle.arena_tree.proofs.CloneCostLemmas.{err_spends}
 use Rattle.arena_tree.proofs.name.place_text.Goals as goal
@@ -41,9 +41,10 @@ pub returns-clause-spends : goal.returns-clause-spends
 returns-clause-spends g c =
     let is = c.in-Some.ensures.value in
     spends_same (wrote_same _ _ c.in_ok-block.block 0 c.args.bytes.now c.write.ensures.writes c.write.ensures.source)
-    (spends_more c.in_ok-block.ensures.spends (omega arith) (omega arith))
+    (asks_any (spends_more c.in_ok-block.ensures.spends (omega arith) (omega arith)))
 
 pub returns-in_err-block-clause-spends : goal.returns-in_err-block-clause-spends
 returns-in_err-block-clause-spends g c =
     let is = c.in-Some.ensures.value in
-    err_spends _ _ c.from_residual.ensures (spends_more c.in_err-block.ensures.spends (omega arith) (omega arith))
+    err_spends _ _ c.from_residual.ensures (asks_of (λ size align h. (h.0 ∙ is.0, h.1 ∙ is.1))
+    (spends_more c.in_err-block.ensures.spends (omega arith) (omega arith)))

@@ -1,6 +1,6 @@
 use Rattle.std.proofs.Common.{ap, sym, ◌∙◌, ◌++◌}
 use Rattle.std.proofs.lemmas.Result.{on_ok_weaker}
-use Rattle.placement.proofs.NumberLemmas.{number-decimal}
+use Rattle.call_rules.proofs.NumberLemmas.{number-decimal}
 use Rattle.arena_tree.proofs.print.put_number.Goals as goal
 
 pub returns : goal.returns

@@ -1,7 +1,8 @@
 use Rattle.std.proofs.Common.{suc, refl, ap, ◌∙◌, ◌∷◌, arith, ◌+◌, ◌-◌}
 use Rattle.arena_tree.specs.Spending.{most_for, credit}
-use Rattle.arena_tree.proofs.SpendingLemmas.{spends_nothing, spends_then, spends_more, frees, frees_then, err_all, err_or_not}
-use Rattle.arena_chunks.specs.declared.block.Block.{Block}
+use Rattle.arena_tree.proofs.AskedLemmas.{asked_longer}
+use Rattle.arena_tree.proofs.SpendingLemmas.{asks_of, asks_any, spends_nothing, spends_then, spends_more, frees, frees_then, err_all, err_or_not}
+use Rattle.arena_store.specs.declared.block.Block.{Block}
 use Rattle.tree_rules.specs.Tokens.{LeftBrace}
 use Rattle.tree_rules.specs.Grammar.{BlockLine, Empty, Next, spell, line_tree, trees_of}
 use Rattle.arena_tree.specs.Subtrees.{OfStmt}
@@ -28,13 +29,15 @@ line-returns-in_ok-list-in-Block-clause-tree g t c =
     let close = reads_token (λ depth. at_line (suc depth)) at_line c.brace_at.ensures (λ depth. refl) in
     record {
       part = BlockLine k.part;
+      long = omega (arith, brace.later, k.later, close.later);
       read = record {
         tokens_are = brace.tokens_are ∙ ap (λ ts. LeftBrace ∷ ts) (k.tokens_are ∙ ap (spell k.part) close.tokens_are);
         passes = λ depth p. close.passes depth (k.passes (suc depth) (brace.passes depth p));
         later = omega (arith, brace.later, k.later, close.later);
         within = close.within;
       };
-      placed = block_placed _ _ _ _ _ (stmts_built _ _ _ _ k.built) c.with_kids.ensures.kind c.with_kids.ensures.kids;
+      placed = block_placed _ _ _ _ _ (stmts_built _ _ _ _ k.built) c.with_kids.ensures.kind c.with_kids.ensures.kids
+          c.with_kids.ensures.rest;
     }
 
 pub lines-loop-list-init : goal.lines-loop-list-init
@@ -63,7 +66,8 @@ lines-loop-list-preserved g t c =
     (frees i.read.built.frame) (omega arith) (omega arith) (omega arith) in
     record {
       few = omega arith;
-      spends = spends_then read push.spends (frees_then i.read.built.frame k.tree.placed.frame) (omega arith) (omega arith) (omega arith);
+      spends = asks_any
+          (spends_then read push.spends (frees_then i.read.built.frame k.tree.placed.frame) (omega arith) (omega arith) (omega arith));
       read = record {
         part = Next i.read.part k.tree.part;
         tokens_are = i.read.tokens_are ∙ ap (spell i.read.part) k.tree.tokens_are;
@@ -104,5 +108,7 @@ lines-returns-in_err-push_node-in-Some-clause-spends g t c =
     let k = rw c.in-Some.is at c.in_ok-line.ensures in
     let read = spends_then {all = most_for (c.in-Some.end - c.args.at)} {rest = 512 + credit c.loop-list.list} i.spends k.spends
     (frees i.read.built.frame) (omega arith) (omega arith) (omega arith) in
-    err_all _ _ _ _ c.from_residual-in_err-push_node-in-Some.ensures (spends_then read c.in_err-push_node-in-Some.ensures.spends
-    (frees_then i.read.built.frame k.tree.placed.frame) (omega arith) (omega arith) (omega arith))
+    err_all _ _ _ _ c.from_residual-in_err-push_node-in-Some.ensures
+    (asks_of (asked_longer c.loop-list.list.raw.len c.loop-list.list.raw.cap (omega (arith, i.few, k.tree.long, k.tree.within)))
+    (spends_then read c.in_err-push_node-in-Some.ensures.spends (frees_then i.read.built.frame k.tree.placed.frame) (omega arith)
+    (omega arith) (omega arith)))

@@ -1,5 +1,6 @@
 use Rattle.std.proofs.Common.{length, ◌+◌, ◌-◌, ◌*◌, ◌≤◌, None}
 use Rattle.arena_tree.specs.LineParts.{AreLines}
+use Rattle.arena_tree.specs.Layouts.{AskedFor}
 use Rattle.arena_tree.specs.Spending.{Spends, most_for, credit}
 use Rattle.arena_tree.proofs.program.+lines.Given as goal
 
@@ -12,8 +13,8 @@ decreases-lines g l = 2 * (length l.src.now - l.at) + 1
 abbrev pub invariant-lines-loop-list : goal.invariant-lines-loop-list
 invariant-lines-loop-list g l = record {
   read : AreLines l.src l.at l.here l.fn.a.memory l.a.memory l.list;
-  few : l.list.raw.len ≤ l.here - l.at;
-  spends : Spends (most_for (l.here - l.at)) 0 (credit l.list) l.fn.a l.a None;
+  few : 2 * l.list.raw.len ≤ l.here - l.at;
+  spends : Spends (AskedFor l.src) (most_for (l.here - l.at)) 0 (credit l.list) l.fn.a l.a None;
 }
 
 abbrev pub decreases-lines-loop-list : goal.decreases-lines-loop-list

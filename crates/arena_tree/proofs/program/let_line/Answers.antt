@@ -1,6 +1,7 @@
 use Rattle.std.proofs.Common.{arith, refl, ◌-◌}
 use Rattle.arena_tree.specs.Spending.{most_for}
-use Rattle.arena_tree.proofs.SpendingLemmas.{spends_then, spends_more, frees, frees_then, range_length, err_up_to}
+use Rattle.arena_tree.proofs.AskedLemmas.{asked_list, asked_name}
+use Rattle.arena_tree.proofs.SpendingLemmas.{asks_of, asks_any, spends_then, spends_more, frees, frees_then, range_length, err_up_to}
 use Rattle.std.specs.Prelude.{slice_range}
 use Rattle.tree_rules.specs.Trees.{NoExprs, And}
 use Rattle.tree_rules.specs.Grammar.{LetLine, terms_tree}
@@ -23,16 +24,17 @@ returns-clause-tree g c =
     let node = c.in_ok-wrap.ensures.tree _ _ e.placed in
     record {
       part = LetLine (slice_range c.args.src.now c.args.begin c.args.end) e.part;
+      long = omega (arith, c.requires.first.later, e.later, c.semicolon_at-last.ensures.later);
       read = reads_then c.requires.first (reads_value e.read c.semicolon_at-last.ensures);
       placed = let_node_placed _ _ _ _ _ _ _ _ text.held text.text text.frame (exprs_built (And (terms_tree e.part) NoExprs) _ _ _
-          node.1) node.0 refl refl;
+          node.1) node.0 refl refl node.2;
     }
 
 pub returns-in_err-name-clause-spends : goal.returns-in_err-name-clause-spends
 returns-in_err-name-clause-spends g c =
     let few = range_length c.args.src.now c.args.begin c.args.end in
-    err_up_to _ _ _ _ c.from_residual.ensures
-    (spends_more c.in_err-name.ensures.spends (omega arith) (omega arith))
+    err_up_to _ _ _ _ c.from_residual.ensures (asks_of (asked_name c.requires.word.1)
+    (spends_more c.in_err-name.ensures.spends (omega arith) (omega arith)))
 
 pub returns-in_err-stop-clause-spends : goal.returns-in_err-stop-clause-spends
 returns-in_err-stop-clause-spends g c =
@@ -49,7 +51,8 @@ returns-in_err-wrap-clause-spends g c =
     let read = spends_then {all = most_for (c.in_ok-stop.stop - c.args.at)} {rest = 512} text.spends e.spends (frees text.frame)
     (omega arith) (omega arith) (omega arith) in
     err_up_to _ _ _ _ c.from_residual-in_err-wrap.ensures
-    (spends_then read c.in_err-wrap.ensures.spends (frees_then text.frame e.tree.placed.frame) (omega arith) (omega arith) (omega arith))
+    (asks_of (asked_list 1 (omega (arith, e.tree.later, e.tree.within)))
+    (spends_then read c.in_err-wrap.ensures.spends (frees_then text.frame e.tree.placed.frame) (omega arith) (omega arith) (omega arith)))
 
 pub returns-clause-spends : goal.returns-clause-spends
 returns-clause-spends g c =
@@ -58,4 +61,5 @@ returns-clause-spends g c =
     let e = c.in_ok-stop.ensures in
     let read = spends_then {all = most_for (c.in_ok-stop.stop - c.args.at)} {rest = 512} text.spends e.spends (frees text.frame)
     (omega arith) (omega arith) (omega arith) in
-    spends_then read c.in_ok-wrap.ensures.spends (frees_then text.frame e.tree.placed.frame) (omega arith) (omega arith) (omega arith)
+    asks_any (spends_then read c.in_ok-wrap.ensures.spends (frees_then text.frame e.tree.placed.frame) (omega arith) (omega arith)
+    (omega arith))

@@ -1,5 +1,6 @@
 use Rattle.std.proofs.Common.{arith, refl}
-use Rattle.arena_tree.proofs.SpendingLemmas.{spends_then, frees, err_up_to}
+use Rattle.arena_tree.proofs.AskedLemmas.{asked_list}
+use Rattle.arena_tree.proofs.SpendingLemmas.{asks_of, asks_any, spends_then, frees, err_up_to}
 use Rattle.tree_rules.specs.Trees.{NoExprs, And}
 use Rattle.tree_rules.specs.Grammar.{ShowLine, terms_tree}
 use Rattle.arena_tree.specs.LineParts.{braces}
@@ -21,20 +22,21 @@ returns-clause-tree g c =
     let node = c.in_ok-wrap.ensures.tree _ _ e.placed in
     record {
       part = ShowLine e.part;
+      long = omega (arith, e.later, c.semicolon_at-last.ensures.later);
       read = record {
         tokens_are = r.tokens_are;
         passes = λ depth p. r.passes depth (c.requires.starts depth p);
         later = r.later;
         within = r.within;
       };
-      placed = show_placed _ _ _ _ _ (exprs_built (And (terms_tree e.part) NoExprs) _ _ _ node.1) node.0 refl;
+      placed = show_placed _ _ _ _ _ (exprs_built (And (terms_tree e.part) NoExprs) _ _ _ node.1) node.0 refl (node.2, node.3);
     }
 
 pub returns-in_err-wrap-clause-spends : goal.returns-in_err-wrap-clause-spends
 returns-in_err-wrap-clause-spends g c =
     let e = c.in_ok-stop.ensures in
-    err_up_to _ _ _ _ c.from_residual-in_err-wrap.ensures
-    (spends_then e.spends c.in_err-wrap.ensures.spends (frees e.tree.placed.frame) (omega arith) (omega arith) (omega arith))
+    err_up_to _ _ _ _ c.from_residual-in_err-wrap.ensures (asks_of (asked_list 1 (omega (arith, e.tree.later, e.tree.within)))
+    (spends_then e.spends c.in_err-wrap.ensures.spends (frees e.tree.placed.frame) (omega arith) (omega arith) (omega arith)))
 
 pub returns-in_err-stop-clause-spends : goal.returns-in_err-stop-clause-spends
 returns-in_err-stop-clause-spends g c =
@@ -43,4 +45,4 @@ returns-in_err-stop-clause-spends g c =
 pub returns-clause-spends : goal.returns-clause-spends
 returns-clause-spends g c =
     let e = c.in_ok-stop.ensures in
-    spends_then e.spends c.in_ok-wrap.ensures.spends (frees e.tree.placed.frame) (omega arith) (omega arith) (omega arith)
+    asks_any (spends_then e.spends c.in_ok-wrap.ensures.spends (frees e.tree.placed.frame) (omega arith) (omega arith) (omega arith))

@@ -51,7 +51,7 @@ fn are_held<K: CheckedKey, V: Checked + Item, C: ChunkSource>(
 ) -> bool
     requires { IsKept (kind K.Item K.key V.Item ⟦<FxHasher as KeyHasher>⟧.hash_of) a.now.memory map.now }
     ensures { IsTrue result → (map_of (kind K.Item K.key V.Item ⟦<FxHasher as KeyHasher>⟧.hash_of)
-        K.kind V.kind).is_held a.now.memory map.now }
+        ⟦<FxHasher as Default>⟧.is_default K.kind V.kind).is_held a.now.memory map.now }
 {
     for slot in 0..map.table.slots {
         let Some(pair) = map.pair_at(a, slot) else {

@@ -14,7 +14,7 @@ type Tree = Vec<Vec<Leaf>>;
 
 const BY: &By = &By::CloneInImpl(Without);
 
-#[tactic(auto, unfolding(placement::specs::Rounding::up, arena_items::specs::Layout::option_size))]
+#[tactic(auto, unfolding(arena_rules::specs::Rounding::up, arena_items::specs::Layout::option_size))]
 fn leaf<C: ChunkSource>(rt: &impl Abort, a: &mut Allocator<C>, text: Option<&str>) -> Leaf {
     let value = match text {
         Some(text) => Some(a.alloc_str(text).expect(rt, "a text")),
@@ -58,7 +58,7 @@ fn is_tree<C: ChunkSource>(rt: &impl Abort, a: &Allocator<C>, tree: Tree) -> boo
         && is(rt, a, leaf_of(rt, a, tree, 2, 0), Some("three"))
 }
 
-#[tactic(auto, unfolding(placement::specs::Rounding::up, arena_items::specs::Layout::option_size))]
+#[tactic(auto, unfolding(arena_rules::specs::Rounding::up, arena_items::specs::Layout::option_size))]
 fn put<C: ChunkSource>(rt: &impl Abort, a: &mut Allocator<C>, leaf: Leaf, value: Option<Str>) {
     let _ = read(rt, a, leaf);
     leaf.set(a, value);

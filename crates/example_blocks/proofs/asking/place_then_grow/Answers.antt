@@ -1,6 +1,6 @@
 use Rattle.std.proofs.Common.{◌≡◌, ℕ, ◌+◌, ◌^◌, ◌≤◌, refl, subst, ◌∙◌, arith, Err, IsTrue}
-use Rattle.placement.specs.Rounding.{is_power}
-use Rattle.placement.proofs.RoundingLemmas.{layout_power}
+use Rattle.arena_rules.specs.Rounding.{is_power}
+use Rattle.arena_rules.proofs.RoundingLemmas.{layout_power}
 use Rattle.arena_chunks.specs.Source.{View}
 use Rattle.arena_chunks.specs.Answers.{Answer, answer_of}
 use Rattle.arena_chunks.specs.Answers.Answer.{Placed, Refused}

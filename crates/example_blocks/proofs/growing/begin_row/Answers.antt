@@ -1,7 +1,7 @@
 use Rattle.std.proofs.Common.{ℕ, ◌+◌, ◌*◌, ◌^◌, ◌-◌, Ok, Err, refl, ap, ◌∙◌, arith}
 use Rattle.std.proofs.lemmas.Result.{err_from_is_err_and}
 use Rattle.arena_chunks.specs.BlockCalls.{PlacesBlock}
-use Rattle.arena_chunks.specs.declared.block.Block.{Block}
+use Rattle.arena_store.specs.declared.block.Block.{Block}
 use Rattle.arena_items.specs.declared.boxes.Box.{Box}
 use Rattle.arena_items.specs.Costs.{farthest}
 use Rattle.arena_items.specs.Room.{growth_error}

@@ -6,5 +6,5 @@ use Rattle.line_parts.proofs.hex.hex_bytes.Goals as goal
 pub returns-in-Ok : goal.returns-in-Ok
 returns-in-Ok c =
     let e = c.in_ok-items.ensures in
-    rw c.in-Ok.ensures (hex_some c.args.bytes.now c.in_ok-items.items.items c.in_ok-items.rest.now c.in_default.ensures e.there e.fit
+    rw c.in-Ok.ensures.value (hex_some c.args.bytes.now c.in_ok-items.items.items c.in_ok-items.rest.now c.in_default.ensures e.there e.fit
     e.all (λ none. grind (arith, nat_tests)))

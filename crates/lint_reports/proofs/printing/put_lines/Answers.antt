@@ -1,6 +1,6 @@
 use Rattle.std.proofs.Common.{[], ◌∷◌, ◌++◌, codes, ap, ◌∙◌}
 use Rattle.std.specs.List.{flat_map}
-use Rattle.placement.specs.Grammar.{fields}
+use Rattle.call_rules.specs.Grammar.{fields}
 use Rattle.lint_reports.specs.Room.{fed_finding}
 use Rattle.lint_reports.proofs.ReportLemmas.{finding_lines, only_line}
 use Rattle.lint_reports.proofs.printing.put_lines.Goals as goal

@@ -8,8 +8,8 @@ use super::super::same_at;
 use arena_chunks::ChunkSource;
 use arena_lint::{Gate, Linted, NoGate, lint_all, lint_parts};
 use arena_pool::{AllocatorPool, ChunkMaker, MOST_LENT, MemoryMaker, PoolKind, PoolName};
+use call_rules::Bytes;
 use lint_reports::{FileReport, Source, put_report, sources_of};
-use placement::Bytes;
 use std::alloc::{AllocError, Global};
 use std::marker::Brand;
 use std::process::Abort;
@@ -88,8 +88,8 @@ fn put_all<C: ChunkSource>(
     let mut text = Vec::new(alloc);
     let mut starved = 0u64;
     for (i, linted) in all.iter().enumerate() {
-        ok(put_report(&mut text, i as u64, &linted.outcome))?;
-        let is_refused = matches!(linted.outcome, FileReport::Refused);
+        ok(put_report(&mut text, i as u64, &linted.report))?;
+        let is_refused = matches!(linted.report, FileReport::Refused);
         assert!(rt; linted.starved.is_some() == is_refused);
         if is_refused {
             starved = starved.saturating_add(1);

@@ -3,7 +3,7 @@ use super::super::reports::ok;
 use super::super::{ample, same_at};
 use super::kept::Both;
 use arena_symbols::{Call, Reply};
-use placement::Bytes;
+use call_rules::Bytes;
 use std::alloc::Global;
 use std::process::Abort;
 use std::test::Fail;

@@ -3,7 +3,7 @@ ghost use Rattle.arena_tree.specs.Given.{IsTreeIn};
 
 use arena_chunks::{Allocator, ChunkSource};
 use arena_tree::{Tree, TreeErr};
-use placement::Bytes;
+use call_rules::Bytes;
 use std::alloc::Global;
 use std::marker::Model;
 use std::process::Abort;

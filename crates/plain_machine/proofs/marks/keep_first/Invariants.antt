@@ -1,5 +1,5 @@
 use Rattle.std.proofs.Common.{◌≡◌}
-use Rattle.placement.specs.Back.{first_chunks}
+use Rattle.arena_rules.specs.Back.{first_chunks}
 use Rattle.plain_machine.proofs.marks.keep_first.Given as goal
 
 abbrev pub invariant-loop-chunks : goal.invariant-loop-chunks

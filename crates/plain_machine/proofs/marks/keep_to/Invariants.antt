@@ -1,5 +1,5 @@
 use Rattle.std.proofs.Common.{◌≡◌}
-use Rattle.placement.specs.Machine.{marks_to}
+use Rattle.call_rules.specs.Machine.{marks_to}
 use Rattle.plain_machine.proofs.marks.keep_to.Given as goal
 
 abbrev pub invariant-loop-mark : goal.invariant-loop-mark

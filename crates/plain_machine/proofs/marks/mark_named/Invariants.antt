@@ -1,5 +1,5 @@
 use Rattle.std.proofs.Common.{◌≡◌, ◌-◌, drop, length}
-use Rattle.placement.specs.Machine.{mark_named}
+use Rattle.call_rules.specs.Machine.{mark_named}
 use Rattle.plain_machine.proofs.marks.mark_named.Given as goal
 
 abbrev pub invariant-loop-i : goal.invariant-loop-i

@@ -1,12 +1,12 @@
 use Rattle.std.proofs.Common.{sym, arith}
 use Rattle.std.proofs.lemmas.Grind.{common_steps}
-use Rattle.placement.proofs.SearchLemmas.{entries_pass, entries_next, entries_end}
+use Rattle.arena_rules.proofs.SearchLemmas.{entries_pass, entries_next, entries_end}
 use Rattle.plain_machine.proofs.search.entries.Goals as goal
-use Rattle.plain_machine.proofs.search.entries.Goals.{in-Some+else-is_err, in_default}
+use Rattle.plain_machine.proofs.search.entries.Goals.{in-Some+in_ok-push, in_default}
 
 pub loop-tried-preserved : goal.loop-tried-preserved
 loop-tried-preserved c = elim c.match-possible.branch [
-  | in-Some+else-is_err w ↦
+  | in-Some+in_ok-push w ↦
       let next = entries_next c.args.base c.args.layout.size c.args.layout.align c.loop-tried.tried c.args.least w.in-Some.entry
       (omega arith) c.requires c.loop-tried-test.true (sym w.in-Some.ensures) in
       grind (arith, common_steps, next)

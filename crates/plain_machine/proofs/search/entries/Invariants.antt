@@ -1,5 +1,5 @@
 use Rattle.std.proofs.Common.{◌+◌, ◌-◌, ◌≡◌, ◌++◌}
-use Rattle.placement.specs.Search.{entries}
+use Rattle.arena_rules.specs.Search.{entries}
 use Rattle.plain_machine.proofs.search.entries.Given as goal
 
 -- what is asked for so far, and the entries from the size tried now on

@@ -1,6 +1,6 @@
 use Rattle.std.proofs.Common.{◌≡◌, ◌∙◌, ◌++◌, ◌+◌, [], ◌∷◌, ap, sym, arith, append_assoc, append-nil}
 use Rattle.std.proofs.lemmas.Grind.{common_steps}
-use Rattle.placement.specs.Bits.{members}
+use Rattle.arena_rules.specs.Bits.{members}
 use Rattle.script_rules.specs.Objects.{has}
 use Rattle.plain_scripts.proofs.LoopLemmas.{members_with, members_without, members_none}
 use Rattle.plain_scripts.proofs.bits.members.Goals as goal

@@ -1,5 +1,5 @@
 use Rattle.std.proofs.Common.{◌≡◌, ◌++◌}
-use Rattle.placement.specs.Bits.{members}
+use Rattle.arena_rules.specs.Bits.{members}
 use Rattle.script_rules.specs.Objects.{has}
 use Rattle.plain_scripts.proofs.bits.members.Given as goal
 

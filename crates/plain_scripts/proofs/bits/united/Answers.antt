@@ -1,5 +1,5 @@
 use Rattle.std.proofs.Common.{ap, sym, ◌∙◌}
-use Rattle.placement.proofs.MapLemmas.{tree_entries}
+use Rattle.call_rules.proofs.MapLemmas.{tree_entries}
 use Rattle.script_rules.specs.Objects.{united}
 use Rattle.plain_scripts.proofs.bits.united.Goals as goal
 

@@ -1,5 +1,5 @@
 use Rattle.std.proofs.Common.{◌≡◌}
-use Rattle.placement.specs.PrintedBits.{highest}
+use Rattle.arena_rules.specs.PrintedBits.{highest}
 use Rattle.script_rules.specs.Objects.{has}
 use Rattle.plain_scripts.proofs.printed.highest.Given as goal
 

@@ -1,5 +1,5 @@
 use Rattle.std.proofs.Common.{◌≡◌, ◌++◌}
-use Rattle.placement.specs.PrintedBits.{digits}
+use Rattle.arena_rules.specs.PrintedBits.{digits}
 use Rattle.script_rules.specs.Objects.{has}
 use Rattle.plain_scripts.proofs.printed.push_digits.Given as goal
 

@@ -1,6 +1,6 @@
 use Rattle.std.proofs.Common.{ℕ, List, [], ◌∷◌, ap, sym, ◌∙◌, append-nil}
 use Rattle.std.specs.List.{flat_map}
-use Rattle.placement.proofs.MapLemmas.{tree_entries}
+use Rattle.call_rules.proofs.MapLemmas.{tree_entries}
 use Rattle.plain_scripts.proofs.whole.listed.Goals as goal
 
 pub returns : goal.returns

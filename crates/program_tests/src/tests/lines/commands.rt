@@ -1,6 +1,6 @@
 // What lines of scripts say, and which are refused.
 use crate::tests::holds;
-use placement::Bytes;
+use call_rules::Bytes;
 use script_lines::{LinesErr, parse_scripts};
 use script_rules::{Command, Script};
 use std::alloc::Global;

@@ -1,6 +1,6 @@
 // The text of outcomes.
 use crate::tests::holds;
-use placement::Bytes;
+use call_rules::Bytes;
 use script_lines::put_outcomes;
 use script_rules::{Ended, Numbers, Outcome, Replies, ScriptReply};
 use std::alloc::Global;

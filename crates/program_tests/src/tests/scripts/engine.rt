@@ -1,14 +1,14 @@
 // The engine on the tables of the rules: in an arena that grows, in arenas that don't, of more and more bytes, and over
 // sources that refuse one request after another.
 ghost use Rattle.std.specs.Prelude.{◌≡◌, IfOk};
-ghost use Rattle.placement.specs.State.{used_bytes};
+ghost use Rattle.arena_rules.specs.State.{used_bytes};
 
 use super::tables::tables;
 use super::{plain, script_of};
 use crate::tests::holds;
 use arena_chunks::{Allocator, ChunkSource, MemoryChunks, RefusingChunks};
+use arena_rules::OutOfMemory;
 use arena_script::run_script;
-use placement::OutOfMemory;
 use script_rules::{Ended, Outcome, Script, ScriptReply};
 use std::alloc::Global;
 use std::process::Abort;

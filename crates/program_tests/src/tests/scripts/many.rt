@@ -3,7 +3,7 @@
 use super::engine::{cost_of, fixed, refusing, run};
 use crate::tests::holds;
 use arena_chunks::{Allocator, MemoryChunks};
-use placement::OutOfMemory;
+use arena_rules::OutOfMemory;
 use plain_scripts::PlainScripts;
 use script_rules::{Command, Ended, Outcome, Script, ScriptReply};
 use std::alloc::Global;

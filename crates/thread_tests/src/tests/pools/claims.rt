@@ -13,8 +13,8 @@ const WORKERS: usize = 64;
 
 const WORDS: u32 = 10_000;
 
-// Claims one word after another. Before each a new seat looks at every word, tries the last one, and is joined: whether
-// by none of these calls any word was claimed, or let go.
+// Claims one word after another. Before each a new seat looks at every word; afterwards it tries the word, and is joined: whether by
+// none of its calls any word was claimed, or let go.
 fn one_after_another(claims: &Claims, seat: ClaimSeat, words: u32) -> bool
     requires seat { seat.table ≡ claims.now }
     requires words { words ≤ claims.now.words }
@@ -27,13 +27,10 @@ fn one_after_another(claims: &Claims, seat: ClaimSeat, words: u32) -> bool
                 return false;
             }
         }
-        if word > 0 && claims.claim(&mut other, word - 1) {
+        if !claims.claim(&mut seat, word) || claims.claim(&mut other, word) {
             return false;
         }
         claims.join(&mut seat, other);
-        if !claims.claim(&mut seat, word) {
-            return false;
-        }
     }
     true
 }

@@ -5,7 +5,7 @@ ghost use Rattle.arena_pool.specs.Names.{IsBlankOf};
 ghost use Rattle.arena_pool.specs.declared.kind.PoolKind.{PoolKind};
 ghost use Rattle.arena_pool.specs.declared.kind.PoolKind.TheVariants.{Standard};
 
-use super::{All, SMALL, are_counts, is_nine, marks, places};
+use super::{All, SMALL, are_counts, is_nine, places};
 use crate::tests::{Plan, holds, pool_of, unlimited};
 use arena_chunks::{Allocator, ChunkSource};
 use arena_place::Layout;
@@ -44,8 +44,8 @@ struct Borrow {
     id: Option<u32>,
     // Its bytes when it is lent.
     capacity: u64,
-    // The bytes of a block that is placed in it behind one of 32 bytes.
-    further: u64,
+    // The bytes of a block that is placed in it behind one of a byte, if there is one.
+    further: Option<u64>,
     gives_up: bool,
     // The pool's counts while it is held, and afterwards.
     held: All,
@@ -57,14 +57,16 @@ fn id_of<K: ChunkMaker, L: PoolName>(guard: &AllocatorGuard<'_, K, L>) -> Option
     guard.fixed_size_metadata().map(|metadata| metadata.id)
 }
 
-// Whether an arena has so many bytes, and places for a block that is marked and for a further one.
+// Whether an arena has so many bytes, of which none is used, and places for a block of a byte and for a further one.
 fn has_places<C: ChunkSource>(a: &mut Allocator<C>, row: &Borrow) -> bool
     ensures { (kind : PoolKind) → IsOfKind kind a.old.memory.state → IsOfKind kind a.new.memory.state }
 {
-    let is_large = a.capacity() == row.capacity;
-    let is_marked = marks(a, 1);
-    let is_placed = places(a, row.further);
-    is_large && is_marked && is_placed
+    let is_unused = a.used_bytes() == 0 && a.capacity() == row.capacity;
+    let is_placed = places(a, 1);
+    match row.further {
+        Some(size) => places(a, size) && is_placed && is_unused,
+        None => is_placed && is_unused,
+    }
 }
 
 // The same of the arena of a guard that is lent, with its id.
@@ -103,7 +105,7 @@ const BORROWS: &[(Plan, &[Borrow])] = &[
             Borrow {
                 id: Some(0),
                 capacity: 64,
-                further: 0,
+                further: None,
                 gives_up: false,
                 held: (1, 0, 1, 0),
                 after: (1, 1, 0, 0),
@@ -111,12 +113,28 @@ const BORROWS: &[(Plan, &[Borrow])] = &[
             Borrow {
                 id: Some(0),
                 capacity: 64,
-                further: 0,
+                further: None,
                 gives_up: true,
                 held: (1, 0, 1, 0),
                 after: (1, 0, 0, 1),
             },
         ],
+    ),
+    // A pool without an arena makes one.
+    (
+        Plan {
+            kind: PoolKind::Standard,
+            limit: None,
+            arenas: 0,
+        },
+        &[Borrow {
+            id: None,
+            capacity: 0,
+            further: None,
+            gives_up: false,
+            held: (1, 0, 1, 0),
+            after: (1, 1, 0, 0),
+        }],
     ),
     // The arena comes back with its first chunk, of 16320 bytes, and then with one more, which passes the limit.
     (
@@ -129,7 +147,7 @@ const BORROWS: &[(Plan, &[Borrow])] = &[
             Borrow {
                 id: None,
                 capacity: 0,
-                further: 0,
+                further: None,
                 gives_up: false,
                 held: (1, 0, 1, 0),
                 after: (1, 1, 0, 0),
@@ -137,7 +155,7 @@ const BORROWS: &[(Plan, &[Borrow])] = &[
             Borrow {
                 id: None,
                 capacity: 16320,
-                further: 16320,
+                further: Some(16320),
                 gives_up: false,
                 held: (1, 0, 1, 0),
                 after: (1, 0, 0, 1),
@@ -145,7 +163,7 @@ const BORROWS: &[(Plan, &[Borrow])] = &[
             Borrow {
                 id: None,
                 capacity: 0,
-                further: 0,
+                further: None,
                 gives_up: false,
                 held: (2, 0, 1, 1),
                 after: (2, 1, 0, 1),

@@ -4,10 +4,8 @@ ghost use Rattle.arena_pool.specs.Names.{IsBlankOf};
 ghost use Rattle.arena_pool.specs.declared.kind.PoolKind.TheVariants.{Standard, FixedSize};
 
 use super::{VALUES, are_values, is_nine, marks};
-use crate::tests::holds;
-use arena_pool::{
-    ChunkMaker, FixedSizeAllocatorPool, MOST_LENT, MemoryMaker, PoolName, StandardAllocatorPool,
-};
+use crate::tests::{Counted, holds};
+use arena_pool::{ChunkMaker, FixedSizeAllocatorPool, MOST_LENT, PoolName, StandardAllocatorPool};
 use example_collections::{
     all_through_fixed, all_through_standard, through_fixed, through_standard,
 };
@@ -15,41 +13,57 @@ use std::alloc::Global;
 use std::marker::Brand;
 use std::process::Abort;
 use std::sync::Wait;
+use std::sync::atomic::{AtomicU64, Ordering};
 use std::sync::ledger::Blank;
 use std::test::*;
 use std::thread::Threads;
 
-// Two arenas are lent at once: with one alone this would wait without end.
-fn two_are_lent<K: ChunkMaker, L: PoolName, R: Wait + Abort>(
+// A pool's maker was asked for so many sources: one for each arena that was made.
+fn are_made(rt: &impl Abort, made: &AtomicU64, arenas: u32) {
+    let count = made.load(Ordering::SeqCst);
+    holds(rt, count == u64::from(arenas), "a source for each arena");
+}
+
+// Three arenas are lent at once: with two alone this would wait without end.
+fn three_are_lent<K: ChunkMaker, L: PoolName, R: Wait + Abort>(
+    rt: &R,
+    pool: &FixedSizeAllocatorPool<K, L>,
+) {
+    let Ok((first, first_loan)) = pool.get(rt) else {
+        unreachable!()
+    };
+    let Ok((second, second_loan)) = pool.get(rt) else {
+        unreachable!()
+    };
+    let Ok((third, third_loan)) = pool.get(rt) else {
+        unreachable!()
+    };
+    pool.add(rt, second, second_loan);
+    pool.add(rt, first, first_loan);
+    pool.add(rt, third, third_loan);
+}
+
+// An arena is lent, and comes back with a marked block. Then one of which nothing is used is lent, and doesn't come back.
+fn one_comes_back<K: ChunkMaker, L: PoolName, R: Wait + Abort>(
     rt: &R,
     pool: &FixedSizeAllocatorPool<K, L>,
 ) {
     let Ok((mut arena, loan)) = pool.get(rt) else {
         unreachable!()
     };
-    let Ok((other, other_loan)) = pool.get(rt) else {
-        unreachable!()
-    };
-    pool.add(rt, other, other_loan);
     holds(rt, marks(&mut arena, 3), "a marked block");
     pool.add(rt, arena, loan);
-}
-
-// An arena of which nothing is used is lent, and doesn't come back.
-fn one_is_lost<K: ChunkMaker, L: PoolName, R: Wait + Abort>(
-    rt: &R,
-    pool: &FixedSizeAllocatorPool<K, L>,
-) {
     let Ok((arena, loan)) = pool.get(rt) else {
         unreachable!()
     };
-    pool.forget(rt, loan);
     holds(rt, arena.used_bytes() == 0, "an empty arena");
+    pool.forget(rt, loan);
 }
 
-fn loans_of_two<L: PoolName + Send + Sync, R: Threads + Wait + Abort + Sync>(
+fn loans_of<L: PoolName + Send + Sync, R: Threads + Wait + Abort + Sync>(
     rt: &R,
     alloc: Global,
+    arenas: u32,
     bytes: u64,
     blank: Blank,
 )
@@ -59,13 +73,18 @@ fn loans_of_two<L: PoolName + Send + Sync, R: Threads + Wait + Abort + Sync>(
     requires units { bytes % 16 ≡ 0 }
     requires room { 48 ≤ bytes }
 {
-    let maker = MemoryMaker::new(alloc, 0);
-    let made = FixedSizeAllocatorPool::<MemoryMaker, L>::new(alloc, 2, bytes, maker, blank);
-    let pool = made.ok().expect(rt, "a pool");
+    let made = AtomicU64::new(0);
+    let maker = Counted { alloc, made: &made };
+    let pool = FixedSizeAllocatorPool::<Counted<'_>, L>::new(alloc, arenas, bytes, maker, blank);
+    let pool = pool.ok().expect(rt, "a pool");
+    are_made(rt, &made, arenas);
+    if arenas == 3 {
+        three_are_lent(rt, &pool);
+    }
     is_nine(rt, through_fixed(rt, &pool, 9u32));
-    two_are_lent(rt, &pool);
     are_values(rt, all_through_fixed(rt, alloc, &pool, &VALUES));
-    one_is_lost(rt, &pool);
+    one_comes_back(rt, &pool);
+    are_made(rt, &made, arenas);
 }
 
 // The arena of before is lent, with its chunk, and doesn't come back.
@@ -99,18 +118,23 @@ fn loans_without_end<L: PoolName + Send + Sync, R: Threads + Wait + Abort + Sync
     requires kind { L.kind ≡ Standard }
     requires limit { L.limit ≡ None }
 {
-    let maker = MemoryMaker::new(alloc, 1 << 20);
-    let made = StandardAllocatorPool::<MemoryMaker, L>::new(alloc, arenas, maker, blank);
-    let pool = made.ok().expect(rt, "a pool");
+    let made = AtomicU64::new(0);
+    let maker = Counted { alloc, made: &made };
+    let pool = StandardAllocatorPool::<Counted<'_>, L>::new(alloc, arenas, maker, blank);
+    let pool = pool.ok().expect(rt, "a pool");
+    are_made(rt, &made, arenas);
     is_nine(rt, through_standard(rt, &pool, 9u32));
     first_is_lost(rt, &pool);
     next_is_new(rt, &pool);
+    are_made(rt, &made, 2);
     are_values(rt, all_through_standard(rt, alloc, &pool, &VALUES));
 }
 
 #[test]
 fn loans(rt: HostRuntime) {
-    loans_of_two::<Brand, _>(&rt, rt.alloc(), 112, Blank::new(MOST_LENT));
+    for arenas in [1, 3] {
+        loans_of::<Brand, _>(&rt, rt.alloc(), arenas, 112, Blank::new(MOST_LENT));
+    }
     for arenas in [0, 2] {
         loans_without_end::<Brand, _>(&rt, rt.alloc(), arenas, Blank::new(MOST_LENT));
     }

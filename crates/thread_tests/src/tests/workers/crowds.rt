@@ -4,18 +4,17 @@ ghost use Rattle.arena_pool.specs.Names.{IsBlankOf};
 ghost use Rattle.arena_pool.specs.declared.kind.PoolKind.{PoolKind};
 
 use super::over::over_pool;
+use super::stages::Stages;
 use super::{are_at_rest, are_replies, is_alone, is_done, is_vast, scripts};
 use crate::tests::{Plan, holds, pool_of, unlimited};
-use arena_chunks::{Allocator, ChunkSource};
+use arena_chunks::ChunkSource;
 use arena_pool::{AllocatorPool, ChunkMaker, Counts, MOST_LENT, MemoryMaker, PoolKind, PoolName};
-use arena_script::{Job, run_script};
-use script_rules::{Ended, Outcome, Script};
-use script_workers::{Gate, Served, Starved};
+use script_rules::Ended;
+use script_workers::{Served, Starved};
 use std::alloc::Global;
 use std::marker::Brand;
 use std::process::Abort;
 use std::sync::Wait;
-use std::sync::atomic::{AtomicU64, Ordering};
 use std::sync::ledger::Blank;
 use std::test::*;
 use std::thread::Threads;
@@ -32,50 +31,6 @@ fn is_starved<C: ChunkSource>(served: &Served<C>, number: usize, kind: PoolKind)
             Some(Starved::Refused(_)) => kind == PoolKind::Standard && ended == Ended::Refused,
             Some(Starved::Grown(_)) => false,
         }
-}
-
-/// Counts what it is told: how often a script was run, began and was finished.
-#[derive(Drop)]
-struct Tally {
-    runs: AtomicU64,
-    started: AtomicU64,
-    finished: AtomicU64,
-}
-
-impl Tally {
-    fn new() -> Tally {
-        Tally {
-            runs: AtomicU64::new(0),
-            started: AtomicU64::new(0),
-            finished: AtomicU64::new(0),
-        }
-    }
-
-    // Whether each count is this one.
-    fn is(&self, count: usize) -> bool {
-        [&self.runs, &self.started, &self.finished]
-            .iter()
-            .all(|one| one.load(Ordering::SeqCst) == count as u64)
-    }
-}
-
-impl Gate for Tally {
-    fn started(&self, _piece: u32) {
-        self.started.fetch_add(1, Ordering::SeqCst);
-    }
-
-    fn finished(&self, _piece: u32) {
-        self.finished.fetch_add(1, Ordering::SeqCst);
-    }
-}
-
-impl<C: ChunkSource> Job<C> for Tally {
-    ghost worked = { λ script outcome. Unit {0} };
-
-    fn run(&self, alloc: Global, a: &mut Allocator<C>, script: &Script) -> Outcome {
-        self.runs.fetch_add(1, Ordering::SeqCst);
-        run_script(alloc, a, script)
-    }
 }
 
 // Scripts by so many workers over a pool.
@@ -119,10 +74,10 @@ fn crowd<K: ChunkMaker + Drop + Send, L: PoolName + Send + Sync, R: Threads + Wa
     vast: usize,
 ) -> Result<(), Fail> {
     let scripts = scripts(alloc, row.scripts, 65, vast)?;
-    let tally = Tally::new();
-    let (all, counts) = over_pool(rt, alloc, pool, row.workers, &tally, &tally, &scripts);
+    let stages = Stages::of(alloc, row.scripts)?;
+    let (all, counts) = over_pool(rt, alloc, pool, row.workers, &stages, &stages, &scripts);
     holds(rt, all.len() == row.scripts, "an outcome for each script");
-    holds(rt, tally.is(row.scripts), "one run of each script");
+    holds(rt, stages.are_over(), "each script in its turn, and once");
     are_alone(rt, row.plan, vast, &all, counts);
     Ok(())
 }

@@ -1,32 +1,37 @@
-// Gates: two workers run at once, since the first waits at its script's begin until the second has finished its own.
+// Gates: workers run at once, since all but the last wait at their scripts' begin until the last has finished its own.
 use super::over::over_new;
 use super::{is_alone, is_done, scripts};
 use crate::tests::{holds, says, unlimited};
 use arena_pool::{MemoryMaker, PoolKind};
 use arena_script::Engine;
 use script_workers::{Gate, ScriptsErr};
+use std::alloc::Global;
+use std::process::Abort;
+use std::sync::Wait;
 use std::sync::atomic::{AtomicU64, Ordering};
 use std::test::*;
 use std::thread;
+use std::thread::Threads;
 
-/// So often the first script looks whether the second has finished.
+/// So often a script looks whether the last has finished.
 const TURNS: u32 = 1_000_000;
 
-/// Holds the first script until the second has finished, and notes that it has.
+/// Holds each script until the last has finished, and counts those that saw it.
 #[derive(Drop)]
-struct FirstAfterSecond {
+struct AfterTheLast {
+    last: u32,
     finished: AtomicU64,
     seen: AtomicU64,
 }
 
-impl Gate for FirstAfterSecond {
+impl Gate for AfterTheLast {
     fn started(&self, piece: u32) {
-        if piece > 0 {
+        if piece == self.last {
             return;
         }
         for _ in 0..TURNS {
             if self.finished.load(Ordering::SeqCst) == 1 {
-                self.seen.store(1, Ordering::SeqCst);
+                self.seen.fetch_add(1, Ordering::SeqCst);
                 return;
             }
             thread::yield_now();
@@ -34,32 +39,40 @@ impl Gate for FirstAfterSecond {
     }
 
     fn finished(&self, piece: u32) {
-        if piece == 1 {
+        if piece == self.last {
             self.finished.store(1, Ordering::SeqCst);
         }
     }
 }
 
-#[test]
-fn two_workers_run_at_once(rt: HostRuntime) -> Result<(), Fail> {
-    let alloc = rt.alloc();
-    let plan = unlimited(PoolKind::Standard, 2);
+// As many workers as scripts, and as arenas at first: all but the last script wait for it.
+fn run_at_once<R: Threads + Wait + Abort + Sync>(
+    rt: &R,
+    alloc: Global,
+    workers: u32,
+) -> Result<(), Fail> {
+    let plan = unlimited(PoolKind::Standard, workers);
     let maker = MemoryMaker::new(alloc, 1 << 20);
-    let gate = FirstAfterSecond {
+    let gate = AfterTheLast {
+        last: workers.saturating_sub(1),
         finished: AtomicU64::new(0),
         seen: AtomicU64::new(0),
     };
-    let scripts = scripts(alloc, 2, 65, 0)?;
-    let (all, _) = over_new(&rt, alloc, plan, maker, 2, &gate, &Engine, &scripts);
-    holds(&rt, all.len() == 2, "an outcome for each script");
+    let scripts = scripts(alloc, workers as usize, 65, 0)?;
+    let (all, _) = over_new(rt, alloc, plan, maker, workers, &gate, &Engine, &scripts);
     for (i, served) in all.iter().enumerate() {
-        is_alone(&rt, is_done(served, i), i);
+        is_alone(rt, is_done(served, i), i);
     }
-    holds(
-        &rt,
-        gate.seen.load(Ordering::SeqCst) == 1,
-        "the second script first",
-    );
+    let seen = gate.seen.load(Ordering::SeqCst);
+    holds(rt, seen == u64::from(gate.last), "the last script first");
+    Ok(())
+}
+
+#[test]
+fn workers_run_at_once(rt: HostRuntime) -> Result<(), Fail> {
+    for workers in [2, 3] {
+        run_at_once(&rt, rt.alloc(), workers)?;
+    }
     Ok(())
 }
 

@@ -1,6 +1,6 @@
 use Rattle.std.proofs.Common.{◌≡◌, ◌++◌, ◌∷◌, [], inr, ◌∙◌, arith, length}
 use Rattle.std.proofs.lemmas.List.{length-append}
-use Rattle.placement.specs.Generator.{gen_calls}
+use Rattle.call_rules.specs.Generator.{gen_calls}
 use Rattle.arena_calls.proofs.GeneratingLemmas.{seed_first, seed_more, calls_more, calls_first, call_next}
 use Rattle.arena_calls.proofs.generator.run.count_replies.Goals as goal
 

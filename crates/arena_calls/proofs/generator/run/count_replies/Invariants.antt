@@ -1,6 +1,6 @@
 use Rattle.std.proofs.Common.{◌≡◌, ◌-◌, ◌^◌, ◌≤◌, List}
-use Rattle.placement.specs.Generator.{gen_calls, seed_before}
-use Rattle.placement.specs.declared.calls.Reply.{Reply}
+use Rattle.call_rules.specs.Generator.{gen_calls, seed_before}
+use Rattle.call_rules.specs.declared.calls.Reply.{Reply}
 use Rattle.arena_chunks.specs.Source.{view}
 use Rattle.arena_chunks.specs.Running.{IsRunning}
 use Rattle.arena_calls.specs.Tallies.{IsTally}

@@ -1,6 +1,6 @@
 use Rattle.std.proofs.Common.{◌≡◌, refl, ◌∙◌}
-use Rattle.placement.specs.Generator.{gen_calls}
-use Rattle.placement.specs.Summary.{summary_of, summary_text}
+use Rattle.call_rules.specs.Generator.{gen_calls}
+use Rattle.call_rules.specs.Summary.{summary_of, summary_text}
 use Rattle.arena_calls.specs.Streams.{Writes, WritesPart}
 use Rattle.arena_calls.specs.Ends.{summary_lines}
 use Rattle.arena_calls.proofs.GeneratingLemmas.{summed}

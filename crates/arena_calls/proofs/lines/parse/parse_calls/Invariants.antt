@@ -1,5 +1,5 @@
 use Rattle.std.proofs.Common.{length}
-use Rattle.placement.specs.Grammar.{AreCalls}
+use Rattle.call_rules.specs.Grammar.{AreCalls}
 use Rattle.line_parts.proofs.LineLemmas.{Progress}
 use Rattle.arena_calls.proofs.lines.parse.parse_calls.Given as goal
 

@@ -1,4 +1,4 @@
-use Rattle.arena_chunks.proofs.BlockCallLemmas.{wrote_first}
+use Rattle.arena_core.proofs.BlockCallLemmas.{wrote_first}
 use Rattle.arena_chunks.proofs.allocator.Allocator.alloc_bytes.Goals as goal
 
 pub returns-clause-bytes : goal.returns-clause-bytes

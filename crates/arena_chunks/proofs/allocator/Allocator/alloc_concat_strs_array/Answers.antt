@@ -1,4 +1,4 @@
-use Rattle.arena_chunks.proofs.BlockCallLemmas.{wrote_first}
+use Rattle.arena_core.proofs.BlockCallLemmas.{wrote_first}
 use Rattle.arena_chunks.proofs.allocator.Allocator.alloc_concat_strs_array.Goals as goal
 
 pub returns-clause-text : goal.returns-clause-text

@@ -1,5 +1,5 @@
 use Rattle.std.proofs.Common.{◌≡◌, ◌+◌, ◌-◌, arith}
-use Rattle.arena_chunks.proofs.BlockCallLemmas.{wrote_fill}
+use Rattle.arena_core.proofs.BlockCallLemmas.{wrote_fill}
 use Rattle.arena_chunks.proofs.bumpalo_alloc.AllocatorAlloc.alloc_zeroed.Goals as goal
 
 pub returns-clause-zeros : goal.returns-clause-zeros

@@ -1,4 +1,4 @@
-use Rattle.arena_chunks.specs.Memory.{image}
+use Rattle.arena_store.specs.Memory.{image}
 use Rattle.arena_chunks.proofs.Layers.{length-bytes, bytes_same, bytes_within}
 use Rattle.arena_chunks.proofs.laws.blocks.bytes.Goals as goal
 

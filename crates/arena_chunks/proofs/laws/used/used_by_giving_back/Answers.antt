@@ -1,4 +1,4 @@
-use Rattle.placement.proofs.ResetLemmas.{reset_used}
+use Rattle.arena_rules.proofs.ResetLemmas.{reset_used}
 use Rattle.arena_chunks.proofs.Layers.{returned_used, returned_size, returned_elsewhere, reset_keeps_bytes}
 use Rattle.arena_chunks.proofs.laws.used.used_by_giving_back.Goals as goal
 

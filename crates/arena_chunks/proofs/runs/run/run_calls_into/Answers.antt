@@ -1,7 +1,7 @@
 use Rattle.std.proofs.Common.{◌≡◌, ℕ, [], ◌∷◌, ◌++◌, ◌+◌, ap, sym, refl, ◌∙◌, arith, length, take, take_all, add-one, append-nil, append_assoc, subst}
 use Rattle.std.proofs.Math.Seq.{take-suc}
 use Rattle.std.proofs.lemmas.Option.{slice_get_read}
-use Rattle.placement.specs.declared.calls.Call.{Call}
+use Rattle.call_rules.specs.declared.calls.Call.{Call}
 use Rattle.arena_chunks.proofs.RunLemmas.{running_first, running_stopped}
 use Rattle.arena_chunks.proofs.runs.run.run_calls_into.Goals as goal
 

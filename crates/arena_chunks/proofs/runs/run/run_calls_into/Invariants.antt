@@ -1,7 +1,7 @@
 use Rattle.std.proofs.Common.{◌+◌, ◌≤◌, List, length, take}
-use Rattle.placement.specs.declared.calls.Reply.{Reply}
+use Rattle.call_rules.specs.declared.calls.Reply.{Reply}
 use Rattle.arena_chunks.specs.Replies.{TakesMore}
-use Rattle.arena_chunks.specs.Source.{view}
+use Rattle.arena_store.specs.Source.{view}
 use Rattle.arena_chunks.specs.Running.{IsRunning}
 use Rattle.arena_chunks.proofs.runs.run.run_calls_into.Given as goal
 

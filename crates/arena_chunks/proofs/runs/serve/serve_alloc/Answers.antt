@@ -1,10 +1,10 @@
 use Rattle.std.proofs.Common.{ap, ◌∙◌, refl}
 use Rattle.std.specs.Option.{is_some}
-use Rattle.placement.specs.Machine.{step}
-use Rattle.placement.specs.Requests.{placed_anew}
-use Rattle.placement.specs.declared.calls.Call.TheVariants.{Alloc}
-use Rattle.placement.specs.declared.calls.Reply.TheVariants.{AllocErr}
-use Rattle.arena_chunks.proofs.AnswerLemmas.{on_err}
+use Rattle.call_rules.specs.Machine.{step}
+use Rattle.call_rules.specs.Requests.{placed_anew}
+use Rattle.call_rules.specs.declared.calls.Call.TheVariants.{Alloc}
+use Rattle.call_rules.specs.declared.calls.Reply.TheVariants.{AllocErr}
+use Rattle.arena_core.proofs.AnswerLemmas.{on_err}
 use Rattle.arena_chunks.proofs.HeldLemmas.{get-inserted, insert_again, remove_inserted}
 use Rattle.arena_chunks.proofs.LogLemmas.{notes_still, notes_placed, notes_refused}
 use Rattle.arena_chunks.proofs.ServingLemmas.{none_of, asks_still, serves_still, serves_alloc}

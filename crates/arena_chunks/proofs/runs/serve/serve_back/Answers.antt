@@ -1,8 +1,8 @@
 use Rattle.std.proofs.Common.{refl, sym, ◌∙◌, arith}
-use Rattle.placement.specs.Machine.{step, mark_named}
-use Rattle.placement.specs.Requests.{placed_anew}
-use Rattle.placement.specs.declared.calls.Call.TheVariants.{Back}
-use Rattle.placement.specs.declared.calls.Reply.TheVariants.{NoSuchName}
+use Rattle.call_rules.specs.Machine.{step, mark_named}
+use Rattle.call_rules.specs.Requests.{placed_anew}
+use Rattle.call_rules.specs.declared.calls.Call.TheVariants.{Back}
+use Rattle.call_rules.specs.declared.calls.Reply.TheVariants.{NoSuchName}
 use Rattle.arena_chunks.specs.Marks.{named}
 use Rattle.arena_chunks.proofs.ServingLemmas.{none_of, asks_still}
 use Rattle.arena_chunks.proofs.MarkingLemmas.{marks_still}

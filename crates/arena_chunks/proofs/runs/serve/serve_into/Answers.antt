@@ -2,12 +2,12 @@ use Rattle.std.proofs.Common.{◌≡◌, false, refl, arith}
 use Rattle.std.specs.Option.{is_some}
 use Rattle.std.specs.FinMap as map
 use Rattle.std.proofs.lemmas.Bool.{or_left}
-use Rattle.placement.specs.Machine.{step}
-use Rattle.placement.specs.Requests.{placed_anew}
-use Rattle.arena_chunks.specs.Source.{view}
+use Rattle.call_rules.specs.Machine.{step}
+use Rattle.call_rules.specs.Requests.{placed_anew}
+use Rattle.arena_store.specs.Source.{view}
 use Rattle.arena_chunks.specs.Replies.{has_bytes}
 use Rattle.arena_chunks.specs.Serving.{ServesRun}
-use Rattle.arena_chunks.proofs.AnswerLemmas.{on_err_less, on_ok_less}
+use Rattle.arena_core.proofs.AnswerLemmas.{on_err_less, on_ok_less}
 use Rattle.arena_chunks.proofs.HeldLemmas.{less_removed}
 use Rattle.arena_chunks.proofs.LogLemmas.{notes_still}
 use Rattle.arena_chunks.proofs.MarkingLemmas.{run_served}

@@ -1,9 +1,9 @@
 use Rattle.std.proofs.Common.{refl, sym}
-use Rattle.placement.specs.Machine.{step}
-use Rattle.placement.specs.Requests.{placed_anew}
-use Rattle.placement.specs.declared.calls.Call.TheVariants.{Mark}
-use Rattle.placement.specs.declared.calls.Reply.TheVariants.{NameTaken}
-use Rattle.arena_chunks.proofs.AnswerLemmas.{on_err}
+use Rattle.call_rules.specs.Machine.{step}
+use Rattle.call_rules.specs.Requests.{placed_anew}
+use Rattle.call_rules.specs.declared.calls.Call.TheVariants.{Mark}
+use Rattle.call_rules.specs.declared.calls.Reply.TheVariants.{NameTaken}
+use Rattle.arena_core.proofs.AnswerLemmas.{on_err}
 use Rattle.arena_chunks.proofs.ServingLemmas.{asks_still}
 use Rattle.arena_chunks.proofs.MarkingLemmas.{marks_still, serves_mark, none_named}
 use Rattle.arena_chunks.proofs.runs.serve.serve_mark.Goals as goal

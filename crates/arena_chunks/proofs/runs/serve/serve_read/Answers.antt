@@ -1,11 +1,11 @@
 use Rattle.std.proofs.Common.{arith, sym, ◌∙◌, refl}
-use Rattle.placement.specs.Machine.{step}
-use Rattle.placement.specs.Requests.{placed_anew}
-use Rattle.placement.specs.declared.calls.Reply.TheVariants.{Bytes, NoSuchName}
-use Rattle.placement.specs.declared.calls.Call.TheVariants.{Read}
-use Rattle.arena_chunks.specs.Source.{view}
+use Rattle.call_rules.specs.Machine.{step}
+use Rattle.call_rules.specs.Requests.{placed_anew}
+use Rattle.call_rules.specs.declared.calls.Reply.TheVariants.{Bytes, NoSuchName}
+use Rattle.call_rules.specs.declared.calls.Call.TheVariants.{Read}
+use Rattle.arena_store.specs.Source.{view}
 use Rattle.arena_chunks.specs.Serving.{Serves}
-use Rattle.arena_chunks.proofs.AnswerLemmas.{on_ok_less}
+use Rattle.arena_core.proofs.AnswerLemmas.{on_ok_less}
 use Rattle.arena_chunks.proofs.ServingLemmas.{readable_at, asks_still, serves_still, absent_at, found_at}
 use Rattle.arena_chunks.proofs.runs.serve.serve_read.Goals as goal
 

@@ -1,5 +1,5 @@
 use Rattle.std.proofs.Common.{ap}
-use Rattle.arena_chunks.specs.Memory.{Memory}
+use Rattle.arena_store.specs.Memory.{Memory}
 use Rattle.arena_chunks.proofs.MarkingLemmas.{serves_reset_run}
 use Rattle.arena_chunks.proofs.runs.serve.serve_reset.Goals as goal
 

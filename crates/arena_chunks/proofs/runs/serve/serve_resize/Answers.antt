@@ -1,8 +1,8 @@
 use Rattle.std.proofs.Common.{◌≡◌, inl, inr, arith, sym, ◌∙◌, refl}
 use Rattle.std.specs.Prelude.{◌==◌, ◌&&◌}
 use Rattle.std.specs.Option.{is_none}
-use Rattle.placement.specs.declared.calls.Reply.TheVariants.{NoSuchName, BadLayout, OutOfRange}
-use Rattle.arena_chunks.proofs.AnswerLemmas.{on_err}
+use Rattle.call_rules.specs.declared.calls.Reply.TheVariants.{NoSuchName, BadLayout, OutOfRange}
+use Rattle.arena_core.proofs.AnswerLemmas.{on_err}
 use Rattle.arena_chunks.proofs.LogLemmas.{notes_settled, notes_refused}
 use Rattle.arena_chunks.proofs.ServingLemmas.{readable_at, absent_at, found_at}
 use Rattle.arena_chunks.proofs.ResizingLemmas.{resizing_still, resizing_wants, resizing_takes, serves_resized, serves_unresized}

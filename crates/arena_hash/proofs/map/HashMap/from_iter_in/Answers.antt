@@ -9,7 +9,7 @@ pub loop-pair-init : goal.loop-pair-init
 loop-pair-init g c =
     collecting-none (kind g.K.Item g.K.ArenaKey.key g.V.Item g.S.KeyHasher.hash_of) g.I.Iterator.next_gives c.args.iter c.args.a.now
     c.new_in-map.result
-    c.new_in-map.ensures
+    c.new_in-map.ensures.map
 
 pub insert-requires-clause-text : goal.insert-requires-clause-text
 insert-requires-clause-text g c =

@@ -10,7 +10,7 @@ pub loop-item-init : goal.loop-item-init
 loop-item-init g c =
     collecting-none (set_kind g.T.Item g.T.ArenaKey.key g.S.KeyHasher.hash_of) (StepsInPairs g.I.Iterator.next_gives) c.args.iter
     c.args.a.now
-    c.new_in-map.result c.new_in-map.ensures
+    c.new_in-map.result c.new_in-map.ensures.map
 
 pub insert-requires-clause-text : goal.insert-requires-clause-text
 insert-requires-clause-text g c =

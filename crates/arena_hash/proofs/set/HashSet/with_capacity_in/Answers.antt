@@ -4,13 +4,13 @@ use Rattle.arena_hash.specs.Sets.{set_kind}
 use Rattle.arena_hash.proofs.WholeLemmas.{places-as, refused-as}
 use Rattle.arena_hash.proofs.set.HashSet.with_capacity_in.Goals as goal
 
-pub returns-in_err-map : goal.returns-in_err-map
-returns-in_err-map g c =
+pub returns-in_err-map-clause-placed : goal.returns-in_err-map-clause-placed
+returns-in_err-map-clause-placed g c =
     let e = err_from_is_err_and c.from_residual.result c.from_residual.ensures.1 in
-    rw (e.1, e.2) (refused-as (set_kind g.T.Item g.T.ArenaKey.key g.S.KeyHasher.hash_of) (λ m. m) (λ s. s.map) c.args.a.now _ c.args.capacity _
-    c.in_err-map.ensures)
+    rw (e.1, e.2) (refused-as (set_kind g.T.Item g.T.ArenaKey.key g.S.KeyHasher.hash_of) (λ m. m) (λ s. s.map) c.args.a.now _
+    c.args.capacity _ c.in_err-map.ensures.placed)
 
-pub returns : goal.returns
-returns g c =
-    places-as (set_kind g.T.Item g.T.ArenaKey.key g.S.KeyHasher.hash_of) (λ m. m) (λ s. s.map) c.args.a.now _ c.args.capacity c.in_ok-map.map
-    (record { map = c.in_ok-map.map }) refl c.in_ok-map.ensures
+pub returns-clause-placed : goal.returns-clause-placed
+returns-clause-placed g c =
+    places-as (set_kind g.T.Item g.T.ArenaKey.key g.S.KeyHasher.hash_of) (λ m. m) (λ s. s.map) c.args.a.now _
+    c.args.capacity c.in_ok-map.map (record { map = c.in_ok-map.map }) refl c.in_ok-map.ensures.placed

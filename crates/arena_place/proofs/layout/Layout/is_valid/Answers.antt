@@ -1,6 +1,6 @@
 use Rattle.std.proofs.Common.{arith, sym, ◌∙◌}
 use Rattle.std.proofs.lemmas.Bool.Decides.{nat_tests}
-use Rattle.placement.proofs.RoundingLemmas.{power_by_bits, not_layout}
+use Rattle.arena_rules.proofs.RoundingLemmas.{power_by_bits, not_layout}
 use Rattle.arena_place.proofs.layout.Layout.is_valid.Goals as goal
 
 pub returns-then-not-is_power_of_two : goal.returns-then-not-is_power_of_two

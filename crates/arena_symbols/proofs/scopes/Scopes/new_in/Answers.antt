@@ -1,6 +1,6 @@
 use Rattle.std.proofs.Common.{ℕ, [], ◌∷◌, reverse, refl, ap, arith}
 use Rattle.std.specs.Int.{w32, to_le_bytes}
-use Rattle.placement.specs.Rounding.{up}
+use Rattle.arena_rules.specs.Rounding.{up}
 use Rattle.arena_chunks.proofs.Layers.{apart_empty}
 use Rattle.arena_items.specs.Layout.{pair_size, second_at, option_size}
 use Rattle.arena_hash.specs.Finite.{Finite, value_of}
@@ -12,7 +12,7 @@ use Rattle.arena_symbols.proofs.scopes.Scopes.new_in.Goals as goal
 pub returns : goal.returns
 unfolding up pair_size second_at option_size
 returns c =
-    let map = c.new_in.ensures in
+    let map = c.new_in.ensures.map in
     let pairs = c.new_in-2.ensures in
     let starts = c.new_in-3.ensures in
     let v = c.new_in-2.result.raw.block in

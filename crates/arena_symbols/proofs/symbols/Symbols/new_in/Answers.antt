@@ -1,7 +1,7 @@
 use Rattle.std.proofs.Common.{ℕ, List, [], map, refl, sym, subst, ap, ◌∙◌, arith}
 use Rattle.std.specs.List.{Contains}
 use Rattle.std.proofs.lemmas.List.{nil_from_length}
-use Rattle.arena_chunks.specs.declared.block.Block.{Block}
+use Rattle.arena_store.specs.declared.block.Block.{Block}
 use Rattle.arena_chunks.specs.declared.allocator.text.Str.{Str}
 use Rattle.arena_chunks.proofs.Layers.{apart_empty}
 use Rattle.arena_hash.specs.Finite.{Finite, value_of}
@@ -13,7 +13,7 @@ use Rattle.arena_symbols.proofs.symbols.Symbols.new_in.Goals as goal
 
 pub returns : goal.returns
 returns c =
-    let map_is = c.new_in.ensures in
+    let map_is = c.new_in.ensures.map in
     let vec = c.new_in-2.ensures in
     let none = ap (λ b. b.size) vec.block in
     record {

@@ -50,3 +50,6 @@ pub unreachable-requires : goal.unreachable-requires
 unreachable-requires g c =
     ((rw c.in-Err-CapacityOverflow.field-0-is at c.in-Err-CapacityOverflow.ensures.spends) (stmt_row c.requires.trees)
     (stmt_row_at c.requires.trees _ _ c.requires.means)).stops
+
+pub returns-in-Ok-clause-lean : goal.returns-in-Ok-clause-lean
+returns-in-Ok-clause-lean g c = (returns-in-Ok-clause-clones g c c.requires.trees c.requires.means).lean

@@ -10,3 +10,6 @@ returns-clause-folded g c = λ trees means. tree_folds trees c.requires means c.
 
 pub returns-clause-tree : goal.returns-clause-tree
 returns-clause-tree g c = tree_stands c.folding.ensures.keeps c.requires c.fold_row.ensures.folded
+
+pub returns-clause-lean : goal.returns-clause-lean
+returns-clause-lean g c = c.fold_row.ensures.lean

@@ -2,6 +2,7 @@ use Rattle.std.proofs.Common.{sym, ◌∙◌, arith, length, subst, Err}
 use Rattle.arena_tree.specs.Parsing.{Parses, parse_bytes}
 use Rattle.arena_tree.proofs.GivenLemmas.{built_given}
 use Rattle.arena_tree.proofs.LineLemmas.{all_read}
+use Rattle.arena_tree.specs.Layouts.{AskedFor}
 use Rattle.arena_tree.proofs.SpendingLemmas.{spends_nothing}
 use Rattle.arena_tree.proofs.ParseLemmas.{refused_parses, spends_takes, short}
 use Rattle.arena_tree.proofs.tree.Tree.parse.Goals as goal
@@ -12,7 +13,7 @@ returns-in-Some-clause-parses g c = subst (λ e. Parses c.args.src.now c.args.a.
 
 pub returns-in-Some-clause-bytes : goal.returns-in-Some-clause-bytes
 returns-in-Some-clause-bytes g c =
-    spends_takes (parse_bytes (length c.args.src.now)) (spends_nothing 0 0 0 c.args.a.now (omega arith)) (omega arith)
+    spends_takes (parse_bytes (length c.args.src.now)) (spends_nothing {layouts = AskedFor c.args.src.now} 0 0 0 c.args.a.now (omega arith)) (omega arith)
 
 pub lines-requires-clause-place : goal.lines-requires-clause-place
 lines-requires-clause-place g c = (0, sym c.refusal.ensures.machine ∙ c.in_default.is)
@@ -56,3 +57,6 @@ returns-in-Err-OutOfMemory-clause-bytes g c =
 pub unreachable-requires : goal.unreachable-requires
 unreachable-requires g c =
     (rw c.in-Err-CapacityOverflow.field-0-is at c.in-Err-CapacityOverflow.ensures.spends).stops
+
+pub returns-in-Ok-clause-lean : goal.returns-in-Ok-clause-lean
+returns-in-Ok-clause-lean g c = (returns-in-Ok-clause-parses g c).2.lean

@@ -1,7 +1,7 @@
 use Rattle.std.proofs.Common.{◌≡◌, Some, sym, ◌∙◌, subst}
-use Rattle.placement.specs.State.{IsValid}
-use Rattle.placement.specs.Back.{back}
-use Rattle.placement.specs.Machine.{mark_named}
+use Rattle.arena_rules.specs.State.{IsValid}
+use Rattle.arena_rules.specs.Back.{back}
+use Rattle.call_rules.specs.Machine.{mark_named}
 use Rattle.plain_machine.proofs.HoldingLemmas.{end_left}
 use Rattle.plain_machine.proofs.MarkLemmas.{marks_back}
 use Rattle.plain_machine.proofs.machine.PlainMachine.back.Goals as goal

@@ -1,6 +1,6 @@
 use Rattle.std.proofs.Common.{◌+◌, ◌<◌, ◌≤◌, sym, subst}
-use Rattle.placement.specs.State.{top_of}
-use Rattle.placement.specs.Machine.{Machine}
+use Rattle.arena_rules.specs.State.{top_of}
+use Rattle.call_rules.specs.Machine.{Machine}
 use Rattle.plain_machine.proofs.HoldingLemmas.{end_insert}
 use Rattle.plain_machine.proofs.machine.PlainMachine.holds.Goals as goal
 

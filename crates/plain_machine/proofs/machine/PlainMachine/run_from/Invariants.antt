@@ -1,5 +1,5 @@
 use Rattle.std.proofs.Common.{◌≡◌, drop, length}
-use Rattle.placement.specs.Machine.{run_from}
+use Rattle.call_rules.specs.Machine.{run_from}
 use Rattle.plain_machine.proofs.RunLemmas.{run_after}
 use Rattle.plain_machine.proofs.machine.PlainMachine.run_from.Given as goal
 

@@ -1,6 +1,6 @@
 use Rattle.std.proofs.Common.{rules}
 use Rattle.std.proofs.lemmas.Map.Made.{filter_same_pairs}
-use Rattle.placement.specs.Machine.{is_left}
+use Rattle.call_rules.specs.Machine.{is_left}
 use Rattle.plain_machine.proofs.LeftLemmas.{tree_left}
 use Rattle.plain_machine.proofs.names.Names+Bytes.keep_left.Goals as goal
 

@@ -1,6 +1,6 @@
 use Rattle.std.proofs.Common.{rules}
 use Rattle.std.proofs.lemmas.Map.Made.{filter_same_pairs}
-use Rattle.placement.specs.Machine.{is_place_used}
+use Rattle.arena_rules.specs.State.{is_place_used}
 use Rattle.plain_machine.proofs.LeftLemmas.{tree_used}
 use Rattle.plain_machine.proofs.names.Names+Place.keep_used.Goals as goal
 

@@ -1,5 +1,5 @@
 use Rattle.std.proofs.Common.{sym, ◌∙◌}
-use Rattle.placement.proofs.MapLemmas.{tree_get}
+use Rattle.call_rules.proofs.MapLemmas.{tree_get}
 use Rattle.plain_machine.proofs.names.Names.get.Goals as goal
 
 pub returns : goal.returns

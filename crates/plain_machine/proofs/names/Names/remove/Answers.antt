@@ -1,4 +1,4 @@
-use Rattle.placement.proofs.MapLemmas.{tree_remove}
+use Rattle.call_rules.proofs.MapLemmas.{tree_remove}
 use Rattle.plain_machine.proofs.names.Names.remove.Goals as goal
 
 pub returns : goal.returns

@@ -1,4 +1,4 @@
-use Rattle.placement.specs.Moves.{alloc}
+use Rattle.arena_rules.specs.Moves.{alloc}
 use Rattle.plain_machine.proofs.state.PlainState.alloc.Goals as goal
 
 pub returns-in-Some-clause-step : goal.returns-in-Some-clause-step

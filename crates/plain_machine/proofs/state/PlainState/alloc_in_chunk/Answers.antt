@@ -1,9 +1,9 @@
 use Rattle.std.proofs.Common.{◌≡◌, ◌∷◌, ◌∙◌, sym, subst, arith}
 use Rattle.std.proofs.lemmas.Grind.{common_steps}
-use Rattle.placement.specs.State.{State, IsValid, Chunk}
-use Rattle.placement.specs.Moves.{with_chunk}
-use Rattle.placement.proofs.RoundingLemmas.{layout_power}
-use Rattle.placement.proofs.CursorLemmas.{valid_moved}
+use Rattle.arena_rules.specs.State.{State, IsValid, Chunk}
+use Rattle.arena_rules.specs.Moves.{with_chunk}
+use Rattle.arena_rules.proofs.RoundingLemmas.{layout_power}
+use Rattle.arena_rules.proofs.CursorLemmas.{valid_moved}
 use Rattle.plain_machine.specs.Answers.{growing_state}
 use Rattle.plain_machine.proofs.ResizeLemmas.{placed}
 use Rattle.plain_machine.proofs.state.PlainState.alloc_in_chunk.Goals as goal

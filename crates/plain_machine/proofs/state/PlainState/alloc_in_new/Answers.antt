@@ -1,9 +1,9 @@
 use Rattle.std.proofs.Common.{◌≡◌, ◌≢◌, ℕ, arith, refl, sym, ap, ne_eqb, length, List, Option}
 use Rattle.std.specs.Prelude.{slice_get}
-use Rattle.placement.specs.Search.{asked}
-use Rattle.placement.specs.Moves.{alloc}
-use Rattle.placement.proofs.RoundingLemmas.{layout_power}
-use Rattle.placement.proofs.AllocLemmas.{entry_of, valid_grown, alloc_refused}
+use Rattle.arena_rules.specs.Search.{asked}
+use Rattle.arena_rules.specs.Moves.{alloc}
+use Rattle.arena_rules.proofs.RoundingLemmas.{layout_power}
+use Rattle.arena_rules.proofs.AllocLemmas.{entry_of, valid_grown, alloc_refused}
 use Rattle.plain_machine.proofs.state.PlainState.alloc_in_new.Goals as goal
 
 -- the entry of a list that equals what was asked

@@ -1,5 +1,5 @@
 use Rattle.std.proofs.Common.{arith}
-use Rattle.placement.specs.State.{Chunk}
+use Rattle.arena_rules.specs.State.{Chunk}
 use Rattle.plain_machine.proofs.SumLemmas.{sum_below}
 use Rattle.plain_machine.proofs.state.PlainState.allocated_bytes.Goals as goal
 

@@ -1,8 +1,8 @@
 use Rattle.std.proofs.Common.{◌≡◌, ◌∙◌, ap, sym, arith, max, ◌*◌}
-use Rattle.placement.specs.Rounding.{up}
-use Rattle.placement.specs.Search.{asked}
-use Rattle.placement.proofs.RoundingLemmas.{max_power, layout_power, pow_power}
-use Rattle.placement.proofs.SearchLemmas.{asked_above_is, asked_above-past_end}
+use Rattle.arena_rules.specs.Rounding.{up}
+use Rattle.arena_rules.specs.Search.{asked}
+use Rattle.arena_rules.proofs.RoundingLemmas.{max_power, layout_power, pow_power}
+use Rattle.arena_rules.proofs.SearchLemmas.{asked_above_is, asked_above-past_end}
 use Rattle.plain_machine.proofs.state.PlainState.asked.Goals as goal
 
 pub next_base-requires-clause-power : goal.next_base-requires-clause-power

@@ -1,7 +1,7 @@
 use Rattle.std.proofs.Common.{sym, subst, IsTrue}
-use Rattle.placement.specs.State.{State}
-use Rattle.placement.specs.Back.{Point, accepts}
-use Rattle.placement.proofs.BackLemmas.{back_valid}
+use Rattle.arena_rules.specs.State.{State}
+use Rattle.arena_rules.specs.Back.{Point, accepts}
+use Rattle.arena_rules.proofs.BackLemmas.{back_valid}
 use Rattle.plain_machine.specs.Answers.{growing_state}
 use Rattle.plain_machine.proofs.state.PlainState.back.Goals as goal
 

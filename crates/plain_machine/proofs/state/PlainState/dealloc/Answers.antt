@@ -1,8 +1,8 @@
 use Rattle.std.proofs.Common.{◌+◌, ◌∙◌, ap, refl, sym, subst}
-use Rattle.placement.specs.Rounding.{up}
-use Rattle.placement.specs.State.{State, IsValid}
-use Rattle.placement.proofs.RoundingLemmas.{min_align_power}
-use Rattle.placement.proofs.ReturnLemmas.{is_return, dealloc_at, dealloc_elsewhere}
+use Rattle.arena_rules.specs.Rounding.{up}
+use Rattle.arena_rules.specs.State.{State, IsValid}
+use Rattle.arena_rules.proofs.RoundingLemmas.{min_align_power}
+use Rattle.arena_rules.proofs.ReturnLemmas.{is_return, dealloc_at, dealloc_elsewhere}
 use Rattle.plain_machine.proofs.ResizeLemmas.{block_top}
 use Rattle.plain_machine.proofs.state.PlainState.dealloc.Goals as goal
 

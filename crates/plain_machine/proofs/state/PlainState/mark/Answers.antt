@@ -1,6 +1,6 @@
 use Rattle.std.proofs.Common.{subst}
-use Rattle.placement.specs.State.{IsValid}
-use Rattle.placement.proofs.BackLemmas.{own_accepted}
+use Rattle.arena_rules.specs.State.{IsValid}
+use Rattle.arena_rules.proofs.BackLemmas.{own_accepted}
 use Rattle.plain_machine.proofs.state.PlainState.mark.Goals as goal
 
 pub returns-clause-accepted : goal.returns-clause-accepted

@@ -1,4 +1,4 @@
-use Rattle.placement.proofs.RoundingLemmas.{min_align_power, min_align_le, min_align_positive}
+use Rattle.arena_rules.proofs.RoundingLemmas.{min_align_power, min_align_le, min_align_positive}
 use Rattle.plain_machine.proofs.state.PlainState.min_align.Goals as goal
 
 pub returns-clause-power : goal.returns-clause-power

@@ -1,5 +1,5 @@
 use Rattle.std.proofs.Common.{arith}
-use Rattle.placement.proofs.RoundingLemmas.{up_ge, layout_small}
+use Rattle.arena_rules.proofs.RoundingLemmas.{up_ge, layout_small}
 use Rattle.plain_machine.proofs.state.PlainState.padded.Goals as goal
 
 pub round_up_to_unchecked-requires-clause-fits : goal.round_up_to_unchecked-requires-clause-fits

@@ -1,8 +1,8 @@
 use Rattle.std.proofs.Common.{◌≡◌, subst, arith}
 use Rattle.std.proofs.lemmas.Grind.{common_steps}
-use Rattle.placement.specs.State.{IsValid}
-use Rattle.placement.specs.Search.{place}
-use Rattle.placement.proofs.RoundingLemmas.{layout_power}
+use Rattle.arena_rules.specs.State.{IsValid}
+use Rattle.arena_rules.specs.Search.{place}
+use Rattle.arena_rules.proofs.RoundingLemmas.{layout_power}
 use Rattle.plain_machine.proofs.ResizeLemmas.{place_moved, place_within}
 use Rattle.plain_machine.proofs.state.PlainState.place.Goals as goal
 

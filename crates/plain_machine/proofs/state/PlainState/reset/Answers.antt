@@ -1,4 +1,4 @@
-use Rattle.placement.proofs.ResetLemmas.{reset_valid}
+use Rattle.arena_rules.proofs.ResetLemmas.{reset_valid}
 use Rattle.plain_machine.specs.Answers.{growing_state}
 use Rattle.plain_machine.proofs.state.PlainState.reset.Goals as goal
 

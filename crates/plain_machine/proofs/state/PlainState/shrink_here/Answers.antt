@@ -1,5 +1,5 @@
 use Rattle.std.proofs.Common.{◌∙◌}
-use Rattle.placement.proofs.RoundingLemmas.{layout_power}
+use Rattle.arena_rules.proofs.RoundingLemmas.{layout_power}
 use Rattle.plain_machine.proofs.ResizeLemmas.{shrink_moved}
 use Rattle.plain_machine.proofs.state.PlainState.shrink_here.Goals as goal
 

@@ -1,5 +1,5 @@
 use Rattle.std.proofs.Common.{◌-◌, arith}
-use Rattle.placement.proofs.RoundingLemmas.{down_le, max_power, layout_power}
+use Rattle.arena_rules.proofs.RoundingLemmas.{down_le, max_power, layout_power}
 use Rattle.plain_machine.proofs.state.PlainState.shrink_step.Goals as goal
 
 pub round_down_to-requires : goal.round_down_to-requires

@@ -1,5 +1,5 @@
 use Rattle.std.proofs.Common.{arith}
-use Rattle.placement.specs.State.{used_length}
+use Rattle.arena_rules.specs.State.{used_length}
 use Rattle.plain_machine.proofs.SumLemmas.{sum_below, ends_below}
 use Rattle.plain_machine.proofs.state.PlainState.used_bytes.Goals as goal
 

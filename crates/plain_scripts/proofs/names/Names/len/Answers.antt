@@ -1,5 +1,5 @@
 use Rattle.std.proofs.Common.{length, ap, sym, ◌∙◌}
-use Rattle.placement.proofs.MapLemmas.{tree_entries}
+use Rattle.call_rules.proofs.MapLemmas.{tree_entries}
 use Rattle.plain_scripts.proofs.names.Names.len.Goals as goal
 
 pub returns : goal.returns

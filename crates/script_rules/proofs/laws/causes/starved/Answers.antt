@@ -1,6 +1,6 @@
 use Rattle.std.proofs.Common.{◌+◌, arith}
-use Rattle.placement.specs.State.{used_bytes}
-use Rattle.placement.proofs.AskingLemmas.{asks_more}
+use Rattle.arena_rules.specs.State.{used_bytes}
+use Rattle.arena_rules.proofs.AskingLemmas.{asks_more}
 use Rattle.script_rules.proofs.laws.causes.starved.Goals as goal
 
 pub returns : goal.returns

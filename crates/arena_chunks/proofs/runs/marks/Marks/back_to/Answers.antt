@@ -2,7 +2,7 @@ use Rattle.std.proofs.Common.{◌≡◌, ◌-◌, List, false, refl, sym, ◌∙
 use Rattle.std.specs.Prelude.{◌==◌}
 use Rattle.std.specs.Option.{is_some}
 use Rattle.std.proofs.lemmas.List.{get_or_read, get_or-take}
-use Rattle.placement.specs.Machine.{mark_named}
+use Rattle.call_rules.specs.Machine.{mark_named}
 use Rattle.arena_chunks.specs.Marks.{Noted, named, marks_from}
 use Rattle.arena_chunks.specs.declared.runs.marks.Mark.{Mark}
 use Rattle.arena_chunks.proofs.KnownLemmas.{ending_first, ending_next, ending_over, newest_first}

@@ -1,7 +1,7 @@
 use Rattle.std.proofs.Common.{ℕ, List, map, ap, sym, ◌∙◌, append-nil}
-use Rattle.placement.specs.declared.place.Place.{Place}
-use Rattle.arena_chunks.specs.Runs.{block_at}
-use Rattle.placement.proofs.MapLemmas.{tree_entries}
+use Rattle.arena_rules.specs.declared.place.Place.{Place}
+use Rattle.arena_store.specs.Memory.{block_at}
+use Rattle.call_rules.proofs.MapLemmas.{tree_entries}
 use Rattle.arena_chunks.proofs.runs.names.Names.blocks.Goals as goal
 
 pub returns : goal.returns

@@ -1,6 +1,6 @@
 use Rattle.std.proofs.Common.{◌≡◌, ℕ, ◌++◌, map}
-use Rattle.placement.specs.declared.place.Place.{Place}
-use Rattle.arena_chunks.specs.Runs.{block_at}
+use Rattle.arena_rules.specs.declared.place.Place.{Place}
+use Rattle.arena_store.specs.Memory.{block_at}
 use Rattle.arena_chunks.proofs.runs.names.Names.blocks.Given as goal
 
 abbrev pub invariant-loop-name : goal.invariant-loop-name

@@ -1,5 +1,5 @@
 use Rattle.std.proofs.Common.{◌≡◌, sym, ◌∙◌, refl, eq-eqb}
-use Rattle.placement.specs.Machine.{is_left}
+use Rattle.call_rules.specs.Machine.{is_left}
 use Rattle.arena_chunks.proofs.HeldLemmas.{remove_absent}
 use Rattle.arena_chunks.proofs.LogLemmas.{not_both, not_standing, standing}
 use Rattle.arena_chunks.proofs.runs.names.Names.keep.Goals as goal

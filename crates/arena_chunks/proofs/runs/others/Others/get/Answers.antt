@@ -1,5 +1,5 @@
 use Rattle.std.proofs.Common.{sym, ◌∙◌}
-use Rattle.placement.proofs.MapLemmas.{tree_get}
+use Rattle.call_rules.proofs.MapLemmas.{tree_get}
 use Rattle.arena_chunks.proofs.runs.others.Others.get.Goals as goal
 
 pub returns : goal.returns

@@ -1,5 +1,5 @@
 use Rattle.std.proofs.Common.{sym, ◌∙◌}
-use Rattle.placement.proofs.MapLemmas.{tree_get, tree_remove}
+use Rattle.call_rules.proofs.MapLemmas.{tree_get, tree_remove}
 use Rattle.arena_chunks.proofs.runs.others.Others.remove.Goals as goal
 
 pub returns-clause-rest : goal.returns-clause-rest

@@ -1,7 +1,7 @@
 use Rattle.std.proofs.Common.{ℕ, List, None, ap, ◌∙◌}
 use Rattle.std.specs.Ordering.{nat_cmp, eq_by_cmp}
 use Rattle.std.specs.Map.{update_all}
-use Rattle.placement.specs.declared.place.Place.{Place}
+use Rattle.arena_rules.specs.declared.place.Place.{Place}
 use Rattle.arena_chunks.proofs.NameLemmas.{copied_tree}
 use Rattle.arena_chunks.proofs.runs.others.Others.sorted.Goals as goal
 

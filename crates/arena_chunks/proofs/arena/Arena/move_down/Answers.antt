@@ -1,7 +1,0 @@
-use Rattle.std.proofs.Common.{ap, arith}
-use Rattle.arena_chunks.specs.Memory.{Memory}
-use Rattle.arena_chunks.proofs.arena.Arena.move_down.Goals as goal
-
-pub move_in_newest-requires : goal.move_in_newest-requires
-move_in_newest-requires g c =
-    rw (ap (λ (w : Memory). w.state.chunks) c.self.view_is) (omega arith, (c.requires.source, (c.requires.target, c.requires.newest)))

@@ -1,0 +1,186 @@
+-- Blocks at the cursor that are given another size where they lie.
+use Rattle.std.proofs.Common.{◌≡◌, ℕ, ◌+◌, ◌-◌, ◌%◌, ◌<◌, ◌≤◌, max, min, ap, refl, subst, ◌∙◌, arith, IsTrue, Some}
+use Rattle.arena_rules.specs.Rounding.{down, up, is_layout}
+use Rattle.arena_rules.specs.State.{IsValid, is_range_used, start_of, cursor_of, top_of, with_cursor}
+use Rattle.arena_rules.specs.Search.{place}
+use Rattle.arena_rules.specs.Moves.{growing, shrinking, shrink_step}
+use Rattle.arena_rules.specs.Moves.Resizing.{Stays, Moves}
+use Rattle.arena_rules.specs.Statistics.{one_reallocation}
+use Rattle.arena_rules.proofs.RoundingLemmas.{down_le, up_ge, layout_power, min_align_positive}
+use Rattle.arena_rules.proofs.PlaceLemmas.{is_place}
+use Rattle.arena_rules.proofs.CursorLemmas.{start_positive, cursor_within}
+use Rattle.arena_rules.proofs.UsedLemmas.{used_from, used_part}
+use Rattle.arena_rules.proofs.MoveLemmas.{step_aligned}
+use Rattle.arena_store.specs.Memory.{Memory, image, is_readable, bytes_from, written, Writes}
+use Rattle.arena_store.specs.Source.{Source, view}
+use Rattle.arena_core.specs.Answers.Answer.{Placed}
+use Rattle.arena_core.specs.BlockCalls.{ResizesAfter}
+use Rattle.arena_core.specs.Resizes.{IsResizedUnasked}
+use Rattle.arena_store.specs.declared.block.Block.{Block}
+use Rattle.arena_core.specs.declared.arena.Arena.TheInside.{Inside}
+use Rattle.arena_core.proofs.StoredLemmas.{view_of, Stands}
+use Rattle.arena_core.proofs.FrameLemmas.{bytes_moved, byte_moved}
+use Rattle.arena_core.proofs.LastLemmas.{IsLast, is_last, last_ends}
+use Rattle.arena_core.proofs.ResizedLemmas.{block_in, resized_still, MovesCursor, resized_at_cursor, grown_aligned, resized_unasked}
+
+-- ---- Where a block at the cursor moves
+
+pub record IsShrunk (m : ℕ) (memory : Memory) (block : Block) (size align delta : ℕ) : Type 0 where
+  pub last : IsLast m memory block
+  pub fits : delta + size ≤ block.size
+  pub step : delta ≡ shrink_step memory.state block.size size align
+  pub low : start_of memory.state.chunks ≤ block.addr + delta
+  pub aligned : (block.addr + delta) % memory.state.min_align ≡ 0
+
+pub is_shrunk : (m : ℕ) (a : Inside m) (memory : Memory) (block : Block) (size align unit delta : ℕ) → Stands m a → view_of m a ≡ memory
+    → IsTrue (is_readable memory.state block)
+    → block.addr ≡ a.newest.cursor → size ≤ block.size → IsTrue (is_layout size align) → unit ≡ max align m
+    → delta ≡ down (block.size - size) unit → IsShrunk m memory block size align delta
+is_shrunk m a memory block size align unit delta stands view readable here smaller layout units is =
+    let last = is_last m a memory block stands view readable here in
+    let step : delta ≡ shrink_step memory.state block.size size align = is
+    ∙ ap (down (block.size - size)) (units ∙ ap (max align) last.unit) in
+    record {
+      last = last;
+      fits = omega (arith, step, smaller, down_le (block.size - size) (max align memory.state.min_align));
+      step = step;
+      low = omega (arith, last.at, cursor_within memory.state last.valid);
+      aligned = rw step (step_aligned memory.state (record { addr = block.addr; size = block.size; align = block.align }) size align
+          last.valid (layout_power size align layout) last.at);
+    }
+
+-- the bytes moved up, and then the cursor
+pub shrunk : (m : ℕ) (old mid new : Memory) (block : Block) (size align delta : ℕ) → IsShrunk m old block size align delta
+    → mid.state ≡ old.state
+    → Writes old mid (block.addr + delta) (bytes_from (image old) block.addr size)
+    → new ≡ record { state = with_cursor (block.addr + delta) mid.state; statistics = one_reallocation mid.statistics; bytes = mid.bytes }
+    → MovesCursor old new block (block.addr + delta) size size
+shrunk m old mid new block size align delta is same bytes moved = record {
+  valid = is.last.valid;
+  at = is.last.at;
+  ends = is.last.ends;
+  low = is.low;
+  aligned = is.aligned;
+  fits = omega (arith, is.fits);
+  shorter = omega arith;
+  state = ap (λ (w : Memory). w.state) moved ∙ ap (with_cursor (block.addr + delta)) same;
+  bytes = λ p. ap (λ (w : Memory). image w p) moved ∙ byte_moved (block.addr + delta) mid.state.chunks mid.bytes p ∙ bytes p;
+}
+
+pub record IsGrown (memory : Memory) (block : Block) (size q : ℕ) : Type 0 where
+  pub valid : IsValid memory.state
+  pub at : block.addr ≡ cursor_of memory.state.chunks
+  pub ends : block.addr + block.size ≤ top_of memory.state.chunks
+  pub low : start_of memory.state.chunks ≤ q
+  pub below : q ≤ block.addr
+  pub fits : q + size ≤ block.addr + block.size
+  pub aligned : q % memory.state.min_align ≡ 0
+
+pub is_grown : (memory : Memory) (block : Block) (size q : ℕ) → IsValid memory.state → IsTrue (is_readable memory.state block)
+    → block.addr ≡ cursor_of memory.state.chunks
+    → IsTrue (is_layout (up size memory.state.min_align - block.size) block.align)
+    → place memory.state (up size memory.state.min_align - block.size) block.align ≡ Some q → IsGrown memory block size q
+is_grown memory block size q valid readable at layout found =
+    let more : ℕ = up size memory.state.min_align - block.size in
+    let spot = is_place (start_of memory.state.chunks) (cursor_of memory.state.chunks) more block.align memory.state.min_align q
+    (start_positive memory.state valid) (layout_power more block.align layout) valid.min_align found in
+    record {
+      valid = valid;
+      at = at;
+      ends = last_ends memory.state block valid readable at;
+      low = spot.low;
+      below = omega (arith, spot.high, at);
+      fits = omega (arith, spot.high, at, up_ge size memory.state.min_align (min_align_positive memory.state.min_align valid.min_align));
+      aligned = spot.min_aligned;
+    }
+
+-- with the cursor there all is in use up to the block's end
+pub grown_used : (memory : Memory) (block : Block) (size q p n : ℕ) → IsGrown memory block size q → q ≤ p → p + n ≤ block.addr + block.size
+    → 0 < n
+    → IsTrue (is_range_used (with_cursor q memory.state).chunks p n)
+grown_used memory block size q p n is low high some =
+    let whole : ℕ = block.addr + block.size - q in
+    used_part q whole p n (with_cursor q memory.state).chunks low (omega (arith, is.below))
+    (used_from q whole memory.state.chunks (omega arith) is.low (omega (arith, is.below, is.ends)))
+
+-- the cursor moved down, and then the bytes
+pub grown : (old mid new : Memory) (block : Block) (size q : ℕ) → IsGrown old block size q → block.size ≤ size
+    → mid ≡ record { state = with_cursor q old.state; statistics = old.statistics; bytes = old.bytes }
+    → new.state ≡ mid.state → Writes mid new q (bytes_from (image mid) block.addr block.size) → MovesCursor old new block q size block.size
+grown old mid new block size q is longer moved same bytes = record {
+  valid = is.valid;
+  at = is.at;
+  ends = is.ends;
+  low = is.low;
+  aligned = is.aligned;
+  fits = is.fits;
+  shorter = longer;
+  state = same ∙ ap (λ (w : Memory). w.state) moved;
+  bytes = subst (λ (f : ℕ → ℕ). (a : ℕ) → image new a ≡ written f q (bytes_from f block.addr block.size) a)
+      (ap image moved ∙ bytes_moved q old.state.chunks old.bytes) bytes;
+}
+
+-- ---- Shrinking with no request
+
+-- where it is
+pub shrunk_still : (memory : Memory) (block : Block) (size align : ℕ) → IsValid memory.state → IsTrue (is_readable memory.state block)
+    → size ≤ block.size
+    → shrinking memory.state block.addr block.size block.align size align ≡ Stays
+    → IsResizedUnasked (shrinking memory.state block.addr block.size block.align size align) memory memory block size align
+    (block_in memory.state block.addr size align)
+shrunk_still memory block size align valid readable smaller way =
+    let all : min block.size size ≡ size = omega arith in
+    rw way (record {
+      entry = valid;
+      step = refl;
+      unasked = refl;
+      statistics = refl;
+      resizes = rw all (resized_still memory block size align size valid readable smaller);
+    })
+
+-- down, with the cursor
+pub grown_down : (old mid new : Memory) (block : Block) (size align q : ℕ) → IsGrown old block size q → block.size ≤ size
+    → mid ≡ record { state = with_cursor q old.state; statistics = old.statistics; bytes = old.bytes }
+    → new.state ≡ mid.state → new.statistics ≡ one_reallocation mid.statistics
+    → Writes mid new q (bytes_from (image mid) block.addr block.size)
+    → IsResizedUnasked (Moves q) old new block size align (block_in old.state q size align)
+grown_down old mid new block size align q is longer moved same statistics bytes =
+    let all : min block.size size ≡ block.size = omega arith in
+    let moves = grown old mid new block size q is longer moved same bytes in
+    record {
+      entry = is.valid;
+      step = rw moves.state refl;
+      unasked = refl;
+      statistics = statistics ∙ ap (λ (w : Memory). one_reallocation w.statistics) moved;
+      resizes = rw all (resized_at_cursor old new block q size align block.size moves);
+    }
+
+-- that is what the rule has of a block that grows there
+pub grown_answer : (old mid new : Memory) (source : Source) (block b : Block) (size align q : ℕ) → IsGrown old block size q
+    → block.size ≤ size → IsTrue (is_layout size align)
+    → growing old.state block.addr block.size block.align size align ≡ Moves q
+    → mid ≡ record { state = with_cursor q old.state; statistics = old.statistics; bytes = old.bytes }
+    → new.state ≡ mid.state → new.statistics ≡ one_reallocation mid.statistics
+    → Writes mid new q (bytes_from (image mid) block.addr block.size) → b ≡ block_in mid.state q size align
+    → ResizesAfter (growing old.state block.addr block.size block.align size align) (view old source) (view new source) block size align 0
+    (Placed b)
+grown_answer old mid new source block b size align q down longer layout way moved same statistics bytes answer =
+    let block_is : b ≡ block_in old.state q size align = answer ∙ ap (λ (w : Memory). block_in w.state q size align) moved in
+    let is : IsResizedUnasked (growing old.state block.addr block.size block.align size align) old new block size align b =
+    rw (way, block_is) (grown_down old mid new block size align q down longer moved same statistics bytes) in
+    resized_unasked (growing old.state block.addr block.size block.align size align) old new source block size align b
+    (grown_aligned old.state new.state block size align b is.entry layout is.resizes.of_layout.of_align is.step) is
+
+-- up, with the cursor
+pub shrunk_up : (old new : Memory) (block : Block) (size align q : ℕ) → MovesCursor old new block q size size → size ≤ block.size
+    → new.statistics ≡ one_reallocation old.statistics
+    → IsResizedUnasked (Moves q) old new block size align (block_in old.state q size align)
+shrunk_up old new block size align q moves smaller statistics =
+    let all : min block.size size ≡ size = omega arith in
+    record {
+      entry = moves.valid;
+      step = rw moves.state refl;
+      unasked = refl;
+      statistics = statistics;
+      resizes = rw all (resized_at_cursor old new block q size align size moves);
+    }

@@ -1,0 +1,222 @@
+-- An arena that goes back to a mark.
+use Rattle.std.proofs.Common.{◌≡◌, ℕ, zero, suc, ◌+◌, ◌-◌, ◌<◌, ◌≤◌, ap, sym, refl, subst, ◌∙◌, arith, IsTrue, List, [], ◌∷◌, ◌++◌, length, map, reverse, take, drop, get_or, true, false, inl, inr}
+use Rattle.std.specs.Prelude.{◌==◌, nat_le}
+use Rattle.std.specs.List.{All}
+use Rattle.std.proofs.Math.Seq.{take-suc}
+use Rattle.std.proofs.lemmas.List.{reverse-append, length-reverse, take-append-drop}
+use Rattle.std.proofs.lemmas.List.Elements.{All-take}
+use Rattle.std.proofs.lemmas.Bool.Decides.{nat_tests}
+use Rattle.arena_rules.specs.State.{State, Chunk, AreChunks, IsValid, floor_of, start_of, top_of}
+use Rattle.arena_rules.specs.Back.{first_chunks, raised, back, accepts}
+use Rattle.std.proofs.lemmas.Bool.{and_parts}
+use Rattle.arena_rules.proofs.BackLemmas.{first_valid, floor_after, floor_raised, back_valid, back_fewer}
+use Rattle.arena_rules.proofs.UsedLemmas.{floor_least, used_under}
+use Rattle.arena_store.specs.Memory.{Memory, byte_in, image, bytes_from, is_readable}
+use Rattle.arena_core.specs.Checkpoints.{with_first, first_bytes, mark_at, is_accepted, sent_back, GoesBack}
+use Rattle.arena_core.specs.declared.rewind.Checkpoint.{Checkpoint}
+use Rattle.arena_store.specs.Stored.{stored_chunk, stored_bytes, all_chunks, IsReady, IsStored}
+use Rattle.arena_store.specs.declared.chunk.StoredChunk.{StoredChunk}
+use Rattle.arena_core.specs.declared.arena.Arena.TheInside.{Inside}
+use Rattle.arena_store.specs.declared.block.Block.{Block}
+use Rattle.arena_core.proofs.WrittenLemmas.{bytes_same}
+use Rattle.arena_core.proofs.StoredListLemmas.{readable_part, get_or-same}
+use Rattle.arena_store.proofs.TableLemmas.{chunks_in}
+use Rattle.arena_core.proofs.StoredLemmas.{kind, view_with, view_of, Stands}
+
+-- ---- Lists
+
+map_drop : {X Y : Type 0} (f : X → Y) (k : ℕ) (xs : List X) → drop k (map f xs) ≡ map f (drop k xs)
+map_drop f zero xs = refl
+map_drop f (suc k) [] = refl
+map_drop f (suc k) (x ∷ xs) = map_drop f k xs
+
+map_length : {X Y : Type 0} (f : X → Y) (xs : List X) → length (map f xs) ≡ length xs
+map_length f [] = refl
+map_length f (x ∷ xs) = ap suc (map_length f xs)
+
+drop_front : {X : Type 0} (xs ys : List X) → drop (length xs) (xs ++ ys) ≡ ys
+drop_front [] ys = refl
+drop_front (x ∷ xs) ys = drop_front xs ys
+
+-- the last of a list in the other order are its first
+last_reversed : (xs : List StoredChunk) (n : ℕ) → n ≤ length xs → drop (length xs - n) (reverse xs) ≡ reverse (take n xs)
+last_reversed xs n within =
+    let rest : length (reverse (drop n xs)) ≡ length xs - n = length-reverse (drop n xs) ∙ length_drop n xs in
+    ap (λ (l : List StoredChunk). drop (length xs - n) l) (ap reverse (sym (take-append-drop n xs))
+    ∙ reverse-append (take n xs) (drop n xs))
+    ∙ ap (λ (k : ℕ). drop k (reverse (drop n xs) ++ reverse (take n xs))) (sym rest)
+    ∙ drop_front (reverse (drop n xs)) (reverse (take n xs))
+  where
+    length_drop : (k : ℕ) (l : List StoredChunk) → length (drop k l) ≡ length l - k
+    length_drop zero l = omega arith
+    length_drop (suc k) [] = omega arith
+    length_drop (suc k) (x ∷ l) = omega (arith, length_drop k l)
+
+-- the first of all chunks, where the newest is one of the table
+first_of : (newest : StoredChunk) (items : List StoredChunk) (n : ℕ) (d : StoredChunk) → 0 < n → n ≤ length items
+    → drop (length (newest ∷ reverse items) - n) (newest ∷ reverse items) ≡ get_or items (n - 1) d ∷ reverse (take (n - 1) items)
+first_of newest items n d some within =
+    let k : length (newest ∷ reverse items) - n ≡ suc (length items - n) = omega (arith, length-reverse items) in
+    let next : n ≡ suc (n - 1) = omega arith in
+    ap (λ (j : ℕ). drop j (newest ∷ reverse items)) k ∙ last_reversed items n within
+    ∙ ap (λ (j : ℕ). reverse (take j items)) next ∙ ap reverse (take-suc items (n - 1) d (omega arith))
+    ∙ reverse-append (take (n - 1) items) (get_or items (n - 1) d ∷ [])
+
+module _ (m : ℕ) (a : Inside m) (memory : Memory) where
+  pub record IsFirst (n : ℕ) (newest : StoredChunk) (older : List StoredChunk) : Type 0 where
+    pub view : view_with m a newest older ≡ with_first n memory
+    pub stored : IsStored (view_with m a newest older) newest older
+    pub high : 4096 ≤ newest.base
+
+  -- an older chunk is the newest
+  pub first_kept : (n : ℕ) (newest : StoredChunk) (older : List StoredChunk) → Stands m a → view_of m a ≡ memory → 0 < n
+      → n ≤ length memory.state.chunks → (n ≡ length memory.state.chunks → ⊥)
+      → ((d : StoredChunk) → newest ≡ get_or a.older.items (n - 1) d) → older ≡ take (n - 1) a.older.items → IsFirst n newest older
+  first_kept n newest older stands view some within other newest_is older_is = elim (kind m a stands) [
+    | inl none ↦ absurd (omega (arith, some, within, ap (λ (w : Memory). length w.state.chunks) view, empty none.0))
+    | inr chunk ↦
+        let all : List StoredChunk = a.newest ∷ reverse a.older.items in
+        let count : length memory.state.chunks ≡ suc (length a.older.items) = sym (ap (λ (w : Memory). length w.state.chunks) view)
+        ∙ rw chunk (map_length stored_chunk all ∙ ap suc (length-reverse a.older.items)) in
+        let fits : n ≤ length a.older.items = omega (arith, within, count, far count) in
+        let split : drop (length all - n) all ≡ newest ∷ reverse older =
+        first_of a.newest a.older.items n newest some fits
+        ∙ rw older_is (ap (λ (c : StoredChunk). c ∷ reverse (take (n - 1) a.older.items)) (sym (newest_is newest))) in
+        let state : IsValid (view_of m a).state = stands.valid in
+        let first = first_valid n (view_of m a).state state (λ none. absurd (omega (arith, some, none))) in
+        let chunks : first_chunks n (view_of m a).state.chunks ≡ chunks_in (newest ∷ reverse older) =
+        rw chunk (ap (λ (k : ℕ). drop (k - n) (map stored_chunk all)) (map_length stored_chunk all)
+        ∙ map_drop stored_chunk (length all - n) all ∙ ap (map stored_chunk) split) in
+        let lists : first_bytes n (view_of m a).bytes ≡ map stored_bytes (newest ∷ reverse older) =
+        rw chunk (ap (λ (k : ℕ). drop (k - n) (map stored_bytes all)) (map_length stored_bytes all)
+        ∙ map_drop stored_bytes (length all - n) all ∙ ap (map stored_bytes) split) in
+        let fine : AreChunks m (chunks_in (newest ∷ reverse older)) = subst (AreChunks m) chunks first.chunks in
+        let high : 4096 ≤ newest.base = omega (arith, fine.1, floor_least m (chunks_in (reverse older)) fine.2) in
+        let test : (newest.base == 16) ≡ false = grind (arith, nat_tests) in
+        let same : view_with m a newest older ≡ with_first n (view_of m a) = rw test (λ i. record {
+          state = record (view_of m a).state { chunks = sym chunks i };
+          statistics = (view_of m a).statistics;
+          bytes = sym lists i;
+        }) in
+        record {
+          high = high;
+          view = subst (λ (w : Memory). view_with m a newest older ≡ with_first n w) view same;
+          stored = record {
+            valid = subst (λ (w : Memory). IsValid w.state) (sym same) first;
+            none = λ is. absurd (omega (arith, is, high));
+            ready = subst IsReady (sym (newest_is newest)) (stands.older_ready (n - 1) newest (omega (arith, some, fits)));
+            older_ready = subst (All IsReady) (sym older_is) (All-take IsReady (n - 1) a.older.items stands.older_ready);
+          };
+        }
+  ]
+    where
+      empty : (a.newest.base == 16) ≡ true → length (view_of m a).state.chunks ≡ 0
+      empty none = rw none refl
+
+      far : length memory.state.chunks ≡ suc (length a.older.items) → n ≡ suc (length a.older.items) → ⊥
+      far count same = other (same ∙ sym count)
+
+  pub record AreEnds (n : ℕ) (chunk : StoredChunk) : Type 0 where
+    pub start : start_of (first_chunks n memory.state.chunks) ≡ chunk.base
+    pub top : top_of (first_chunks n memory.state.chunks) ≡ chunk.base + length chunk.bytes.items
+
+  -- where the last of the first chunks lies, if it is in the table
+  pub ends_in : (n : ℕ) → Stands m a → view_of m a ≡ memory → 0 < n → n ≤ length a.older.items → n ≤ length memory.state.chunks
+      → AreEnds n (get_or a.older.items (n - 1) a.newest)
+  ends_in n stands view some fits within =
+      let c : StoredChunk = get_or a.older.items (n - 1) a.newest in let older = take (n - 1) a.older.items in
+      elim (kind m a stands) [
+        | inl none ↦ absurd (omega (arith, some, within, ap (λ (w : Memory). length w.state.chunks) view, empty none.0))
+        | inr chunk ↦
+            let count : length memory.state.chunks ≡ suc (length a.older.items) = sym (ap (λ (w : Memory). length w.state.chunks) view)
+            ∙ rw chunk (map_length stored_chunk (a.newest ∷ reverse a.older.items) ∙ ap suc (length-reverse a.older.items)) in
+            let first : IsFirst n c older = first_kept n c older stands view some within (λ same. absurd (omega (arith, same, count, fits)))
+            (λ d. get_or-same a.older.items (n - 1) a.newest d (omega (arith, some, fits))) refl in
+            let test : (c.base == 16) ≡ false = grind (arith, nat_tests, first.high) in
+            record {
+              start = ap (λ (w : Memory). start_of w.state.chunks) (sym first.view) ∙ rw test refl;
+              top = ap (λ (w : Memory). top_of w.state.chunks) (sym first.view) ∙ rw test refl;
+            }
+      ]
+    where
+      empty : (a.newest.base == 16) ≡ true → length (view_of m a).state.chunks ≡ 0
+      empty none = rw none refl
+
+  -- and where it is the newest
+  pub ends_newest : (n : ℕ) → Stands m a → view_of m a ≡ memory → 0 < n → length a.older.items < n → n ≤ length memory.state.chunks
+      → AreEnds n a.newest
+  ends_newest n stands view some far within =
+      elim (kind m a stands) [
+        | inl none ↦ absurd (omega (arith, some, within, ap (λ (w : Memory). length w.state.chunks) view, empty none.0))
+        | inr chunk ↦
+            let count : length memory.state.chunks ≡ suc (length a.older.items) = sym (ap (λ (w : Memory). length w.state.chunks) view)
+            ∙ rw chunk (map_length stored_chunk (a.newest ∷ reverse a.older.items) ∙ ap suc (length-reverse a.older.items)) in
+            let all : length memory.state.chunks - n ≡ 0 = omega (arith, count, far) in
+            record {
+              start = ap (λ (k : ℕ). start_of (drop k memory.state.chunks)) all ∙ ap (λ (w : Memory). start_of w.state.chunks) (sym view)
+                  ∙ rw chunk refl;
+              top = ap (λ (k : ℕ). top_of (drop k memory.state.chunks)) all ∙ ap (λ (w : Memory). top_of w.state.chunks) (sym view)
+                  ∙ rw chunk refl;
+            }
+      ]
+    where
+      empty : (a.newest.base == 16) ≡ true → length (view_of m a).state.chunks ≡ 0
+      empty none = rw none refl
+
+  -- there is a list of bytes for each chunk
+  pub lists_paired : view_of m a ≡ memory → length memory.bytes ≡ length memory.state.chunks
+  lists_paired view = subst (λ (w : Memory). length w.bytes ≡ length w.state.chunks) view
+      (map_length stored_bytes (all_chunks a.newest a.older.items) ∙ sym (map_length stored_chunk (all_chunks a.newest a.older.items)))
+
+-- ---- What stays as it was
+
+byte_after : (m k p : ℕ) (chunks : List Chunk) (bytes : List (List ℕ)) → AreChunks m chunks → p < floor_of (drop k chunks)
+    → byte_in (drop k chunks) (drop k bytes) p ≡ byte_in chunks bytes p
+byte_after m zero p chunks bytes valid under = refl
+byte_after m (suc k) p [] bytes valid under = refl
+byte_after m (suc k) p (newest ∷ older) [] valid under = none (drop k older)
+  where
+    none : (l : List Chunk) → byte_in l [] p ≡ 0
+    none [] = refl
+    none (x ∷ l) = refl
+byte_after m (suc k) p (newest ∷ older) (list ∷ bytes) valid under =
+    let below : p < newest.base = omega (arith, under, floor_after m k older valid.2, valid.1) in
+    let test : nat_le newest.base p ≡ false = grind (arith, nat_tests) in
+    rw test (byte_after m k p older bytes valid.2 under)
+
+byte_raised : (c p : ℕ) (chunks : List Chunk) (bytes : List (List ℕ)) → byte_in (raised c chunks) bytes p ≡ byte_in chunks bytes p
+byte_raised c p [] bytes = refl
+byte_raised c p (newest ∷ older) [] = refl
+byte_raised c p (newest ∷ older) (list ∷ bytes) = refl
+
+-- an accepted mark is one of its state
+pub accepted : (c : Checkpoint) (state : State) → IsTrue (is_accepted c state) → IsTrue (accepts (mark_at c) state)
+accepted c state holds = (and_parts (c.generation == state.generation) (accepts (mark_at c) state) holds).1
+
+pub goes_back : (old : Memory) (c : Checkpoint) → IsValid old.state → IsTrue (accepts (mark_at c) old.state)
+    → length old.bytes ≡ length old.state.chunks → GoesBack old (sent_back c old)
+goes_back old c valid holds paired = record {
+  valid = record { entry = valid; exit = back_valid (mark_at c) old.state valid holds };
+  generation = refl;
+  min_align = refl;
+  is_growing = refl;
+  fewer = back_fewer (mark_at c) old.state;
+  bytes = λ p used.
+      let k : ℕ = length old.state.chunks - c.chunks in
+      let under : p < floor_of (drop k old.state.chunks) = omega (
+        arith,
+        used_under old.state.min_align p 1 (raised c.addr (drop k old.state.chunks)) (back_valid (mark_at c) old.state valid holds).chunks
+            (omega arith) used,
+        floor_raised c.addr (drop k old.state.chunks),
+      ) in
+      byte_raised c.addr p (drop k old.state.chunks) (first_bytes c.chunks old.bytes)
+      ∙ ap (λ (j : ℕ). byte_in (drop k old.state.chunks) (drop (j - c.chunks) old.bytes) p) paired
+      ∙ byte_after old.state.min_align k p old.state.chunks old.bytes valid.chunks under;
+}
+
+-- A block that may still be read has its bytes.
+pub went_back : (old new : Memory) (b : Block) → GoesBack old new → IsTrue (is_readable new.state b)
+    → bytes_from (image new) b.addr b.size ≡ bytes_from (image old) b.addr b.size
+went_back old new b back readable =
+    bytes_same (image new) (image old) b.addr b.size
+    (λ i below. back.bytes (b.addr + i) (readable_part new.state b (b.addr + i) 1 readable (omega arith) (omega arith) (omega arith)))

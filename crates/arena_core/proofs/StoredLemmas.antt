@@ -1,0 +1,261 @@
+-- What the fields of an arena stand for.
+use Rattle.std.proofs.Common.{◌≡◌, ℕ, ◌+◌, ◌-◌, ◌<◌, ◌≤◌, ◌^◌, min, max, ap, sym, refl, subst, ◌∙◌, arith, List, [], ◌∷◌, false, Bool, length, eqb-true, map, reverse, inl, inr, ◌⊎◌, sum, sum_by, Option, Some, true, leb-true}
+use Rattle.std.specs.Prelude.{◌==◌, ◌||◌, nat_le}
+use Rattle.std.specs.List.{All, list_any}
+use Rattle.std.proofs.lemmas.Bool.{cases_Bool}
+use Rattle.std.proofs.lemmas.Bool.Decides.{nat_tests}
+use Rattle.std.proofs.lemmas.List.Sums.{sum-map, sum_by-cons}
+use Rattle.std.proofs.lemmas.List.{reverse-append, reverse-reverse}
+use Rattle.std.proofs.lemmas.List.Elements.{All-nil, All-cons, All-head, All-tail, All-push}
+use Rattle.std.proofs.lemmas.Option.{cond_some}
+use Rattle.std.proofs.lemmas.List.Sorted.{sum_by-IsPermutation, list_any-IsPermutation, IsPermutation-reverse}
+use Rattle.arena_rules.specs.Rounding.{down}
+use Rattle.arena_rules.specs.State.{State, Chunk, AreChunks, IsChunk, IsValid, start_of, cursor_of, top_of, floor_of, with_cursor, used_length, is_used_by, is_range_used}
+use Rattle.arena_rules.specs.Search.{place, place_below}
+use Rattle.arena_rules.proofs.ResetLemmas.{reset_valid}
+use Rattle.arena_store.specs.Memory.{Memory}
+use Rattle.arena_region.specs.Bytes.{bytes}
+use Rattle.arena_store.specs.Stored.{stored_chunk, floor_in, memory_of, IsReady, IsNone, IsStored, IsOrdered}
+use Rattle.arena_store.specs.declared.chunk.StoredChunk.{StoredChunk}
+use Rattle.arena_core.specs.declared.arena.Arena.TheInside.{Inside}
+use Rattle.arena_store.proofs.TableLemmas.{chunks_in}
+
+-- the memory of an open arena, also with other chunks
+abbrev pub view_with : (m : ℕ) → Inside m → StoredChunk → List StoredChunk → Memory
+view_with m a newest older = memory_of m a.is_growing a.generation a.allocations a.reallocations newest older
+
+abbrev pub view_of : (m : ℕ) → Inside m → Memory
+view_of m a = view_with m a a.newest a.older.items
+
+abbrev pub Stands : (m : ℕ) → Inside m → Type 0
+Stands m a = IsStored (view_of m a) a.newest a.older.items
+
+-- what holds of all holds of all in the other order
+pub all_reversed : {X : Type 0} (P : X → Type 0) → (xs : List X) → All P xs → All P (reverse xs)
+all_reversed P [] all = All-nil P
+all_reversed P (x ∷ xs) all = subst (All P) (sym (reverse-append (x ∷ []) xs))
+    (All-push P (reverse xs) x (all_reversed P xs (All-tail P x xs all)) (All-head P x xs all))
+
+pub all_straight : {X : Type 0} (P : X → Type 0) → (xs : List X) → All P (reverse xs) → All P xs
+all_straight P xs all = subst (All P) (reverse-reverse xs) (all_reversed P (reverse xs) all)
+
+chunks_ordered : (m : ℕ) (chunks : List StoredChunk) → AreChunks m (chunks_in chunks) → floor_of (chunks_in chunks) < 2 ^ 64
+    → All IsReady chunks → All IsOrdered chunks
+chunks_ordered m [] valid below ready = All-nil IsOrdered
+chunks_ordered m (newest ∷ older) valid below ready =
+    All-cons IsOrdered newest older (record { low = All-head IsReady newest older ready; high = valid.0.cursor_high; fits = omega arith })
+    (chunks_ordered m older valid.2 (omega (arith, valid.1, valid.0.cursor_low, valid.0.cursor_high)) (All-tail IsReady newest older ready))
+
+sum_mapped : (f : Chunk → ℕ) (chunks : List StoredChunk) → sum_by f (chunks_in chunks) ≡ sum_by (λ c. f (stored_chunk c)) chunks
+sum_mapped f [] = refl
+sum_mapped f (x ∷ xs) =
+    sum_by-cons f (stored_chunk x) (chunks_in xs) ∙ ap (λ (n : ℕ). f (stored_chunk x) + n) (sum_mapped f xs)
+    ∙ sym (sum_by-cons (λ (c : StoredChunk). f (stored_chunk c)) x xs)
+
+-- a sum of what is at most the sizes has 64 bits
+sum_fits : (f : Chunk → ℕ) (memory : Memory) → IsValid memory.state → ((c : Chunk) → IsChunk memory.state.min_align c → f c ≤ c.size)
+    → sum (map f memory.state.chunks) < 2 ^ 64
+sum_fits f memory valid small = omega (arith, sum-map f memory.state.chunks, go memory.state.chunks valid.chunks, valid.top)
+  where
+    go : (chunks : List Chunk) → AreChunks memory.state.min_align chunks → sum_by f chunks ≤ floor_of chunks
+    go [] fine = omega arith
+    go (newest ∷ older) fine = omega (arith, sum_by-cons f newest older, go older fine.2, small newest fine.0, fine.1)
+
+any_mapped : (p : Chunk → Bool) (chunks : List StoredChunk) → list_any p (chunks_in chunks) ≡ list_any (λ c. p (stored_chunk c)) chunks
+any_mapped p [] = refl
+any_mapped p (x ∷ xs) = ap (λ (b : Bool). p (stored_chunk x) || b) (any_mapped p xs)
+
+-- where the newest cursor may be
+pub record IsCursor (state : State) (q : ℕ) : Type 0 where
+  pub low : start_of state.chunks ≤ q
+  pub high : q ≤ top_of state.chunks
+  pub valid : IsValid (with_cursor q state)
+
+-- a valid state is valid in any generation
+at_generation : (state : State) (generation : ℕ) → generation ≤ 2 ^ 64 - 1 → IsValid state
+    → IsValid (record state { generation = generation })
+at_generation state generation small valid =
+    record { min_align = valid.min_align; chunks = valid.chunks; top = valid.top; kind = valid.kind; generation = small }
+
+pub differs : (n : ℕ) → (n == 16) ≡ false → n ≡ 16 → ⊥
+differs n test same = grind (arith, nat_tests)
+
+module _ (m : ℕ) (a : Inside m) where
+  -- whether there is a chunk
+  pub kind : Stands m a → (((a.newest.base == 16) ≡ true) × (a.newest.base ≡ 16) × IsNone a.newest a.older.items)
+      ⊎ ((a.newest.base == 16) ≡ false)
+  kind stands = elim (cases_Bool (a.newest.base == 16)) [
+    | inl none ↦ inl (none, eqb-true _ _ none, stands.none (eqb-true _ _ none))
+    | inr chunk ↦ inr chunk
+  ]
+
+  -- ---- Each chunk's numbers are in order
+
+  pub newest_ordered : Stands m a → IsOrdered a.newest
+  newest_ordered stands = elim (kind stands) [
+    | inl none ↦
+        let size : length a.newest.bytes.items ≡ 0 = ap length none.2.bytes in
+        record { low = stands.ready; high = omega (arith, none.1, none.2.cursor); fits = omega (arith, none.1) }
+    | inr some ↦
+        let valid = rw some at stands.valid in
+        record { low = stands.ready; high = valid.chunks.0.cursor_high; fits = omega (arith, valid.top) }
+  ]
+
+  pub older_ordered : Stands m a → All IsOrdered a.older.items
+  older_ordered stands = elim (kind stands) [
+    | inl none ↦ subst (All IsOrdered) (sym none.2.older) (All-nil IsOrdered)
+    | inr some ↦
+        let valid = rw some at stands.valid in
+        all_straight IsOrdered a.older.items (chunks_ordered m (reverse a.older.items) valid.chunks.2
+        (omega (arith, valid.top, valid.chunks.1, valid.chunks.0.cursor_low, valid.chunks.0.cursor_high))
+        (all_reversed IsReady a.older.items stands.older_ready))
+  ]
+
+  -- ---- Sums over all chunks
+
+  -- a sum over all chunks is that of the newest and of the table
+  pub sum_all : (memory : Memory) (f : Chunk → ℕ) → Stands m a → view_of m a ≡ memory → (a.newest.base ≡ 16 → f (stored_chunk a.newest) ≡ 0)
+      → f (stored_chunk a.newest) + sum_by (λ c. f (stored_chunk c)) a.older.items ≡ sum (map f memory.state.chunks)
+  sum_all memory f stands view zero = subst
+      (λ (w : Memory). f (stored_chunk a.newest) + sum_by (λ c. f (stored_chunk c)) a.older.items ≡ sum (map f w.state.chunks)) view
+      (elim (kind stands) [
+        | inl none ↦ rw (none.0, none.2.older) (omega (arith, zero none.1))
+        | inr some ↦
+            let same = sum_by-IsPermutation (λ (c : StoredChunk). f (stored_chunk c)) a.older.items (reverse a.older.items)
+            (IsPermutation-reverse a.older.items) in
+            rw some (sym (sum-map f (chunks_in (a.newest ∷ reverse a.older.items)) ∙ sum_mapped f (a.newest ∷ reverse a.older.items)
+            ∙ sum_by-cons (λ (c : StoredChunk). f (stored_chunk c)) a.newest (reverse a.older.items)
+            ∙ ap (λ (n : ℕ). f (stored_chunk a.newest) + n) same))
+      ])
+
+  -- a sum over the newest and the table has 64 bits, where it is at most the sizes
+  pub sum_has : (f : Chunk → ℕ) → Stands m a → (a.newest.base ≡ 16 → f (stored_chunk a.newest) ≡ 0)
+      → ((c : Chunk) → IsChunk m c → f c ≤ c.size)
+      → f (stored_chunk a.newest) + sum_by (λ c. f (stored_chunk c)) a.older.items < 2 ^ 64
+  sum_has f stands none small = omega (arith, sum_all (view_of m a) f stands refl none, sum_fits f (view_of m a) stands.valid small)
+
+  pub none_used : Stands m a → a.newest.base ≡ 16 → used_length (stored_chunk a.newest) ≡ 0
+  none_used stands none = omega (arith, (stands.none none).cursor, ap length (stands.none none).bytes)
+
+  -- ---- Ranges in use
+
+  -- a range is used by the newest chunk or by one of the table
+  pub used_all : (memory : Memory) (addr n : ℕ) → Stands m a → view_of m a ≡ memory → 0 < n
+      → (is_used_by addr n (stored_chunk a.newest) || list_any (λ c. is_used_by addr n (stored_chunk c)) a.older.items)
+      ≡ is_range_used memory.state.chunks addr n
+  used_all memory addr n stands view some =
+      subst (λ (w : Memory). (is_used_by addr n (stored_chunk a.newest) || list_any (λ c. is_used_by addr n (stored_chunk c)) a.older.items)
+      ≡ is_range_used w.state.chunks addr n) view
+      (elim (kind stands) [
+        | inl none ↦
+            let empty : is_used_by addr n (stored_chunk a.newest) ≡ false = nothing none.1 none.2 in
+            rw (none.0, none.2.older, empty) refl
+        | inr chunk ↦
+            rw chunk (ap (λ (b : Bool). is_used_by addr n (stored_chunk a.newest) || b)
+            (list_any-IsPermutation (λ (c : StoredChunk). is_used_by addr n (stored_chunk c)) a.older.items (reverse a.older.items)
+            (IsPermutation-reverse a.older.items) ∙ sym (any_mapped (is_used_by addr n) (reverse a.older.items))))
+      ])
+    where
+      nothing : a.newest.base ≡ 16 → IsNone a.newest a.older.items → is_used_by addr n (stored_chunk a.newest) ≡ false
+      nothing base is = let cursor = is.cursor in let size = ap length is.bytes in grind (arith, nat_tests)
+
+  -- ---- Moves
+
+  -- the place by the fields is the state's
+  pub place_stored : (memory : Memory) (size align : ℕ) (found : Option ℕ) → Stands m a → view_of m a ≡ memory
+      → found ≡ place_below a.newest.base a.newest.cursor size align m → place memory.state size align ≡ found
+  place_stored memory size align found stands view is = subst (λ (w : Memory). place w.state size align ≡ found) view
+      (elim (kind stands) [
+        | inl none ↦ rw (is, none.0, none.1, none.2.cursor) refl
+        | inr some ↦ rw (is, some) refl
+      ])
+
+  -- a place in the ready part is the state's, and ready
+  pub place_ready : (memory : Memory) (size align p : ℕ) → Stands m a → view_of m a ≡ memory
+      → Some p ≡ place_below (floor_in a.newest) a.newest.cursor size align m → (place memory.state size align ≡ Some p)
+      × (floor_in a.newest ≤ p)
+  place_ready memory size align p stands view found =
+      let q : ℕ = down (a.newest.cursor - size) (max align m) in
+      let tested = cond_some (nat_le (floor_in a.newest) q) q p (sym found) in
+      let high : floor_in a.newest ≤ q = leb-true _ _ tested.0 in
+      let test : nat_le a.newest.base q ≡ true = grind (arith, nat_tests) in
+      (place_stored memory size align (Some p) stands view (rw test (ap Some (sym tested.1))), omega (arith, high, tested.1))
+
+  pub cursor_stored : (memory : Memory) → Stands m a → view_of m a ≡ memory → a.newest.cursor ≡ cursor_of memory.state.chunks
+  cursor_stored memory stands view = subst (λ (w : Memory). a.newest.cursor ≡ cursor_of w.state.chunks) view
+      (elim (kind stands) [
+        | inl none ↦ rw (none.0, none.2.cursor) refl
+        | inr some ↦ rw some refl
+      ])
+
+  pub start_stored : (memory : Memory) → Stands m a → view_of m a ≡ memory → a.newest.base ≡ start_of memory.state.chunks
+  start_stored memory stands view = subst (λ (w : Memory). a.newest.base ≡ start_of w.state.chunks) view
+      (elim (kind stands) [
+        | inl none ↦ rw none.0 none.1
+        | inr some ↦ rw some refl
+      ])
+
+  -- the newest chunk with another cursor, and ready from another index on
+  abbrev pub moved_chunk : ℕ → ℕ → StoredChunk
+  moved_chunk q low = record { base = a.newest.base; cursor = q; bytes = bytes a.newest.bytes.items low }
+
+  pub cursor_moved : (memory : Memory) (q low generation allocations reallocations : ℕ) → Stands m a → view_of m a ≡ memory
+      → IsCursor memory.state q → generation ≤ 2 ^ 64 - 1 → a.newest.base + low ≤ q
+      → IsStored (memory_of m a.is_growing generation allocations reallocations (moved_chunk q low) a.older.items)
+      (moved_chunk q low) a.older.items
+  cursor_moved memory q low generation allocations reallocations stands view moved small ready =
+      let at = subst (λ (w : Memory). IsCursor w.state q) (sym view) moved in
+      elim (kind stands) [
+        | inl none ↦
+            let here = rw none.0 at at in
+            record {
+              valid = rw none.0 (at_generation _ generation small here.valid);
+              none = λ same. record { cursor = omega (arith, here.low, here.high); bytes = none.2.bytes; older = none.2.older };
+              ready = ready;
+              older_ready = stands.older_ready;
+            }
+        | inr some ↦
+            let here = rw some at at in
+            record {
+              valid = rw some (at_generation _ generation small here.valid);
+              none = λ same. absurd (differs a.newest.base some same);
+              ready = ready;
+              older_ready = stands.older_ready;
+            }
+      ]
+
+  pub cursor_view : (memory : Memory) (q low : ℕ) → view_of m a ≡ memory
+      → view_with m a (moved_chunk q low) a.older.items ≡ record {
+        state = with_cursor q memory.state;
+        statistics = memory.statistics;
+        bytes = memory.bytes;
+      }
+  cursor_view memory q low view = subst (λ (w : Memory). view_with m a (moved_chunk q low) a.older.items
+      ≡ record { state = with_cursor q w.state; statistics = w.statistics; bytes = w.bytes }) view
+      (elim (cases_Bool (a.newest.base == 16)) [ inl none ↦ rw none refl | inr some ↦ rw some refl ])
+
+  -- ---- All blocks given back
+
+  -- the newest chunk alone, with nothing used
+  pub emptied_stored : (generation size : ℕ) (older : List StoredChunk) → Stands m a → generation ≡ min (a.generation + 1) (2 ^ 64 - 1)
+      → size ≡ length a.newest.bytes.items → older ≡ []
+      → IsStored (memory_of m a.is_growing generation 0 0 (record a.newest { cursor = a.newest.base + size }) older)
+      (record a.newest { cursor = a.newest.base + size }) older
+  emptied_stored generation size older stands next sized none =
+      let valid = reset_valid (view_of m a).state stands.valid in
+      let ready : floor_in a.newest ≤ a.newest.base + length a.newest.bytes.items =
+      omega (arith, stands.ready, (newest_ordered stands).high) in
+      rw (next, sized, none) (elim (kind stands) [
+        | inl empty ↦ record {
+          valid = rw empty.0 (rw empty.0 at valid);
+          none = λ same. record { cursor = omega (arith, same, ap length empty.2.bytes); bytes = empty.2.bytes; older = refl };
+          ready = ready;
+          older_ready = All-nil IsReady;
+        }
+        | inr some ↦ record {
+          valid = rw some (rw some at valid);
+          none = λ same. absurd (differs a.newest.base some same);
+          ready = ready;
+          older_ready = All-nil IsReady;
+        }
+      ])

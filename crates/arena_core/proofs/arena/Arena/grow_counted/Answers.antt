@@ -1,0 +1,130 @@
+use Rattle.std.proofs.Common.{◌≡◌, ℕ, ◌-◌, ◌<◌, ◌⊎◌, ◌∙◌, inl, inr, ap, sym, subst, arith, IsTrue, Some}
+use Rattle.arena_rules.specs.Rounding.{up, is_layout}
+use Rattle.arena_rules.specs.State.{cursor_of, IsValid}
+use Rattle.arena_rules.specs.Search.{place}
+use Rattle.arena_rules.proofs.RoundingLemmas.{min_align_power, min_align_positive, min_align_le, layout_small, up_ge}
+use Rattle.arena_store.specs.Memory.{Memory}
+use Rattle.arena_rules.proofs.CursorLemmas.{start_set}
+use Rattle.arena_core.proofs.StoredLemmas.{cursor_stored, place_ready, cursor_moved, cursor_view}
+use Rattle.arena_core.proofs.AllocationLemmas.{place_cursor}
+use Rattle.arena_core.proofs.ResizeSteps.{grows_anew, IsHere, grows_down, grows_not}
+use Rattle.arena_core.proofs.ResizedLemmas.{resized_not}
+use Rattle.arena_core.proofs.CursorMoveLemmas.{is_grown, grown_used, grown_answer}
+use Rattle.arena_core.proofs.arena.Arena.grow_counted.Goals as goal
+use Rattle.arena_core.proofs.arena.Arena.grow_counted.Goals.{then-block-layout-via-then-block-layout, then-block-layout-via-else-block-layout+then-block-self}
+
+pub returns-then-block-layout : goal.returns-then-block-layout
+returns-then-block-layout g c =
+    let away : (c.args.block.align < c.args.layout.align) ⊎ (c.args.block.addr ≡ cursor_of c.args.self.now.state.chunks → ⊥) =
+    elim c.then-block-layout.branch [
+      | then-block-layout-via-then-block-layout w ↦ inl w.if-block-layout.true
+      | then-block-layout-via-else-block-layout+then-block-self w ↦
+          inr (λ same. w.if-block-self.true (same ∙ sym
+          (cursor_stored g.row.MIN_ALIGN c.self.inside c.args.self.now c.self.invariant c.self.view_is)))
+    ] in
+    let way = grows_anew c.args.self.now.state c.args.block.addr c.args.block.size c.args.block.align c.args.layout.size c.args.layout.align
+    away in
+    rw (c.slow_block.ensures, way) c.copy_to_new-slow.ensures
+
+pub round_up_to_unchecked-requires-clause-power : goal.round_up_to_unchecked-requires-clause-power
+round_up_to_unchecked-requires-clause-power g c = min_align_power g.row.MIN_ALIGN c.self.invariant.valid.min_align
+
+pub round_up_to_unchecked-requires-clause-fits : goal.round_up_to_unchecked-requires-clause-fits
+round_up_to_unchecked-requires-clause-fits g c =
+    omega (arith, layout_small _ _ c.args.layout.valid, min_align_le g.row.MIN_ALIGN c.self.invariant.valid.min_align)
+
+pub overflow_sub-more : goal.overflow_sub-more
+overflow_sub-more g c =
+    omega (
+      arith,
+      c.requires.size,
+      c.round_up_to_unchecked.ensures,
+      up_ge c.args.layout.size g.row.MIN_ALIGN (min_align_positive g.row.MIN_ALIGN c.self.invariant.valid.min_align),
+    )
+
+-- What is wanted more is no layout.
+pub returns-in_default : goal.returns-in_default
+returns-in_default g c =
+    let here : IsHere c.args.self.now.state c.args.block.addr c.args.block.size c.args.block.align c.args.layout.size c.args.layout.align =
+    record {
+      low = c.if-block-layout.false;
+      at = c.if-block-self.false
+          ∙ cursor_stored g.row.MIN_ALIGN c.self.inside c.args.self.now c.self.invariant c.self.view_is;
+    } in
+    let more : c.round_up_to_unchecked.result ≡ up c.args.layout.size c.args.self.now.state.min_align = c.round_up_to_unchecked.ensures
+    ∙ ap (λ (w : Memory). up c.args.layout.size w.state.min_align) c.self.view_is in
+    let way = grows_not c.args.self.now.state c.args.block.addr c.args.block.size c.args.block.align c.args.layout.size c.args.layout.align
+    here (rw (← more) (sym c.in_default.ensures.valid)) in
+    rw way (resized_not c.args.self.now _ c.args.block c.args.layout.size c.args.layout.align
+    (subst (λ (w : Memory). IsValid w.state) c.self.view_is c.self.invariant.valid))
+
+-- ---- Down into bytes that are ready
+
+pub invariant_of-self : goal.invariant_of-self
+invariant_of-self g c =
+    let valid = subst (λ (w : Memory). IsValid w.state) c.self-2.view_is c.self-2.invariant.valid in
+    let found = place_ready g.row.MIN_ALIGN c.self-2.inside c.args.self.now c.in-Some.below.size c.in-Some.below.align c.in-Some-place.addr
+    c.self-2.invariant c.self-2.view_is (rw c.floor.ensures at c.in-Some-place.ensures) in
+    cursor_moved g.row.MIN_ALIGN c.self-2.inside c.args.self.now c.in-Some-place.addr c.self-2.inside.newest.bytes.low
+    c.self-2.inside.generation c.self-2.inside.allocations c.self-2.inside.reallocations c.self-2.invariant c.self-2.view_is
+    (place_cursor c.args.self.now.state c.in-Some.below.size c.in-Some.below.align c.in-Some-place.addr valid c.in-Some.below.valid found.0)
+    c.self-2.invariant.valid.generation found.1
+
+pub move_down-requires : goal.move_down-requires
+move_down-requires g c =
+    let valid = subst (λ (w : Memory). IsValid w.state) c.self-2.view_is c.self-2.invariant.valid in
+    let found = place_ready g.row.MIN_ALIGN c.self-2.inside c.args.self.now c.in-Some.below.size c.in-Some.below.align c.in-Some-place.addr
+    c.self-2.invariant c.self-2.view_is (rw c.floor.ensures at c.in-Some-place.ensures) in
+    let at = c.if-block-self.false ∙ cursor_stored g.row.MIN_ALIGN c.self.inside c.args.self.now c.self.invariant c.self.view_is in
+    let more : ℕ = up c.args.layout.size c.args.self.now.state.min_align - c.args.block.size in
+    let size : c.in-Some.below.size ≡ more = c.in-Some.ensures.value.0
+    ∙ ap (λ (n : ℕ). n - c.args.block.size) (c.round_up_to_unchecked.ensures
+    ∙ ap (λ (w : Memory). up c.args.layout.size w.state.min_align) c.self.view_is) in
+    let fine : IsTrue (is_layout more c.args.block.align) = rw (← size, ← c.in-Some.ensures.value.1) c.in-Some.below.valid in
+    let spot : place c.args.self.now.state more c.args.block.align ≡ Some c.in-Some-place.addr =
+    rw (← size, ← c.in-Some.ensures.value.1) found.0 in
+    let down = is_grown c.args.self.now c.args.block c.args.layout.size c.in-Some-place.addr valid c.requires.readable at fine spot in
+    let used = grown_used c.args.self.now c.args.block c.args.layout.size c.in-Some-place.addr in
+    let start = start_set c.in-Some-place.addr c.args.self.now.state.chunks in
+    rw (ap (λ (w : Memory). w.state.chunks) (cursor_view g.row.MIN_ALIGN c.self-2.inside c.args.self.now c.in-Some-place.addr
+    c.self-2.inside.newest.bytes.low c.self-2.view_is)) (
+      omega arith,
+      (
+        λ some. used _ _ down down.below (omega arith) some,
+        (
+          λ some. used _ _ down (omega arith) (omega (arith, down.below)) some,
+          (omega (arith, start, down.low, down.below), omega (arith, start, down.low)),
+        ),
+      ),
+    )
+
+pub returns-in-Some-place : goal.returns-in-Some-place
+returns-in-Some-place g c =
+    let valid = subst (λ (w : Memory). IsValid w.state) c.self-2.view_is c.self-2.invariant.valid in
+    let found = place_ready g.row.MIN_ALIGN c.self-2.inside c.args.self.now c.in-Some.below.size c.in-Some.below.align c.in-Some-place.addr
+    c.self-2.invariant c.self-2.view_is (rw c.floor.ensures at c.in-Some-place.ensures) in
+    let at = c.if-block-self.false ∙ cursor_stored g.row.MIN_ALIGN c.self.inside c.args.self.now c.self.invariant c.self.view_is in
+    let more : ℕ = up c.args.layout.size c.args.self.now.state.min_align - c.args.block.size in
+    let size : c.in-Some.below.size ≡ more = c.in-Some.ensures.value.0
+    ∙ ap (λ (n : ℕ). n - c.args.block.size) (c.round_up_to_unchecked.ensures
+    ∙ ap (λ (w : Memory). up c.args.layout.size w.state.min_align) c.self.view_is) in
+    let fine : IsTrue (is_layout more c.args.block.align) = rw (← size, ← c.in-Some.ensures.value.1) c.in-Some.below.valid in
+    let spot : place c.args.self.now.state more c.args.block.align ≡ Some c.in-Some-place.addr =
+    rw (← size, ← c.in-Some.ensures.value.1) found.0 in
+    let down = is_grown c.args.self.now c.args.block c.args.layout.size c.in-Some-place.addr valid c.requires.readable at fine spot in
+    let way = grows_down c.args.self.now.state c.args.block.addr c.args.block.size c.args.block.align c.args.layout.size c.args.layout.align
+    c.in-Some-place.addr (record { low = c.if-block-layout.false; at = at }) fine spot in
+    grown_answer c.args.self.now _ c.move_down.new.self _ c.args.block c.move_down.result c.args.layout.size c.args.layout.align
+    c.in-Some-place.addr down c.requires.size c.args.layout.valid way
+    (cursor_view g.row.MIN_ALIGN c.self-2.inside c.args.self.now c.in-Some-place.addr c.self-2.inside.newest.bytes.low c.self-2.view_is)
+    c.move_down.ensures.state c.move_down.ensures.statistics c.move_down.ensures.bytes c.move_down.ensures.block
+
+-- ---- Further down, or anew
+
+pub grow_below-slow-requires : goal.grow_below-slow-requires
+grow_below-slow-requires g c =
+    let at = c.if-block-self.false ∙ cursor_stored g.row.MIN_ALIGN c.self.inside c.args.self.now c.self.invariant c.self.view_is in
+    let size : c.in-Some.below.size ≡ up c.args.layout.size c.args.self.now.state.min_align - c.args.block.size =
+    c.in-Some.ensures.value.0 ∙ ap (λ (n : ℕ). n - c.args.block.size)
+    (c.round_up_to_unchecked.ensures ∙ ap (λ (w : Memory). up c.args.layout.size w.state.min_align) c.self.view_is) in
+    (omega arith, (c.requires.readable, (c.requires.size, (c.if-block-layout.false, (at, (size, c.in-Some.ensures.value.1))))))

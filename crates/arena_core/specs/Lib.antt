@@ -1,0 +1,10 @@
+pub mod Frame
+pub mod Answers
+pub mod BlockCalls
+pub mod Adding
+pub mod Resizes
+pub mod Finding
+pub mod Checkpoints
+pub mod Creating
+pub mod Walks
+pub mod BlockLends

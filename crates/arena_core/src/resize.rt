@@ -1,0 +1,359 @@
+// How an arena grows and shrinks blocks, and gives all of them back.
+ghost use Rattle.std.specs.Prelude.{◌≡◌, ℕ, ◌+◌, ◌-◌, ◌^◌, ◌%◌, nat_lt, ◌≤◌, ◌<◌, if◌then◌else◌, IsOk, IsTrue, Some, min, take};
+
+use crate::arena::Arena;
+use crate::moves::SlowAnswer;
+use arena_place::{Layout, is_aligned_to, place, round_down_to, round_up_to_unchecked};
+use arena_store::edit::{put_at, shift_in};
+use arena_store::{ArenaErr, Block, ChunkSource};
+
+// One fewer, unless the count stands at its last value.
+fn one_fewer(count: u64) -> u64
+    requires { 0 < count }
+    ensures { result ≡ (if nat_lt count (2 ^ 64 - 1) then count - 1 else count) }
+{
+    if count < u64::MAX { count - 1 } else { count }
+}
+
+impl<const MIN_ALIGN: usize> Arena<MIN_ALIGN> {
+    ghost use Rattle.arena_rules.specs.Rounding.{up, is_layout};
+    ghost use Rattle.arena_rules.specs.State.{IsValid, start_of, cursor_of, top_of, with_cursor, is_range_used};
+    ghost use Rattle.arena_rules.specs.Search.{place};
+    ghost use Rattle.arena_rules.specs.Moves.{reset};
+    ghost use Rattle.arena_rules.specs.Moves.Resizing.{Anew};
+    ghost use Rattle.arena_rules.specs.Statistics.{uncounted, one_reallocation};
+    ghost use Rattle.arena_store.specs.Memory.{Memory, Writes, is_readable, image, bytes_from};
+    ghost use Rattle.arena_store.specs.Source.{view};
+    ghost use Rattle.arena_core.specs.Answers.{answer_of, OnCounted, at_cursor};
+    ghost use Rattle.arena_core.specs.BlockCalls.{GrowsBlock, ShrinksBlock, ResizesAfter, growing_of, shrinking_of};
+    ghost use Rattle.arena_core.specs.Resizes.{IsResizedUnasked, replaced, NoneReadable};
+
+    /// Shrinks a block, which may move it. Its first bytes are kept. To no greater alignment this takes no memory and
+    /// can't fail.
+    ///
+    /// # Errors
+    ///
+    /// As of `try_alloc_layout`, where the block must move to a greater alignment; the block stays as it was.
+    #[inline]
+    pub fn shrink<C: ChunkSource>(
+        &mut self,
+        chunks: &mut C,
+        block: Block,
+        layout: Layout,
+    ) -> Result<Block, ArenaErr>
+        requires readable { IsTrue (is_readable self.old.state block) }
+        requires size { layout.size ≤ block.size }
+        ensures shrunk { ShrinksBlock
+            (view self.old (C.source chunks.old)) (view self.new (C.source chunks.new))
+            block layout.size layout.align (answer_of result) }
+        ensures succeeds { layout.align ≤ block.align → IsOk result }
+    {
+        match self.shrink_counted(chunks, block, layout) {
+            Ok((b, _)) => Ok(b),
+            Err(e) => Err(e),
+        }
+    }
+
+    /// Grows a block, which may move it. Its bytes are kept. Where it grows in place this takes no memory, and moves its
+    /// bytes in one go.
+    ///
+    /// # Errors
+    ///
+    /// As of `try_alloc_layout`, where it doesn't grow in place; also `AllocErr` with no request where what is wanted
+    /// more is no layout. The block stays as it was.
+    #[inline(always)]
+    pub fn grow<C: ChunkSource>(
+        &mut self,
+        chunks: &mut C,
+        block: Block,
+        layout: Layout,
+    ) -> Result<Block, ArenaErr>
+        requires readable { IsTrue (is_readable self.old.state block) }
+        requires size { block.size ≤ layout.size }
+        ensures { GrowsBlock (view self.old (C.source chunks.old)) (view self.new (C.source chunks.new))
+            block layout.size layout.align (answer_of result) }
+    {
+        match self.grow_counted(chunks, block, layout) {
+            Ok((b, _)) => Ok(b),
+            Err(e) => Err(e),
+        }
+    }
+
+    /// Gives all blocks back, and all chunks but the newest. Blocks placed before are readable no more, but for those
+    /// of no bytes: the generation rises, up to 2^64 - 1. The statistics begin anew. The
+    /// bytes of the chunk that is kept don't change.
+    #[inline]
+    pub fn reset(&mut self)
+        ensures memory { self.new ≡ record {
+          state = reset self.old.state;
+          statistics = uncounted;
+          bytes = take 1 self.old.bytes;
+        } }
+        ensures ends { NoneReadable self.new.state }
+        ensures valid { IsValid self.new.state }
+    {
+        self.newest.cursor = self.newest.base + self.newest.size();
+        self.older.clear();
+        self.generation = self.generation.saturating_add(1);
+        self.allocations = 0;
+        self.reallocations = 0;
+    }
+
+    /// Shrinks a block, and counts the requests that were refused.
+    pub fn shrink_counted<C: ChunkSource>(
+        &mut self,
+        chunks: &mut C,
+        block: Block,
+        layout: Layout,
+    ) -> Result<(Block, u32), ArenaErr>
+        requires readable { IsTrue (is_readable self.old.state block) }
+        requires size { layout.size ≤ block.size }
+        ensures shrunk { OnCounted result (ResizesAfter (shrinking_of self.old block layout.size layout.align)
+            (view self.old (C.source chunks.old)) (view self.new (C.source chunks.new))
+            block layout.size layout.align) }
+        ensures succeeds { layout.align ≤ block.align → IsOk result }
+    {
+        if layout.align <= block.align {
+            return Ok((self.shrink_here(block, layout), 0));
+        }
+        if is_aligned_to(block.addr, layout.align) {
+            return Ok((self.block_of(block.addr, layout), 0));
+        }
+        let slow = self.copy_to_new(chunks, block, layout, layout.size);
+        self.slow_block(slow, layout)
+    }
+
+    /// Grows a block, and counts the requests that were refused.
+    #[inline(always)]
+    pub fn grow_counted<C: ChunkSource>(
+        &mut self,
+        chunks: &mut C,
+        block: Block,
+        layout: Layout,
+    ) -> Result<(Block, u32), ArenaErr>
+        requires readable { IsTrue (is_readable self.old.state block) }
+        requires size { block.size ≤ layout.size }
+        ensures { OnCounted result (ResizesAfter (growing_of self.old block layout.size layout.align)
+            (view self.old (C.source chunks.old)) (view self.new (C.source chunks.new))
+            block layout.size layout.align) }
+    {
+        if block.align < layout.align || block.addr != self.newest.cursor {
+            let old = block;
+            let slow = self.copy_to_new(chunks, old, layout, block.size);
+            return self.slow_block(slow, layout);
+        }
+        let more = round_up_to_unchecked(layout.size, MIN_ALIGN as u64) - block.size;
+        let Some(below) = Layout::new(more, block.align) else {
+            return Err(ArenaErr::AllocErr { refused: 0 });
+        };
+        match place(
+            self.newest.floor(),
+            self.newest.cursor,
+            below,
+            MIN_ALIGN as u64,
+        ) {
+            Some(addr) => {
+                self.newest.cursor = addr;
+                Ok((self.move_down(block, addr, layout), 0))
+            }
+            None => {
+                // A copy for the call out of line, so that the block itself stays in registers.
+                let old = block;
+                let slow = self.grow_below(chunks, old, below, layout);
+                self.slow_block(slow, layout)
+            }
+        }
+    }
+
+    // Grows a block at the cursor for which the ready part of the newest chunk has no room: down into bytes that are made ready
+    // for it, or anew.
+    #[cold]
+    #[inline(never)]
+    fn grow_below<C: ChunkSource>(
+        &mut self,
+        chunks: &mut C,
+        block: Block,
+        below: Layout,
+        layout: Layout,
+    ) -> SlowAnswer
+        requires readable { IsTrue (is_readable self.old.state block) }
+        requires size { block.size ≤ layout.size }
+        requires align { layout.align ≤ block.align }
+        requires last { block.addr ≡ cursor_of self.old.state.chunks }
+        requires below { below.size ≡ up layout.size self.old.state.min_align - block.size }
+        requires below_align { below.align ≡ block.align }
+        ensures { OnCounted (at_cursor self.new.state layout.size layout.align result)
+            (ResizesAfter (growing_of self.old block layout.size layout.align)
+            (view self.old (C.source chunks.old)) (view self.new (C.source chunks.new))
+            block layout.size layout.align) }
+    {
+        match place(
+            self.newest.base,
+            self.newest.cursor,
+            below,
+            MIN_ALIGN as u64,
+        ) {
+            Some(addr) => {
+                self.newest.make_ready(addr);
+                self.newest.cursor = addr;
+                let _ = self.move_down(block, addr, layout);
+                SlowAnswer::AtCursor { refused: 0 }
+            }
+            None => self.copy_to_new(chunks, block, layout, block.size),
+        }
+    }
+
+    // Shrinks a block to no greater alignment. At the cursor it moves up, if that gives half of it back, or more.
+    fn shrink_here(&mut self, block: Block, layout: Layout) -> Block
+        requires readable { IsTrue (is_readable self.old.state block) }
+        requires size { layout.size ≤ block.size }
+        requires align { layout.align ≤ block.align }
+        ensures { IsResizedUnasked (shrinking_of self.old block layout.size layout.align) self.old self.new
+            block layout.size layout.align result }
+    {
+        if block.addr != self.newest.cursor {
+            return self.block_of(block.addr, layout);
+        }
+        let delta = round_down_to(block.size - layout.size, layout.align.max(MIN_ALIGN as u64));
+        if delta < block.size - delta {
+            return self.block_of(block.addr, layout);
+        }
+        let addr = block.addr + delta;
+        let shrunk = self.block_of(addr, layout);
+        self.move_bytes(block.addr, addr, layout.size);
+        self.move_cursor(addr);
+        shrunk
+    }
+
+    // Moves a block's bytes to where a block of another layout begins in the newest chunk, and counts a reallocation.
+    #[inline(always)]
+    fn move_down(&mut self, block: Block, addr: u64, layout: Layout) -> Block
+        requires source { 0 < block.size → IsTrue (is_range_used self.old.state.chunks block.addr block.size) }
+        requires target { 0 < block.size → IsTrue (is_range_used self.old.state.chunks addr block.size) }
+        requires newest { (start_of self.old.state.chunks ≤ block.addr) × (start_of self.old.state.chunks ≤ addr) }
+        ensures state { self.new.state ≡ self.old.state }
+        ensures statistics { self.new.statistics ≡ one_reallocation self.old.statistics }
+        ensures bytes { Writes self.old self.new addr (bytes_from (image self.old) block.addr block.size) }
+        ensures block { result ≡ record {
+          generation = self.old.state.generation;
+          addr = addr;
+          size = layout.size;
+          align = layout.align;
+        } }
+    {
+        self.reallocations = self.reallocations.saturating_add(1);
+        self.move_in_newest(block.addr, addr, block.size);
+        self.block_of(addr, layout)
+    }
+
+    // Places a block anew, with the first n bytes of the old one.
+    #[cold]
+    #[inline(never)]
+    fn copy_to_new<C: ChunkSource>(
+        &mut self,
+        chunks: &mut C,
+        block: Block,
+        layout: Layout,
+        n: u64,
+    ) -> SlowAnswer
+        requires readable { IsTrue (is_readable self.old.state block) }
+        requires n { n ≡ min block.size layout.size }
+        ensures { OnCounted (at_cursor self.new.state layout.size layout.align result)
+            (ResizesAfter Anew
+            (view self.old (C.source chunks.old)) (view self.new (C.source chunks.new))
+            block layout.size layout.align) }
+    {
+        match self.find_place(chunks, layout) {
+            Ok((addr, refused)) => {
+                self.place_copy_at(addr, layout, block.addr, n);
+                self.count_move();
+                SlowAnswer::AtCursor { refused }
+            }
+            Err(ArenaErr::AllocErr { refused }) => SlowAnswer::NoChunk { refused },
+            Err(ArenaErr::OutOfMemory) => SlowAnswer::NoMemory,
+        }
+    }
+
+    // The block at an address.
+    pub(crate) fn block_of(&self, addr: u64, layout: Layout) -> Block
+        ensures block { result ≡ record {
+          generation = self.now.state.generation;
+          addr = addr;
+          size = layout.size;
+          align = layout.align;
+        } }
+        ensures valid { IsValid self.now.state }
+    {
+        Block {
+            generation: self.generation,
+            addr,
+            size: layout.size,
+            align: layout.align,
+        }
+    }
+
+    // Moves the cursor up, and counts a reallocation.
+    fn move_cursor(&mut self, addr: u64)
+        requires low { cursor_of self.old.state.chunks ≤ addr }
+        requires high { addr ≤ top_of self.old.state.chunks }
+        requires aligned { addr % self.old.state.min_align ≡ 0 }
+        ensures { self.new ≡ record {
+          state = with_cursor addr self.old.state;
+          statistics = one_reallocation self.old.statistics;
+          bytes = self.old.bytes;
+        } }
+    {
+        self.newest.cursor = addr;
+        self.reallocations = self.reallocations.saturating_add(1);
+    }
+
+    // Counts the last allocation as a reallocation.
+    fn count_move(&mut self)
+        requires { 0 < self.old.statistics.allocations }
+        ensures { self.new ≡ record {
+          state = self.old.state;
+          statistics = replaced self.old.statistics;
+          bytes = self.old.bytes;
+        } }
+    {
+        self.allocations = one_fewer(self.allocations);
+        self.reallocations = self.reallocations.saturating_add(1);
+    }
+
+    // Moves n bytes to a place in the newest chunk, in one move of memory. The two may overlap.
+    #[inline(always)]
+    pub(crate) fn move_bytes(&mut self, from: u64, to: u64, n: u64)
+        requires source { 0 < n → IsTrue (is_range_used self.old.state.chunks from n) }
+        requires target { 0 < n → IsTrue (is_range_used self.old.state.chunks to n) }
+        requires newest { start_of self.old.state.chunks ≤ to }
+        ensures state { self.new.state ≡ self.old.state }
+        ensures statistics { self.new.statistics ≡ self.old.statistics }
+        ensures bytes { Writes self.old self.new to (bytes_from (image self.old) from n) }
+    {
+        if n == 0 {
+            return;
+        }
+        if from >= self.newest.base {
+            self.move_in_newest(from, to, n);
+        } else {
+            let i = self.older.find(from);
+            put_at(&mut self.newest, to, self.older.part(i, from, n));
+        }
+    }
+
+    // The same of bytes that lie in the newest chunk.
+    #[inline(always)]
+    fn move_in_newest(&mut self, from: u64, to: u64, n: u64)
+        requires source { 0 < n → IsTrue (is_range_used self.old.state.chunks from n) }
+        requires target { 0 < n → IsTrue (is_range_used self.old.state.chunks to n) }
+        requires newest { (start_of self.old.state.chunks ≤ from) × (start_of self.old.state.chunks ≤ to) }
+        ensures state { self.new.state ≡ self.old.state }
+        ensures statistics { self.new.statistics ≡ self.old.statistics }
+        ensures bytes { Writes self.old self.new to (bytes_from (image self.old) from n) }
+    {
+        if n == 0 {
+            return;
+        }
+        shift_in(&mut self.newest, from, to, n);
+    }
+}

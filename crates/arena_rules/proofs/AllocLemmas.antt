@@ -1,0 +1,140 @@
+-- The ways in which an allocation ends.
+use Rattle.std.proofs.Common.{◌≡◌, ℕ, ◌+◌, ◌-◌, ◌*◌, ◌%◌, ◌≤◌, max, ap, sym, refl, subst, ◌∙◌, arith, IsTrue, Some, None, Option, List, ◌∷◌, true, false, Bool, length, inl, inr, eq-eqb, leb-true}
+use Rattle.std.specs.Prelude.{slice_get, MatchOption, nat_le, ◌==◌}
+use Rattle.std.specs.Option.{option_map}
+use Rattle.std.proofs.lemmas.Bool.{cases_Bool}
+use Rattle.std.proofs.lemmas.Option.{none-some, same_Some, cond_some, slice_get_past}
+use Rattle.arena_rules.specs.Rounding.{down, is_power}
+use Rattle.arena_rules.specs.State.{State, Chunk, FitsKind, IsValid, start_of, cursor_of, floor_of, newest_size}
+use Rattle.arena_rules.specs.Search.{place, place_below, chunk_align, next_base, asked, asked_above, least_size}
+use Rattle.arena_rules.specs.Moves.{Outcome, alloc, alloc_at, alloc_in_new, placed, fails, with_chunk}
+use Rattle.arena_rules.proofs.RoundingLemmas.{down_le, up_ge, up_mod, power_positive, power_multiple, max_power, pow_power, min_align_power, min_align_le, min_align_multiple}
+use Rattle.arena_rules.proofs.PlaceLemmas.{IsPlace, is_place, place_found}
+use Rattle.arena_rules.proofs.CursorLemmas.{start_positive, start_set, cursor_set}
+use Rattle.arena_rules.proofs.EntryLemmas.{IsEntry, is_entry}
+
+-- there is a place
+pub alloc_placed : (state : State) (size align p : ℕ) → place state size align ≡ Some p → alloc state size align 0 ≡ Some (placed state p)
+unfolding alloc
+alloc_placed state size align p found = rw found refl
+
+-- nothing was granted
+pub alloc_refused : (state : State) (size align k : ℕ) → place state size align ≡ None → k ≡ length (asked state size align)
+    → alloc state size align k ≡ Some (fails state)
+unfolding alloc
+alloc_refused state size align k none all =
+    rw (none, slice_get_past (asked state size align) k (omega arith), eq-eqb _ _ all) refl
+
+-- ---- A chunk was granted
+
+-- only a growing arena asks for chunks
+pub growing_of : (state : State) (size align k : ℕ) (e : ℕ × ℕ) → slice_get (asked state size align) k ≡ Some e → state.is_growing ≡ true
+unfolding asked
+growing_of state size align k e at = elim (cases_Bool state.is_growing) [
+  | inl growing ↦ growing
+  | inr still ↦ absurd (none-some e (rw still at at))
+]
+
+pub entry_of : (state : State) (size align k : ℕ) (e : ℕ × ℕ) → state.is_growing ≡ true → IsTrue (is_power align)
+    → slice_get (asked state size align) k ≡ Some e → IsEntry (next_base (floor_of state.chunks) align) size align e
+unfolding asked asked_above
+entry_of state size align k e growing power at =
+    is_entry (next_base (floor_of state.chunks) align) size align (max (least_size size) (2 * newest_size state.chunks))
+    (least_size size) k e (omega arith) power (rw growing at at)
+
+kind_grown : (growing : Bool) (chunk : Chunk) (chunks : List Chunk) → growing ≡ true → 64 ≤ chunk.size → FitsKind growing chunks
+    → FitsKind growing (chunk ∷ chunks)
+kind_grown true chunk chunks is large fits = (large, fits)
+kind_grown false chunk chunks is large fits = cc
+
+-- A chunk that was asked for makes a valid state.
+pub valid_grown : (state : State) (size align : ℕ) (e : ℕ × ℕ) → IsValid state → state.is_growing ≡ true → IsTrue (is_power align)
+    → IsEntry (next_base (floor_of state.chunks) align) size align e → IsValid (with_chunk e state)
+valid_grown state size align e valid growing power entry =
+    let unit = max_power align 16 power (pow_power 4 (omega arith)) in
+    let above : floor_of state.chunks ≤ e.0 =
+    omega (arith, entry.based, up_ge (floor_of state.chunks) (chunk_align align) (power_positive (chunk_align align) unit)) in
+    let aligned : e.0 % 16 ≡ 0 =
+    power_multiple e.0 16 (chunk_align align) (pow_power 4 (omega arith)) unit (omega arith)
+    (rw entry.based (up_mod (floor_of state.chunks) (chunk_align align))) in
+    record {
+      min_align = valid.min_align;
+      chunks = (
+        record {
+          base_aligned = aligned;
+          size_aligned = entry.units;
+          size_fits = entry.fits;
+          cursor_aligned = min_align_multiple (e.0 + e.1) state.min_align valid.min_align (omega (arith, aligned, entry.units));
+          cursor_low = omega arith;
+          cursor_high = omega arith;
+        },
+        above,
+        valid.chunks,
+      );
+      top = entry.top;
+      kind = kind_grown state.is_growing (record { base = e.0; size = e.1; cursor = e.0 + e.1 }) state.chunks growing entry.large
+          valid.kind;
+      generation = valid.generation;
+    }
+
+pub record IsGranted (state : State) (size align k : ℕ) (e : ℕ × ℕ) (p : ℕ) : Type 0 where
+  pub step : alloc state size align k ≡ Some (placed (with_chunk e state) p)
+  pub valid : IsValid (with_chunk e state)
+  pub place : IsPlace e.0 (e.0 + e.1) size align state.min_align p
+
+pub is_granted : (state : State) (size align k : ℕ) (e : ℕ × ℕ) (p : ℕ) → IsValid state → state.is_growing ≡ true → IsTrue (is_power align)
+    → place state size align ≡ None → slice_get (asked state size align) k ≡ Some e
+    → p ≡ down (e.0 + e.1 - size) (max align state.min_align)
+    → IsGranted state size align k e p
+unfolding alloc
+is_granted state size align k e p valid growing power none at is =
+    let m = state.min_align in
+    let entry = entry_of state size align k e growing power at in
+    let unit = max_power align 16 power (pow_power 4 (omega arith)) in
+    let both = max_power align m power (min_align_power m valid.min_align) in
+    let aligned : e.0 % max align m ≡ 0 =
+    power_multiple e.0 (max align m) (chunk_align align) both unit (omega (arith, min_align_le m valid.min_align))
+    (rw entry.based (up_mod (floor_of state.chunks) (chunk_align align))) in
+    let fits : e.0 + size ≤ e.0 + e.1 = omega (arith, entry.holds, up_ge size (chunk_align align) (power_positive (chunk_align align) unit))
+    in
+    let found : place_below e.0 (e.0 + e.1) size align m ≡ Some p =
+    place_found e.0 (e.0 + e.1) size align m power valid.min_align aligned fits ∙ ap Some (sym is) in
+    let grown = valid_grown state size align e valid growing power entry in
+    record {
+      step = rw (none, at, found) refl;
+      valid = grown;
+      place = is_place e.0 (e.0 + e.1) size align m p (start_positive (with_chunk e state) grown) power valid.min_align found;
+    }
+
+-- ---- A block lies at the cursor, in the newest chunk
+
+abbrev pub IsNewest : Outcome → Type 0
+IsNewest outcome = MatchOption outcome.answer (Unit {0}) (λ p. (start_of outcome.state.chunks ≤ p) × (cursor_of outcome.state.chunks ≡ p))
+
+placed_newest : (state : State) (size align p : ℕ) → place state size align ≡ Some p → IsNewest (placed state p)
+placed_newest state size align p found =
+    let n = cursor_of state.chunks - size in
+    let tested = cond_some (nat_le (start_of state.chunks) (down n (max align state.min_align)))
+    (down n (max align state.min_align)) p found in
+    let low : start_of state.chunks ≤ p = omega (arith, leb-true _ _ tested.0, tested.1) in (
+      omega (arith, start_set p state.chunks, low),
+      cursor_set p state.chunks low (omega (arith, down_le n (max align state.min_align), tested.1)),
+    )
+
+pub alloc_newest : (state : State) (size align k : ℕ) (outcome : Outcome) → alloc state size align k ≡ Some outcome → IsNewest outcome
+unfolding alloc
+alloc_newest state size align k outcome step = by_place (place state size align) refl step
+  where
+    in_chunk : (e : ℕ × ℕ) (o : Option ℕ) → place (with_chunk e state) size align ≡ o
+        → option_map (placed (with_chunk e state)) o ≡ Some outcome → IsNewest outcome
+    in_chunk e (Some p) found at = subst IsNewest (same_Some (placed (with_chunk e state) p) outcome at)
+        (placed_newest (with_chunk e state) size align p found)
+    in_chunk e None none at = absurd (none-some outcome at)
+
+    by_chunk : (o : Option (ℕ × ℕ)) → alloc_in_new o state size align k ≡ Some outcome → IsNewest outcome
+    by_chunk (Some e) at = in_chunk e (place (with_chunk e state) size align) refl at
+    by_chunk None at = subst IsNewest (cond_some (k == length (asked state size align)) (fails state) outcome at).1 tt
+
+    by_place : (o : Option ℕ) → place state size align ≡ o → alloc_at o state size align k ≡ Some outcome → IsNewest outcome
+    by_place (Some p) found at = subst IsNewest (cond_some (k == 0) (placed state p) outcome at).1 (placed_newest state size align p found)
+    by_place None none at = by_chunk (slice_get (asked state size align) k) at

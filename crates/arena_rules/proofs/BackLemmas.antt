@@ -1,0 +1,263 @@
+-- What is left of a state that goes back to a mark.
+use Rattle.std.proofs.Common.{◌≡◌, ℕ, zero, suc, ◌+◌, ◌-◌, ◌%◌, ◌<◌, ◌≤◌, max, refl, sym, ap, subst, arith, eqb-true, leb-true, List, [], ◌∷◌, IsTrue, Bool, true, false, sum, map, length, drop, inl, inr}
+use Rattle.std.specs.Prelude.{◌==◌, ◌&&◌, nat_le, if◌then◌else◌}
+use Rattle.std.proofs.lemmas.Bool.{and_parts, or_cases, or_left, or_right, cases_lt}
+use Rattle.std.proofs.lemmas.Bool.Decides.{nat_tests}
+use Rattle.std.proofs.lemmas.List.Sums.{sum_by-cons}
+use Rattle.arena_rules.specs.State.{State, Chunk, AreChunks, FitsKind, IsValid, start_of, cursor_of, top_of, floor_of, data_end, used_length, used_bytes, is_used_by, is_range_used}
+use Rattle.arena_rules.specs.Doubling.{IsDoubling}
+use Rattle.arena_rules.specs.Back.{Point, mark_of, first_chunks, raised, back, accepts}
+
+-- ---- The oldest chunks
+
+pub valid_after : (m k : ℕ) (chunks : List Chunk) → AreChunks m chunks → AreChunks m (drop k chunks)
+valid_after m zero chunks valid = valid
+valid_after m (suc k) [] valid = tt
+valid_after m (suc k) (newest ∷ older) valid = valid_after m k older valid.2
+
+pub floor_after : (m k : ℕ) (chunks : List Chunk) → AreChunks m chunks → floor_of (drop k chunks) ≤ floor_of chunks
+floor_after m zero chunks valid = omega arith
+floor_after m (suc k) [] valid = omega arith
+floor_after m (suc k) (newest ∷ older) valid = omega (arith, floor_after m k older valid.2, valid.1)
+
+kind_after : (k : ℕ) (chunks : List Chunk) → FitsKind true chunks → FitsKind true (drop k chunks)
+kind_after zero chunks fits = fits
+kind_after (suc k) [] fits = tt
+kind_after (suc k) (newest ∷ older) fits = kind_after k older fits.1
+
+-- an arena that doesn't grow keeps its one chunk
+kind_fixed : (n : ℕ) (chunks : List Chunk) → 0 < n → FitsKind false chunks → FitsKind false (drop (length chunks - n) chunks)
+kind_fixed n [] some fits = absurd fits
+kind_fixed n (newest ∷ []) some fits =
+    let none : length (newest ∷ []) - n ≡ 0 = omega arith in
+    subst (λ (k : ℕ). FitsKind false (drop k (newest ∷ []))) (sym none) fits
+kind_fixed n (newest ∷ (next ∷ older)) some fits = absurd fits
+
+used_after : (k addr n : ℕ) (chunks : List Chunk) → IsTrue (is_range_used (drop k chunks) addr n) → IsTrue (is_range_used chunks addr n)
+used_after zero addr n chunks used = used
+used_after (suc k) addr n [] used = used
+used_after (suc k) addr n (newest ∷ older) used =
+    or_right (is_used_by addr n newest) (is_range_used older addr n) (used_after k addr n older used)
+
+total_after : (f : Chunk → ℕ) (k : ℕ) (chunks : List Chunk) → sum (map f (drop k chunks)) ≤ sum (map f chunks)
+total_after f zero chunks = omega arith
+total_after f (suc k) [] = omega arith
+total_after f (suc k) (newest ∷ older) = omega (arith, total_after f k older, sum_by-cons (λ (n : ℕ). n) (f newest) (map f older))
+
+pub doubling_after : (z k : ℕ) (chunks : List Chunk) → IsDoubling z chunks → IsDoubling z (drop k chunks)
+doubling_after z zero chunks double = double
+doubling_after z (suc k) [] double = tt
+doubling_after z (suc k) (newest ∷ older) double = doubling_after z k older double.1
+
+-- ---- A cursor that is raised
+
+either : (P : ℕ → Type 0) (a b : ℕ) → P a → P b → P (max a b)
+either P a b at_a at_b = elim (cases_lt a b) [
+  | inl less ↦ (let is : max a b ≡ b = omega arith in subst P (sym is) at_b)
+  | inr more ↦ (let is : max a b ≡ a = omega arith in subst P (sym is) at_a)
+]
+
+valid_raised : (m c : ℕ) (chunks : List Chunk) → AreChunks m chunks → (c % m ≡ 0) → c ≤ top_of chunks → AreChunks m (raised c chunks)
+valid_raised m c [] valid aligned high = tt
+valid_raised m c (newest ∷ older) valid aligned high = (
+  record {
+    base_aligned = valid.0.base_aligned;
+    size_aligned = valid.0.size_aligned;
+    size_fits = valid.0.size_fits;
+    cursor_aligned = either (λ (p : ℕ). p % m ≡ 0) newest.cursor c valid.0.cursor_aligned aligned;
+    cursor_low = omega (arith, valid.0.cursor_low);
+    cursor_high = omega (arith, valid.0.cursor_high, high);
+  },
+  valid.1,
+  valid.2,
+)
+
+pub floor_raised : (c : ℕ) (chunks : List Chunk) → floor_of (raised c chunks) ≡ floor_of chunks
+floor_raised c [] = refl
+floor_raised c (newest ∷ older) = refl
+
+kind_raised : (growing : Bool) (c : ℕ) (chunks : List Chunk) → FitsKind growing chunks → FitsKind growing (raised c chunks)
+kind_raised growing c [] fits = fits
+kind_raised true c (newest ∷ older) fits = fits
+kind_raised false c (newest ∷ []) fits = fits
+kind_raised false c (newest ∷ (next ∷ older)) fits = fits
+
+used_raised : (c addr n : ℕ) (chunks : List Chunk) → IsTrue (is_range_used (raised c chunks) addr n) → IsTrue (is_range_used chunks addr n)
+used_raised c addr n [] used = used
+used_raised c addr n (newest ∷ older) used =
+    elim (or_cases (is_used_by addr n (record newest { cursor = max newest.cursor c })) (is_range_used older addr n) used) [
+      | inl here ↦ or_left (is_used_by addr n newest) (is_range_used older addr n) (lower here)
+      | inr there ↦ or_right (is_used_by addr n newest) (is_range_used older addr n) there
+    ]
+  where
+    lower : IsTrue (is_used_by addr n (record newest { cursor = max newest.cursor c })) → IsTrue (is_used_by addr n newest)
+    lower here =
+        let parts = and_parts _ _ here in
+        let low : max newest.cursor c ≤ addr = leb-true _ _ parts.0 in
+        let high : addr + n ≤ data_end newest = leb-true _ _ parts.1 in
+        let under : newest.cursor ≤ addr = omega arith in
+        grind (arith, nat_tests)
+
+total_raised : (c : ℕ) (chunks : List Chunk) → sum (map used_length (raised c chunks)) ≤ sum (map used_length chunks)
+total_raised c [] = omega arith
+total_raised c (newest ∷ older) =
+    omega (
+      arith,
+      sum_by-cons (λ (n : ℕ). n) (used_length newest) (map used_length older),
+      sum_by-cons (λ (n : ℕ). n) (data_end newest - max newest.cursor c) (map used_length older),
+    )
+
+doubling_raised : (z c : ℕ) (chunks : List Chunk) → IsDoubling z chunks → IsDoubling z (raised c chunks)
+doubling_raised z c [] double = tt
+doubling_raised z c (newest ∷ older) double = double
+
+-- ---- Going back
+
+-- what a mark that is accepted is
+pub record IsMark (mark : Point) (state : State) : Type 0 where
+  pub aligned : (0 < mark.chunks) → mark.cursor % state.min_align ≡ 0
+  pub high : (0 < mark.chunks) → mark.cursor ≤ top_of (first_chunks mark.chunks state.chunks)
+  pub low : (0 < mark.chunks) → start_of (first_chunks mark.chunks state.chunks) ≤ mark.cursor
+  pub within : mark.chunks ≤ length state.chunks
+  pub growing : mark.chunks ≡ 0 → state.is_growing ≡ true
+
+pub is_mark : (mark : Point) (state : State) → IsTrue (accepts mark state) → IsMark mark state
+is_mark mark state holds = go (mark.chunks == 0) refl holds
+  where
+    clash : mark.chunks ≡ 0 → (mark.chunks == 0) ≡ false → ⊥
+    clash same is = grind (arith, nat_tests)
+
+    go : (none : Bool) → (mark.chunks == 0) ≡ none
+        → IsTrue (if none then mark.cursor == 16 && state.is_growing
+        else nat_le mark.chunks (length state.chunks) && nat_le (start_of (first_chunks mark.chunks state.chunks)) mark.cursor
+        && nat_le mark.cursor (top_of (first_chunks mark.chunks state.chunks)) && mark.cursor % state.min_align == 0) → IsMark mark state
+    go true is holds =
+        let none : mark.chunks ≡ 0 = eqb-true _ _ is in
+        record {
+          aligned = λ some. absurd (omega (arith, none));
+          high = λ some. absurd (omega (arith, none));
+          low = λ some. absurd (omega (arith, none));
+          within = omega (arith, none);
+          growing = λ same. (and_parts (mark.cursor == 16) state.is_growing holds).1;
+        }
+    go false is holds =
+        let outer = and_parts _ (mark.cursor % state.min_align == 0) holds in
+        let next = and_parts _ (nat_le mark.cursor (top_of (first_chunks mark.chunks state.chunks))) outer.0 in
+        let first = and_parts (nat_le mark.chunks (length state.chunks))
+        (nat_le (start_of (first_chunks mark.chunks state.chunks)) mark.cursor) next.0 in
+        record {
+          aligned = λ some. eqb-true _ _ outer.1;
+          high = λ some. leb-true _ _ next.1;
+          low = λ some. leb-true _ _ first.1;
+          within = leb-true _ _ first.0;
+          growing = λ same. absurd (clash same is);
+        }
+
+-- with no chunk left there is no cursor
+pub none_left : (chunks : List Chunk) (n : ℕ) → n ≡ 0 → first_chunks n chunks ≡ []
+none_left chunks n none = rw none (all_dropped chunks (length chunks - 0) (omega arith))
+  where
+    all_dropped : (l : List Chunk) (k : ℕ) → length l ≤ k → drop k l ≡ []
+    all_dropped [] zero fits = refl
+    all_dropped [] (suc k) fits = refl
+    all_dropped (x ∷ l) zero fits = absurd (omega arith)
+    all_dropped (x ∷ l) (suc k) fits = all_dropped l k (omega arith)
+
+-- the oldest chunks make a valid state, too; of an arena that doesn't grow one is left
+pub first_valid : (n : ℕ) (state : State) → IsValid state → (n ≡ 0 → state.is_growing ≡ true)
+    → IsValid (record state { chunks = first_chunks n state.chunks })
+first_valid n state valid growing = record {
+  min_align = valid.min_align;
+  chunks = valid_after state.min_align (length state.chunks - n) state.chunks valid.chunks;
+  top = omega (arith, floor_after state.min_align (length state.chunks - n) state.chunks valid.chunks, valid.top);
+  kind = kind state.is_growing refl;
+  generation = valid.generation;
+}
+  where
+    not_both : (b : Bool) → b ≡ true → b ≡ false → ⊥
+    not_both b is_true is_false = cc
+
+    kind : (grows : Bool) → state.is_growing ≡ grows → FitsKind state.is_growing (first_chunks n state.chunks)
+    kind true same = rw same (kind_after (length state.chunks - n) state.chunks (rw same at valid.kind))
+    kind false same = elim (cases_lt 0 n) [
+      | inl some ↦ rw same (kind_fixed n state.chunks some (rw same at valid.kind))
+      | inr none ↦ absurd (not_both state.is_growing (growing (omega arith)) same)
+    ]
+
+pub back_valid : (mark : Point) (state : State) → IsValid state → IsTrue (accepts mark state) → IsValid (back mark state)
+back_valid mark state valid holds = record {
+  min_align = valid.min_align;
+  chunks = elim (cases_lt 0 mark.chunks) [
+    | inl some ↦ valid_raised state.min_align mark.cursor kept first (is.aligned some) (is.high some)
+    | inr none ↦ rw (none_left state.chunks mark.chunks (omega arith)) tt
+  ];
+  top = rw (floor_raised mark.cursor kept)
+      (omega (arith, floor_after state.min_align (length state.chunks - mark.chunks) state.chunks valid.chunks, valid.top));
+  kind = kind_raised state.is_growing mark.cursor kept (kind state.is_growing refl);
+  generation = valid.generation;
+}
+  where
+    is : IsMark mark state
+    is = is_mark mark state holds
+
+    kept : List Chunk
+    kept = first_chunks mark.chunks state.chunks
+
+    first : AreChunks state.min_align kept
+    first = valid_after state.min_align (length state.chunks - mark.chunks) state.chunks valid.chunks
+
+    not_both : (b : Bool) → b ≡ true → b ≡ false → ⊥
+    not_both b is_true is_false = cc
+
+    kind : (growing : Bool) → state.is_growing ≡ growing → FitsKind state.is_growing kept
+    kind true same = rw same (kind_after (length state.chunks - mark.chunks) state.chunks (rw same at valid.kind))
+    kind false same = elim (cases_lt 0 mark.chunks) [
+      | inl some ↦ rw same (kind_fixed mark.chunks state.chunks some (rw same at valid.kind))
+      | inr none ↦ absurd (not_both state.is_growing (is.growing (omega arith)) same)
+    ]
+
+-- Nothing comes into use.
+pub back_fewer : (mark : Point) (state : State) (addr n : ℕ) → IsTrue (is_range_used (back mark state).chunks addr n)
+    → IsTrue (is_range_used state.chunks addr n)
+back_fewer mark state addr n used =
+    used_after (length state.chunks - mark.chunks) addr n state.chunks
+    (used_raised mark.cursor addr n (first_chunks mark.chunks state.chunks) used)
+
+pub back_used : (mark : Point) (state : State) → used_bytes (back mark state) ≤ used_bytes state
+back_used mark state = omega (
+  arith,
+  total_raised mark.cursor (first_chunks mark.chunks state.chunks),
+  total_after used_length (length state.chunks - mark.chunks) state.chunks,
+)
+
+-- Chunks still double.
+pub back_doubling : (z : ℕ) (mark : Point) (state : State) → IsDoubling z state.chunks → IsDoubling z (back mark state).chunks
+back_doubling z mark state double = doubling_raised z mark.cursor (first_chunks mark.chunks state.chunks)
+    (doubling_after z (length state.chunks - mark.chunks) state.chunks double)
+
+-- ---- A state's own mark
+
+pub all_kept : (chunks : List Chunk) → first_chunks (length chunks) chunks ≡ chunks
+all_kept chunks = let none : length chunks - length chunks ≡ 0 = omega arith in rw none refl
+
+-- To go back at once changes nothing.
+pub back_at_once : (state : State) → back (mark_of state) state ≡ state
+back_at_once state = ap (λ (l : List Chunk). record state { chunks = l }) (rw (all_kept state.chunks) (same state.chunks))
+  where
+    same : (chunks : List Chunk) → raised (cursor_of chunks) chunks ≡ chunks
+    same [] = refl
+    same (newest ∷ older) = let is : max newest.cursor newest.cursor ≡ newest.cursor = omega arith in rw is refl
+
+pub own_accepted : (state : State) → IsValid state → IsTrue (accepts (mark_of state) state)
+own_accepted state valid = go state.is_growing state.min_align state.chunks valid.chunks valid.kind
+  where
+    go : (growing : Bool) (m : ℕ) (chunks : List Chunk) → AreChunks m chunks → FitsKind growing chunks
+        → IsTrue (accepts (record { chunks = length chunks; cursor = cursor_of chunks })
+        (record { min_align = m; is_growing = growing; generation = 0; chunks = chunks }))
+    go true m [] valid fits = refl
+    go false m [] valid fits = absurd fits
+    go growing m (newest ∷ older) valid fits =
+        let low : newest.base ≤ newest.cursor = valid.0.cursor_low in
+        let high : newest.cursor ≤ data_end newest = valid.0.cursor_high in
+        let aligned : newest.cursor % m ≡ 0 = valid.0.cursor_aligned in
+        rw (all_kept (newest ∷ older)) (grind (arith, nat_tests))

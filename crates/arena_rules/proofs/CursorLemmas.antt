@@ -1,0 +1,117 @@
+-- The cursor of the newest chunk, and where it may move.
+use Rattle.std.proofs.Common.{◌≡◌, ℕ, ◌+◌, ◌-◌, ◌%◌, ◌^◌, ◌<◌, ◌≤◌, refl, arith, List, [], ◌∷◌, true, false, Bool}
+use Rattle.arena_rules.specs.State.{State, Chunk, AreChunks, FitsKind, IsValid, start_of, cursor_of, top_of, floor_of, with_cursor, with_newest_cursor}
+use Rattle.arena_rules.specs.Moves.{set_cursor}
+use Rattle.arena_rules.proofs.RoundingLemmas.{min_align_multiple}
+
+pub floor_positive : (chunks : List Chunk) → 0 < floor_of chunks
+floor_positive [] = omega arith
+floor_positive (newest ∷ older) = omega arith
+
+pub start_positive : (state : State) → IsValid state → 0 < start_of state.chunks
+start_positive state valid = go state.chunks valid.chunks
+  where
+    go : (chunks : List Chunk) → AreChunks state.min_align chunks → 0 < start_of chunks
+    go [] fine = omega arith
+    go (newest ∷ older) fine = omega (arith, fine.1, floor_positive older)
+
+pub cursor_within : (state : State) → IsValid state → (start_of state.chunks ≤ cursor_of state.chunks)
+    × (cursor_of state.chunks ≤ top_of state.chunks)
+cursor_within state valid = go state.chunks valid.chunks
+  where
+    go : (chunks : List Chunk) → AreChunks state.min_align chunks → (start_of chunks ≤ cursor_of chunks)
+        × (cursor_of chunks ≤ top_of chunks)
+    go [] fine = (omega arith, omega arith)
+    go (newest ∷ older) fine = (fine.0.cursor_low, fine.0.cursor_high)
+
+pub cursor_aligned : (state : State) → IsValid state → cursor_of state.chunks % state.min_align ≡ 0
+cursor_aligned state valid = go state.chunks valid.chunks
+  where
+    go : (chunks : List Chunk) → AreChunks state.min_align chunks → cursor_of chunks % state.min_align ≡ 0
+    go [] fine = min_align_multiple 16 state.min_align valid.min_align refl
+    go (newest ∷ older) fine = fine.0.cursor_aligned
+
+-- data ends are multiples of 16
+pub top_units : (state : State) → IsValid state → top_of state.chunks % 16 ≡ 0
+top_units state valid = go state.chunks valid.chunks
+  where
+    go : (chunks : List Chunk) → AreChunks state.min_align chunks → top_of chunks % 16 ≡ 0
+    go [] fine = refl
+    go (newest ∷ older) fine = omega (arith, fine.0.base_aligned, fine.0.size_aligned)
+
+pub top_aligned : (state : State) → IsValid state → top_of state.chunks % state.min_align ≡ 0
+top_aligned state valid = min_align_multiple (top_of state.chunks) state.min_align valid.min_align (top_units state valid)
+
+-- the newest chunk ends 48 addresses before the last one or earlier
+pub top_le : (state : State) → IsValid state → top_of state.chunks + 48 ≤ 2 ^ 64 - 1
+top_le state valid = go state.chunks valid.top
+  where
+    go : (chunks : List Chunk) → floor_of chunks ≤ 2 ^ 64 - 1 → top_of chunks + 48 ≤ 2 ^ 64 - 1
+    go [] top = omega arith
+    go (newest ∷ older) top = top
+
+chunks_set : (m p : ℕ) → (chunks : List Chunk) → AreChunks m chunks → start_of chunks ≤ p → p ≤ top_of chunks → p % m ≡ 0
+    → AreChunks m (with_newest_cursor p chunks)
+chunks_set m p [] valid low high aligned = tt
+chunks_set m p (newest ∷ older) valid low high aligned = (
+  record {
+    base_aligned = valid.0.base_aligned;
+    size_aligned = valid.0.size_aligned;
+    size_fits = valid.0.size_fits;
+    cursor_aligned = aligned;
+    cursor_low = low;
+    cursor_high = high;
+  },
+  valid.1,
+  valid.2,
+)
+
+kind_set : (growing : Bool) (p : ℕ) → (chunks : List Chunk) → FitsKind growing chunks → FitsKind growing (with_newest_cursor p chunks)
+kind_set growing p [] fits = fits
+kind_set true p (newest ∷ older) fits = fits
+kind_set false p (newest ∷ []) fits = fits
+kind_set false p (newest ∷ (next ∷ older)) fits = fits
+
+floor_set : (p : ℕ) → (chunks : List Chunk) → floor_of (with_newest_cursor p chunks) ≡ floor_of chunks
+floor_set p [] = refl
+floor_set p (newest ∷ older) = refl
+
+-- A cursor may be any multiple of the least alignment in the newest chunk.
+pub valid_set : (state : State) (p : ℕ) → IsValid state → start_of state.chunks ≤ p → p ≤ top_of state.chunks → p % state.min_align ≡ 0
+    → IsValid (with_cursor p state)
+valid_set state p valid low high aligned = record {
+  min_align = valid.min_align;
+  chunks = chunks_set state.min_align p state.chunks valid.chunks low high aligned;
+  top = rw (floor_set p state.chunks) valid.top;
+  kind = kind_set state.is_growing p state.chunks valid.kind;
+  generation = valid.generation;
+}
+
+pub set_cursor_valid : (state : State) (p : ℕ) → IsValid state → start_of state.chunks ≤ p → p ≤ top_of state.chunks
+    → p % state.min_align ≡ 0
+    → IsValid (set_cursor p state)
+set_cursor_valid state p valid low high aligned =
+    let moved = valid_set state p valid low high aligned in
+    record { min_align = moved.min_align; chunks = moved.chunks; top = moved.top; kind = moved.kind; generation = omega arith }
+
+pub valid_moved : (state : State) (p : ℕ) → IsValid state → start_of state.chunks ≤ p → p ≤ cursor_of state.chunks → p % state.min_align ≡ 0
+    → IsValid (with_cursor p state)
+valid_moved state p valid low high aligned = valid_set state p valid low (omega (arith, cursor_within state valid)) aligned
+
+-- another cursor moves no base and no data end
+pub start_set : (p : ℕ) → (chunks : List Chunk) → start_of (with_newest_cursor p chunks) ≡ start_of chunks
+start_set p [] = refl
+start_set p (newest ∷ older) = refl
+
+pub top_set : (p : ℕ) → (chunks : List Chunk) → top_of (with_newest_cursor p chunks) ≡ top_of chunks
+top_set p [] = refl
+top_set p (newest ∷ older) = refl
+
+-- a cursor that moved down is where it moved to; without a chunk none moves
+pub cursor_set : (p : ℕ) → (chunks : List Chunk) → start_of chunks ≤ p → p ≤ cursor_of chunks → cursor_of (with_newest_cursor p chunks) ≡ p
+cursor_set p [] low high = omega (arith, low, high)
+cursor_set p (newest ∷ older) low high = refl
+
+pub top_floor : (chunks : List Chunk) → top_of chunks ≤ floor_of chunks
+top_floor [] = omega arith
+top_floor (newest ∷ older) = omega arith

@@ -1,0 +1,29 @@
+pub mod RoundingLemmas
+pub mod SizeLemmas
+pub mod SearchLemmas
+pub mod EntryLemmas
+pub mod PlaceLemmas
+pub mod CursorLemmas
+pub mod AllocLemmas
+pub mod UsedLemmas
+pub mod UsedBytesLemmas
+pub mod UsedResizeLemmas
+pub mod NewBlockLemmas
+pub mod ReturnLemmas
+pub mod AllocatedLemmas
+pub mod MoveLemmas
+pub mod ResetLemmas
+pub mod CreationLemmas
+pub mod RefusalLemmas
+pub mod CauseLemmas
+pub mod AskedSizeLemmas
+pub mod AnySizeLemmas
+pub mod GrownLemmas
+pub mod AskingLemmas
+pub mod DoublingLemmas
+mod Rows
+mod UsedRows
+pub mod BackLemmas
+pub mod MarkLemmas
+pub mod MarkPartLemmas
+pub mod PlacedLemmas

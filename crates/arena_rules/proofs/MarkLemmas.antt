@@ -1,0 +1,252 @@
+-- What becomes of marks as the state changes.
+use Rattle.std.proofs.Common.{◌≡◌, ℕ, suc, ◌+◌, ◌-◌, ◌≤◌, ◌⊎◌, max, refl, sym, ap, subst, ◌∙◌, arith, leb-true, le-leb, List, [], ◌∷◌, IsTrue, Some, None, Option, length, drop, inl, inr}
+use Rattle.std.specs.Prelude.{◌==◌, slice_get}
+use Rattle.std.specs.Option.{option_map}
+use Rattle.std.proofs.lemmas.Bool.{and_parts, or_cases, or_left, or_right, cases_lt, cond_both}
+use Rattle.std.proofs.lemmas.Bool.Decides.{nat_tests}
+use Rattle.std.proofs.lemmas.List.{length-drop, drop-drop}
+use Rattle.std.proofs.lemmas.Option.{none-some, same_Some, cond_some}
+use Rattle.arena_rules.specs.Rounding.{up}
+use Rattle.arena_rules.specs.State.{State, Chunk, start_of, cursor_of, top_of, data_end, is_used_by, is_range_used, with_newest_cursor, with_cursor}
+use Rattle.arena_rules.specs.Search.{place, asked}
+use Rattle.arena_rules.specs.Moves.{Outcome, Resizing, alloc, alloc_at, alloc_in_new, resize, dealloc, placed, stays, fails, unasked, with_chunk}
+use Rattle.arena_rules.specs.Moves.Resizing.{Stays, Moves, Anew, Refused}
+use Rattle.arena_rules.specs.Back.{Point, first_chunks, raised, back, accepts, KeepsMark}
+use Rattle.arena_rules.proofs.BackLemmas.{is_mark, all_kept}
+
+-- ---- The oldest chunks as others come and go
+
+-- The oldest n chunks are as they were; or there are no others, and the cursor moved.
+abbrev StayBelow : ℕ → List Chunk → List Chunk → Type 0
+StayBelow n old new = (first_chunks n new ≡ first_chunks n old)
+    ⊎ ((c : ℕ) × (length new ≡ n) × (new ≡ with_newest_cursor c (first_chunks n old)))
+
+length_first : (n : ℕ) (chunks : List Chunk) → n ≤ length chunks → length (first_chunks n chunks) ≡ n
+length_first n chunks within = omega (arith, length-drop (length chunks - n) chunks)
+
+start_moved : (c : ℕ) (chunks : List Chunk) → start_of (with_newest_cursor c chunks) ≡ start_of chunks
+start_moved c [] = refl
+start_moved c (newest ∷ older) = refl
+
+top_moved : (c : ℕ) (chunks : List Chunk) → top_of (with_newest_cursor c chunks) ≡ top_of chunks
+top_moved c [] = refl
+top_moved c (newest ∷ older) = refl
+
+record IsBelow (n : ℕ) (old new : List Chunk) : Type 0 where
+  within : n ≤ length new
+  start : start_of (first_chunks n new) ≡ start_of (first_chunks n old)
+  top : top_of (first_chunks n new) ≡ top_of (first_chunks n old)
+  used : (c addr k : ℕ) → IsTrue (is_range_used new addr k) → IsTrue (is_range_used (raised c (first_chunks n old)) addr k)
+      → IsTrue (is_range_used (raised c (first_chunks n new)) addr k)
+
+used_moved : (c p addr k : ℕ) (chunks : List Chunk) → IsTrue (is_range_used (with_newest_cursor p chunks) addr k)
+    → IsTrue (is_range_used (raised c chunks) addr k)
+    → IsTrue (is_range_used (raised c (with_newest_cursor p chunks)) addr k)
+used_moved c p addr k [] used marked = used
+used_moved c p addr k (newest ∷ older) used told =
+    elim (or_cases (is_used_by addr k (record newest { cursor = p })) (is_range_used older addr k) used) [
+      | inr there ↦ or_right (is_used_by addr k (record newest { cursor = max p c })) (is_range_used older addr k) there
+      | inl here ↦ elim (or_cases (is_used_by addr k (record newest { cursor = max newest.cursor c })) (is_range_used older addr k) told) [
+        | inr there ↦ or_right (is_used_by addr k (record newest { cursor = max p c })) (is_range_used older addr k) there
+        | inl too ↦ or_left (is_used_by addr k (record newest { cursor = max p c })) (is_range_used older addr k) (both here too)
+      ]
+    ]
+  where
+    both : IsTrue (is_used_by addr k (record newest { cursor = p }))
+        → IsTrue (is_used_by addr k (record newest { cursor = max newest.cursor c }))
+        → IsTrue (is_used_by addr k (record newest { cursor = max p c }))
+    both here too =
+        let first = and_parts _ _ here in
+        let second = and_parts _ _ too in
+        let low : p ≤ addr = leb-true _ _ first.0 in
+        let marked_low : max newest.cursor c ≤ addr = leb-true _ _ second.0 in
+        let high : addr + k ≤ data_end newest = leb-true _ _ first.1 in
+        let under : max p c ≤ addr = omega arith in
+        grind (arith, nat_tests)
+
+is_below : (n : ℕ) (old new : List Chunk) → n ≤ length old → StayBelow n old new → IsBelow n old new
+is_below n old new within stay = elim stay [
+  | inl same ↦ record {
+    within = omega (arith, length-drop (length new - n) new, ap length same, length_first n old within);
+    start = ap start_of same;
+    top = ap top_of same;
+    used = λ c addr k used marked. subst (λ (l : List Chunk). IsTrue (is_range_used (raised c l) addr k)) (sym same) marked;
+  }
+  | inr moved ↦
+      let all : first_chunks n new ≡ new = subst (λ (m : ℕ). first_chunks m new ≡ new) moved.1 (all_kept new) in
+      record {
+        within = omega (arith, moved.1);
+        start = ap start_of (all ∙ moved.2) ∙ start_moved moved.0 (first_chunks n old);
+        top = ap top_of (all ∙ moved.2) ∙ top_moved moved.0 (first_chunks n old);
+        used = λ c addr k used marked.
+            subst (λ (l : List Chunk). IsTrue (is_range_used (raised c l) addr k)) (sym (all ∙ moved.2))
+            (used_moved c moved.0 addr k (first_chunks n old) (subst (λ (l : List Chunk). IsTrue (is_range_used l addr k)) moved.2 used)
+            marked);
+      }
+]
+
+-- ---- A mark
+
+accepts_same : (mark : Point) (old new : State) → new.min_align ≡ old.min_align → new.is_growing ≡ old.is_growing
+    → mark.chunks ≤ length old.chunks
+    → IsBelow mark.chunks old.chunks new.chunks → accepts mark new ≡ accepts mark old
+accepts_same mark old new same kind within below =
+    rw (
+      same,
+      kind,
+      below.start,
+      below.top,
+      le-leb mark.chunks (length old.chunks) within,
+      le-leb mark.chunks (length new.chunks) below.within,
+    ) refl
+
+mark_kept : (mark : Point) (old new : State) → new.generation ≡ old.generation → new.min_align ≡ old.min_align
+    → new.is_growing ≡ old.is_growing → IsTrue (accepts mark old)
+    → StayBelow mark.chunks old.chunks new.chunks → KeepsMark mark old new
+mark_kept mark old new generation same kind holds stay =
+    let within = (is_mark mark old holds).within in
+    let below = is_below mark.chunks old.chunks new.chunks within stay in
+    record {
+      generation = generation;
+      accepted = rw (accepts_same mark old new same kind within below) holds;
+      part = λ addr. rw (below.start, below.top) refl;
+      used = λ addr n used marked. below.used mark.cursor addr n used marked;
+    }
+
+-- ---- One call
+
+-- the cursor moved, or a chunk became the newest
+abbrev Follows : List Chunk → List Chunk → Type 0
+Follows old new = ((c : ℕ) × (new ≡ with_newest_cursor c old)) ⊎ ((chunk : Chunk) × (new ≡ chunk ∷ old))
+
+still : (chunks : List Chunk) → Follows chunks chunks
+still [] = inl (0, refl)
+still (newest ∷ older) = inl (newest.cursor, refl)
+
+moved_below : (n c : ℕ) (old : List Chunk) → n ≤ length old → StayBelow n old (with_newest_cursor c old)
+moved_below n c [] within = inl refl
+moved_below n c (newest ∷ older) within = elim (cases_lt n (length (newest ∷ older))) [
+  | inl less ↦
+      let next : length (newest ∷ older) - n ≡ suc (length older - n) = omega arith in
+      inl (rw next refl)
+  | inr all ↦
+      let none : length (newest ∷ older) - n ≡ 0 = omega arith in
+      inr (c, omega arith, rw none refl)
+]
+
+grown_below : (n : ℕ) (chunk : Chunk) (old : List Chunk) → n ≤ length old → StayBelow n old (chunk ∷ old)
+grown_below n chunk old within = let next : length (chunk ∷ old) - n ≡ suc (length old - n) = omega arith in inl (rw next refl)
+
+follows_below : (n : ℕ) (old new : List Chunk) → n ≤ length old → Follows old new → StayBelow n old new
+follows_below n old new within follows = elim follows [
+  | inl moved ↦ subst (StayBelow n old) (sym moved.1) (moved_below n moved.0 old within)
+  | inr grown ↦ subst (StayBelow n old) (sym grown.1) (grown_below n grown.0 old within)
+]
+
+-- what a call leaves
+record IsNext (old new : State) : Type 0 where
+  generation : new.generation ≡ old.generation
+  min_align : new.min_align ≡ old.min_align
+  is_growing : new.is_growing ≡ old.is_growing
+  follows : Follows old.chunks new.chunks
+
+next_keeps : (mark : Point) (old new : State) → IsTrue (accepts mark old) → IsNext old new → KeepsMark mark old new
+next_keeps mark old new holds next =
+    mark_kept mark old new next.generation next.min_align next.is_growing holds
+    (follows_below mark.chunks old.chunks new.chunks (is_mark mark old holds).within next.follows)
+
+next_still : (state : State) → IsNext state state
+next_still state = record { generation = refl; min_align = refl; is_growing = refl; follows = still state.chunks }
+
+next_placed : (p : ℕ) (state : State) → IsNext state (with_cursor p state)
+next_placed p state = record { generation = refl; min_align = refl; is_growing = refl; follows = inl (p, refl) }
+
+next_unasked : (k : ℕ) (state : State) (r outcome : Outcome) → IsNext state r.state → unasked k r ≡ Some outcome
+    → IsNext state outcome.state
+next_unasked k state r outcome next at = subst (λ (o : Outcome). IsNext state o.state) (cond_some (k == 0) r outcome at).1 next
+
+next_alloc : (state : State) (size align k : ℕ) (outcome : Outcome) → alloc state size align k ≡ Some outcome → IsNext state outcome.state
+unfolding alloc
+next_alloc state size align k outcome step = by_place (place state size align) step
+  where
+    in_chunk : (e : ℕ × ℕ) (o : Option ℕ) → option_map (placed (with_chunk e state)) o ≡ Some outcome → IsNext state outcome.state
+    in_chunk e (Some p) at = subst (λ (o : Outcome). IsNext state o.state) (same_Some (placed (with_chunk e state) p) outcome at)
+        (record {
+          generation = refl;
+          min_align = refl;
+          is_growing = refl;
+          follows = inr (record { base = e.0; size = e.1; cursor = p }, refl);
+        })
+    in_chunk e None at = absurd (none-some outcome at)
+
+    by_chunk : (o : Option (ℕ × ℕ)) → alloc_in_new o state size align k ≡ Some outcome → IsNext state outcome.state
+    by_chunk (Some e) at = in_chunk e (place (with_chunk e state) size align) at
+    by_chunk None at = subst (λ (o : Outcome). IsNext state o.state)
+        (cond_some (k == length (asked state size align)) (fails state) outcome at).1 (next_still state)
+
+    by_place : (o : Option ℕ) → alloc_at o state size align k ≡ Some outcome → IsNext state outcome.state
+    by_place (Some p) at = next_unasked k state (placed state p) outcome (next_placed p state) at
+    by_place None at = by_chunk (slice_get (asked state size align) k) at
+
+next_resize : (way : Resizing) (state : State) (p size align k : ℕ) (outcome : Outcome) → resize way state p size align k ≡ Some outcome
+    → IsNext state outcome.state
+next_resize Stays state p size align k outcome step = next_unasked k state (stays state p) outcome (next_still state) step
+next_resize (Moves q) state p size align k outcome step = next_unasked k state (placed state q) outcome (next_placed q state) step
+next_resize Anew state p size align k outcome step = next_alloc state size align k outcome step
+next_resize Refused state p size align k outcome step = next_unasked k state (fails state) outcome (next_still state) step
+
+next_dealloc : (state : State) (p size : ℕ) → IsNext state (dealloc state p size)
+unfolding dealloc
+next_dealloc state p size =
+    cond_both (p == cursor_of state.chunks) (with_cursor (up (p + size) state.min_align) state) state (λ (s : State). IsNext state s)
+    (λ last. next_placed (up (p + size) state.min_align) state) (λ other. next_still state)
+
+pub still_keeps : (mark : Point) (state : State) → IsTrue (accepts mark state) → KeepsMark mark state state
+still_keeps mark state holds = next_keeps mark state state holds (next_still state)
+
+pub alloc_keeps : (mark : Point) (state : State) (size align k : ℕ) (outcome : Outcome) → IsTrue (accepts mark state)
+    → alloc state size align k ≡ Some outcome
+    → KeepsMark mark state outcome.state
+alloc_keeps mark state size align k outcome holds step =
+    next_keeps mark state outcome.state holds (next_alloc state size align k outcome step)
+
+pub resize_keeps : (mark : Point) (way : Resizing) (state : State) (p size align k : ℕ) (outcome : Outcome) → IsTrue (accepts mark state)
+    → resize way state p size align k ≡ Some outcome → KeepsMark mark state outcome.state
+resize_keeps mark way state p size align k outcome holds step =
+    next_keeps mark state outcome.state holds (next_resize way state p size align k outcome step)
+
+pub dealloc_keeps_mark : (mark : Point) (state : State) (p size : ℕ) → IsTrue (accepts mark state)
+    → KeepsMark mark state (dealloc state p size)
+dealloc_keeps_mark mark state p size holds = next_keeps mark state (dealloc state p size) holds (next_dealloc state p size)
+
+-- ---- Going back to a newer mark
+
+raised_is : (c : ℕ) (chunks : List Chunk) → raised c chunks ≡ with_newest_cursor (max (cursor_of chunks) c) chunks
+raised_is c [] = refl
+raised_is c (newest ∷ older) = refl
+
+length_raised : (c : ℕ) (chunks : List Chunk) → length (raised c chunks) ≡ length chunks
+length_raised c [] = refl
+length_raised c (newest ∷ older) = refl
+
+back_below : (n : ℕ) (mark : Point) (chunks : List Chunk) → n ≤ mark.chunks → mark.chunks ≤ length chunks
+    → StayBelow n chunks (raised mark.cursor (first_chunks mark.chunks chunks))
+back_below n mark chunks below within =
+    let kept : List Chunk = first_chunks mark.chunks chunks in
+    let many : length kept ≡ mark.chunks = length_first mark.chunks chunks within in
+    let under : first_chunks n kept ≡ first_chunks n chunks = drop-drop (length kept - n) (length chunks - mark.chunks) chunks
+    ∙ ap (λ (k : ℕ). drop k chunks) (omega (arith, many)) in
+    let moved : StayBelow n kept (raised mark.cursor kept) =
+    subst (StayBelow n kept) (sym (raised_is mark.cursor kept))
+    (moved_below n (max (cursor_of kept) mark.cursor) kept (omega (arith, many))) in
+    subst (λ (l : List Chunk). (first_chunks n (raised mark.cursor kept) ≡ l)
+    ⊎ ((c : ℕ) × (length (raised mark.cursor kept) ≡ n) × (raised mark.cursor kept ≡ with_newest_cursor c l)))
+    under moved
+
+-- An older mark stands as a newer one is gone back to.
+pub back_keeps : (older newer : Point) (state : State) → older.chunks ≤ newer.chunks → IsTrue (accepts older state)
+    → IsTrue (accepts newer state)
+    → KeepsMark older state (back newer state)
+back_keeps older newer state below holds newer_holds =
+    mark_kept older state (back newer state) refl refl refl holds
+    (back_below older.chunks newer state.chunks below (is_mark newer state newer_holds).within)

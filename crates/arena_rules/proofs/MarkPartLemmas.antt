@@ -1,0 +1,131 @@
+-- Which blocks in use lie in a mark's part.
+use Rattle.std.proofs.Common.{ℕ, zero, suc, ◌+◌, ◌-◌, ◌<◌, ◌≤◌, max, inl, inr, refl, arith, leb-true, lt-ltb, le-leb, List, [], ◌∷◌, IsTrue, length, drop}
+use Rattle.std.specs.Prelude.{◌&&◌, ◌||◌, nat_le, nat_lt}
+use Rattle.std.proofs.lemmas.Bool.{and_parts, or_cases, or_left, or_right}
+use Rattle.std.proofs.lemmas.Bool.Decides.{nat_tests}
+use Rattle.arena_rules.specs.State.{State, Chunk, AreChunks, IsValid, start_of, cursor_of, top_of, data_end, is_used_by, is_range_used}
+use Rattle.arena_rules.specs.Back.{Point, raised, back, is_in_part}
+use Rattle.arena_rules.proofs.BackLemmas.{valid_after, floor_after}
+use Rattle.arena_rules.proofs.CursorLemmas.{top_floor}
+use Rattle.arena_rules.proofs.UsedLemmas.{used_under, used_beside}
+
+-- a range in use by a chunk lies between its cursor and its data end
+module _ (addr n : ℕ) (chunk : Chunk) (used : IsTrue (is_used_by addr n chunk)) where
+  ends : IsTrue (nat_le chunk.cursor addr) × IsTrue (nat_le (addr + n) (data_end chunk))
+  ends = and_parts (nat_le chunk.cursor addr) (nat_le (addr + n) (data_end chunk)) used
+
+  lower : chunk.cursor ≤ addr
+  lower = leb-true chunk.cursor addr ends.0
+
+  higher : addr + n ≤ data_end chunk
+  higher = leb-true (addr + n) (data_end chunk) ends.1
+
+module _ (m addr n : ℕ) (some : 0 < n) where
+  under_top : (chunks : List Chunk) → AreChunks m chunks → IsTrue (is_range_used chunks addr n) → addr < top_of chunks
+  under_top [] valid used = cc
+  under_top (newest ∷ older) valid used = elim (or_cases (is_used_by addr n newest) (is_range_used older addr n) used) [
+    | inl here ↦ (let high = higher addr n newest here in omega arith)
+    | inr there ↦ omega (arith, used_under m addr n older valid.2 some there, valid.1)
+  ]
+
+  -- what lies below the data end of the older chunks is in use by one of them
+  in_first : (k : ℕ) (chunks : List Chunk) → AreChunks m chunks → addr < top_of (drop k chunks) → IsTrue (is_range_used chunks addr n)
+      → IsTrue (is_range_used (drop k chunks) addr n)
+  in_first zero chunks valid below used = used
+  in_first (suc k) [] valid below used = used
+  in_first (suc k) (newest ∷ older) valid below used = elim (or_cases (is_used_by addr n newest) (is_range_used older addr n) used) [
+    | inl here ↦
+        let low = lower addr n newest here in
+        absurd (omega (arith, below, top_floor (drop k older), floor_after m k older valid.2, valid.1, valid.0.cursor_low))
+    | inr there ↦ in_first k older valid.2 below there
+  ]
+
+  in_raised : (c : ℕ) (chunks : List Chunk) → AreChunks m chunks → IsTrue (nat_lt addr (start_of chunks) || nat_le c addr)
+      → IsTrue (is_range_used chunks addr n)
+      → IsTrue (is_range_used (raised c chunks) addr n)
+  in_raised c [] valid marked used = used
+  in_raised c (newest ∷ older) valid marked used = elim (or_cases (is_used_by addr n newest) (is_range_used older addr n) used) [
+    | inr there ↦ or_right (is_used_by addr n (record newest { cursor = max newest.cursor c })) (is_range_used older addr n) there
+    | inl here ↦
+        let low = lower addr n newest here in
+        let high = higher addr n newest here in
+        elim (or_cases (nat_lt addr newest.base) (nat_le c addr) marked) [
+          | inl under ↦ (let below : addr < newest.base = leb-true _ _ under in absurd (omega (arith, valid.0.cursor_low)))
+          | inr past ↦
+              let over : c ≤ addr = leb-true _ _ past in
+              let from : max newest.cursor c ≤ addr = omega arith in
+              or_left (is_used_by addr n (record newest { cursor = max newest.cursor c })) (is_range_used older addr n)
+              (grind (arith, nat_tests))
+        ]
+  ]
+
+  raised_in : (c : ℕ) (chunks : List Chunk) → AreChunks m chunks → IsTrue (is_range_used (raised c chunks) addr n)
+      → IsTrue (nat_lt addr (start_of chunks) || nat_le c addr)
+  raised_in c [] valid used = cc
+  raised_in c (newest ∷ older) valid used =
+      elim (or_cases (is_used_by addr n (record newest { cursor = max newest.cursor c })) (is_range_used older addr n) used) [
+        | inl here ↦
+            let low = lower addr n (record newest { cursor = max newest.cursor c }) here in
+            or_right (nat_lt addr newest.base) (nat_le c addr) (le-leb _ _ (omega arith))
+        | inr there ↦ or_left (nat_lt addr newest.base) (nat_le c addr)
+            (lt-ltb _ _ (omega (arith, used_under m addr n older valid.2 some there, valid.1)))
+      ]
+
+  raised_used : (c : ℕ) (chunks : List Chunk) → AreChunks m chunks → IsTrue (is_range_used (raised c chunks) addr n) → addr < top_of chunks
+  raised_used c [] valid used = cc
+  raised_used c (newest ∷ older) valid used =
+      elim (or_cases (is_used_by addr n (record newest { cursor = max newest.cursor c })) (is_range_used older addr n) used) [
+        | inl here ↦ (let high = higher addr n (record newest { cursor = max newest.cursor c }) here in omega arith)
+        | inr there ↦ omega (arith, used_under m addr n older valid.2 some there, valid.1, valid.0.cursor_low, valid.0.cursor_high)
+      ]
+
+  -- where the newest cursor lies in a part, so does all that is in use
+  past_cursor : (c k : ℕ) (chunks : List Chunk) → AreChunks m chunks → IsTrue (is_range_used chunks addr n)
+      → cursor_of chunks < top_of (drop k chunks)
+      → IsTrue (nat_lt (cursor_of chunks) (start_of (drop k chunks)) || nat_le c (cursor_of chunks))
+      → IsTrue (nat_lt addr (top_of (drop k chunks)) && (nat_lt addr (start_of (drop k chunks)) || nat_le c addr))
+  past_cursor c k [] valid used below marked = cc
+  past_cursor c (suc k) (newest ∷ older) valid used below marked =
+      absurd (omega (arith, below, top_floor (drop k older), floor_after m k older valid.2, valid.1, valid.0.cursor_low))
+  past_cursor c zero (newest ∷ older) valid used below marked =
+      let under : addr < data_end newest = under_top (newest ∷ older) valid used in
+      let over : c ≤ newest.cursor = elim (or_cases (nat_lt newest.cursor newest.base) (nat_le c newest.cursor) marked) [
+        | inl low ↦ (let less : newest.cursor < newest.base = leb-true _ _ low in absurd (omega (arith, valid.0.cursor_low)))
+        | inr past ↦ leb-true _ _ past
+      ] in
+      let inside : IsTrue (nat_lt addr newest.base || nat_le c addr) = elim (used_beside m addr n (newest ∷ older) valid some used) [
+        | inl past ↦ or_right (nat_lt addr newest.base) (nat_le c addr) (le-leb _ _ (omega arith))
+        | inr low ↦ or_left (nat_lt addr newest.base) (nat_le c addr) (lt-ltb _ _ (omega arith))
+      ] in
+      rw (lt-ltb _ _ under, inside) refl
+
+-- What is in use and begins in a mark's part is left when the state goes back to it; and nothing else is.
+pub part_left : (mark : Point) (state : State) (addr n : ℕ) → IsValid state → 0 < n → IsTrue (is_range_used state.chunks addr n)
+    → IsTrue (is_in_part mark state addr)
+    → IsTrue (is_range_used (back mark state).chunks addr n)
+part_left mark state addr n valid some used inside =
+    let k = length state.chunks - mark.chunks in
+    let parts = and_parts (nat_lt addr (top_of (drop k state.chunks)))
+    (nat_lt addr (start_of (drop k state.chunks)) || nat_le mark.cursor addr) inside in
+    in_raised state.min_align addr n some mark.cursor (drop k state.chunks)
+    (valid_after state.min_align k state.chunks valid.chunks) parts.1
+    (in_first state.min_align addr n some k state.chunks valid.chunks (leb-true _ _ parts.0) used)
+
+pub left_part : (mark : Point) (state : State) (addr n : ℕ) → IsValid state → 0 < n → IsTrue (is_range_used (back mark state).chunks addr n)
+    → IsTrue (is_in_part mark state addr)
+left_part mark state addr n valid some left =
+    let k = length state.chunks - mark.chunks in
+    let first = valid_after state.min_align k state.chunks valid.chunks in
+    rw (
+      lt-ltb _ _ (raised_used state.min_align addr n some mark.cursor (drop k state.chunks) first left),
+      raised_in state.min_align addr n some mark.cursor (drop k state.chunks) first left,
+    ) refl
+
+pub cursor_part : (mark : Point) (state : State) (addr n : ℕ) → IsValid state → 0 < n → IsTrue (is_range_used state.chunks addr n)
+    → IsTrue (is_in_part mark state (cursor_of state.chunks)) → IsTrue (is_in_part mark state addr)
+cursor_part mark state addr n valid some used inside =
+    let k = length state.chunks - mark.chunks in
+    let c = cursor_of state.chunks in
+    let parts = and_parts (nat_lt c (top_of (drop k state.chunks))) (nat_lt c (start_of (drop k state.chunks)) || nat_le mark.cursor c)
+    inside in
+    past_cursor state.min_align addr n some mark.cursor k state.chunks valid.chunks used (leb-true _ _ parts.0) parts.1

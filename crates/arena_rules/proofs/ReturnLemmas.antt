@@ -1,0 +1,155 @@
+-- Blocks that are given back.
+use Rattle.std.proofs.Common.{◌≡◌, ℕ, ◌+◌, ◌%◌, ◌<◌, ◌≤◌, inl, inr, refl, ap, sym, subst, ◌∙◌, arith, List, [], ◌∷◌, IsTrue, Bool, eq-eqb, ne_eqb, sum, map}
+use Rattle.std.specs.Prelude.{◌==◌, ◌||◌}
+use Rattle.std.proofs.lemmas.Bool.{or_left, or_right, cases_eq, cases_lt}
+use Rattle.std.proofs.lemmas.Bool.Decides.{nat_tests}
+use Rattle.arena_rules.specs.Rounding.{up}
+use Rattle.arena_rules.specs.State.{State, Chunk, IsValid, start_of, cursor_of, top_of, with_cursor, with_newest_cursor, is_range_used, allocated_bytes, AreApart}
+use Rattle.arena_rules.specs.Moves.{dealloc}
+use Rattle.arena_rules.specs.State.{is_place_used}
+use Rattle.arena_rules.specs.Blocks.{padded_size, LieBeside}
+use Rattle.arena_rules.specs.declared.place.Place.{Place}
+use Rattle.arena_rules.proofs.RoundingLemmas.{up_ge, up_mod, up_same, up_least, min_align_positive}
+use Rattle.arena_rules.proofs.CursorLemmas.{cursor_within, cursor_aligned, top_aligned, valid_set}
+use Rattle.arena_rules.proofs.UsedLemmas.{used_set, used_top, used_before}
+
+-- Only a block at the cursor moves it.
+pub dealloc_at : (state : State) (p size : ℕ) → p ≡ cursor_of state.chunks
+    → dealloc state p size ≡ with_cursor (up (p + size) state.min_align) state
+unfolding dealloc
+dealloc_at state p size at = rw (eq-eqb _ _ at) refl
+
+pub dealloc_elsewhere : (state : State) (p size : ℕ) → (p ≡ cursor_of state.chunks → ⊥) → dealloc state p size ≡ state
+unfolding dealloc
+dealloc_elsewhere state p size other = rw (ne_eqb _ _ other) refl
+
+-- A fact of states holds after a block was given back, if it held before and holds at the new cursor.
+dealloc_by : (P : State → Type 0) (state : State) (p size : ℕ)
+    → (p ≡ cursor_of state.chunks → P (with_cursor (up (p + size) state.min_align) state)) → P state → P (dealloc state p size)
+dealloc_by P state p size moved still = elim (cases_eq p (cursor_of state.chunks)) [
+  | inl at ↦ subst P (sym (dealloc_at state p size at)) (moved at)
+  | inr other ↦ subst P (sym (dealloc_elsewhere state p size other)) still
+]
+
+pub dealloc_min_align : (state : State) (p size : ℕ) → (dealloc state p size).min_align ≡ state.min_align
+dealloc_min_align state p size = dealloc_by (λ (s : State). s.min_align ≡ state.min_align) state p size (λ at. refl) refl
+
+pub dealloc_is_growing : (state : State) (p size : ℕ) → (dealloc state p size).is_growing ≡ state.is_growing
+dealloc_is_growing state p size = dealloc_by (λ (s : State). s.is_growing ≡ state.is_growing) state p size (λ at. refl) refl
+
+pub dealloc_generation : (state : State) (p size : ℕ) → (dealloc state p size).generation ≡ state.generation
+dealloc_generation state p size = dealloc_by (λ (s : State). s.generation ≡ state.generation) state p size (λ at. refl) refl
+
+-- another cursor changes no size
+pub allocated_moved : (p : ℕ) (chunks : List Chunk)
+    → sum (map (λ (c : Chunk). c.size) (with_newest_cursor p chunks)) ≡ sum (map (λ (c : Chunk). c.size) chunks)
+allocated_moved p [] = refl
+allocated_moved p (newest ∷ older) = refl
+
+pub dealloc_allocated : (state : State) (p size : ℕ) → allocated_bytes (dealloc state p size) ≡ allocated_bytes state
+dealloc_allocated state p size =
+    dealloc_by (λ (s : State). allocated_bytes s ≡ allocated_bytes state) state p size
+    (λ at. allocated_moved (up (p + size) state.min_align) state.chunks) refl
+
+-- A range in use that lies apart from the padded block stays in use.
+pub dealloc_keeps : (state : State) (p size addr n : ℕ) → 0 < n → IsTrue (is_range_used state.chunks addr n) → LieBeside state p size addr n
+    → IsTrue (is_range_used (dealloc state p size).chunks addr n)
+dealloc_keeps state p size addr n some used apart =
+    dealloc_by (λ (s : State). IsTrue (is_range_used s.chunks addr n)) state p size
+    (λ at. used_set (up (p + size) state.min_align) addr n state.chunks (λ from. elim (cases_lt 0 (padded_size state.min_align p size)) [
+      | inl filled ↦ elim (apart filled some) [ inl above ↦ omega arith | inr below ↦ absurd (omega arith) ]
+      | inr none ↦ omega arith
+    ]) used) used
+
+-- Where a block at the cursor is given back.
+pub record IsReturn (state : State) (p size q : ℕ) : Type 0 where
+  pub valid : IsValid (with_cursor q state)
+  pub step : dealloc state p size ≡ with_cursor q state
+  pub low : start_of state.chunks ≤ q
+  pub high : q ≤ top_of state.chunks
+
+pub is_return : (state : State) (p size q : ℕ) → IsValid state → p ≡ cursor_of state.chunks → p + size ≤ top_of state.chunks
+    → q ≡ up (p + size) state.min_align
+    → IsReturn state p size q
+is_return state p size q valid at fits is =
+    let positive = min_align_positive state.min_align valid.min_align in
+    let low : start_of state.chunks ≤ q = omega (arith, cursor_within state valid, up_ge (p + size) state.min_align positive) in
+    let high : q ≤ top_of state.chunks = omega
+    (arith, up_least (p + size) state.min_align (top_of state.chunks) positive (top_aligned state valid) fits) in
+    record {
+      valid = valid_set state q valid low high (rw is (up_mod (p + size) state.min_align));
+      step = dealloc_at state p size at ∙ ap (λ (n : ℕ). with_cursor n state) (sym is);
+      low = low;
+      high = high;
+    }
+
+pub used_filled : (state : State) (place : Place) → 0 < place.size → IsTrue (is_place_used state place)
+    → IsTrue (is_range_used state.chunks place.addr place.size)
+used_filled state place some used = go (is_range_used state.chunks place.addr place.size) used
+  where
+    go : (b : Bool) → IsTrue (place.size == 0 || b) → IsTrue b
+    go b either = grind (arith, nat_tests)
+
+-- a block at the cursor ends in the newest chunk
+pub block_end : (state : State) (block : Place) → IsValid state → IsTrue (is_place_used state block) → block.addr ≡ cursor_of state.chunks
+    → block.addr + block.size ≤ top_of state.chunks
+block_end state block valid used at =
+    let inside = cursor_within state valid in
+    elim (cases_lt 0 block.size) [
+      | inl some ↦ used_top state.min_align block.addr block.size state.chunks valid.chunks some (omega arith)
+          (used_filled state block some used)
+      | inr none ↦ omega arith
+    ]
+
+-- A state stays valid if the block was in use or empty.
+pub dealloc_valid : (state : State) (block : Place) → IsValid state → IsTrue (is_place_used state block)
+    → IsValid (dealloc state block.addr block.size)
+dealloc_valid state block valid used =
+    dealloc_by IsValid state block.addr block.size
+    (λ at. (is_return state block.addr block.size (up (block.addr + block.size) state.min_align) valid at
+    (block_end state block valid used at) refl).valid) valid
+
+cursor_same : (chunks : List Chunk) → with_newest_cursor (cursor_of chunks) chunks ≡ chunks
+cursor_same [] = refl
+cursor_same (newest ∷ older) = refl
+
+-- An empty block leaves no trace.
+pub dealloc_empty : (state : State) (p : ℕ) → IsValid state → dealloc state p 0 ≡ state
+dealloc_empty state p valid =
+    let positive = min_align_positive state.min_align valid.min_align in
+    let aligned = cursor_aligned state valid in
+    dealloc_by (λ (s : State). s ≡ state) state p 0
+    (λ at. ap (λ (q : ℕ). with_cursor (up q state.min_align) state) (omega (arith, at))
+    ∙ ap (λ (q : ℕ). with_cursor q state) (up_same (cursor_of state.chunks) state.min_align positive aligned)
+    ∙ ap (λ (chunks : List Chunk). record state { chunks = chunks }) (cursor_same state.chunks)) refl
+
+-- A place apart from the block stays in use, if it begins at a multiple of the least alignment.
+pub place_kept : (state : State) (block other : Place) → IsValid state → other.addr % state.min_align ≡ 0
+    → AreApart block.addr block.size other.addr other.size → IsTrue (is_place_used state other)
+    → IsTrue (is_place_used (dealloc state block.addr block.size) other)
+place_kept state block other valid aligned apart used =
+    let positive = min_align_positive state.min_align valid.min_align in
+    elim (cases_lt 0 other.size) [
+      | inr none ↦ or_left (other.size == 0) (is_range_used (dealloc state block.addr block.size).chunks other.addr other.size)
+          (eq-eqb _ _ (omega arith))
+      | inl some ↦ elim (cases_lt 0 block.size) [
+        | inr none ↦ let empty : block.size ≡ 0 = omega arith in
+            subst (λ (s : State). IsTrue (is_place_used s other))
+            (sym (ap (dealloc state block.addr) empty ∙ dealloc_empty state block.addr valid)) used
+        | inl filled ↦
+            or_right (other.size == 0) (is_range_used (dealloc state block.addr block.size).chunks other.addr other.size)
+            (dealloc_keeps state block.addr block.size other.addr other.size some (used_filled state other some used)
+            (λ padded many. elim (apart filled some) [
+              | inl behind ↦ inl (omega (arith, up_least (block.addr + block.size) state.min_align other.addr positive aligned behind))
+              | inr before ↦ inr before
+            ]))
+      ]
+    ]
+
+-- Nothing comes into use.
+pub dealloc_fewer : (state : State) (p size addr n : ℕ) → IsValid state → IsTrue (is_range_used (dealloc state p size).chunks addr n)
+    → IsTrue (is_range_used state.chunks addr n)
+dealloc_fewer state p size addr n valid =
+    dealloc_by (λ (s : State). IsTrue (is_range_used s.chunks addr n) → IsTrue (is_range_used state.chunks addr n)) state p size
+    (λ at. used_before (up (p + size) state.min_align) addr n state.chunks
+    (omega (arith, up_ge (p + size) state.min_align (min_align_positive state.min_align valid.min_align)))) (λ used. used)

@@ -1,0 +1,121 @@
+-- Ranges in use: where they lie, and what a new cursor or a new chunk leaves of them.
+use Rattle.std.proofs.Common.{ℕ, ◌+◌, ◌^◌, ◌<◌, ◌≤◌, ◌⊎◌, inl, inr, arith, List, [], ◌∷◌, IsTrue}
+use Rattle.std.proofs.lemmas.Bool.{or_cases, or_left, or_right}
+use Rattle.std.proofs.lemmas.Bool.Decides.{nat_tests}
+use Rattle.arena_rules.proofs.CursorLemmas.{top_le}
+use Rattle.arena_rules.specs.State.{State, Chunk, AreChunks, IsValid, start_of, cursor_of, top_of, floor_of, data_end, with_newest_cursor, is_used_by, is_range_used}
+
+-- the bounds that the test compares
+record IsWithin (addr n : ℕ) (chunk : Chunk) : Type 0 where
+  low : chunk.cursor ≤ addr
+  high : addr + n ≤ data_end chunk
+
+within : (addr n : ℕ) (chunk : Chunk) → IsTrue (is_used_by addr n chunk) → IsWithin addr n chunk
+within addr n chunk used = record { low = grind (arith, nat_tests); high = grind (arith, nat_tests) }
+
+-- a range in the newest chunk stays in use if the cursor moves to a place below it
+pub used_set : (q addr n : ℕ) → (chunks : List Chunk) → (cursor_of chunks ≤ addr → q ≤ addr) → IsTrue (is_range_used chunks addr n)
+    → IsTrue (is_range_used (with_newest_cursor q chunks) addr n)
+used_set q addr n [] low used = used
+used_set q addr n (newest ∷ older) low used = elim (or_cases (is_used_by addr n newest) (is_range_used older addr n) used) [
+  | inl here ↦
+      let bounds = within addr n newest here in
+      let reach = low bounds.low in
+      or_left (is_used_by addr n (record newest { cursor = q })) (is_range_used older addr n) (grind (arith, nat_tests))
+  | inr there ↦ or_right (is_used_by addr n (record newest { cursor = q })) (is_range_used older addr n) there
+]
+
+-- a further chunk leaves in use what was
+pub used_grown : (addr n : ℕ) (chunk : Chunk) (chunks : List Chunk) → IsTrue (is_range_used chunks addr n)
+    → IsTrue (is_range_used (chunk ∷ chunks) addr n)
+used_grown addr n chunk chunks used = or_right (is_used_by addr n chunk) (is_range_used chunks addr n) used
+
+-- what is in use lies below the floor of the next chunk
+pub used_under : (m addr n : ℕ) → (chunks : List Chunk) → AreChunks m chunks → 0 < n → IsTrue (is_range_used chunks addr n)
+    → addr + n ≤ floor_of chunks
+used_under m addr n [] valid some used = cc
+used_under m addr n (newest ∷ older) valid some used = elim (or_cases (is_used_by addr n newest) (is_range_used older addr n) used) [
+  | inl here ↦ omega (arith, within addr n newest here)
+  | inr there ↦ omega (arith, used_under m addr n older valid.2 some there, valid.0.cursor_low, valid.0.cursor_high, valid.1)
+]
+
+-- each chunk begins at 4096 or above
+pub floor_least : (m : ℕ) → (chunks : List Chunk) → AreChunks m chunks → 4096 ≤ floor_of chunks
+floor_least m [] valid = omega arith
+floor_least m (newest ∷ older) valid = omega (arith, floor_least m older valid.2, valid.1)
+
+-- what is in use lies at 4096 or above
+pub used_low : (state : State) (addr n : ℕ) → IsValid state → 0 < n → IsTrue (is_range_used state.chunks addr n) → 4096 ≤ addr
+used_low state addr n valid some = go state.chunks valid.chunks
+  where
+    go : (chunks : List Chunk) → AreChunks state.min_align chunks → IsTrue (is_range_used chunks addr n) → 4096 ≤ addr
+    go [] fine used = cc
+    go (newest ∷ older) fine used = elim (or_cases (is_used_by addr n newest) (is_range_used older addr n) used) [
+      | inl here ↦ omega (arith, within addr n newest here, fine.0.cursor_low, fine.1, floor_least state.min_align older fine.2)
+      | inr there ↦ go older fine.2 there
+    ]
+
+-- what is in use ends with the newest chunk's data or before
+pub used_high : (state : State) (addr n : ℕ) → IsValid state → 0 < n → IsTrue (is_range_used state.chunks addr n)
+    → addr + n ≤ top_of state.chunks
+used_high state addr n valid some = go state.chunks valid.chunks
+  where
+    go : (chunks : List Chunk) → AreChunks state.min_align chunks → IsTrue (is_range_used chunks addr n) → addr + n ≤ top_of chunks
+    go [] fine used = cc
+    go (newest ∷ older) fine used = elim (or_cases (is_used_by addr n newest) (is_range_used older addr n) used) [
+      | inl here ↦ omega (arith, within addr n newest here)
+      | inr there ↦ omega (arith, used_under state.min_align addr n older fine.2 some there, fine.1)
+    ]
+
+-- and so below the last address
+pub used_below_last : (state : State) (addr n : ℕ) → IsValid state → 0 < n → IsTrue (is_range_used state.chunks addr n) → addr + n < 2 ^ 64
+used_below_last state addr n valid some used = omega (arith, used_high state addr n valid some used, top_le state valid)
+
+-- what is in use lies at the cursor or above, or below the newest chunk
+pub used_beside : (m addr n : ℕ) → (chunks : List Chunk) → AreChunks m chunks → 0 < n → IsTrue (is_range_used chunks addr n)
+    → (cursor_of chunks ≤ addr) ⊎ (addr + n ≤ start_of chunks)
+used_beside m addr n [] valid some used = cc
+used_beside m addr n (newest ∷ older) valid some used = elim (or_cases (is_used_by addr n newest) (is_range_used older addr n) used) [
+  | inl here ↦ inl (within addr n newest here).low
+  | inr there ↦ inr (omega (arith, used_under m addr n older valid.2 some there, valid.1))
+]
+
+-- from the cursor on all is in use
+pub used_from : (p size : ℕ) → (chunks : List Chunk) → 0 < size → start_of chunks ≤ p → p + size ≤ top_of chunks
+    → IsTrue (is_range_used (with_newest_cursor p chunks) p size)
+used_from p size [] some low high = absurd (omega arith)
+used_from p size (newest ∷ older) some low high =
+    or_left (is_used_by p size (record newest { cursor = p })) (is_range_used older p size) (grind (arith, nat_tests))
+
+-- a range in use from the newest chunk on ends there
+pub used_top : (m addr n : ℕ) → (chunks : List Chunk) → AreChunks m chunks → 0 < n → start_of chunks ≤ addr
+    → IsTrue (is_range_used chunks addr n)
+    → addr + n ≤ top_of chunks
+used_top m addr n [] valid some low used = cc
+used_top m addr n (newest ∷ older) valid some low used = elim (or_cases (is_used_by addr n newest) (is_range_used older addr n) used) [
+  | inl here ↦ (within addr n newest here).high
+  | inr there ↦ absurd (omega (arith, used_under m addr n older valid.2 some there, valid.1))
+]
+
+-- what is in use above a higher cursor was in use
+pub used_before : (q addr n : ℕ) → (chunks : List Chunk) → cursor_of chunks ≤ q
+    → IsTrue (is_range_used (with_newest_cursor q chunks) addr n)
+    → IsTrue (is_range_used chunks addr n)
+used_before q addr n [] higher used = used
+used_before q addr n (newest ∷ older) higher used =
+    elim (or_cases (is_used_by addr n (record newest { cursor = q })) (is_range_used older addr n) used) [
+      | inl here ↦
+          let bounds = within addr n (record newest { cursor = q }) here in
+          or_left (is_used_by addr n newest) (is_range_used older addr n) (grind (arith, nat_tests))
+      | inr there ↦ or_right (is_used_by addr n newest) (is_range_used older addr n) there
+    ]
+
+pub used_part : (addr n a k : ℕ) → (chunks : List Chunk) → addr ≤ a → a + k ≤ addr + n → IsTrue (is_range_used chunks addr n)
+    → IsTrue (is_range_used chunks a k)
+used_part addr n a k [] low high used = used
+used_part addr n a k (newest ∷ older) low high used = elim (or_cases (is_used_by addr n newest) (is_range_used older addr n) used) [
+  | inl here ↦
+      let bounds = within addr n newest here in
+      or_left (is_used_by a k newest) (is_range_used older a k) (grind (arith, nat_tests))
+  | inr there ↦ or_right (is_used_by a k newest) (is_range_used older a k) (used_part addr n a k older low high there)
+]

@@ -1,0 +1,19 @@
+use Rattle.arena_rules.proofs.RoundingLemmas.{layout_power}
+use Rattle.arena_rules.proofs.NewBlockLemmas.{alloc_valid}
+use Rattle.arena_rules.proofs.ReturnLemmas.{dealloc_valid}
+use Rattle.arena_rules.proofs.MoveLemmas.{shrink_valid, grow_valid}
+use Rattle.arena_rules.proofs.ResetLemmas.{reset_valid}
+use Rattle.arena_rules.proofs.CursorLemmas.{set_cursor_valid}
+use Rattle.arena_rules.proofs.laws.moves.valid_moves.Goals as goal
+
+pub returns : goal.returns
+returns c = record {
+  by_alloc = λ state size align k outcome valid layout. alloc_valid state size align k outcome valid (layout_power size align layout);
+  by_dealloc = dealloc_valid;
+  by_shrink = λ state block size align k outcome valid used layout.
+      shrink_valid state block size align k outcome valid used (layout_power size align layout);
+  by_grow = λ state block size align k outcome valid layout.
+      grow_valid state block size align k outcome valid (layout_power size align layout);
+  by_reset = reset_valid;
+  by_set_cursor = set_cursor_valid;
+}

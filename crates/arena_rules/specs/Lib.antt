@@ -1,0 +1,16 @@
+pub mod Rounding
+pub mod Lists
+pub mod State
+pub mod Search
+pub mod Moves
+pub mod Creation
+pub mod Blocks
+pub mod Causes
+pub mod Source
+pub mod Asking
+pub mod Statistics
+pub mod Used
+pub mod Doubling
+pub mod Bits
+pub mod PrintedBits
+pub mod Back

@@ -1,0 +1,128 @@
+-- What was asked for, where it was refused.
+use Rattle.std.proofs.Common.{◌≡◌, ℕ, ◌*◌, refl, sym, ap, ◌∙◌, Err, Some, List, [], ◌∷◌}
+use Rattle.std.proofs.lemmas.Option.{none-some}
+use Rattle.arena_chunks.specs.Source.{View}
+use Rattle.arena_chunks.specs.Answers.{Answer}
+use Rattle.arena_chunks.specs.Answers.Answer.{Placed, Wanting, Refused}
+use Rattle.arena_chunks.specs.BlockCalls.{PlacesBlock}
+use Rattle.arena_store.specs.declared.block.Block.{Block}
+use Rattle.arena_items.specs.Room.{MakesRoom, RoomAnswer}
+use Rattle.arena_items.specs.Values.{IsHeld}
+use Rattle.arena_items.specs.declared.room.Growth.{Growth}
+use Rattle.arena_items.specs.declared.room.Growth.TheVariants.{Stays, GrowsTo, Overflows}
+use Rattle.arena_items.specs.declared.room.AllocError.{AllocError}
+use Rattle.arena_items.specs.declared.room.AllocError.TheVariants.{AllocErr, CapacityOverflow, OutOfMemory}
+use Rattle.arena_items.proofs.Layers.{room_refused_as}
+use Rattle.arena_clone.specs.Asks.{Ask, Follows, AsksFor, ask_by}
+use Rattle.arena_clone.specs.Asks.Ask.{Room, Table, NoBytes, Empty, TooMuch}
+use Rattle.arena_script.proofs.CostFacts.{IsPaid, still}
+
+same_view : (a b : View) → a.memory ≡ b.memory → a.source ≡ b.source → a ≡ b
+same_view a b m s = λ i. record { memory = m i; source = s i }
+
+-- ---- One block
+
+pub block_asked : {X : Type 0} (old new : View) (size align : ℕ) (f : X → Block) (e : AllocError)
+    → RoomAnswer f (Err e) (PlacesBlock old new size align) → AsksFor (Room size align ∷ []) old new [] (Some e)
+block_asked old new size align f (AllocErr k) places = record {
+  start = old;
+  between = new;
+  answer = Refused k;
+  written = still old;
+  places = places;
+  then = (refl, refl, refl);
+}
+block_asked old new size align f OutOfMemory places = record {
+  start = old;
+  between = new;
+  answer = Wanting;
+  written = still old;
+  places = places;
+  then = (refl, refl, refl);
+}
+block_asked old new size align f CapacityOverflow places = absurd places
+
+-- ---- The block of a growth
+
+module _ {X : Type 0} (old new : View) (block : Block) (size align : ℕ) (f : X → Block) (kept : new.memory ≡ old.memory) where
+  pub growth_asked : (cap cost before after : ℕ) (growth : Growth) (e : AllocError) → old.memory.state.min_align ≡ 1
+      → IsHeld (cap * size) align old.memory.state block → IsPaid size align cap growth cost before after
+      → MakesRoom size align old new block cap growth f (Err e) → AsksFor (ask_by size align growth ∷ []) old new [] (Some e)
+  growth_asked cap cost before after Stays e one held paid made = absurd made.0
+  growth_asked cap cost before after (GrowsTo more) e one held (greater, layout, bounded, paid) made =
+      block_asked old new (more * size) align f e (room_refused_as old new block size align cap f more one held layout e kept made)
+  growth_asked cap cost before after Overflows e one held paid made = absurd paid
+
+  -- where no block is given back for it
+  pub first_asked : (growth : Growth) (e : AllocError) → MakesRoom size align old new block 0 growth f (Err e)
+      → AsksFor (ask_by size align growth ∷ []) old new [] (Some e)
+  first_asked Stays e made = absurd made.0
+  first_asked (GrowsTo more) (AllocErr k) made = record {
+    start = old;
+    between = made.between;
+    answer = Refused k;
+    written = still old;
+    places = made.took.placed refl;
+    then = (
+      refl,
+      refl,
+      same_view new made.between (kept ∙ sym (made.took.placed refl).1.outcome.1.memory) made.places.source,
+    );
+  }
+  first_asked (GrowsTo more) OutOfMemory made = record {
+    start = old;
+    between = made.between;
+    answer = Wanting;
+    written = still old;
+    places = made.took.placed refl;
+    then = (
+      refl,
+      refl,
+      same_view new made.between (kept ∙ sym (ap (λ (v : View). v.memory) (made.took.placed refl).1.outcome.same)) made.places.source,
+    );
+  }
+  first_asked (GrowsTo more) CapacityOverflow made = absurd made.took
+  first_asked Overflows e made = (
+    (let is = made.0 in cc),
+    refl,
+    record {
+      state = ap (λ (v : View). v.memory.state) made.1;
+      statistics = ap (λ (v : View). v.memory.statistics) made.1;
+      source = ap (λ (v : View). v.source) made.1;
+    },
+  )
+
+-- ---- One of whatever kind: what is refused leaves no block
+
+module _ (old new : View) (blocks : List Block) (e : AllocError) where
+  room_alone : (size align : ℕ) → AsksFor (Room size align ∷ []) old new blocks (Some e)
+      → AsksFor (Room size align ∷ []) old new [] (Some e)
+  room_alone size align takes = by takes.answer takes.places takes.then
+    where
+      by : (a : Answer) → PlacesBlock takes.start takes.between size align a
+          → Follows a takes.between new blocks (Some e) (λ rest. AsksFor [] takes.between new rest (Some e))
+          → AsksFor (Room size align ∷ []) old new [] (Some e)
+      by (Placed b) places (rest, is, (last, empties, same)) = absurd (none-some e (sym last))
+      by (Refused k) places (is, none, same) = record {
+        start = takes.start;
+        between = takes.between;
+        answer = Refused k;
+        written = takes.written;
+        places = places;
+        then = (is, refl, same);
+      }
+      by Wanting places (is, none, same) = record {
+        start = takes.start;
+        between = takes.between;
+        answer = Wanting;
+        written = takes.written;
+        places = places;
+        then = (is, refl, same);
+      }
+
+  pub alone : (ask : Ask) → AsksFor (ask ∷ []) old new blocks (Some e) → AsksFor (ask ∷ []) old new [] (Some e)
+  alone (Room size align) takes = room_alone size align takes
+  alone (Table pairs slot align) (slots, are, takes) = (slots, are, room_alone (slots * slot) align takes)
+  alone NoBytes (b, rest, empty, is, (last, empties, same)) = absurd (none-some e (sym last))
+  alone (Empty align) (rest, is, (last, empties, same)) = absurd (none-some e (sym last))
+  alone TooMuch (is, none, same) = (is, refl, same)

@@ -1,0 +1,11 @@
+pub mod WrittenFrom
+pub mod CopiedKeptLemmas
+pub mod KeptLemmas
+pub mod BelowLemmas
+pub mod Asking
+pub mod BytesLemmas
+pub mod AskedLemmas
+pub mod EditLemmas
+pub mod TellingLemmas
+pub mod TableLemmas
+pub mod ShiftLemmas

@@ -1,0 +1,20 @@
+use Rattle.std.proofs.Common.{◌≡◌, ◌+◌, ◌-◌, arith, refl}
+use Rattle.arena_store.proofs.ShiftLemmas.{moved_in_last}
+use Rattle.arena_store.proofs.EditLemmas.{part_length}
+use Rattle.arena_store.proofs.edit.shift_in.Goals as goal
+
+pub returns : goal.returns
+returns c =
+    let chunk = c.args.chunk.now in
+    let from : chunk.cursor - chunk.base + (c.args.from - chunk.cursor) ≡ c.args.from - chunk.base = omega arith in
+    let to : chunk.cursor - chunk.base + (c.args.to - chunk.cursor) ≡ c.args.to - chunk.base = omega arith in
+    record {
+      base = refl;
+      cursor = refl;
+      low = refl;
+      sized = part_length chunk c.args.from c.args.size c.requires.source;
+      bytes = rw (from, to) at (moved_in_last chunk.bytes.items c.part_mut-place.result.now c.shift.new.bytes (chunk.cursor - chunk.base)
+          (c.args.from - chunk.cursor) (c.args.to - chunk.cursor) c.args.size
+          (rw c.len.ensures.value at c.part_mut-place.ensures.value) c.shift.ensures (omega (arith, from, c.requires.source))
+          (omega (arith, to, c.requires.target)));
+    }

@@ -1,0 +1,8 @@
+-- What contracts see of the table of older chunks.
+use Rattle.std.specs.Prelude.{ℕ, List}
+use Rattle.arena_store.specs.declared.chunk.StoredChunk.{StoredChunk}
+
+-- the chunks, oldest first, and for how many more there is room
+pub record Chunks : Type 0 where
+  pub items : List StoredChunk
+  pub spare : ℕ

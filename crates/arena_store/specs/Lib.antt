@@ -1,0 +1,9 @@
+pub mod Memory
+pub mod Source
+pub mod Telling
+pub mod Stored
+pub mod Chunks
+pub mod Table
+pub mod Copies
+pub mod Messages
+pub mod Lends

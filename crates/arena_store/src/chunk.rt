@@ -1,0 +1,179 @@
+// A chunk with its bytes.
+ghost use Rattle.std.specs.Prelude.{◌≡◌, ◌<◌, ◌^◌, [], ◌∷◌, ◌++◌, ◌==◌, if◌then◌else◌, vec_len, vec_capacity, length, take, drop, ◌≤◌, ◌+◌, ◌-◌, Some, None, nat_le, min};
+ghost use Rattle.std.specs.Borrow.{sem};
+ghost use Rattle.std.specs.List.{All, list_any, count_by};
+ghost use Rattle.arena_rules.specs.State.{used_length, is_used_by};
+ghost use Rattle.arena_region.specs.Bytes.{bytes, written_from};
+ghost use Rattle.arena_store.specs.Lends.{LendsPart};
+ghost use Rattle.arena_store.specs.Stored.{stored_chunk, floor_in, part_of, IsOrdered, IsMadeReady, IsTopmost};
+
+use crate::block::Block;
+use crate::table::Table;
+use arena_region::Region;
+use std::alloc::Global;
+use std::mem;
+
+/// Where what stands for no chunk begins and ends.
+pub const NOWHERE: u64 = 16;
+
+// As many bytes as are made ready at once: an eighth of those that are, but at least a page, so that this is rare, and no
+// more than stay in the fastest cache until they are written.
+const SHARE: usize = 8;
+
+const LEAST_STEP: usize = 4096;
+
+const LARGEST_STEP: usize = 16384;
+
+// The bytes of a chunk stand from its base on; those from the cursor on are used, and are ready. What begins at 16 stands for
+// no chunk: no chunk does, since the lowest base is 4096, and a cursor there has room for nothing.
+#[derive(Drop)]
+pub struct StoredChunk {
+    pub base: u64,
+    pub cursor: u64,
+    pub bytes: Region,
+}
+
+impl StoredChunk {
+    /// What stands for no chunk.
+    pub fn none(alloc: Global) -> StoredChunk
+        ensures base { result.base ≡ 16 }
+        ensures cursor { result.cursor ≡ 16 }
+        ensures bytes { result.bytes ≡ bytes [] 0 }
+    {
+        StoredChunk {
+            base: NOWHERE,
+            cursor: NOWHERE,
+            bytes: Region::none(alloc),
+        }
+    }
+
+    /// A chunk with nothing used.
+    pub fn unused(base: u64, bytes: Region) -> StoredChunk
+        requires { base + length bytes.items < 2 ^ 64 }
+        ensures chunk { result ≡ record { base = base; cursor = base + length bytes.items; bytes = bytes } }
+        ensures ready { floor_in result ≤ result.cursor }
+    {
+        // That what is ready of a region begins within it is known by this call.
+        let _ = bytes.low();
+        let cursor = base + bytes.len() as u64;
+        StoredChunk {
+            base,
+            cursor,
+            bytes,
+        }
+    }
+
+    pub fn size(&self) -> u64
+        ensures { result ≡ length self.now.bytes.items }
+    {
+        self.bytes.len() as u64
+    }
+
+    /// The lowest address whose byte is ready.
+    pub fn floor(&self) -> u64
+        requires { floor_in self.now ≤ self.now.cursor }
+        ensures { result ≡ floor_in self.now }
+    {
+        self.base + self.bytes.low() as u64
+    }
+
+    /// Makes the bytes from an address on ready, and some below it.
+    pub fn make_ready(&mut self, addr: u64)
+        requires { self.old.base ≤ addr }
+        ensures { IsMadeReady self.old self.new addr }
+    {
+        let from = (addr - self.base) as usize;
+        let low = self.bytes.low();
+        if from < low {
+            let step = ((self.bytes.len() - low) / SHARE)
+                .max(LEAST_STEP)
+                .min(LARGEST_STEP);
+            self.bytes.make_ready(from.min(low.saturating_sub(step)));
+        }
+    }
+
+    /// Makes the bytes from an address on ready, and puts these there.
+    pub fn make_ready_with(&mut self, addr: u64, list: &[u8])
+        requires low { self.old.base ≤ addr }
+        requires high { addr - self.old.base + length list.now ≤ length self.old.bytes.items }
+        ensures { self.new ≡ record self.old {
+          bytes = bytes
+              (written_from self.old.bytes.items (addr - self.old.base) list.now)
+              (min self.old.bytes.low (addr - self.old.base));
+        } }
+    {
+        self.bytes
+            .make_ready_with((addr - self.base) as usize, list);
+    }
+
+    /// The data end, if there is a chunk.
+    pub fn end(&self) -> Option<u64>
+        requires { IsOrdered self.now }
+        ensures { let end = self.now.base + length self.now.bytes.items in
+            result ≡ (if self.now.base == 16 then None else Some end) }
+    {
+        if self.base == NOWHERE {
+            None
+        } else {
+            Some(self.base + self.size())
+        }
+    }
+
+    /// How many bytes are used.
+    pub fn used(&self) -> u64
+        requires { IsOrdered self.now }
+        ensures { result ≡ used_length (stored_chunk self.now) }
+    {
+        self.base + self.size() - self.cursor
+    }
+
+    /// Whether the block's bytes lie in the used part.
+    pub fn has(&self, block: Block) -> bool
+        requires { IsOrdered self.now }
+        ensures { result ≡ is_used_by block.addr block.size (stored_chunk self.now) }
+    {
+        let end = self.base + self.size();
+        self.cursor <= block.addr && block.addr <= end && block.size <= end - block.addr
+    }
+}
+
+/// A granted chunk becomes the newest, with nothing used in it. What was the newest, if there was one, goes into the
+/// table, which has room for it.
+pub fn install(newest: &mut StoredChunk, older: &mut Table, base: u64, bytes: Region)
+    requires room { 1 ≤ older.old.spare }
+    requires ordered { IsOrdered newest.old }
+    requires above { IsTopmost newest.old.base older.old.items }
+    requires fits { base + length bytes.items < 2 ^ 64 }
+    ensures newest { newest.new ≡ record { base = base; cursor = base + length bytes.items; bytes = bytes } }
+    ensures ready { floor_in newest.new ≤ newest.new.cursor }
+    ensures older { older.new.items
+        ≡ (if newest.old.base == 16 then older.old.items else older.old.items ++ newest.old ∷ []) }
+{
+    let last = mem::replace(newest, StoredChunk::unused(base, bytes));
+    if last.base == NOWHERE {
+        return;
+    }
+    older.push(last);
+}
+
+/// The part of a chunk's bytes at these addresses, which are ready.
+pub fn part_at(chunk: &StoredChunk, addr: u64, size: u64) -> &[u8]
+    requires low { floor_in chunk.now ≤ addr }
+    requires high { addr - chunk.now.base + size ≤ length chunk.now.bytes.items }
+    ensures { result.now ≡ take size (drop (addr - chunk.now.base) chunk.now.bytes.items) }
+{
+    chunk
+        .bytes
+        .part((addr - chunk.base) as usize, size as usize)
+}
+
+/// The same, to be written. The chunk then has what was written there.
+pub fn part_at_mut(chunk: &mut StoredChunk, addr: u64, size: u64) -> &mut [u8]
+    requires low { floor_in chunk.old ≤ addr }
+    requires high { addr - chunk.old.base + size ≤ length chunk.old.bytes.items }
+    ensures* writes_back { sem 𝓛 (LendsPart chunk.entry addr result) }
+    ensures value { result.now ≡ part_of chunk.old addr size }
+{
+    let from = (addr - chunk.base) as usize;
+    chunk.bytes.part_mut(from, size as usize)
+}

@@ -1,0 +1,339 @@
+// The chunks but the newest.
+ghost use Rattle.std.specs.Prelude.{◌≡◌, ◌+◌, ◌-◌, ◌*◌, ◌^◌, ◌<◌, ◌≤◌, [], ◌∷◌, ◌++◌, length, get_or, take, drop, IsOk, OnOk, nat_le, ◌&&◌};
+ghost use Rattle.std.specs.Borrow.{sem};
+ghost use Rattle.std.specs.List.{All, list_any, sum_by};
+ghost use Rattle.arena_rules.specs.State.{used_length, is_used_by};
+ghost use Rattle.arena_rules.specs.Lists.{splice};
+ghost use Rattle.arena_region.specs.Bytes.{bytes};
+ghost use Rattle.arena_store.specs.Copies.{HasBytes, CopiesKept};
+ghost use Rattle.arena_store.specs.Stored.{stored_chunk, IsOrdered, IsSearchable, IsLastBelow, IsTopmost, HasPart, CopiesPart};
+
+use crate::below::{base, search, split};
+use crate::block::Block;
+use crate::chunk::StoredChunk;
+use crate::shift::shift;
+use arena_bases::{Bases, Steps};
+use arena_region::Region;
+use arena_rules::OutOfMemory;
+use std::alloc::Global;
+use std::marker::Model;
+use std::sync::ledger::Ledger;
+
+/// A chunk's bytes, and how many of them are used: the last ones.
+#[derive(Drop)]
+pub struct Kept {
+    bytes: Region,
+    used: u64,
+}
+
+/// Where a chunk begins and where its used part does, and the bytes of that.
+#[derive(Drop)]
+pub struct Used<'a> {
+    pub base: u64,
+    pub start: u64,
+    pub bytes: &'a [u8],
+}
+
+/// The chunks but the newest, oldest first. Contracts see them as chunks, and for how many more there is room.
+#[derive(Drop)]
+pub struct Table {
+    bases: Bases,
+    kept: Vec<Kept>,
+}
+
+impl Model for Table {
+    ghost use Rattle.std.specs.Prelude.{◌-◌, vec_len, vec_capacity};
+    ghost use Rattle.arena_store.specs.Chunks.{Chunks};
+
+    ghost Value = { Chunks };
+
+    ghost use Rattle.arena_store.specs.Table.{IsTable, table_of};
+
+    ghost view = { λ t. table_of t.bases t.kept.items (vec_capacity t.kept - vec_len t.kept) };
+
+    ghost invariant = { λ t. IsTable t.bases.items t.kept.items };
+}
+
+impl Table {
+    ghost use Rattle.arena_store.specs.Table.{IsPartIn, IsNumberIn};
+    ghost use Rattle.arena_store.specs.Lends.{LendsPartIn};
+
+    /// No chunk. Takes no memory.
+    pub fn new(alloc: Global) -> Table
+        ensures { result.items ≡ [] }
+    {
+        Table {
+            bases: Bases::new(alloc),
+            kept: Vec::new(alloc),
+        }
+    }
+
+    /// Makes room for one more. Succeeds where there is room already.
+    pub fn reserve(&mut self) -> Result<(), OutOfMemory>
+        ensures items { self.new.items ≡ self.old.items }
+        ensures room { OnOk result (1 ≤ self.new.spare) }
+        ensures succeeds { 1 ≤ self.old.spare → IsOk result }
+    {
+        if self.bases.reserve().is_err() {
+            return Err(OutOfMemory);
+        }
+        Ok(self.kept.reserve(1)?)
+    }
+
+    /// Adds a chunk that begins above all others, for which there is room.
+    pub fn push(&mut self, chunk: StoredChunk)
+        requires room { 1 ≤ self.old.spare }
+        requires ordered { IsOrdered chunk }
+        requires above { IsTopmost chunk.base self.old.items }
+        ensures { self.new.items ≡ self.old.items ++ chunk ∷ [] }
+    {
+        let used = chunk.used();
+        let StoredChunk {
+            base,
+            cursor: _,
+            bytes,
+        } = chunk;
+        self.bases.push(base);
+        self.kept.push_reserved(Kept { bytes, used });
+    }
+
+    /// Gives all chunks up.
+    pub fn clear(&mut self)
+        ensures { self.new.items ≡ [] }
+    {
+        self.bases.truncate(0);
+        self.kept.clear();
+    }
+
+    /// The allocator.
+    pub fn alloc(&self) -> Global {
+        *self.kept.allocator()
+    }
+
+    /// Gives up all but the first chunks, so many, and hands the last of those out.
+    pub fn back_to(&mut self, n: usize) -> StoredChunk
+        requires some { 0 < n }
+        requires within { n ≤ length self.old.items }
+        requires ordered { All IsOrdered self.old.items }
+        ensures items { self.new.items ≡ take (n - 1) self.old.items }
+        ensures chunk { (d : StoredChunk) → result ≡ get_or self.old.items (n - 1) d }
+    {
+        let base = base(&self.bases, n as u64 - 1);
+        self.bases.truncate(n as u64 - 1);
+        let Kept { bytes, used } = last_of(&mut self.kept, n);
+        let cursor = base + (bytes.len() as u64 - used);
+        StoredChunk {
+            base,
+            cursor,
+            bytes,
+        }
+    }
+
+    /// How many there are.
+    pub fn len(&self) -> usize
+        ensures value { result ≡ length self.now.items }
+        ensures bound { result < 2 ^ 63 }
+    {
+        self.kept.len()
+    }
+
+    /// The last chunk that begins at or below the address.
+    #[inline]
+    pub fn last_below(&self, addr: u64) -> usize
+        requires { IsSearchable self.now.items addr }
+        ensures { IsLastBelow self.now.items addr result }
+    {
+        (split(&self.bases, addr) - 1) as usize
+    }
+
+    /// The same, kept out of the callers, so that a write in the newest chunk is small enough to be inlined.
+    #[cold]
+    #[inline(never)]
+    pub fn find(&self, addr: u64) -> usize
+        requires { IsSearchable self.now.items addr }
+        ensures { IsLastBelow self.now.items addr result }
+    {
+        self.last_below(addr)
+    }
+
+    /// The number of the chunk that has an address, from its base to its end, and a step for each look at a base.
+    pub fn number_of<L: Ledger>(&self, addr: u64, steps: &mut Steps<L>) -> Option<u64>
+        ensures number { IsNumberIn self.now.items addr result }
+        ensures rises { steps.old ≤ steps.new }
+        ensures cost { 2 ^ (steps.new - steps.old) ≤ 2 * length self.now.items + 1 }
+    {
+        let (n, base) = search(&self.bases, addr, steps);
+        if n == 0 {
+            return None;
+        }
+        let len = self.kept[(n - 1) as usize].bytes.len() as u64;
+        if addr - base <= len {
+            Some(n - 1)
+        } else {
+            None
+        }
+    }
+
+    /// The part of a chunk's bytes at these addresses, which are ready.
+    #[inline]
+    pub fn part(&self, i: usize, addr: u64, size: u64) -> &[u8]
+        requires { HasPart self.now.items i addr size }
+        ensures { IsPartIn self.now.items i addr size result.now }
+    {
+        let from = (addr - base(&self.bases, i as u64)) as usize;
+        self.kept[i].bytes.part(from, size as usize)
+    }
+
+    /// The same, to be written. The chunk then has what was written there.
+    #[inline]
+    pub fn part_mut(&mut self, i: usize, addr: u64, size: u64) -> &mut [u8]
+        requires { HasPart self.old.items i addr size }
+        ensures* writes_back { sem 𝓛 (LendsPartIn self.entry i addr result) }
+        ensures value { IsPartIn self.old.items i addr size result.now }
+    {
+        let from = (addr - base(&self.bases, i as u64)) as usize;
+        self.kept[i].bytes.part_mut(from, size as usize)
+    }
+
+    /// Copies bytes of a chunk into another or the same. The two ranges may overlap.
+    pub fn copy_within(&mut self, i: usize, j: usize, from: u64, to: u64, n: u64)
+        requires source { HasPart self.old.items i from n }
+        requires target { HasPart self.old.items j to n }
+        ensures { CopiesPart self.old.items self.new.items i j from to n }
+    {
+        let source = (from - base(&self.bases, i as u64)) as usize;
+        let target = (to - base(&self.bases, j as u64)) as usize;
+        copy_kept(&mut self.kept, i, j, source, target, n as usize);
+    }
+
+    /// The used part of a chunk.
+    pub fn used_part(&self, i: usize) -> Used<'_>
+        requires index { i < length self.now.items }
+        requires ordered { All IsOrdered self.now.items }
+        ensures { (c : StoredChunk) → c ≡ get_or self.now.items i c
+            → (result.base ≡ c.base) × (result.start ≡ c.cursor)
+            × (result.bytes.now ≡ drop (c.cursor - c.base) c.bytes.items) }
+    {
+        let kept = &self.kept[i];
+        let len = kept.bytes.len();
+        let from = len - kept.used as usize;
+        let base = base(&self.bases, i as u64);
+        Used {
+            base,
+            start: base + from as u64,
+            bytes: kept.bytes.part(from, kept.used as usize),
+        }
+    }
+
+    /// Where a chunk begins and ends.
+    pub fn ends(&self, i: usize) -> (u64, u64)
+        requires index { i < length self.now.items }
+        requires ordered { All IsOrdered self.now.items }
+        ensures { (c : StoredChunk) → c ≡ get_or self.now.items i c
+            → (result.0 ≡ c.base) × (result.1 ≡ c.base + length c.bytes.items) }
+    {
+        let kept = &self.kept[i];
+        let len = kept.bytes.len() as u64;
+        let start = base(&self.bases, i as u64);
+        (start, start + len)
+    }
+
+    /// Whether the block's bytes lie in the used part of one of the chunks.
+    pub fn has(&self, block: Block) -> bool
+        requires { All IsOrdered self.now.items }
+        ensures { result ≡ list_any (λ c. is_used_by block.addr block.size (stored_chunk c)) self.now.items }
+    {
+        for i in 0..self.kept.len() {
+            if self.chunk_has(i, block) {
+                return true;
+            }
+        }
+        false
+    }
+
+    fn chunk_has(&self, i: usize, block: Block) -> bool
+        requires index { i < length self.now.items }
+        requires ordered { All IsOrdered self.now.items }
+        ensures { (c : StoredChunk) → c ≡ get_or self.now.items i c
+            → result ≡ is_used_by block.addr block.size (stored_chunk c) }
+    {
+        let kept = &self.kept[i];
+        let len = kept.bytes.len() as u64;
+        let end = base(&self.bases, i as u64) + len;
+        lies_in(end - kept.used, end, block)
+    }
+
+    /// How many bytes are used, and how many there are.
+    pub fn used(&self) -> u64
+        requires { sum_by (λ c. used_length (stored_chunk c)) self.now.items < 2 ^ 64 }
+        ensures { result ≡ sum_by (λ c. used_length (stored_chunk c)) self.now.items }
+    {
+        let mut used = 0;
+        for kept in &self.kept {
+            used += kept.used;
+        }
+        used
+    }
+
+    pub fn size(&self) -> u64
+        requires { sum_by (λ c. length c.bytes.items) self.now.items < 2 ^ 64 }
+        ensures { result ≡ sum_by (λ c. length c.bytes.items) self.now.items }
+    {
+        let mut size = 0;
+        for kept in &self.kept {
+            size += kept.bytes.len() as u64;
+        }
+        size
+    }
+}
+
+// Keeps the first of them, but for the last of these, which is handed out.
+fn last_of(kept: &mut Vec<Kept>, n: usize) -> Kept
+    requires some { 0 < n }
+    requires within { n ≤ length kept.old.items }
+    ensures items { kept.new.items ≡ take (n - 1) kept.old.items }
+    ensures last { (d : Kept) → result ≡ get_or kept.old.items (n - 1) d }
+{
+    kept.truncate(n);
+    match kept.pop() {
+        Some(last) => last,
+        None => unreachable!(),
+    }
+}
+
+// Whether the block's bytes lie between two addresses.
+fn lies_in(start: u64, end: u64, block: Block) -> bool
+    ensures { result ≡ (nat_le start block.addr && nat_le (block.addr + block.size) end) }
+{
+    start <= block.addr && block.addr <= end && block.size <= end - block.addr
+}
+
+// Copies bytes of one of these into another or the same. The two ranges may overlap.
+fn copy_kept(kept: &mut [Kept], i: usize, j: usize, from: usize, to: usize, n: usize)
+    requires source { HasBytes kept.old i from n }
+    requires target { HasBytes kept.old j to n }
+    ensures { CopiesKept kept.old kept.new i j from to n }
+{
+    if i == j {
+        let bytes = &mut kept[j].bytes;
+        let low = bytes.low();
+        let place = bytes.part_mut(low, bytes.len() - low);
+        shift(place, from - low, to - low, n);
+    } else if i < j {
+        let (first, rest) = kept.split_at_mut(j);
+        copy_bytes(&first[i].bytes, &mut rest[0].bytes, from, to, n);
+    } else {
+        let (first, rest) = kept.split_at_mut(i);
+        copy_bytes(&rest[0].bytes, &mut first[j].bytes, from, to, n);
+    }
+}
+
+fn copy_bytes(source: &Region, target: &mut Region, from: usize, to: usize, n: usize)
+    requires low { (source.now.low ≤ from) × (target.old.low ≤ to) }
+    requires source { from + n ≤ length source.now.items }
+    requires target { to + n ≤ length target.old.items }
+    ensures { target.new ≡ bytes (splice target.old.items to (take n (drop from source.now.items)))
+        target.old.low }
+{
+    target.part_mut(to, n).copy_from_slice(source.part(from, n));
+}

@@ -1,0 +1,51 @@
+-- Which blocks calls ask their arena for, by size and alignment, and that one of them has no place.
+use Rattle.std.specs.Prelude.{◌≡◌, ℕ, ◌+◌, ◌*◌, ◌≤◌, ◌⊎◌, max, None, List, length}
+use Rattle.arena_rules.specs.Search.{place}
+use Rattle.arena_chunks.specs.Source.{View}
+use Rattle.tree_rules.specs.Tokens.{Word}
+use Rattle.arena_tree.specs.Parts.{IsTokenAt}
+
+abbrev pub Layouts : Type 1
+Layouts = ℕ → ℕ → Type 0
+
+-- this one alone
+abbrev pub Only : ℕ → ℕ → Layouts
+Only wanted align_wanted size align = (size ≡ wanted) × (align ≡ align_wanted)
+
+-- a text of so many bytes, and a list with room for so many nodes
+abbrev pub TextOf : ℕ → Layouts
+TextOf bytes = Only bytes 1
+
+abbrev pub ListOf : ℕ → Layouts
+ListOf nodes = Only (nodes * 88) 8
+
+-- what a list that is full becomes, to get room for one node more: twice as long, and a first node alone
+abbrev pub LongerList : (len cap : ℕ) → Layouts
+LongerList len cap size align = (cap ≤ len) × ListOf (max (2 * cap) (len + 1)) size align
+
+-- A block of one of these layouts has no place in the arena.
+pub record IsDenied (layouts : Layouts) (a : View) : Type 0 where
+  pub size : ℕ
+  pub align : ℕ
+  pub asked : layouts size align
+  pub none : place a.memory.state size align ≡ None
+
+-- ---- What the tree of a text asks for
+
+-- the bytes of a name that stands in the text
+pub record IsNameIn (bytes : List ℕ) (size align : ℕ) : Type 0 where
+  pub name : List ℕ
+  pub at : ℕ
+  pub end : ℕ
+  pub stands : IsTokenAt bytes at (Word name) end
+  pub layout : TextOf (length name) size align
+
+-- a list with room for so many nodes at most
+pub record IsListWithin (most size align : ℕ) : Type 0 where
+  pub nodes : ℕ
+  pub few : nodes ≤ most
+  pub layout : ListOf nodes size align
+
+-- the names of the text, and lists of no more nodes than it has bytes
+abbrev pub AskedFor : List ℕ → Layouts
+AskedFor bytes size align = IsNameIn bytes size align ⊎ IsListWithin (length bytes) size align

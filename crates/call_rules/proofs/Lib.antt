@@ -1,0 +1,11 @@
+pub mod DoublingRunLemmas
+pub mod NumberLemmas
+pub mod LineLemmas
+pub mod TextLemmas
+pub mod ReadingLemmas
+pub mod ReplyByteLemmas
+pub mod DecisionLemmas
+pub mod TextRows
+pub mod MapLemmas
+pub mod GeneratorLemmas
+pub mod SummaryLemmas

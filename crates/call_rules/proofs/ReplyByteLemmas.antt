@@ -1,0 +1,239 @@
+-- The replies of a run have bytes, where the calls have.
+use Rattle.std.proofs.Common.{◌≡◌, ℕ, zero, suc, ◌-◌, ◌+◌, Bool, true, false, cond, Option, Some, None, List, [], ◌∷◌, ◌++◌, length, take, drop, refl, subst, Ok, sym, ap, ◌∙◌}
+use Rattle.std.specs.Prelude.{replicate, not, nat_lt, ◌==◌, if◌then◌else◌}
+use Rattle.std.specs.List.{AllByRecursion}
+use Rattle.std.specs.Option.{is_some, option_map}
+use Rattle.std.specs.Ordering.{nat_cmp, eq_by_cmp}
+use Rattle.std.specs.Cmp.{nat_cmp_total}
+use Rattle.std.specs.FinMap as finite
+use Rattle.std.specs.FinMap.{get-empty, get-insert, get-remove, get-retain_keys, nat_cmp-IsAntisymmetric}
+use Rattle.std.proofs.lemmas.Option.{none-some, same_Some, cond_some, option_and_then_some}
+use Rattle.arena_rules.specs.Rounding.{is_layout}
+use Rattle.arena_rules.specs.State.{State, used_bytes, allocated_bytes}
+use Rattle.arena_rules.specs.Moves.{Outcome, alloc, dealloc, reset}
+use Rattle.call_rules.specs.Machine.{Machine, Next, Contents, step, run, run_from, reply_first, settles, answers, at_found, fresh, lets_go, mark_named, at_mark, goes_back, is_left}
+use Rattle.arena_rules.specs.Lists.{splice}
+use Rattle.arena_rules.specs.Back.{Point, mark_of, back}
+use Rattle.call_rules.specs.Grammar.{IsByte, Fits, AreCalls, CallsOf, lines_of}
+use Rattle.call_rules.specs.Replies.{HasBytes, text_of}
+use Rattle.arena_rules.specs.declared.place.Place.{Place}
+use Rattle.call_rules.specs.declared.calls.Call.{Call}
+use Rattle.call_rules.specs.declared.calls.Call.TheVariants.{Alloc, Grow, Shrink, Dealloc, Write, Read, Mark, Back, Reset, Used, Allocated}
+use Rattle.call_rules.specs.declared.calls.Reply.{Reply}
+use Rattle.call_rules.specs.declared.calls.Reply.TheVariants.{Done, Bytes, Number, NoSuchName, NameTaken, BadLayout, OutOfRange}
+use Rattle.call_rules.proofs.TextLemmas.{same_replies}
+
+-- ---- Lists of bytes
+
+abbrev AreBytes : List ℕ → Type 0
+AreBytes bytes = AllByRecursion IsByte bytes
+
+joined : (xs ys : List ℕ) → AreBytes xs → AreBytes ys → AreBytes (xs ++ ys)
+joined [] ys p q = q
+joined (x ∷ xs) ys p q = (p.0, joined xs ys p.1 q)
+
+taken : (n : ℕ) (xs : List ℕ) → AreBytes xs → AreBytes (take n xs)
+taken zero xs p = tt
+taken (suc n) [] p = tt
+taken (suc n) (x ∷ xs) p = (p.0, taken n xs p.1)
+
+dropped : (n : ℕ) (xs : List ℕ) → AreBytes xs → AreBytes (drop n xs)
+dropped zero xs p = p
+dropped (suc n) [] p = tt
+dropped (suc n) (x ∷ xs) p = dropped n xs p.1
+
+repeated : (n fill : ℕ) → IsByte fill → AreBytes (replicate n fill)
+repeated zero fill p = tt
+repeated (suc n) fill p = (p, repeated n fill p)
+
+spliced : (old new : List ℕ) (at : ℕ) → AreBytes old → AreBytes new → AreBytes (splice old at new)
+spliced old new at p q = joined (take at old ++ new) (drop (at + length new) old) (joined (take at old) new (taken at old p) q)
+    (dropped (at + length new) old p)
+
+-- ---- The bytes of the names
+
+-- each name's bytes are bytes
+abbrev HoldsBytes : Contents → Type 0
+HoldsBytes contents = (name : ℕ) (bytes : List ℕ) → finite.get contents name ≡ Some bytes → AreBytes bytes
+
+holds_none : HoldsBytes finite.empty
+holds_none name bytes found = absurd (none-some bytes (rw (get-empty nat_cmp name) at found))
+
+holds_more : (contents : Contents) (name : ℕ) (bytes : List ℕ) → HoldsBytes contents → AreBytes bytes
+    → HoldsBytes (finite.insert contents name bytes)
+holds_more contents name bytes held are other bs found =
+    go (eq_by_cmp nat_cmp other name) (rw (get-insert nat_cmp_total contents name bytes other) at found)
+  where
+    go : (b : Bool) → cond b (Some bytes) (finite.get contents other) ≡ Some bs → AreBytes bs
+    go true same = subst AreBytes (same_Some bytes bs same) are
+    go false same = held other bs same
+
+holds_less : (contents : Contents) (name : ℕ) → HoldsBytes contents → HoldsBytes (finite.remove contents name)
+holds_less contents name held other bs found =
+    go (eq_by_cmp nat_cmp other name) (rw (get-remove nat_cmp_total contents name other) at found)
+  where
+    go : (b : Bool) → cond b None (finite.get contents other) ≡ Some bs → AreBytes bs
+    go true same = absurd (none-some bs same)
+    go false same = held other bs same
+
+holds_some : (contents : Contents) (test : ℕ → Bool) → HoldsBytes contents → HoldsBytes (finite.retain_keys contents test)
+holds_some contents test held other bs found =
+    go (test other) (get-retain_keys contents test other (λ x same. ap test (sym (nat_cmp-IsAntisymmetric other x same)))) found
+  where
+    go : (b : Bool) → finite.get (finite.retain_keys contents test) other ≡ cond b (finite.get contents other) None
+        → finite.get (finite.retain_keys contents test) other ≡ Some bs → AreBytes bs
+    go true is same = held other bs (sym is ∙ same)
+    go false is same = absurd (none-some bs (sym is ∙ same))
+
+-- ---- One call
+
+abbrev GivesBytes : Next → Type 0
+GivesBytes next = HasBytes next.0 × HoldsBytes next.1.bytes
+
+-- a call that asks for nothing
+answered : (k : ℕ) (reply : Reply) (m : Machine) (next : Next) → HasBytes reply → HoldsBytes m.bytes → answers k reply m ≡ Some next
+    → GivesBytes next
+answered k reply m next has held at = subst GivesBytes (cond_some (k == 0) (reply, m) next at).1 (has, held)
+
+-- a call that places
+settled : (k name size align : ℕ) (bytes : List ℕ) (m : Machine) (o : Option Outcome) (next : Next) → AreBytes bytes → HoldsBytes m.bytes
+    → option_map (λ (outcome : Outcome). settles m k name size align bytes outcome.state outcome.answer) o ≡ Some next → GivesBytes next
+settled k name size align bytes m None next are held at = absurd (none-some next at)
+settled k name size align bytes m (Some outcome) next are held at =
+    subst GivesBytes (same_Some (settles m k name size align bytes outcome.state outcome.answer) next at) (by_answer outcome.answer)
+  where
+    by_answer : (answer : Option ℕ) → GivesBytes (settles m k name size align bytes outcome.state answer)
+    by_answer (Some p) = (tt, holds_more m.bytes name bytes held are)
+    by_answer None = (tt, held)
+
+-- a call on the block of a name
+found : (k name : ℕ) (m : Machine) (place : Option Place) (go : Place → List ℕ → Option Next) (next : Next) → HoldsBytes m.bytes
+    → ((p : Place) (bs : List ℕ) → AreBytes bs → go p bs ≡ Some next → GivesBytes next)
+    → at_found place (finite.get m.bytes name) (answers k NoSuchName m) go ≡ Some next → GivesBytes next
+found k name m place go next held each at = by place (finite.get m.bytes name) refl at
+  where
+    by : (place : Option Place) (bytes : Option (List ℕ)) → finite.get m.bytes name ≡ bytes
+        → at_found place bytes (answers k NoSuchName m) go ≡ Some next → GivesBytes next
+    by (Some p) (Some bs) is at = each p bs (held name bs is) at
+    by (Some p) None is at = absurd (none-some next at)
+    by None bytes is at = answered k NoSuchName m next tt held at
+
+-- an allocation, by whether the name is taken and the layout is one
+alloc_called : (k name size align fill : ℕ) (m : Machine) (next : Next) → IsByte fill → HoldsBytes m.bytes → (taken fine : Bool)
+    → (if taken then answers k NameTaken m else (if not fine then answers k BadLayout m
+    else option_map (λ (o : Outcome). settles m k name size align (replicate size fill) o.state o.answer) (alloc m.state size align k)))
+    ≡ Some next
+    → GivesBytes next
+alloc_called k name size align fill m next byte held true fine at = answered k NameTaken m next tt held at
+alloc_called k name size align fill m next byte held false false at = answered k BadLayout m next tt held at
+alloc_called k name size align fill m next byte held false true at =
+    settled k name size align (replicate size fill) m (alloc m.state size align k) next (repeated size fill byte) held at
+
+-- a grow or a shrink, by whether the layout is one and the size is on the wrong side
+resize_called : (k name size align : ℕ) (m : Machine) (o : Option Outcome) (bytes : List ℕ) (next : Next) → HoldsBytes m.bytes
+    → AreBytes bytes → (fine wrong : Bool)
+    → (if not fine then answers k BadLayout m else (if wrong then answers k OutOfRange m
+    else option_map (λ (o : Outcome). settles m k name size align bytes o.state o.answer) o)) ≡ Some next
+    → GivesBytes next
+resize_called k name size align m o bytes next held are false wrong at = answered k BadLayout m next tt held at
+resize_called k name size align m o bytes next held are true true at = answered k OutOfRange m next tt held at
+resize_called k name size align m o bytes next held are true false at = settled k name size align bytes m o next are held at
+
+-- a write, by whether it is too long
+write_called : (k : ℕ) (m : Machine) (next : Next) (bytes : Contents) (longer : Bool) → HoldsBytes m.bytes → HoldsBytes bytes
+    → (if longer then answers k OutOfRange m else answers k Done (record m { bytes = bytes })) ≡ Some next → GivesBytes next
+write_called k m next bytes true held new is = answered k OutOfRange m next tt held is
+write_called k m next bytes false held new is = answered k Done (record m { bytes = bytes }) next tt new is
+
+-- a call on marks
+mark_called : (k name : ℕ) (m : Machine) (next : Next) (taken : Bool) → HoldsBytes m.bytes
+    → (if taken then answers k NameTaken m else answers k Done (record m { marks = (name, mark_of m.state) ∷ m.marks })) ≡ Some next
+    → GivesBytes next
+mark_called k name m next true held at = answered k NameTaken m next tt held at
+mark_called k name m next false held at = answered k Done (record m { marks = (name, mark_of m.state) ∷ m.marks }) next tt held at
+
+back_called : (k name : ℕ) (m : Machine) (next : Next) (o : Option Point) → HoldsBytes m.bytes
+    → at_mark o (answers k NoSuchName m) (λ mark. answers k Done (goes_back m mark name)) ≡ Some next → GivesBytes next
+back_called k name m next None held at = answered k NoSuchName m next tt held at
+back_called k name m next (Some mark) held at =
+    answered k Done (goes_back m mark name) next tt (holds_some m.bytes (is_left (back mark m.state) m.held) held) at
+
+-- Each call whose numbers fit gives a reply with bytes, and leaves bytes.
+step_bytes : (call : Call) (k : ℕ) (m : Machine) (next : Next) → Fits call → HoldsBytes m.bytes → step call k m ≡ Some next
+    → GivesBytes next
+unfolding step
+step_bytes (Alloc name size align fill) k m next fits held at =
+    alloc_called k name size align fill m next fits.3 held (finite.contains_key m.held name) (is_layout size align) at
+step_bytes (Grow name size align fill) k m next fits held at =
+    found k name m (finite.get m.held name) _ next held
+    (λ p bs are. resize_called k name size align m _ (bs ++ replicate (size - p.size) fill) next held
+    (joined bs (replicate (size - p.size) fill) are (repeated (size - p.size) fill fits.3)) (is_layout size align) (nat_lt size p.size)) at
+step_bytes (Shrink name size align) k m next fits held at =
+    found k name m (finite.get m.held name) _ next held
+    (λ p bs are. resize_called k name size align m _ (take size bs) next held (taken size bs are) (is_layout size align)
+    (nat_lt p.size size)) at
+step_bytes (Dealloc name) k m next fits held at =
+    found k name m (finite.get m.held name) _ next held
+    (λ p bs are. answered k Done (lets_go m (dealloc m.state p.addr p.size) name) next tt (holds_less m.bytes name held)) at
+step_bytes (Write name at new) k m next fits held is =
+    found k name m (finite.get m.held name) _ next held
+    (λ p bs are. write_called k m next (finite.insert m.bytes name (splice bs at new)) (nat_lt p.size (at + length new)) held
+    (holds_more m.bytes name (splice bs at new) held (spliced bs new at are fits.2))) is
+step_bytes (Read name) k m next fits held at =
+    found k name m (finite.get m.held name) _ next held (λ p bs are. answered k (Bytes bs) m next are held) at
+step_bytes (Mark name) k m next fits held at = mark_called k name m next (is_some (mark_named m.marks name)) held at
+step_bytes (Back name) k m next fits held at = back_called k name m next (mark_named m.marks name) held at
+step_bytes Reset k m next fits held at = answered k Done (fresh (reset m.state)) next tt holds_none at
+step_bytes Used k m next fits held at = answered k (Number (used_bytes m.state)) m next tt held at
+step_bytes Allocated k m next fits held at = answered k (Number (allocated_bytes m.state)) m next tt held at
+
+-- ---- A run
+
+run_bytes : (m : Machine) (calls : List Call) (ks : List ℕ) (replies : List Reply) (last : Machine) → AllByRecursion Fits calls
+    → HoldsBytes m.bytes
+    → run_from m calls ks ≡ Some (replies, last) → AllByRecursion HasBytes replies
+unfolding run_from
+run_bytes m [] [] replies last fit held ran =
+    subst (λ (r : List Reply × Machine). AllByRecursion HasBytes r.0) (same_Some {A = List Reply × Machine} ([], m) (replies, last) ran) tt
+run_bytes m [] (k ∷ ks) replies last fit held ran = cc
+run_bytes m (call ∷ calls) [] replies last fit held ran = cc
+run_bytes m (call ∷ calls) (k ∷ ks) replies last fit held ran =
+    option_and_then_some _ (step call k m) (replies, last) ran (λ next is rest.
+    let gives = step_bytes call k m next fit.0 held is in
+    go next (run_from next.1 calls ks) refl rest gives.0
+    (λ tail ends. run_bytes next.1 calls ks tail.0 tail.1 fit.1 gives.1 ends))
+  where
+    go : (next : Next) (o : Option (List Reply × Machine)) → run_from next.1 calls ks ≡ o
+        → option_map {T = List Reply × Machine} {U = List Reply × Machine} (reply_first next.0) o ≡ Some (replies, last) → HasBytes next.0
+        → ((tail : List Reply × Machine) → run_from next.1 calls ks ≡ Some tail → AllByRecursion HasBytes tail.0)
+        → AllByRecursion HasBytes replies
+    go next None is rest first more = cc
+    go next (Some tail) is rest first more =
+        subst (λ (r : List Reply × Machine). AllByRecursion HasBytes r.0)
+        (same_Some {A = List Reply × Machine} (reply_first next.0 tail) (replies, last) rest) (first, more tail is)
+
+-- the replies of a run that begins with no names
+pub replies_bytes : (state : State) (calls : List Call) (ks : List ℕ) (replies : List Reply) (last : Machine) → AllByRecursion Fits calls
+    → run state calls ks ≡ Some (replies, last) → AllByRecursion HasBytes replies
+replies_bytes state calls ks replies last fit ran = run_bytes (fresh state) calls ks replies last fit holds_none ran
+
+-- ---- Calls that a text tells
+
+lines_fit : (lines : List (List ℕ)) (calls : List Call) → AreCalls lines calls → AllByRecursion Fits calls
+lines_fit [] [] are = tt
+lines_fit [] (call ∷ calls) are = absurd are
+lines_fit ([] ∷ lines) calls are = lines_fit lines calls are
+lines_fit ((b ∷ line) ∷ lines) [] are = absurd are
+lines_fit ((b ∷ line) ∷ lines) (call ∷ calls) are = (are.0.fits, lines_fit lines calls are.1)
+
+pub calls_fit : (bytes : List ℕ) (calls : List Call) → CallsOf bytes (Ok calls) → AllByRecursion Fits calls
+calls_fit bytes calls are = lines_fit (lines_of bytes) calls are
+
+-- two runs whose replies have one text have the same replies
+pub same_run_replies : (text other : List ℕ) (calls others : List Call) (state from : State) (ks js : List ℕ) (a b : List Reply)
+    (last end : Machine)
+    → CallsOf text (Ok calls) → CallsOf other (Ok others) → run state calls ks ≡ Some (a, last) → run from others js ≡ Some (b, end)
+    → text_of a ≡ text_of b → a ≡ b
+same_run_replies text other calls others state from ks js a b last end are other_are ran other_ran same =
+    same_replies a b (replies_bytes state calls ks a last (calls_fit text calls are) ran)
+    (replies_bytes from others js b end (calls_fit other others other_are) other_ran) same

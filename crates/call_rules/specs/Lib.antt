@@ -1,0 +1,9 @@
+pub mod Machine
+pub mod Requests
+pub mod Counts
+pub mod MadeFirst
+pub mod Grammar
+pub mod Replies
+pub mod Generator
+pub mod Summary
+pub mod Held

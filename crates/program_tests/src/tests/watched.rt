@@ -1,0 +1,213 @@
+// What the words ask for, as makers of sources, sources and jobs see it: how many arenas are made, how many workers are at work at
+// once, and what is lent again.
+use super::{Asked, holds, streams, words};
+use arena_calls::{Input, Output, Status};
+use arena_chunks::{Allocator, Arena, ChunkSource, MemoryChunks};
+use arena_pool::ChunkMaker;
+use arena_program::arena_main;
+use arena_script::{Job, run_script};
+use call_rules::Bytes;
+use script_rules::{Outcome, Script};
+use std::alloc::Global;
+use std::process::Abort;
+use std::sync::Wait;
+use std::sync::atomic::{AtomicU64, Ordering};
+use std::test::Fail;
+use std::thread;
+use std::thread::Threads;
+
+/// So often one who is at work looks for the others.
+const TURNS: u32 = 1_000_000;
+
+/// Watches a run, in which so many are to be at work at once.
+#[derive(Drop)]
+struct Watch {
+    at_once: u64,
+    // How many came to their work, and how many of them waited for others in vain.
+    here: AtomicU64,
+    alone: AtomicU64,
+    // How many sources were made, one for each arena.
+    made: AtomicU64,
+    // The bytes of all arenas together, each as it was lent to a script.
+    lent: AtomicU64,
+}
+
+impl Watch {
+    fn new(at_once: u64) -> Watch {
+        Watch {
+            at_once,
+            here: AtomicU64::new(0),
+            alone: AtomicU64::new(0),
+            made: AtomicU64::new(0),
+            lent: AtomicU64::new(0),
+        }
+    }
+
+    // One comes to its work, and waits for the others.
+    fn meet(&self) {
+        self.here.fetch_add(1, Ordering::SeqCst);
+        for _ in 0..TURNS {
+            if self.here.load(Ordering::SeqCst) >= self.at_once {
+                return;
+            }
+            thread::yield_now();
+        }
+        self.alone.fetch_add(1, Ordering::SeqCst);
+    }
+
+    // Whether as many were at work at once as were to be, over so many arenas, which had so many bytes when they were lent.
+    fn saw(&self, made: u64, lent: u64) -> bool {
+        self.alone.load(Ordering::SeqCst) == 0
+            && self.made.load(Ordering::SeqCst) == made
+            && self.lent.load(Ordering::SeqCst) == lent
+    }
+}
+
+/// Makes sources that are watched.
+#[derive(Drop)]
+struct Maker<'a> {
+    alloc: Global,
+    watch: &'a Watch,
+}
+
+impl<'a> ChunkMaker for Maker<'a> {
+    type Chunks = Chunks<'a>;
+
+    fn make(&mut self) -> Chunks<'a> {
+        self.watch.made.fetch_add(1, Ordering::SeqCst);
+        Chunks {
+            memory: MemoryChunks::new(self.alloc, 1 << 20),
+            watch: self.watch,
+        }
+    }
+}
+
+/// Memory. Who asks for a chunk is at work.
+#[derive(Drop)]
+struct Chunks<'a> {
+    memory: MemoryChunks,
+    watch: &'a Watch,
+}
+
+impl ChunkSource for Chunks<'_> {
+    ghost use Rattle.std.specs.Prelude.{None};
+
+    ghost source = { λ c. record { refusals = c.memory.refused; asked = None } };
+
+    fn request(&mut self, size: u64, align: u64) -> Option<Vec<u8>> {
+        self.watch.meet();
+        self.memory.request(size, align)
+    }
+}
+
+impl<C: ChunkSource> Job<C> for Watch {
+    ghost worked = { λ script outcome. Unit {0} };
+
+    fn run(&self, alloc: Global, a: &mut Allocator<C>, script: &Script) -> Outcome {
+        self.lent.fetch_add(a.capacity(), Ordering::SeqCst);
+        self.meet();
+        run_script(alloc, a, script)
+    }
+}
+
+// Does what words ask for, and is watched.
+fn serve<R: Threads + Wait + Sync, I: Input, O: Output>(
+    rt: &R,
+    alloc: Global,
+    words: &[Bytes],
+    input: &mut I,
+    output: &mut O,
+    watch: &Watch,
+) -> Status {
+    arena_main(
+        rt,
+        alloc,
+        words,
+        &mut Arena::<1>::new(alloc),
+        &mut MemoryChunks::new(alloc, 0),
+        input,
+        output,
+        Maker { alloc, watch },
+        watch,
+        &mut Vec::new(alloc),
+    )
+}
+
+/// No script; two, and three, each of which takes 8 bytes.
+const NONE: &str = "";
+
+const TWO: &str = "script\nvalue 0 1\nscript\nvalue 0 1\n";
+
+const THREE: &str = "script\nvalue 0 1\nscript\nvalue 0 1\nscript\nvalue 0 1\n";
+
+/// Two sources, and three, each of one statement.
+const TWO_SOURCES: &str = "1;\n%%\n1;\n";
+
+const THREE_SOURCES: &str = "1;\n%%\n1;\n%%\n1;\n";
+
+// The words, the input, how many are at work at once, how many arenas are made, and their bytes when they are lent, all together.
+type Row = (&'static [&'static str], &'static str, u64, u64, u64);
+
+// As many arenas are made at first as the words say. The empty input is one source.
+const AT_FIRST: &[Row] = &[
+    (&["scripts", "1"], NONE, 0, 1, 0),
+    (&["scripts", "5"], NONE, 0, 5, 0),
+    (&["scripts", "64"], NONE, 0, 64, 0),
+    (&["scripts", "3", "keep", "0"], NONE, 0, 3, 0),
+    (&["scripts", "2", "fixed", "48", "7"], NONE, 0, 7, 0),
+    (&["scripts", "7", "fixed", "48", "2"], NONE, 0, 2, 0),
+    (&["lint", "1"], NONE, 0, 1, 0),
+    (&["lint", "5"], NONE, 0, 5, 0),
+    (&["lint", "64"], NONE, 0, 64, 0),
+];
+
+// As many workers are at work at once.
+const AT_ONCE: &[Row] = &[
+    (&["scripts", "2"], TWO, 2, 2, 0),
+    (&["scripts", "3"], THREE, 3, 3, 0),
+    (&["scripts", "3", "keep", "0"], THREE, 3, 3, 0),
+    (&["scripts", "3", "fixed", "64", "3"], THREE, 3, 3, 48),
+    (&["lint", "2"], TWO_SOURCES, 2, 2, 0),
+    (&["lint", "3"], THREE_SOURCES, 3, 3, 0),
+];
+
+// An arena comes back with its first chunk, of 16320 bytes. It is lent again, but where it passes the limit.
+const AGAIN: &[Row] = &[
+    (&["scripts", "1"], THREE, 1, 1, 32640),
+    (&["scripts", "1", "keep", "16320"], THREE, 1, 1, 32640),
+    (&["scripts", "1", "keep", "16319"], THREE, 1, 3, 0),
+    (&["scripts", "1", "keep", "0"], THREE, 1, 3, 0),
+    (&["scripts", "1", "fixed", "144", "1"], THREE, 1, 1, 288),
+];
+
+fn is_watched<R: Threads + Wait + Sync + Abort>(
+    rt: &R,
+    alloc: Global,
+    (asks, text, at_once, made, lent): &Row,
+) -> Result<(), Fail> {
+    let asked = Asked {
+        words: asks,
+        text: text.as_bytes(),
+        given: 4096,
+        reads: &[],
+        taken: 4096,
+        writes: &[],
+    };
+    let words = words(alloc, asks)?;
+    let (mut input, mut output) = streams(alloc, &asked)?;
+    let watch = Watch::new(*at_once);
+    let status = serve(rt, alloc, &words, &mut input, &mut output, &watch);
+    let is_so = status.code() == 0 && watch.saw(*made, *lent);
+    assert!(rt; is_so, "{asks:?}");
+    Ok(())
+}
+
+#[test]
+fn as_many_arenas_and_workers_as_the_words_say(rt: HostRuntime) -> Result<(), Fail> {
+    for rows in [AT_FIRST, AT_ONCE, AGAIN] {
+        for row in rows {
+            is_watched(&rt, rt.alloc(), row)?;
+        }
+    }
+    Ok(())
+}

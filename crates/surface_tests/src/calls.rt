@@ -1,0 +1,124 @@
+// Runs of calls, and the program's calls.
+use crate::kinds::never;
+use arena_calls::{
+    Failed, Input, MemoryInput, MemoryOutput, Output, Status, StdInput, StdOutput, arena_calls,
+};
+use arena_chunks::{Arena, Block, Bytes, Call, ChunkSource, Ran, Reply, Stopped, run_calls};
+use std::alloc::Global;
+
+fn all_calls(bytes: Bytes) -> [Call; 11] {
+    [
+        Call::Alloc {
+            name: 1u32,
+            size: 2u64,
+            align: 3u64,
+            fill: 4u8,
+        },
+        Call::Grow {
+            name: 1u32,
+            size: 2u64,
+            align: 3u64,
+            fill: 4u8,
+        },
+        Call::Shrink {
+            name: 1u32,
+            size: 2u64,
+            align: 3u64,
+        },
+        Call::Dealloc { name: 1u32 },
+        Call::Write {
+            name: 1u32,
+            at: 2u64,
+            bytes,
+        },
+        Call::Read { name: 1u32 },
+        Call::Mark { name: 1u32 },
+        Call::Back { name: 1u32 },
+        Call::Reset,
+        Call::Used,
+        Call::Allocated,
+    ]
+}
+
+fn all_replies(bytes: Bytes) -> [Reply; 9] {
+    [
+        Reply::Placed {
+            addr: 1u64,
+            refused: 2u32,
+        },
+        Reply::Done,
+        Reply::Bytes(bytes),
+        Reply::Number(1u64),
+        Reply::AllocErr { refused: 1u32 },
+        Reply::NoSuchName,
+        Reply::NameTaken,
+        Reply::BadLayout,
+        Reply::OutOfRange,
+    ]
+}
+
+fn run<const M: usize, C: ChunkSource>(
+    alloc: Global,
+    arena: &mut Arena<M>,
+    chunks: &mut C,
+    calls: &[Call],
+) -> Result<Ran, Stopped> {
+    run_calls(alloc, arena, chunks, calls)
+}
+
+fn ran(replies: Vec<Reply>, held: Vec<(u32, Block)>) -> Ran {
+    Ran { replies, held }
+}
+
+fn stopped(e: Stopped) -> u64 {
+    match e {
+        Stopped::OutOfMemory { done } => done,
+    }
+}
+
+fn streams() {
+    let _: fn(Global, Vec<u8>, u32, Vec<u64>) -> MemoryInput = MemoryInput::new;
+    let _: fn(Global, u32, Vec<u64>) -> MemoryOutput = MemoryOutput::new;
+    let _: fn(&mut MemoryInput, &mut [u8]) -> Result<usize, Failed> = <MemoryInput as Input>::read;
+    let _: fn(&mut MemoryOutput, &[u8]) -> Result<usize, Failed> = <MemoryOutput as Output>::write;
+    let _: Failed = Failed;
+}
+
+fn moves<I: Input, O: Output>(input: &mut I, output: &mut O, buf: &mut [u8], piece: &[u8]) {
+    if never() {
+        let _: Result<usize, Failed> = input.read(buf);
+        let _: Result<usize, Failed> = output.write(piece);
+    }
+}
+
+fn standard<R: std::io::Read + Drop, W: std::io::Write + Drop>(
+    input: &mut StdInput<R>,
+    output: &mut StdOutput<W>,
+    buf: &mut [u8],
+    piece: &[u8],
+) {
+    moves(input, output, buf, piece);
+}
+
+fn statuses() -> [Status; 7] {
+    [
+        Status::Done,
+        Status::Usage,
+        Status::BadLine(1u64),
+        Status::OutOfMemory,
+        Status::ReadFault,
+        Status::WriteFault,
+        Status::InputTooLong,
+    ]
+}
+
+fn whole<C: ChunkSource, I: Input, O: Output>(
+    alloc: Global,
+    words: &[Bytes],
+    arena: &mut Arena<1>,
+    chunks: &mut C,
+    input: &mut I,
+    output: &mut O,
+) -> Status {
+    arena_calls(alloc, words, arena, chunks, input, output)
+}

@@ -1,0 +1,30 @@
+//! Uses each public item once, with its whole type written out: where a name, a parameter, a result, a bound, a field or a variant is
+//! lost or changed, this crate isn't accepted. Nothing of it runs.
+#![tactic(auto)]
+
+mod allocator;
+mod arenas;
+mod bases;
+mod bits;
+mod blocks;
+mod boxes;
+mod bumpalo;
+mod calls;
+mod clone;
+mod draining;
+mod hash;
+mod items;
+mod kinds;
+mod lint;
+mod places;
+mod pool;
+mod program;
+mod raw;
+mod scripts;
+mod sets;
+mod sharing;
+mod symbols;
+mod text;
+mod trees;
+mod vec;
+mod workers;

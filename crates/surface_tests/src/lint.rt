@@ -1,0 +1,75 @@
+// The linter.
+use crate::kinds::{is_error, never};
+use arena_chunks::{Allocator, Bytes, ChunkSource};
+use arena_lint::{FileReport, FindKind, Finding, Findings, LintErr, Linted, lint_all, lint_one};
+use arena_pool::{AllocatorPool, ChunkMaker, PoolName};
+use script_workers::{Gate, Starved};
+use std::alloc::Global;
+use std::sync::Wait;
+use std::thread::Threads;
+
+fn kinds() -> [FindKind; 3] {
+    [FindKind::Undefined, FindKind::Redefined, FindKind::Shadowed]
+}
+
+fn finding(kind: FindKind, name: Bytes) -> Finding {
+    Finding { kind, name }
+}
+
+fn found(findings: &Findings) {
+    if never() {
+        let _: &[Finding] = findings.as_slice();
+    }
+}
+
+fn findings() {
+    let _: fn(&Findings) -> u64 = Findings::len;
+    is_error::<LintErr>();
+}
+
+fn reported(report: FileReport) -> (Option<Findings>, u64) {
+    match report {
+        FileReport::Checked(found) => (Some(found), 0),
+        FileReport::Syntax { at } => (None, at),
+        FileReport::TooDeep { at } => (None, at),
+        FileReport::NumberTooBig { at } => (None, at),
+        FileReport::Full => (None, 0),
+        FileReport::Refused => (None, 0),
+        FileReport::OutOfMemory => (None, 0),
+    }
+}
+
+fn linted<C: ChunkSource>(report: FileReport, starved: Option<Starved<C>>) -> Linted<C> {
+    Linted { report, starved }
+}
+
+fn one<C: ChunkSource>(alloc: Global, a: &mut Allocator<C>, src: &[u8]) {
+    if never() {
+        let _: FileReport = lint_one(alloc, a, src);
+    }
+}
+
+fn refused(e: LintErr) {
+    match e {
+        LintErr::OutOfMemory => {}
+    }
+}
+
+fn all<
+    R: Threads + Wait + Sync,
+    K: ChunkMaker + Drop + Send,
+    L: PoolName + Send + Sync,
+    G: Gate + Sync,
+>(
+    rt: &R,
+    alloc: Global,
+    pool: &AllocatorPool<K, L>,
+    workers: u32,
+    gate: &G,
+    sources: &[Bytes],
+) -> Result<Vec<Linted<K::Chunks>>, LintErr> {
+    if never() {
+        return lint_all(rt, alloc, pool, workers, gate, sources);
+    }
+    Err(LintErr::OutOfMemory)
+}

@@ -1,0 +1,34 @@
+// The top call.
+use arena_calls::{Input, Output, Status};
+use arena_chunks::{Arena, Bytes, ChunkSource};
+use arena_pool::ChunkMaker;
+use arena_program::arena_main;
+use arena_script::Job;
+use script_workers::Starved;
+use std::alloc::Global;
+use std::sync::Wait;
+use std::thread::Threads;
+
+fn whole<
+    C: ChunkSource,
+    I: Input,
+    O: Output,
+    R: Threads + Wait + Sync,
+    K: ChunkMaker + Drop + Send,
+    J: Job<K::Chunks> + Sync,
+>(
+    rt: &R,
+    alloc: Global,
+    words: &[Bytes],
+    arena: &mut Arena<1>,
+    chunks: &mut C,
+    input: &mut I,
+    output: &mut O,
+    maker: K,
+    job: &J,
+    starved: &mut Vec<(u32, Starved<K::Chunks>)>,
+) -> Status {
+    arena_main(
+        rt, alloc, words, arena, chunks, input, output, maker, job, starved,
+    )
+}

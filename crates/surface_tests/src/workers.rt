@@ -1,0 +1,69 @@
+// Scripts on workers.
+use crate::kinds::{is_error, never};
+use arena_chunks::{Allocator, ChunkSource};
+use arena_pool::{AllocatorPool, ChunkMaker, PoolName};
+use arena_script::Job;
+use script_rules::{Outcome, Script};
+use script_workers::{Gate, NoGate, ScriptsErr, Served, Starved, run_scripts};
+use std::alloc::Global;
+use std::sync::Wait;
+use std::thread::Threads;
+
+// A gate that has no calls but the two.
+struct Open;
+
+impl Gate for Open {
+    fn started(&self, script: u32) {
+        let _ = script;
+    }
+
+    fn finished(&self, script: u32) {
+        let _ = script;
+    }
+}
+
+fn is_gate<G: Gate>(_gate: &G) {}
+
+fn gates() {
+    is_gate(&Open);
+    is_gate(&NoGate);
+}
+
+fn starved<C: ChunkSource>(starved: Starved<C>) -> (Option<C>, Option<Allocator<C>>) {
+    match starved {
+        Starved::Refused(chunks) => (Some(chunks), None),
+        Starved::Grown(arena) => (None, Some(arena)),
+    }
+}
+
+fn served<C: ChunkSource>(outcome: Outcome, starved: Option<Starved<C>>) -> Served<C> {
+    Served { outcome, starved }
+}
+
+fn refused(e: ScriptsErr) {
+    is_error::<ScriptsErr>();
+    match e {
+        ScriptsErr::OutOfMemory => {}
+    }
+}
+
+fn run<
+    R: Threads + Wait + Sync,
+    K: ChunkMaker + Drop + Send,
+    L: PoolName + Send + Sync,
+    G: Gate + Sync,
+    J: Job<K::Chunks> + Sync,
+>(
+    rt: &R,
+    alloc: Global,
+    pool: &AllocatorPool<K, L>,
+    workers: u32,
+    gate: &G,
+    job: &J,
+    scripts: &[Script],
+) -> Result<Vec<Served<K::Chunks>>, ScriptsErr> {
+    if never() {
+        return run_scripts(rt, alloc, pool, workers, gate, job, scripts);
+    }
+    Err(ScriptsErr::OutOfMemory)
+}
