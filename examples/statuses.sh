@@ -1,6 +1,6 @@
 #!/bin/bash
 # Runs the program to each of its exit statuses, over the real standard streams, and compares the status, what was
-# written, and the line on standard error with the table in README.md.
+# written, and the line on standard error with the table in docs/CLI.md.
 set -u
 here=$(dirname "$(readlink -f "$0")")
 work=$(mktemp -d)
@@ -8,9 +8,9 @@ trap 'rm -rf "$work"' EXIT
 program=$("$here/../tools/program.sh" arena_run --version) || exit 1
 failed=0
 
-# The line that README.md has for this status, with a number in the place of N. A bar is behind a stroke in a table.
+# The line that docs/CLI.md has for this status, with a number in the place of N. A bar is behind a stroke in a table.
 line_for() {
-    sed -n "s/^| $1 |.*| \`\([^\`]*\)\` |\$/\1/p" "$here/../README.md" | sed "s/ N / ${2:-N} /; s/\\\\|/|/g"
+    sed -n "s/^| $1 |.*| \`\([^\`]*\)\` |\$/\1/p" "$here/../docs/CLI.md" | sed "s/ N / ${2:-N} /; s/\\\\|/|/g"
 }
 
 # ends NAME STATUS TEXT [LINE NUMBER]: compares the run that has just ended. Its status is in `status`, and what it wrote
