@@ -82,7 +82,8 @@ pub(crate) fn push_node<C: ChunkSource>(
     ensures row { (ts : List Subtree) (t : Subtree) (old one : Memory) → IsRowBuilt ts old one list.old
         → IsTreePlaced t one a.old.memory node
         → OnOk result (IsRowBuilt (ts ++ t ∷ []) old a.new.memory list.new) }
-    ensures spends { Spends (LongerList list.old.raw.len list.old.raw.cap) node_cost (credit list.old) (credit list.new) a.old a.new (error_of result) }
+    ensures spends { Spends (LongerList list.old.raw.len list.old.raw.cap) node_cost (credit list.old)
+        (credit list.new) a.old a.new (error_of result) }
     ensures len { OnOk result (list.new.raw.len ≡ list.old.raw.len + 1) }
 {
     growth_rule();

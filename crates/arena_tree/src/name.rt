@@ -67,7 +67,8 @@ pub(crate) fn clone_text<C: ChunkSource, D: ChunkSource>(
     ensures held { IfOk result (IsTextIn to.new.memory) }
     ensures text { IfOk result (λ s. text_bytes to.new.memory s ≡ text_bytes from.now.memory text) }
     ensures frame { IfOk result (λ s. Frame to.old.memory to.new.memory [] (s.block ∷ [])) }
-    ensures spends { Spends (TextOf (length (text_bytes from.now.memory text))) (length (text_bytes from.now.memory text)) 0 0 to.old to.new (error_of result) }
+    ensures spends { Spends (TextOf (length (text_bytes from.now.memory text)))
+        (length (text_bytes from.now.memory text)) 0 0 to.old to.new (error_of result) }
 {
     // So the state is known to be valid, and the text to have a layout.
     let _ = from.min_align();
