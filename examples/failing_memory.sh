@@ -2,7 +2,7 @@
 # Makes each allocation of a run fail in turn, and says how many there are and how the program ended each time:
 #     examples/failing_memory.sh [INPUT..]
 # A small library stands before malloc, calloc and realloc, counts these calls, and refuses the one of that number. Without an
-# INPUT the runs are three lists of calls, one of `gen`, one of scripts and one of sources. Each run must end with want of memory
+# INPUT the runs are three lists of calls, one of `gen`, one of scripts and one of sources. Each run must end out of memory
 # and nothing written, or well with all that it has to write: all the same, or with a refusal told; else the script ends with 1.
 set -euo pipefail
 here=$(dirname "$(readlink -f "$0")")

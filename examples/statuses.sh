@@ -141,7 +141,7 @@ printf '\npop 1\nscript\n' > "$work/input"
 run scripts 2 < "$work/input"
 ends "2, a command before the first script, line 2" 2 $none 2
 
-# 3: memory is wanting. With 16 MiB of memory in all, 16 MiB of input can't be kept.
+# 3: memory runs out. With 16 MiB of memory in all, 16 MiB of input can't be kept.
 status=0
 (ulimit -v 16384; exec "$program" calls < "$work/longest" > "$work/out" 2> "$work/err") || status=$?
 ends "3, 16 MiB in all" 3 $none

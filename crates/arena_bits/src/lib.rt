@@ -7,7 +7,6 @@ pub mod laws;
 mod ones;
 mod printed;
 mod set;
-mod uses;
 mod whole;
 mod words;
 

@@ -78,7 +78,7 @@ impl BitSet {
     ///
     /// # Errors
     ///
-    /// Memory for the text is wanting.
+    /// Memory for the text runs out.
     pub fn display<C: ChunkSource>(
         &self,
         alloc: Global,
@@ -97,7 +97,7 @@ impl BitSet {
     ///
     /// # Errors
     ///
-    /// Memory for the text is wanting.
+    /// Memory for the text runs out.
     pub fn debug<C: ChunkSource>(
         &self,
         alloc: Global,

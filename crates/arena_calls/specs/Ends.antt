@@ -108,12 +108,12 @@ pub record RunsInput (left now_left : Option (List ℕ)) (entry exit : View) (re
   pub lines : CallsOf bytes (Ok calls)
   pub runs : Runs entry exit calls replies held
 
--- memory was wanting before the first call was run, and no more was taken than an input may have
+-- memory ran out before the first call was run, and no more was taken than an input may have
 pub record StopsBefore (old new : Outside) : Type 0 where
   pub untouched : IsUntouched old new
   pub front : TakesFront old.left new.left (λ n. n ≤ limit)
 
--- Nothing is written. Where memory is wanting in the run or behind it, the first calls were run, however few.
+-- Nothing is written. Where memory runs out in the run or behind it, the first calls were run, however few.
 abbrev pub EndsUnwritten : Status → Outside → Outside → Type 0
 EndsUnwritten Done old new = ⊥
 EndsUnwritten Usage old new = ⊥

@@ -18,7 +18,7 @@ TakesFront old new P =
 abbrev pub TakesWhole : Option (List ℕ) → Option (List ℕ) → List ℕ → Type 0
 TakesWhole old new bytes = IfSome old (λ all. (bytes ≡ all) × (new ≡ Some []))
 
--- all bytes, or one too many, or those before the fault or the want of memory
+-- all bytes, or one too many, or those before the fault or the lack of memory
 abbrev pub TakesAll : Option (List ℕ) → Option (List ℕ) → Result (Vec ℕ Global) ReadErr → Type 0
 TakesAll old new (Ok v) = TakesWhole old new v.items
 TakesAll old new (Err TooLong) = TakesFront old new (λ n. n ≡ limit + 1)

@@ -24,7 +24,7 @@ use Rattle.arena_store.specs.Memory.{Memory}
 use Rattle.arena_store.specs.Source.{View, IsAsked}
 use Rattle.arena_chunks.specs.Asking.{AsksWithin, IsRefusedBySource, IsFull}
 use Rattle.arena_core.specs.Answers.{Answer}
-use Rattle.arena_core.specs.Answers.Answer.{Placed, Refused, Wanting}
+use Rattle.arena_core.specs.Answers.Answer.{Placed, Refused, Exhausted}
 use Rattle.arena_core.specs.BlockCalls.{PlacesBlock, ResizesBlock, GrowsBlock, ShrinksBlock, GivesBack, growing_of, shrinking_of}
 use Rattle.arena_store.specs.declared.block.Block.{Block}
 use Rattle.arena_chunks.proofs.UsedByCallLemmas.{anew_most, stays_used, grown_most}
@@ -58,7 +58,7 @@ asks_placed bytes old new size align (Refused k) layout small fits places =
     asks_by bytes places.0 (alloc_requests old.memory.state size align places.0)
     old.memory.state new.memory.state old.source new.source s.asked
     (all_requests old.memory.state size align places.0 bytes places.1.valid.entry small fits) (same_grown old.memory new.memory s.memory)
-asks_placed bytes old new size align Wanting layout small fits places = same_asks bytes old new places.1.outcome.same
+asks_placed bytes old new size align Exhausted layout small fits places = same_asks bytes old new places.1.outcome.same
 
 -- A block that is given another size.
 module _ (bytes : ℕ) (old new : View) (block : Block) (size align : ℕ) (layout : IsTrue (is_layout size align)) (small : align ≤ 16)
@@ -94,7 +94,7 @@ module _ (bytes : ℕ) (old new : View) (block : Block) (size align : ℕ) (layo
       asks_by bytes resizes.0 (resize_requests way old.memory.state size align resizes.0)
       old.memory.state new.memory.state old.source new.source
       s.asked (way_requests way resizes.0 resizes.1.valid.entry) (same_grown old.memory new.memory s.memory)
-  asks_resized way Wanting resizes = same_asks bytes old new resizes.1.outcome.1.same
+  asks_resized way Exhausted resizes = same_asks bytes old new resizes.1.outcome.1.same
 
 -- A block that is given back.
 pub asks_given_back : (bytes : ℕ) (old new : View) (b : Block) → GivesBack old.memory new.memory b → new.source ≡ old.source
@@ -161,7 +161,7 @@ placed_full old new size align k layout still places =
 answers_none : (p : ℕ) → Some p ≡ None → ⊥
 answers_none p same = cc
 
--- Where there is no place for a block, it was to be placed anew, unless it is refused for its size.
+-- Where there is no place for a block, it was to be placed again, unless it is refused for its size.
 refused_anew : (way : Resizing) (old new : View) (block : Block) (size align k : ℕ) → (way ≡ NotGrown → ⊥)
     → ResizesBlock way old new block size align (Refused k)
     → (k : ℕ) × (alloc old.memory.state size align k ≡ Some (record { answer = None; state = old.memory.state }))

@@ -5,11 +5,10 @@ use Rattle.std.specs.FinMap as finite
 use Rattle.std.proofs.lemmas.Bool.{cases_eq, cases_lt, or_left, or_right}
 use Rattle.std.proofs.lemmas.Option.{same_Some}
 use Rattle.arena_rules.specs.Rounding.{up, is_layout}
-use Rattle.arena_rules.specs.State.{State, IsValid, is_used, is_range_used, AreApart}
+use Rattle.arena_rules.specs.State.{State, IsValid, is_used, is_range_used, AreApart, is_place_used}
 use Rattle.arena_rules.specs.Back.{Point, accepts, KeepsMark}
 use Rattle.arena_rules.specs.Blocks.{IsBlock, IsMovedBlock, padded_size}
 use Rattle.call_rules.specs.Machine.{Held, Contents, Marks, step, refused_of}
-use Rattle.arena_rules.specs.State.{is_place_used}
 use Rattle.arena_rules.specs.declared.place.Place.{Place}
 use Rattle.call_rules.specs.declared.calls.Call.{Call}
 use Rattle.call_rules.specs.declared.calls.Reply.{Reply}

@@ -10,7 +10,7 @@ use Rattle.arena_rules.proofs.MarkLemmas.{still_keeps, alloc_keeps, resize_keeps
 use Rattle.arena_store.specs.Memory.{Memory}
 use Rattle.arena_store.specs.Source.{View}
 use Rattle.arena_core.specs.Answers.{Answer}
-use Rattle.arena_core.specs.Answers.Answer.{Placed, Refused, Wanting}
+use Rattle.arena_core.specs.Answers.Answer.{Placed, Refused, Exhausted}
 use Rattle.arena_core.specs.BlockCalls.{PlacesBlock, ResizesBlock, GivesBack, WritesBlock}
 use Rattle.arena_core.specs.Checkpoints.{mark_at, checkpoint_of, is_accepted, KeepsCheckpoint}
 use Rattle.arena_store.specs.declared.block.Block.{Block}
@@ -42,7 +42,7 @@ checkpoint_placed c old new size align (Placed b) holds places =
     (record { answer = Some b.addr; state = new.memory.state }) accepted places.1.outcome.step)
 checkpoint_placed c old new size align (Refused k) holds places =
     checkpoint_still c old.memory.state new.memory.state holds (ap (λ (m : Memory). m.state) places.1.outcome.1.memory)
-checkpoint_placed c old new size align Wanting holds places =
+checkpoint_placed c old new size align Exhausted holds places =
     checkpoint_still c old.memory.state new.memory.state holds (ap (λ (v : View). v.memory.state) places.1.outcome.same)
 
 pub checkpoint_resized : (c : Checkpoint) (way : Resizing) (old new : View) (block : Block) (size align : ℕ) (answer : Answer)
@@ -54,7 +54,7 @@ checkpoint_resized c way old new block size align (Placed b) holds resizes =
     (record { answer = Some b.addr; state = new.memory.state }) accepted resizes.1.outcome.step)
 checkpoint_resized c way old new block size align (Refused k) holds resizes =
     checkpoint_still c old.memory.state new.memory.state holds (ap (λ (m : Memory). m.state) resizes.1.outcome.1.memory)
-checkpoint_resized c way old new block size align Wanting holds resizes =
+checkpoint_resized c way old new block size align Exhausted holds resizes =
     checkpoint_still c old.memory.state new.memory.state holds (ap (λ (v : View). v.memory.state) resizes.1.outcome.1.same)
 
 pub checkpoint_returned : (c : Checkpoint) (old new : Memory) (b : Block) → IsTrue (is_accepted c old.state) → GivesBack old new b

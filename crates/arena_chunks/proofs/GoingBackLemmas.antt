@@ -9,10 +9,9 @@ use Rattle.std.specs.Cmp.{nat_cmp_total}
 use Rattle.std.proofs.lemmas.Bool.{and_parts, cases_lt, cases_Bool, or_left, or_right}
 use Rattle.std.proofs.lemmas.List.{length-take-le, get_or-take}
 use Rattle.std.proofs.lemmas.Option.{none-some, same_Some}
-use Rattle.arena_rules.specs.State.{State, IsValid, is_used, is_range_used}
+use Rattle.arena_rules.specs.State.{State, IsValid, is_used, is_range_used, is_place_used}
 use Rattle.arena_rules.specs.Back.{back, accepts, is_in_part, KeepsMark}
 use Rattle.call_rules.specs.Machine.{Held, Contents, is_left, mark_named, marks_to, step}
-use Rattle.arena_rules.specs.State.{is_place_used}
 use Rattle.call_rules.specs.Requests.{placed_anew}
 use Rattle.arena_rules.specs.declared.place.Place.{Place}
 use Rattle.call_rules.specs.declared.calls.Call.TheVariants.{Back as GoBack}

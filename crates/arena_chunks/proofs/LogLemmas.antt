@@ -6,10 +6,9 @@ use Rattle.std.specs.FinMap as finite
 use Rattle.std.proofs.lemmas.Bool.{cases_eq, cases_lt}
 use Rattle.std.proofs.lemmas.List.{length-map, length-append, take_at}
 use Rattle.std.proofs.lemmas.Option.{none-some, same_Some}
-use Rattle.arena_rules.specs.State.{State, Chunk, cursor_of, is_range_used}
+use Rattle.arena_rules.specs.State.{State, Chunk, cursor_of, is_range_used, is_place_used}
 use Rattle.arena_rules.specs.Back.{Point}
 use Rattle.call_rules.specs.Machine.{Held, is_left}
-use Rattle.arena_rules.specs.State.{is_place_used}
 use Rattle.arena_rules.specs.declared.place.Place.{Place}
 use Rattle.arena_rules.proofs.ReturnLemmas.{used_filled}
 use Rattle.arena_core.specs.Checkpoints.{mark_at}

@@ -23,12 +23,11 @@ use Rattle.arena_rules.proofs.RoundingLemmas.{min_align_positive, layout_power}
 use Rattle.arena_rules.proofs.MarkLemmas.{resize_keeps}
 use Rattle.arena_rules.proofs.MoveLemmas.{grow_moved, shrink_moved}
 use Rattle.arena_rules.proofs.PlacedLemmas.{resize_at_cursor, grow_at_cursor}
-use Rattle.arena_store.specs.Memory.{Memory, Writes, image, bytes_from}
+use Rattle.arena_store.specs.Memory.{Memory, Writes, image, bytes_from, block_at}
 use Rattle.arena_store.specs.Source.{Source, View, view}
 use Rattle.arena_core.specs.Frame.{Frame}
-use Rattle.arena_core.specs.Answers.Answer.{Placed as PlacedAt, Refused, Wanting}
+use Rattle.arena_core.specs.Answers.Answer.{Placed as PlacedAt, Refused, Exhausted}
 use Rattle.arena_core.specs.BlockCalls.{ResizesAfter, WritesBlock}
-use Rattle.arena_store.specs.Memory.{block_at}
 use Rattle.arena_chunks.specs.Runs.{HoldsBytes}
 use Rattle.arena_chunks.specs.Marks.{Noted, named, AreWithin, IsAtCursor}
 use Rattle.arena_chunks.specs.Serving.{machine_of, Holds, Serves, ServesNoting, resizing, is_wrong, way_of, ResizesFilling}
@@ -174,13 +173,13 @@ resizing_still fill reply memory names noted name size align source holds none p
   notes_still memory.state names names noted (λ q p at. at),
 )
 
--- memory is wanting only where the block is placed anew, which leaves all as it was
-pub resizing_wants : (fill : Option ℕ) (old new : View) (p : Place) (size align k : ℕ) → ResizesFilling fill old new p size align k Wanting
+-- memory runs out only where the block is placed again, which leaves all as it was
+pub resizing_wants : (fill : Option ℕ) (old new : View) (p : Place) (size align k : ℕ) → ResizesFilling fill old new p size align k Exhausted
     → (way_of fill old.memory.state p size align ≡ Anew) × (new ≡ old)
 resizing_wants fill old new p size align k filling =
     (filling.resizes.outcome.0, ap (λ (m : Memory). view m new.source) filling.fills ∙ filling.resizes.outcome.1.same)
 
--- memory may be wanting where the block is placed anew, or where there is a mark
+-- memory may run out where the block is placed again, or where there is a mark
 pub resizing_takes : (fill : Option ℕ) (memory : Memory) (names : Held) (marks : List Mark) (bytes : Contents) (name size align : ℕ)
     (a : Place)
     → finite.get names name ≡ Some a → true ≡ is_layout size align → is_wrong fill a.size size ≡ false

@@ -26,12 +26,11 @@ use Rattle.arena_rules.proofs.RoundingLemmas.{min_align_positive, layout_power}
 use Rattle.arena_rules.proofs.MarkLemmas.{still_keeps, alloc_keeps, dealloc_keeps_mark}
 use Rattle.arena_rules.proofs.MoveLemmas.{moved_anew}
 use Rattle.arena_rules.proofs.PlacedLemmas.{alloc_at_cursor}
-use Rattle.arena_store.specs.Memory.{Memory, Writes, image, bytes_from, is_readable}
+use Rattle.arena_store.specs.Memory.{Memory, Writes, image, bytes_from, is_readable, block_at}
 use Rattle.arena_store.specs.Source.{Source, view}
 use Rattle.arena_core.specs.Frame.{IsApart, padded}
 use Rattle.arena_core.specs.Answers.Answer.{Placed as PlacedAt}
 use Rattle.arena_core.specs.BlockCalls.{PlacesAfter, GivesBack, WritesBlock}
-use Rattle.arena_store.specs.Memory.{block_at}
 use Rattle.arena_chunks.specs.Runs.{HoldsBytes}
 use Rattle.arena_chunks.specs.Marks.{IsAtCursor}
 use Rattle.arena_chunks.specs.Serving.{machine_of, Holds, IsBeside, Keeps, Asks, Serves}

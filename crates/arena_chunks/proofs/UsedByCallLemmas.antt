@@ -114,7 +114,7 @@ stays_used old new block b size align is =
     (resize_stays old.memory.state Stays block.addr size align is.0
     (record { answer = Some b.addr; state = new.memory.state }) refl is.1.outcome.step)
 
--- A block that is placed anew is a new block.
+-- A block that is placed again is a new block.
 pub anew_least : (old new : View) (block b : Block) (size align : ℕ) → IsTrue (is_layout size align)
     → ResizesBlock Anew old new block size align (Placed b)
     → used_bytes old.memory.state + size ≤ used_bytes new.memory.state

@@ -5,10 +5,9 @@ use Rattle.std.specs.List.{AllByRecursion}
 use Rattle.std.specs.Ordering.{nat_cmp}
 use Rattle.std.specs.BTreeSet.{BTreeSet, contains}
 use Rattle.std.specs.FinMap as finite
-use Rattle.arena_rules.specs.State.{State, cursor_of, is_used}
+use Rattle.arena_rules.specs.State.{State, cursor_of, is_used, is_place_used}
 use Rattle.arena_rules.specs.Back.{back, accepts, is_in_part}
 use Rattle.call_rules.specs.Machine.{Held, Marks, mark_named, is_left}
-use Rattle.arena_rules.specs.State.{is_place_used}
 use Rattle.arena_rules.specs.declared.place.Place.{Place}
 use Rattle.arena_core.specs.Checkpoints.{mark_at}
 use Rattle.arena_chunks.specs.declared.runs.marks.Mark.{Mark}

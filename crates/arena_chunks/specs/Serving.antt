@@ -12,11 +12,10 @@ use Rattle.arena_rules.specs.declared.place.Place.{Place}
 use Rattle.call_rules.specs.declared.calls.Call.{Call}
 use Rattle.call_rules.specs.declared.calls.Call.TheVariants.{Grow, Shrink}
 use Rattle.call_rules.specs.declared.calls.Reply.{Reply}
-use Rattle.arena_store.specs.Memory.{Memory, KeepsUsed}
+use Rattle.arena_store.specs.Memory.{Memory, KeepsUsed, block_at}
 use Rattle.arena_store.specs.Source.{View, view, IsAsked}
 use Rattle.arena_core.specs.Answers.{Answer, OnAnswer}
 use Rattle.arena_core.specs.BlockCalls.{ResizesAfter, WritesBlock}
-use Rattle.arena_store.specs.Memory.{block_at}
 use Rattle.arena_chunks.specs.Runs.{HoldsBytes}
 use Rattle.arena_store.specs.declared.block.Block.{Block}
 use Rattle.arena_chunks.specs.Marks.{Noted, named, Tracks, KeepEntry, Notes}
@@ -82,7 +81,7 @@ pub record ServesRun (call : Call) (reply : Reply) (old new : View) (names held 
   pub keeps : is_reset call ≡ false → (entry : Memory) → Keeps entry old.memory names → KeepEntry entry.state old.memory.state noted.marks
       → Keeps entry new.memory held × KeepEntry entry.state new.memory.state later.marks
 
--- Memory was wanting for a call that takes some. Nothing changed.
+-- Memory ran out for a call that takes some. Nothing changed.
 pub record Wants (call : Call) (old new : View) (names : Held) (marks : Marks) : Type 0 where
   pub takes : (bytes : Contents) → IsTrue (takes_memory call (machine_of old.memory names marks bytes))
   pub same : new ≡ old

@@ -56,8 +56,8 @@ pub trait Alloc: OverArena {
     ///
     /// # Errors
     ///
-    /// `AllocErr` where all requests for a chunk were refused, `OutOfMemory` where memory for the table of chunks is
-    /// wanting. Nothing changes.
+    /// `AllocErr` where all requests for a chunk were refused, `OutOfMemory` where memory for the table of chunks
+    /// runs out. Nothing changes.
     fn alloc(&mut self, layout: Layout) -> Result<Block, ArenaErr>
         ensures { PlacesBlock (Self.view self.old) (Self.view self.new) layout.size layout.align
             (answer_of result) };
@@ -68,7 +68,7 @@ pub trait Alloc: OverArena {
         ensures given { GivesBack (Self.view self.old).memory (Self.view self.new).memory block }
         ensures source { (Self.view self.new).source ≡ (Self.view self.old).source };
 
-    /// Gives a block another size at its alignment. An empty block is placed anew.
+    /// Gives a block another size at its alignment. An empty block is placed again.
     ///
     /// # Errors
     ///

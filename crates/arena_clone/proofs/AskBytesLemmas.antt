@@ -6,7 +6,7 @@ use Rattle.arena_rules.specs.Rounding.{is_layout}
 use Rattle.arena_rules.specs.State.{used_bytes}
 use Rattle.arena_chunks.specs.Source.{View}
 use Rattle.arena_chunks.specs.Answers.{Answer}
-use Rattle.arena_chunks.specs.Answers.Answer.{Placed, Refused, Wanting}
+use Rattle.arena_chunks.specs.Answers.Answer.{Placed, Refused, Exhausted}
 use Rattle.arena_chunks.specs.BlockCalls.{PlacesBlock}
 use Rattle.arena_store.specs.declared.block.Block.{Block}
 use Rattle.arena_chunks.proofs.Layers.{placed_least, placed_most}
@@ -34,7 +34,7 @@ module _ {size align : ℕ} {old new : View} {bs : List Block} {end : Option All
           omega (arith, low, begun, placed_most takes.start takes.between size align b layout places, on takes.between then.0 then.2)
       go (Refused k) places then =
           omega (arith, begun, ap used then.2, ap (λ m. used_bytes m.state) places.1.outcome.1.memory)
-      go Wanting places then = omega (arith, begun, ap used then.2, ap used places.1.outcome.same)
+      go Exhausted places then = omega (arith, begun, ap used then.2, ap used places.1.outcome.same)
 
   -- It brings at least its size, where nothing is refused.
   takes_least : (more : ℕ) → end ≡ None → ((between : View) (rest : List Block) → goes between rest → used between + more ≤ used new)
@@ -46,7 +46,7 @@ module _ {size align : ℕ} {old new : View} {bs : List Block} {end : Option All
       go (Placed b) places then =
           omega (arith, begun, placed_least takes.start takes.between size align b layout places, on takes.between then.0 then.2)
       go (Refused k) places then = absurd (let no = then.0 in cc (no, none))
-      go Wanting places then = absurd (let no = then.0 in cc (no, none))
+      go Exhausted places then = absurd (let no = then.0 in cc (no, none))
 
   -- Where it is refused the state is as it was.
   takes_none : (e : AllocError) → end ≡ Some e → ((between : View) (rest : List Block) → goes between rest → end ≡ None)
@@ -58,7 +58,7 @@ module _ {size align : ℕ} {old new : View} {bs : List Block} {end : Option All
       go (Placed b) places then = absurd (let no = on takes.between then.0 then.2 in cc (no, some))
       go (Refused k) places then =
           ap (λ v. v.memory.state) then.2 ∙ ap (λ m. m.state) places.1.outcome.1.memory ∙ takes.written.state
-      go Wanting places then = ap (λ v. v.memory.state) then.2 ∙ ap (λ v. v.memory.state) places.1.outcome.same ∙ takes.written.state
+      go Exhausted places then = ap (λ v. v.memory.state) then.2 ∙ ap (λ v. v.memory.state) places.1.outcome.same ∙ takes.written.state
 
 -- the slots of a table for so many pairs, by their bytes
 slots_most : (pairs slots slot : ℕ) → IsSlotsFor pairs slots → slots * slot ≤ 2 * max (2 * pairs) 8 * slot

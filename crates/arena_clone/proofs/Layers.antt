@@ -1,6 +1,6 @@
 -- The lemmas that a crate above cites: what calls leave of values at every depth, and values that are made of parts.
-pub use Rattle.arena_clone.proofs.AsksLemmas.{same_places, same_asked, asked_then, asked_refused, asked_same}
-pub use Rattle.arena_clone.proofs.CopyLemmas.{
+pub use Rattle.arena_exchange.proofs.Layers.{same_places, same_asked, asked_then, asked_refused, asked_same}
+pub use Rattle.arena_exchange.proofs.Layers.{
   deep_agree,
   deep_stays,
   made_stays,
@@ -13,8 +13,8 @@ pub use Rattle.arena_clone.proofs.CopyLemmas.{
   makes_none,
   makes_one,
   makes_refused,
+  makes_box,
 }
-pub use Rattle.arena_clone.proofs.LawLemmas.{all_turned}
+pub use Rattle.arena_exchange.proofs.Layers.{all_turned}
 pub use Rattle.arena_clone.proofs.OriginLemmas.{placed_held, placed_copied}
-pub use Rattle.arena_clone.proofs.BoxLemmas.{makes_box}
 pub use Rattle.arena_clone.proofs.BothLemmas.{makes_both, second_refused}

@@ -1,14 +1,10 @@
-mod AsksLemmas
 mod AskBytesLemmas
 mod ListBytesLemmas
-mod CopyLemmas
 mod FlatLemmas
 mod RowLemmas
 mod OriginLemmas
 mod ThroughLemmas
 mod AlikeLemmas
-mod LawLemmas
-mod BoxLemmas
 mod LayoutLemmas
 mod SliceLemmas
 mod VectorLemmas

@@ -14,7 +14,8 @@ use Rattle.arena_items.specs.declared.room.Growth.TheVariants.{Stays, GrowsTo, O
 use Rattle.arena_items.specs.declared.room.AllocError.{AllocError}
 use Rattle.arena_text.specs.Growth.{new_growth as text_growth, growth_to as text_growth_to}
 use Rattle.arena_vec.specs.Growth.{new_growth, empty_capacity, fits, growth_to}
-use Rattle.arena_clone.specs.Asks.{Ask, AsksFor, ask_by, vector_ask, text_ask}
+use Rattle.arena_clone.specs.Asks.{Ask, AsksFor, ask_by, vector_ask}
+use Rattle.arena_clone.specs.Kinds.{text_ask}
 use Rattle.arena_clone.specs.Asks.Ask.{Room, Empty, TooMuch}
 use Rattle.arena_clone.specs.AskBytes.{have_layouts, least_of, most_of, BringsBytes}
 use Rattle.arena_clone.proofs.AskBytesLemmas.{asks_least, asks_most, one_none}

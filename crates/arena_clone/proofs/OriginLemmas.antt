@@ -16,7 +16,7 @@ use Rattle.arena_clone.specs.KindLaws.{IsLawful, all_each}
 use Rattle.arena_clone.specs.Copies.{Copies}
 use Rattle.arena_clone.specs.Origins.{IsOrigin, AreBeside}
 use Rattle.arena_clone.specs.Rows.{CopiesRow}
-use Rattle.arena_clone.specs.declared.ids.CloneInSemanticIds.{CloneInSemanticIds}
+use Rattle.arena_exchange.specs.declared.ids.CloneInSemanticIds.{CloneInSemanticIds}
 use Rattle.arena_clone.proofs.RowLemmas.{all_at, first_more, first_refused, CopiesFirst}
 
 -- What holds of the elements of all of a list holds of those of one of them.

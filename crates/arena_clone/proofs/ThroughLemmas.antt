@@ -1,7 +1,7 @@
 -- Copies of what stands in a block of its own: the block is placed, and then the values are copied into it.
-use Rattle.std.proofs.Common.{◌≡◌, ℕ, List, [], ◌∷◌, Some, None, Ok, Err, IsTrue, subst, sym, ap}
+use Rattle.std.proofs.Common.{◌≡◌, ℕ, List, [], ◌∷◌, Some, None, Ok, Err, IsTrue, subst, sym}
 use Rattle.std.specs.Prelude.{Result, IsPermutation}
-use Rattle.std.proofs.lemmas.List.Sorted.{IsPermutation-cons, IsPermutation-refl}
+use Rattle.std.proofs.lemmas.List.Sorted.{IsPermutation-cons}
 use Rattle.arena_chunks.specs.Memory.{Memory, is_readable}
 use Rattle.arena_chunks.specs.Source.{View}
 use Rattle.arena_chunks.specs.Frame.{Frame}
@@ -11,16 +11,13 @@ use Rattle.arena_items.specs.Values.{bytes_of, elements}
 use Rattle.arena_items.specs.declared.item.Item.{Ghosts}
 use Rattle.arena_items.specs.declared.room.AllocError.{AllocError}
 use Rattle.arena_clone.specs.Asks.{Ask, PlacesAll, refusal}
-use Rattle.arena_vec.specs.Held.{empty_block}
-use Rattle.arena_clone.specs.Asks.Ask.{Empty}
-use Rattle.arena_clone.specs.Kinds.{Kind, plain, row_of, row_in}
+use Rattle.arena_clone.specs.Kinds.{Kind, row_of, row_in}
 use Rattle.arena_clone.specs.KindLaws.{IsLawful, row_lawful}
-use Rattle.arena_clone.specs.Copies.{Copies, MakesNew}
+use Rattle.arena_clone.specs.Copies.{Copies}
 use Rattle.arena_clone.specs.Origins.{IsKept, IsOrigin, AreBeside}
 use Rattle.arena_clone.specs.Rows.{CopiesRow}
-use Rattle.arena_clone.specs.declared.ids.CloneInSemanticIds.{CloneInSemanticIds}
-use Rattle.arena_clone.proofs.AsksLemmas.{asked_then}
-use Rattle.arena_clone.proofs.CopyLemmas.{makes_empty, places_refused}
+use Rattle.arena_exchange.specs.declared.ids.CloneInSemanticIds.{CloneInSemanticIds}
+use Rattle.arena_exchange.proofs.Layers.{asked_then, places_refused}
 use Rattle.arena_clone.proofs.OriginLemmas.{placed_held, placed_beside, placed_agrees}
 
 module _ {V T : Type 0} (item : Ghosts T) (kind : Kind T) (block : V → Block) (is_in : Memory → V → Type 0)
@@ -63,20 +60,6 @@ module _ {V T : Type 0} (item : Ghosts T) (kind : Kind T) (block : V → Block) 
             (IsPermutation-cons target ((row_of kind).deep new.memory (values new.memory w)) row.blocks row.made.deep);
       };
     }
-
--- No values are reached through a handle whose block is that of no storage.
-pub makes_no_values : {V T : Type 0} (item : Ghosts T) (block : V → Block) (is_in : Memory → V → Type 0) (values : Memory → V → List T)
-    (is_trim : V → Type 0) (ask : V → Ask) (align : ℕ) (a : View) (w : V) → is_in a.memory w → block w ≡ empty_block align
-    → values a.memory w ≡ [] → is_trim w → MakesNew (row_in item plain block is_in values is_trim ask) [] (Empty align ∷ []) a a (Ok w)
-makes_no_values item block is_in values is_trim ask align a w held at none trim =
-    makes_empty (record {
-      held = (held, subst (λ vs. (row_of plain).is_held a.memory vs) (sym none) tt);
-      means = ap ((row_of plain).whole a.memory) none;
-      trim = (trim, subst (λ vs. (row_of plain).is_trim a.memory vs) (sym none) tt);
-      deep = subst (λ b. IsPermutation (b ∷ (row_of plain).deep a.memory (values a.memory w)) (empty_block align ∷ [])) (sym at)
-          (subst (λ vs. IsPermutation (empty_block align ∷ (row_of plain).deep a.memory vs) (empty_block align ∷ [])) (sym none)
-          (IsPermutation-refl (empty_block align ∷ [])));
-    })
 
 -- ---- Beside the block that is placed for them
 

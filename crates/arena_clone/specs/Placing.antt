@@ -7,13 +7,8 @@ use Rattle.arena_items.specs.declared.item.Item.{Ghosts}
 use Rattle.arena_items.specs.declared.boxes.Box.{Box}
 use Rattle.arena_items.specs.declared.room.AllocError.{AllocError}
 use Rattle.arena_items.specs.Room.{RoomAnswer}
-use Rattle.arena_items.specs.Values.{IsBoxIn, box_value, IsTextIn, text_bytes}
-
--- A value is placed as the arena places a block of its type's layout, and the box holds it.
-pub record Boxes {T : Type 0} (item : Ghosts T) (old new : View) (v : T) (result : Result (Box T) AllocError) : Type 0 where
-  pub placed : RoomAnswer (λ b. b.block) result (PlacesBlock old new item.SIZE item.ALIGN)
-  pub held : IfOk result (IsBoxIn item new.memory)
-  pub value : IfOk result (λ b. box_value item new.memory b ≡ v)
+use Rattle.arena_items.specs.Values.{IsTextIn, text_bytes}
+pub use Rattle.arena_exchange.specs.Dummies.{Boxes}
 
 -- the same answer for something of the value
 abbrev pub answer_of : {A B : Type 0} → (A → B) → Result A AllocError → Result B AllocError

@@ -1,15 +1,14 @@
 // New blocks, and new blocks with the bytes of others.
-ghost use Rattle.std.specs.Prelude.{◌≡◌, ◌^◌, ◌≤◌, IfOk, IsTrue};
+ghost use Rattle.std.specs.Prelude.{◌≡◌, ◌≤◌, IfOk, IsTrue};
 ghost use Rattle.arena_rules.specs.Rounding.{is_layout};
 ghost use Rattle.arena_chunks.specs.Memory.{is_readable, image, bytes_from};
 ghost use Rattle.arena_chunks.specs.BlockCalls.{PlacesBlock};
 ghost use Rattle.arena_items.specs.Room.{RoomAnswer};
 ghost use Rattle.arena_items.specs.Values.{bytes_of};
-ghost use Rattle.arena_clone.specs.Placing.{Boxes};
 
 use crate::origin::Origin;
 use arena_chunks::{Allocator, Block, ChunkSource};
-use arena_items::{Box, Grown, Item, grown};
+use arena_items::{Grown, grown};
 use arena_place::Layout;
 
 // A new block.
@@ -39,12 +38,4 @@ pub(crate) fn place_copy<O: Origin<D>, D: ChunkSource>(
     let block = place(to, size, align)?;
     from.copy_front(source, to, block, size);
     Ok(block)
-}
-
-// A new box.
-pub(crate) fn place_box<T: Item, C: ChunkSource>(a: &mut Allocator<C>, value: T) -> Grown<Box<T>>
-    requires { T.SIZE ≤ 2 ^ 24 }
-    ensures { Boxes T.Item a.old a.new value result }
-{
-    Ok(Box::new_in(value, a)?)
 }

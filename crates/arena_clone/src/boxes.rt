@@ -2,11 +2,10 @@
 ghost use Rattle.arena_clone.specs.Kinds.{box_of};
 ghost use Rattle.arena_clone.specs.KindLaws.{box_lawful};
 
-use crate::blocks::place_box;
 use crate::clone_in::CloneIn;
-use crate::ids::CloneInSemanticIds;
 use crate::origin::Origin;
 use arena_chunks::{Allocator, ChunkSource};
+use arena_exchange::{CloneInSemanticIds, place_box};
 use arena_items::{Box, Grown, Item};
 
 impl<T: CloneIn + Item> CloneIn for Box<T> {

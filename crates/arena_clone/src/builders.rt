@@ -3,9 +3,9 @@ ghost use Rattle.arena_clone.specs.Kinds.{builder};
 ghost use Rattle.arena_clone.specs.KindLaws.{builder_lawful};
 
 use crate::clone_in::CloneIn;
-use crate::ids::CloneInSemanticIds;
 use crate::origin::Origin;
 use arena_chunks::{Allocator, ChunkSource};
+use arena_exchange::CloneInSemanticIds;
 use arena_items::Grown;
 use arena_text::StringBuilder;
 

@@ -4,9 +4,9 @@ ghost use Rattle.arena_clone.specs.Kinds.{Kind};
 ghost use Rattle.arena_clone.specs.KindLaws.{IsLawful};
 ghost use Rattle.arena_clone.specs.Copies.{Copies};
 
-use crate::ids::CloneInSemanticIds;
 use crate::origin::{Here, Origin};
 use arena_chunks::{Allocator, ChunkSource};
+use arena_exchange::CloneInSemanticIds;
 use arena_items::Grown;
 
 /// A value that can be copied at every depth, into another arena or within its own. The copy's blocks are all its own, and

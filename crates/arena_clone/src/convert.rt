@@ -5,8 +5,9 @@ ghost use Rattle.arena_vec.specs.Storage.{Makes};
 ghost use Rattle.arena_items.specs.declared.room.AllocError.{AllocError as Refusal};
 ghost use Rattle.arena_clone.specs.Placing.{Boxes, MayBox, PlacesText};
 
-use crate::blocks::{place, place_box};
+use crate::blocks::place;
 use arena_chunks::{Allocator, ChunkSource, Str};
+use arena_exchange::place_box;
 use arena_items::{Box, Grown, Item};
 use arena_vec::Vec;
 

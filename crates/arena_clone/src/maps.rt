@@ -10,11 +10,11 @@ ghost use Rattle.arena_clone.specs.MapLaws.{map_lawful};
 ghost use Rattle.arena_clone.specs.Origins.{AreBeside};
 
 use crate::clone_in::CloneIn;
-use crate::ids::CloneInSemanticIds;
 use crate::keys::CloneKey;
 use crate::origin::Origin;
 use crate::tables::{copy_table, is_copied_whole};
 use arena_chunks::{Allocator, ChunkSource};
+use arena_exchange::CloneInSemanticIds;
 use arena_hash::{HashMap, KeyHasher};
 use arena_items::{Grown, Item};
 

@@ -4,9 +4,9 @@ ghost use Rattle.arena_clone.specs.Kinds.{plain};
 ghost use Rattle.arena_clone.specs.KindLaws.{plain_lawful};
 
 use crate::clone_in::CloneIn;
-use crate::ids::CloneInSemanticIds;
 use crate::origin::Origin;
 use arena_chunks::{Allocator, ChunkSource};
+use arena_exchange::CloneInSemanticIds;
 use arena_items::Grown;
 
 impl CloneIn for bool {

@@ -3,9 +3,9 @@ ghost use Rattle.arena_clone.specs.Kinds.{option_of};
 ghost use Rattle.arena_clone.specs.KindLaws.{option_lawful};
 
 use crate::clone_in::CloneIn;
-use crate::ids::CloneInSemanticIds;
 use crate::origin::Origin;
 use arena_chunks::{Allocator, ChunkSource};
+use arena_exchange::CloneInSemanticIds;
 use arena_items::Grown;
 
 impl<T: CloneIn> CloneIn for Option<T> {

@@ -54,7 +54,7 @@ impl<C: ChunkSource, D: ChunkSource> Origin<D> for Allocator<C> {
     }
 }
 
-// The arena of the copies.
+/// The origin that is the arena of the copies itself.
 pub struct Here;
 
 impl<D: ChunkSource> Origin<D> for Here {

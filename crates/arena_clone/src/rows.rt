@@ -7,9 +7,9 @@ ghost use Rattle.arena_clone.specs.Origins.{AreBeside};
 ghost use Rattle.arena_clone.specs.Rows.{CopiesRow};
 
 use crate::clone_in::CloneIn;
-use crate::ids::CloneInSemanticIds;
 use crate::origin::Origin;
 use arena_chunks::{Allocator, Block, ChunkSource};
+use arena_exchange::CloneInSemanticIds;
 use arena_items::{Grown, Item, item_at, put_item};
 
 // The values of a row in its block, and where their copies are put.

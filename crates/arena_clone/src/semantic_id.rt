@@ -7,9 +7,9 @@ ghost use Rattle.arena_clone.specs.Kinds.{semantic_id, id_by};
 ghost use Rattle.arena_clone.specs.KindLaws.{semantic_id_lawful};
 
 use crate::clone_in::CloneIn;
-use crate::ids::CloneInSemanticIds;
 use crate::origin::Origin;
 use arena_chunks::{Allocator, ChunkSource};
+use arena_exchange::CloneInSemanticIds;
 use arena_items::{Grown, Item};
 
 /// A number by which an analysis knows a node of a tree. A copy has it only where that is asked for.

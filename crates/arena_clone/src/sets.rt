@@ -4,10 +4,10 @@ ghost use Rattle.arena_clone.specs.KindLaws.{bit_set_lawful};
 
 use crate::blocks::place_copy;
 use crate::clone_in::CloneIn;
-use crate::ids::CloneInSemanticIds;
 use crate::origin::Origin;
 use arena_bits::BitSet;
 use arena_chunks::{Allocator, ChunkSource};
+use arena_exchange::CloneInSemanticIds;
 use arena_items::{BoxSlice, Grown};
 
 impl CloneIn for BitSet {

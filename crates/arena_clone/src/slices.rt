@@ -4,10 +4,10 @@ ghost use Rattle.arena_clone.specs.KindLaws.{slice_lawful};
 
 use crate::blocks::place;
 use crate::clone_in::CloneIn;
-use crate::ids::CloneInSemanticIds;
 use crate::origin::Origin;
 use crate::rows::{Row, copy_row};
 use arena_chunks::{Allocator, ChunkSource};
+use arena_exchange::CloneInSemanticIds;
 use arena_items::{BoxSlice, Grown, Item};
 use std::marker::PhantomData;
 

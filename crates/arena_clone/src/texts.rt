@@ -4,9 +4,9 @@ ghost use Rattle.arena_clone.specs.KindLaws.{text_lawful};
 
 use crate::blocks::place_copy;
 use crate::clone_in::CloneIn;
-use crate::ids::CloneInSemanticIds;
 use crate::origin::Origin;
 use arena_chunks::{Allocator, ChunkSource, Str};
+use arena_exchange::CloneInSemanticIds;
 use arena_items::Grown;
 
 impl CloneIn for Str {

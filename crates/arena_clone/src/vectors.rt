@@ -3,10 +3,10 @@ ghost use Rattle.arena_clone.specs.Kinds.{vec_of};
 ghost use Rattle.arena_clone.specs.KindLaws.{vec_lawful};
 
 use crate::clone_in::CloneIn;
-use crate::ids::CloneInSemanticIds;
 use crate::origin::Origin;
 use crate::rows::{Row, copy_row};
 use arena_chunks::{Allocator, ChunkSource};
+use arena_exchange::CloneInSemanticIds;
 use arena_items::{Grown, Item};
 use arena_vec::Vec;
 

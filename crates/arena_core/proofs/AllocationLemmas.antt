@@ -143,7 +143,7 @@ placed_at_cursor old new before after size align k p valid layout placing asked 
     block_placed old new before after size align k p _ valid layout placing asked
     (rw (at, fresh.generation) refl)
 
--- All that was asked for was refused, or memory was wanting for the table of chunks.
+-- All that was asked for was refused, or memory ran out for the table of chunks.
 pub all_refused : (old new : Memory) (before after : Source) (size align : ℕ) (e : ArenaErr) → IsValid old.state
     → place old.state size align ≡ None → new ≡ old
     → OnFound (Err e) (AddsChunk (view old before) (view new after) size align) ((old.state.is_growing ≡ true) × (after ≡ before))
@@ -159,7 +159,7 @@ all_refused old new before after size align (AllocErr k) valid none same added =
     },
   );
 }
-all_refused old new before after size align OutOfMemory valid none same wanting = record {
+all_refused old new before after size align OutOfMemory valid none same exhausted = record {
   valid = record { entry = valid; exit = rw same valid };
-  outcome = record { place = none; growing = wanting.0; same = rw (same, wanting.1) refl };
+  outcome = record { place = none; growing = exhausted.0; same = rw (same, exhausted.1) refl };
 }

@@ -10,8 +10,7 @@ use Rattle.std.proofs.lemmas.Option.{cond_some}
 use Rattle.arena_rules.specs.Rounding.{up, is_layout}
 use Rattle.arena_rules.specs.State.{State, Chunk, IsValid, AreApart, AreChunks, cursor_of, used_length, used_bytes, is_used_by, is_range_used}
 use Rattle.arena_rules.specs.Moves.{Outcome, Resizing, shrink_step, placed, stays, fails}
-use Rattle.arena_rules.specs.Moves.Resizing.{Moves}
-use Rattle.arena_rules.specs.Moves.Resizing.{Stays as StaysThere}
+use Rattle.arena_rules.specs.Moves.Resizing.{Moves, Stays as StaysThere}
 use Rattle.arena_rules.specs.Lists.{splice}
 use Rattle.arena_rules.specs.State.{is_place_used}
 use Rattle.arena_rules.specs.Blocks.{IsBlock, padded_size}
@@ -21,8 +20,7 @@ use Rattle.arena_rules.proofs.ReturnLemmas.{dealloc_at, dealloc_elsewhere}
 use Rattle.arena_store.specs.Memory.{Memory, is_readable, image, bytes_from, written}
 use Rattle.arena_store.specs.Source.{View}
 use Rattle.arena_core.specs.Answers.{Answer}
-use Rattle.arena_core.specs.Answers.Answer.{Placed, Wanting}
-use Rattle.arena_core.specs.Answers.Answer.{Refused as AnswerRefused}
+use Rattle.arena_core.specs.Answers.Answer.{Placed, Exhausted, Refused as AnswerRefused}
 use Rattle.arena_core.specs.Frame.{IsApart, AreBlocksApart, ArePairwiseApart, Frame, Stays, padded}
 use Rattle.arena_core.specs.BlockCalls.{place_of, PlacesBlock, ResizesAfter, ResizesBlock, ShrinksBlock, GivesBack, WritesBlock}
 use Rattle.arena_core.specs.Resizes.{NoneReadable}
@@ -148,7 +146,7 @@ stays_placed old new block size align k (AnswerRefused n) is =
     let same = (cond_some (k == 0) (stays old.memory.state block.addr) (fails old.memory.state) is.outcome.1.step).1 in
     let answers = ap (λ (o : Outcome). o.answer) same in
     cc
-stays_placed old new block size align k Wanting is = let way = is.outcome.0 in cc
+stays_placed old new block size align k Exhausted is = let way = is.outcome.0 in cc
 
 -- So is one that moves up.
 moves_placed : (q : ℕ) (old new : View) (block : Block) (size align k : ℕ) (answer : Answer)
@@ -158,7 +156,7 @@ moves_placed q old new block size align k (AnswerRefused n) is =
     let same = (cond_some (k == 0) (placed old.memory.state q) (fails old.memory.state) is.outcome.1.step).1 in
     let answers = ap (λ (o : Outcome). o.answer) same in
     cc
-moves_placed q old new block size align k Wanting is = let way = is.outcome.0 in cc
+moves_placed q old new block size align k Exhausted is = let way = is.outcome.0 in cc
 
 -- To shrink to no greater alignment is never refused, and never wants memory.
 pub shrunk_placed : (old new : View) (block : Block) (size align : ℕ) (answer : Answer) → align ≤ block.align

@@ -30,7 +30,7 @@ module _ (state : State) (p size align new_size new_align : ℕ) where
       let much : nat_le size (2 * shrink_step state size new_size new_align) ≡ true = grind (arith, nat_tests) in
       rw (lower, eq-eqb _ _ at, much) refl
 
-  -- to a greater alignment it stays where its address suits that, and else is placed anew
+  -- to a greater alignment it stays where its address suits that, and else is placed again
   pub shrinks_aligned : align < new_align → p % new_align ≡ 0 → shrinking state p size align new_size new_align ≡ Stays
   shrinks_aligned high aligned =
       let higher : nat_lt align new_align ≡ true = grind (arith, nat_tests) in
@@ -43,7 +43,7 @@ module _ (state : State) (p size align new_size new_align : ℕ) where
 
   -- ---- Growing
 
-  -- away from the cursor, or to a greater alignment, it is placed anew
+  -- away from the cursor, or to a greater alignment, it is placed again
   pub grows_anew : (align < new_align) ⊎ (p ≡ cursor_of state.chunks → ⊥) → growing state p size align new_size new_align ≡ Anew
   grows_anew away =
       let not_here : (nat_le new_align align && p == cursor_of state.chunks) ≡ false = elim away [
@@ -67,7 +67,7 @@ module _ (state : State) (p size align new_size new_align : ℕ) where
       let lower : nat_le new_align align ≡ true = grind (arith, nat_tests) in
       rw (lower, eq-eqb _ _ is.at) refl
 
-  -- there it is placed anew where there is no room below it, moves down where there is, and is refused what is no layout
+  -- there it is placed again where there is no room below it, moves down where there is, and is refused what is no layout
   pub grows_full : IsHere → is_layout (growth state size new_size) align ≡ true → place state (growth state size new_size) align ≡ None
       → growing state p size align new_size new_align ≡ Anew
   grows_full is fine none = let here = here_test is in rw (here, fine, none) refl

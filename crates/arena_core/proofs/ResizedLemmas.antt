@@ -225,7 +225,7 @@ replaced_move s = elim (cases_lt (counted s.allocations 1) (2 ^ 64 - 1)) [
   | inr last ↦ let test : nat_lt (counted s.allocations 1) (2 ^ 64 - 1) ≡ false = grind (arith, nat_tests) in rw test refl
 ]
 
--- a block was placed anew, and its first bytes were copied: it lies at the cursor
+-- a block was placed again, and its first bytes were copied: it lies at the cursor
 pub resized_anew : (old mid new : Memory) (before after : Source) (block b : Block) (size align k : ℕ)
     → PlacesAfter (view old before) (view mid after) size align k (Placed b)
     → IsTrue (is_readable old.state block) → new.state ≡ mid.state → new.statistics ≡ replaced mid.statistics

@@ -41,8 +41,8 @@ pub record FindsPlace (old new : View) (size align k p : ℕ) : Type 0 where
   pub placing : IsPlacing old.memory (placed_at new.memory p) size align k p
   pub asked : IsAsked old.source new.source k (alloc_requests old.memory.state size align k)
 
--- A fact of the refusals and the place that are told, and one of want of memory.
+-- A fact of the refusals and the place that are told, and one of lack of memory.
 abbrev pub OnFound : Result (ℕ × ℕ) ArenaErr → (ℕ → Option ℕ → Type 0) → Type 0 → Type 0
-OnFound (Ok found) told wanting = told found.1 (Some found.0)
-OnFound (Err (AllocErr refused)) told wanting = told refused None
-OnFound (Err OutOfMemory) told wanting = wanting
+OnFound (Ok found) told exhausted = told found.1 (Some found.0)
+OnFound (Err (AllocErr refused)) told exhausted = told refused None
+OnFound (Err OutOfMemory) told exhausted = exhausted

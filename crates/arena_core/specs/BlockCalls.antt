@@ -3,10 +3,9 @@ use Rattle.std.specs.Prelude.{◌≡◌, ℕ, ◌+◌, ◌<◌, ◌≤◌, ◌%�
 use Rattle.arena_rules.specs.Rounding.{is_layout}
 use Rattle.arena_rules.specs.State.{State, IsValid}
 use Rattle.arena_rules.specs.Search.{place, alloc_requests}
-use Rattle.arena_rules.specs.Moves.{Outcome, Resizing, alloc, dealloc, growing, shrinking, resize}
+use Rattle.arena_rules.specs.Moves.{Outcome, Resizing, alloc, dealloc, growing, shrinking, resize, resize_requests}
 use Rattle.arena_rules.specs.Moves.Resizing.{Anew}
 use Rattle.arena_rules.specs.Blocks.{IsBlock}
-use Rattle.arena_rules.specs.Moves.{resize_requests}
 use Rattle.arena_rules.specs.Statistics.{one_allocation, resized}
 use Rattle.arena_rules.specs.declared.place.Place.{Place}
 use Rattle.arena_store.specs.Memory.{Memory, is_readable, image, bytes_from, Writes}
@@ -42,9 +41,9 @@ pub record IsRefused (move : ℕ → Option Outcome) (asks : ℕ → List (ℕ �
   pub asked : IsAsked old.source new.source k (asks k)
   pub memory : new.memory ≡ old.memory
 
--- Memory is wanting for the table of chunks, before the source is asked: there is no place for the layout in the newest
+-- Memory runs out for the table of chunks, before the source is asked: there is no place for the layout in the newest
 -- chunk of an arena that grows. Nothing changed.
-pub record IsWanting (old new : View) (size align : ℕ) : Type 0 where
+pub record IsExhausted (old new : View) (size align : ℕ) : Type 0 where
   pub place : place old.memory.state size align ≡ None
   pub growing : old.memory.state.is_growing ≡ true
   pub same : new ≡ old
@@ -70,7 +69,7 @@ pub record PlacesAfter (old new : View) (size align k : ℕ) (answer : Answer) :
   pub valid : AreValid old.memory new.memory
   pub outcome : OnAnswer answer (IsPlaced old new size align k)
       (λ refused. (refused ≡ k) × IsRefused (alloc old.memory.state size align) (alloc_requests old.memory.state size align) old new k)
-      (IsWanting old new size align)
+      (IsExhausted old new size align)
 
 -- A call that places a block does so for some number of refusals; where it is refused it tells that number.
 abbrev pub PlacesBlock : View → View → ℕ → ℕ → Answer → Type 0
@@ -95,7 +94,7 @@ pub record ResizesAfter (way : Resizing) (old new : View) (block : Block) (size 
   pub outcome : OnAnswer answer (IsResized way old new block size align k)
       (λ refused. (refused ≡ k)
       × IsRefused (resize way old.memory.state block.addr size align) (resize_requests way old.memory.state size align) old new k)
-      ((way ≡ Anew) × IsWanting old new size align)
+      ((way ≡ Anew) × IsExhausted old new size align)
 
 abbrev pub ResizesBlock : Resizing → View → View → Block → ℕ → ℕ → Answer → Type 0
 ResizesBlock way old new block size align answer = (k : ℕ) × ResizesAfter way old new block size align k answer
@@ -118,7 +117,7 @@ pub record Refuses (old new : View) (answer : Answer) : Type 0 where
   pub told : answer ≡ Refused 0
   pub same : new ≡ old
 
--- A block is given another size: an empty one is placed anew, and any other shrinks or grows.
+-- A block is given another size: an empty one is placed again, and any other shrinks or grows.
 pub record Reallocates (old new : View) (block : Block) (size : ℕ) (answer : Answer) : Type 0 where
   pub refused : is_layout size block.align ≡ false → Refuses old new answer
   pub anew : IsTrue (is_layout size block.align) → block.size ≡ 0 → PlacesBlock old new size block.align answer

@@ -22,7 +22,7 @@ pub record IsCreation (min_align capacity k : ℕ) (answer : Option Memory) (bef
   pub step : option_map (option_map zeroed_memory) (create min_align capacity k) ≡ Some answer
   pub asked : IsAsked before after k (create_requests min_align capacity)
 
--- What a constructor with a capacity answers. Its memory is the source's, so that want of memory is told as a refusal.
+-- What a constructor with a capacity answers. Its memory is the source's, so that lack of memory is told as a refusal.
 abbrev pub Creates : ℕ → ℕ → Source → Source → Result Memory ArenaErr → Type 0
 Creates min_align capacity before after (Ok memory) = IsCreation min_align capacity 0 (Some memory) before after
 Creates min_align capacity before after (Err (AllocErr refused)) = IsCreation min_align capacity refused None before after

@@ -24,7 +24,7 @@ pub record IsResizedUnasked (way : Resizing) (old new : Memory) (block : Block) 
   pub statistics : new.statistics ≡ resized way old.statistics
   pub resizes : Resizes old new block b size align (min block.size size)
 
--- of a count that has the new block already: a block that was placed anew in another's stead
+-- of a count that has the new block already: a block that was placed again in another's stead
 abbrev pub replaced : Statistics → Statistics
 replaced statistics = record {
   allocations = if nat_lt statistics.allocations (2 ^ 64 - 1) then statistics.allocations - 1 else statistics.allocations;

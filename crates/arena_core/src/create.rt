@@ -21,7 +21,7 @@ use std::fmt;
 /// Why no arena was made over a region.
 #[derive(Drop)]
 pub enum RawErr {
-    /// Memory is wanting. The region is handed back.
+    /// Out of memory. The region is handed back.
     OutOfMemory { region: Vec<u8> },
 }
 

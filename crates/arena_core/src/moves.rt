@@ -54,7 +54,7 @@ impl<const MIN_ALIGN: usize> Arena<MIN_ALIGN> {
     /// # Errors
     ///
     /// `AllocErr` where the source refused all that were asked for, which leaves the arena as it was; `OutOfMemory`
-    /// where memory for the table of chunks is wanting, before the source is asked.
+    /// where memory for the table of chunks runs out, before the source is asked.
     #[inline]
     pub fn try_alloc_layout<C: ChunkSource>(
         &mut self,
@@ -64,10 +64,8 @@ impl<const MIN_ALIGN: usize> Arena<MIN_ALIGN> {
         ensures { PlacesBlock (view self.old (C.source chunks.old)) (view self.new (C.source chunks.new))
             layout.size layout.align (answer_of result) }
     {
-        match self.alloc_counted(chunks, layout) {
-            Ok((block, _)) => Ok(block),
-            Err(e) => Err(e),
-        }
+        let (block, _) = self.alloc_counted(chunks, layout)?;
+        Ok(block)
     }
 
     /// The same as `try_alloc_layout`.
@@ -171,10 +169,10 @@ impl<const MIN_ALIGN: usize> Arena<MIN_ALIGN> {
             MIN_ALIGN as u64,
         ) {
             Some(addr) => Ok((addr, 0)),
-            None => match self.add_chunk(chunks, layout) {
-                Ok((addr, refused)) => Ok((addr, refused)),
-                Err(e) => Err(e),
-            },
+            None => {
+                let added = self.add_chunk(chunks, layout)?;
+                Ok(added)
+            }
         }
     }
 

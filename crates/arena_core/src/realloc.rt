@@ -34,7 +34,7 @@ impl<const MIN_ALIGN: usize> Arena<MIN_ALIGN> {
         Ok(grown)
     }
 
-    /// Gives a block another size at its alignment: by `shrink` or by `grow`. An empty block is placed anew.
+    /// Gives a block another size at its alignment: by `shrink` or by `grow`. An empty block is placed again.
     ///
     /// # Errors
     ///

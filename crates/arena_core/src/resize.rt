@@ -48,10 +48,8 @@ impl<const MIN_ALIGN: usize> Arena<MIN_ALIGN> {
             block layout.size layout.align (answer_of result) }
         ensures succeeds { layout.align ≤ block.align → IsOk result }
     {
-        match self.shrink_counted(chunks, block, layout) {
-            Ok((b, _)) => Ok(b),
-            Err(e) => Err(e),
-        }
+        let (shrunk, _) = self.shrink_counted(chunks, block, layout)?;
+        Ok(shrunk)
     }
 
     /// Grows a block, which may move it. Its bytes are kept. Where it grows in place this takes no memory, and moves its
@@ -73,14 +71,12 @@ impl<const MIN_ALIGN: usize> Arena<MIN_ALIGN> {
         ensures { GrowsBlock (view self.old (C.source chunks.old)) (view self.new (C.source chunks.new))
             block layout.size layout.align (answer_of result) }
     {
-        match self.grow_counted(chunks, block, layout) {
-            Ok((b, _)) => Ok(b),
-            Err(e) => Err(e),
-        }
+        let (grown, _) = self.grow_counted(chunks, block, layout)?;
+        Ok(grown)
     }
 
     /// Gives all blocks back, and all chunks but the newest. Blocks placed before are readable no more, but for those
-    /// of no bytes: the generation rises, up to 2^64 - 1. The statistics begin anew. The
+    /// of no bytes: the generation rises, up to 2^64 - 1. The statistics begin again. The
     /// bytes of the chunk that is kept don't change.
     #[inline]
     pub fn reset(&mut self)
@@ -166,7 +162,7 @@ impl<const MIN_ALIGN: usize> Arena<MIN_ALIGN> {
     }
 
     // Grows a block at the cursor for which the ready part of the newest chunk has no room: down into bytes that are made ready
-    // for it, or anew.
+    // for it, or again.
     #[cold]
     #[inline(never)]
     fn grow_below<C: ChunkSource>(
@@ -246,7 +242,7 @@ impl<const MIN_ALIGN: usize> Arena<MIN_ALIGN> {
         self.block_of(addr, layout)
     }
 
-    // Places a block anew, with the first n bytes of the old one.
+    // Places a block again, with the first n bytes of the old one.
     #[cold]
     #[inline(never)]
     fn copy_to_new<C: ChunkSource>(

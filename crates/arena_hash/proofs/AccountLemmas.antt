@@ -1,10 +1,8 @@
 -- What calls cost, by what they do to the arena and to the numbers of a map.
 use Rattle.std.proofs.Common.{◌≡◌, ℕ, ◌+◌, ◌-◌, ◌*◌, ◌^◌, ◌<◌, ◌≤◌, ◌⊎◌, Bool, true, false, max, refl, ap, Ok, Err, arith, IsTrue}
-use Rattle.std.specs.Prelude.{nat_lt, nat_le, ◌==◌, OnOk, OnErr, Result, if◌then◌else◌}
-use Rattle.std.proofs.lemmas.Bool.{and_parts}
+use Rattle.std.specs.Prelude.{nat_lt, ◌==◌, OnOk, OnErr, Result, if◌then◌else◌}
 use Rattle.std.proofs.lemmas.Bool.Decides.{nat_tests}
-use Rattle.std.proofs.Math.Nat.{zero-mod}
-use Rattle.arena_rules.specs.Rounding.{up, is_layout, is_power}
+use Rattle.arena_rules.specs.Rounding.{is_layout}
 use Rattle.arena_rules.specs.State.{used_bytes}
 use Rattle.arena_chunks.specs.Source.{View}
 use Rattle.arena_chunks.specs.Answers.{Answer}
@@ -12,46 +10,22 @@ use Rattle.arena_chunks.specs.Answers.Answer.{Placed}
 use Rattle.arena_chunks.specs.BlockCalls.{PlacesBlock}
 use Rattle.arena_store.specs.declared.block.Block.{Block}
 use Rattle.arena_chunks.proofs.Layers.{placed_most}
-use Rattle.arena_items.specs.Layout.{IsAlign, IsItemLayout}
-use Rattle.arena_items.specs.LayoutLaws.{IsAlign-bounds, up-is, plain_8, pair_layout}
+use Rattle.arena_items.specs.Layout.{IsItemLayout}
 use Rattle.arena_items.specs.Room.{RoomAnswer, MakesRoom, SamePlaces, Took, capacity_after}
 use Rattle.arena_items.specs.declared.room.AllocError.{AllocError}
 use Rattle.arena_items.specs.declared.room.AllocError.TheVariants.{AllocErr, CapacityOverflow, OutOfMemory}
 use Rattle.arena_items.specs.declared.room.Growth.TheVariants.{Stays, GrowsTo, Overflows}
-use Rattle.arena_items.proofs.Layers.{row_is_layout}
+use Rattle.hash_ring.specs.Policy.{most_pairs, table_align, slot_size, limit, credit, next_slots, IsSlotsFor}
+use Rattle.hash_ring.specs.Marks.{IsRing}
+use Rattle.hash_ring.proofs.PolicyLemmas.{unit-covers, table-fits, slots-ring, next-ring, capacity-bytes, growth-bytes, credit-rises}
+use Rattle.hash_ring.proofs.PolicyLemmas.{credit-falls}
+use Rattle.arena_table.specs.Contents.{Kind}
+use Rattle.arena_table.proofs.LayoutLemmas.{table-layout}
 use Rattle.arena_hash.specs.Accounts.{unit_of, spare_of, credit_of, used, IsFree, AsksOnce, InsertCosts}
-use Rattle.arena_hash.specs.Contents.{Kind}
-use Rattle.arena_hash.specs.Policy.{most_pairs, table_align, slot_size, limit, credit, next_slots, growth_for, IsSlotsFor}
-use Rattle.arena_hash.specs.Tables.{IsRing}
+use Rattle.arena_hash.specs.Policy.{growth_for}
 use Rattle.arena_hash.specs.declared.map.HashMap.{HashMap}
-use Rattle.arena_hash.proofs.PolicyLemmas.{unit-covers, table-fits, slots-ring, next-ring, capacity-bytes, growth-bytes, credit-rises}
-use Rattle.arena_hash.proofs.PolicyLemmas.{credit-falls}
 
 -- ---- Layouts
-
--- the alignment of a table is one that a type may have
-pub table-align : (k v ka va : ℕ) → IsItemLayout k ka → IsItemLayout v va → IsAlign (table_align ka va)
-table-align k v ka va keys values =
-    let both = pair_layout k ka v va keys values in
-    (pair_layout 8 8 _ (max ka va) plain_8 both).is_align
-
--- a table of so many slots has a layout
-pub table-layout : (k v ka va slots : ℕ) → IsItemLayout k ka → IsItemLayout v va → k ≤ 2 ^ 24 → v ≤ 2 ^ 24 → slots ≤ 2 ^ 33
-    → IsTrue (is_layout (slots * slot_size k v) (table_align ka va))
-table-layout k v ka va slots keys values small small' few =
-    let align = table-align k v ka va keys values in
-    let bounds = IsAlign-bounds (table_align ka va) align in
-    let near = up-is (slots * slot_size k v) (table_align ka va) align in
-    let size = table-fits k v slots small small' few in
-    let plain = row_is_layout 0 0 (table_align ka va) (record {
-      is_align = align;
-      whole = zero-mod (table_align ka va);
-      bounded = omega
-          arith;
-    }) (omega arith) (omega arith) in
-    let fits : nat_le (up (slots * slot_size k v) (table_align ka va)) (2 ^ 63 - 1) ≡ true = grind
-    (arith, nat_tests, near.below, bounds.1, size) in
-    rw ((and_parts (is_power (table_align ka va)) _ plain).0, fits) refl
 
 -- ---- Answers
 

@@ -6,14 +6,14 @@ use Rattle.arena_chunks.specs.Memory.{Memory, is_readable}
 use Rattle.arena_chunks.specs.Frame.{IsApart, AreAllApart}
 use Rattle.arena_store.specs.declared.block.Block.{Block}
 use Rattle.arena_items.specs.Footprint.{AreReadable}
-use Rattle.arena_hash.specs.Contents.{Kind}
+use Rattle.hash_ring.specs.Slots.{items, Has}
+use Rattle.hash_ring.proofs.Places.{same_item, not_free}
+use Rattle.hash_ring.specs.AgreeLaws.{has-items}
+use Rattle.hash_ring.proofs.Once.{all-items}
+use Rattle.arena_table.specs.Contents.{Kind}
+use Rattle.arena_table.specs.Tables.{slots_in, IsTextBeside}
 use Rattle.arena_hash.specs.Maps.{texts_in}
-use Rattle.arena_hash.specs.Slots.{items, Has}
-use Rattle.arena_hash.specs.Tables.{slots_in, IsTextBeside}
 use Rattle.arena_hash.specs.declared.map.HashMap.{HashMap}
-use Rattle.arena_hash.proofs.Places.{same_item, not_free}
-use Rattle.arena_hash.specs.AgreeLaws.{has-items}
-use Rattle.arena_hash.proofs.Once.{all-items}
 
 -- each lies apart from the others
 pub apart-items : {X : Type 0} (f : X → Block) (others : List Block) (slots : List (Option X))

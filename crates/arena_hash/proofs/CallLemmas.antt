@@ -17,17 +17,18 @@ use Rattle.arena_items.specs.declared.room.AllocError.{AllocError}
 use Rattle.arena_items.proofs.Layers.{room_then, room_refused}
 use Rattle.arena_items.specs.declared.room.Growth.{Growth}
 use Rattle.arena_items.specs.declared.room.Growth.TheVariants.{Stays, GrowsTo, Overflows}
-use Rattle.arena_hash.specs.Contents.{Kind, content_in}
+use Rattle.hash_ring.specs.Finite.{Finite, has, with_pair, without}
+use Rattle.hash_ring.specs.Policy.{limit, most_pairs, next_slots, slot_size, table_align}
+use Rattle.hash_ring.specs.Slots.{Lacks, Settled, Closed, Moved}
+use Rattle.hash_ring.proofs.PolicyLemmas.{next-room}
+use Rattle.arena_table.specs.Contents.{Kind, content_in}
+use Rattle.arena_table.specs.Tables.{slots_in, IsTableIn, IsTextBeside}
+use Rattle.arena_table.specs.declared.table.Table.{Table}
 use Rattle.arena_hash.specs.Changes.{Puts, TakesOut}
-use Rattle.arena_hash.specs.Finite.{Finite, has, with_pair, without}
 use Rattle.arena_hash.specs.Maps.{IsMapIn, map_in}
-use Rattle.arena_hash.specs.Policy.{limit, most_pairs, next_slots, growth_for, slot_size, table_align}
-use Rattle.arena_hash.specs.Slots.{Lacks, Settled, Closed, Moved}
-use Rattle.arena_hash.specs.Tables.{slots_in, IsTableIn, IsTextBeside}
+use Rattle.arena_hash.specs.Policy.{growth_for}
 use Rattle.arena_hash.specs.declared.map.HashMap.{HashMap}
-use Rattle.arena_hash.specs.declared.table.Table.{Table}
 use Rattle.arena_hash.proofs.AccountLemmas.{free-costs, insert-costs}
-use Rattle.arena_hash.proofs.PolicyLemmas.{next-room}
 use Rattle.arena_hash.proofs.MapLemmas.{moved-none, found-under, open-under, put-held, put-is, change-held, change-is, close-held, close-is}
 
 -- what a put does where there is room, and where there isn't

@@ -9,11 +9,11 @@ use Rattle.arena_chunks.specs.Frame.{Frame}
 use Rattle.arena_chunks.proofs.Layers.{empty_after, frame_keeps, frame_reflexive, frame_then}
 use Rattle.arena_items.proofs.Layers.{Yields-push}
 use Rattle.arena_items.specs.declared.room.AllocError.{AllocError}
+use Rattle.hash_ring.specs.Finite.{Finite, empty, with_pair, with_all}
+use Rattle.arena_table.specs.Contents.{Kind, content_in}
 use Rattle.arena_hash.specs.Accounts.{unit_of, credit_of, used}
 use Rattle.arena_hash.specs.Changes.{IsNew, Puts, is_value}
 use Rattle.arena_hash.specs.Collecting.{PutsAll, CollectsAll, CollectsSome}
-use Rattle.arena_hash.specs.Contents.{Kind, content_in}
-use Rattle.arena_hash.specs.Finite.{Finite, empty, with_pair, with_all}
 use Rattle.arena_hash.specs.Maps.{IsMapIn, map_in}
 use Rattle.arena_hash.specs.declared.map.HashMap.{HashMap}
 use Rattle.arena_hash.proofs.CostLemmas.{insert-most}

@@ -16,13 +16,15 @@ use Rattle.arena_items.specs.declared.room.AllocError.{AllocError}
 use Rattle.arena_items.specs.declared.room.AllocError.TheVariants.{AllocErr, CapacityOverflow}
 use Rattle.arena_items.specs.declared.room.Growth.TheVariants.{Stays, GrowsTo, Overflows}
 use Rattle.arena_items.proofs.Layers.{costs_nothing, room_costs}
+use Rattle.hash_ring.specs.Policy.{limit, most_pairs, next_slots, slot_size, table_align}
+use Rattle.hash_ring.specs.Marks.{IsRing}
+use Rattle.hash_ring.proofs.PolicyLemmas.{unit-covers, table-small, next-ring, growth-bytes}
+use Rattle.arena_table.specs.Contents.{Kind}
+use Rattle.arena_table.proofs.LayoutLemmas.{table-align, table-layout}
 use Rattle.arena_hash.specs.Accounts.{unit_of, spare_of, credit_of, used, InsertCosts}
-use Rattle.arena_hash.specs.Contents.{Kind}
-use Rattle.arena_hash.specs.Policy.{limit, most_pairs, next_slots, growth_for, slot_size, table_align}
-use Rattle.arena_hash.specs.Tables.{IsRing}
+use Rattle.arena_hash.specs.Policy.{growth_for}
 use Rattle.arena_hash.specs.declared.map.HashMap.{HashMap}
-use Rattle.arena_hash.proofs.AccountLemmas.{answer-map, table-align, table-layout}
-use Rattle.arena_hash.proofs.PolicyLemmas.{unit-covers, table-small, next-ring, growth-bytes}
+use Rattle.arena_hash.proofs.AccountLemmas.{answer-map}
 
 -- ---- Bytes and credit
 
@@ -62,7 +64,7 @@ module _ {K V S : Type 0} (k : Kind K V S) (keys : IsItemLayout k.keys.SIZE k.ke
 
   module _ {X : Type 0} (old new : View) (m w : HashMap K V S) (one : old.memory.state.min_align ≡ 1)
       (ring : (m.table.slots ≡ 0) ⊎ IsRing m.table.slots) (within : m.len ≤ limit m.table.slots) where
-    -- The next table is placed anew, as where a collection had no block.
+    -- The next table is placed again, as where a collection had no block.
     next-costs : (result : Result X AllocError) → limit m.table.slots ≤ m.len → m.len < most_pairs
         → MakesRoom size align old new m.table.block 0 (GrowsTo (next_slots m.table.slots)) (λ _. w.table.block) result
         → Costs farthest (2 * unit_of k) (credit_of k m) 0 old new result

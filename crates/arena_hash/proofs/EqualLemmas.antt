@@ -3,15 +3,15 @@ use Rattle.std.proofs.Common.{◌≡◌, ℕ, List, length, sym, ap, subst, ◌�
 use Rattle.std.proofs.lemmas.Bool.{both_ways, not-true, not-false}
 use Rattle.std.specs.Prelude.{slice_get, not, IsTrue}
 use Rattle.arena_chunks.specs.Memory.{Memory, is_readable}
-use Rattle.arena_hash.specs.Contents.{Kind, content_in}
-use Rattle.arena_hash.specs.Finite.{value_of}
+use Rattle.hash_ring.specs.Finite.{value_of}
+use Rattle.hash_ring.specs.Walks.{AreBoth, AreEqual, Lists}
+use Rattle.hash_ring.proofs.Equal.{equal-found, equal-length, found-equal, same-length}
+use Rattle.hash_ring.proofs.Under.{in-under, under-has}
+use Rattle.arena_table.specs.Contents.{Kind, content_in}
+use Rattle.arena_table.specs.Tables.{slots_in}
 use Rattle.arena_hash.specs.Maps.{IsMapIn, map_in, pairs_in}
-use Rattle.arena_hash.specs.Tables.{slots_in}
-use Rattle.arena_hash.specs.Walks.{AreBoth, AreEqual, Lists}
 use Rattle.arena_hash.specs.declared.map.HashMap.{HashMap}
 use Rattle.arena_hash.proofs.Beside.{texts-beside}
-use Rattle.arena_hash.proofs.Equal.{equal-found, equal-length, found-equal, same-length}
-use Rattle.arena_hash.proofs.Under.{in-under, under-has}
 
 module _ {K V S : Type 0} (k : Kind K V S) (memory : Memory) (eq : V → V → Bool) (one other : HashMap K V S) (held : IsMapIn k memory one)
     (held' : IsMapIn k memory other) where

@@ -6,16 +6,18 @@ use Rattle.arena_store.specs.declared.block.Block.{Block}
 use Rattle.arena_chunks.proofs.Layers.{frame_keeps_all}
 use Rattle.arena_items.specs.Footprint.{Agree}
 use Rattle.arena_items.proofs.Layers.{stays_readable, stays_agree, stays_apart}
-use Rattle.arena_hash.specs.AgreeLaws.{away-agree, behind-agree, slots-same, homes-same, content-same, footprint-agree, meaning-agree, held-agree}
-use Rattle.arena_hash.specs.Contents.{Kind, content_in}
+use Rattle.hash_ring.specs.AgreeLaws.{away-agree, behind-agree}
+use Rattle.hash_ring.specs.Searches.{IsSpotFor, Ends}
+use Rattle.hash_ring.specs.Slots.{Has}
+use Rattle.hash_ring.specs.Marks.{home_of}
+use Rattle.hash_ring.specs.declared.marks.Spot.{Spot}
+use Rattle.hash_ring.specs.declared.marks.Spot.TheVariants.{Taken, Open}
+use Rattle.arena_table.specs.Contents.{Kind, content_in}
+use Rattle.arena_table.specs.Tables.{pair_hash, slots_in}
+use Rattle.arena_hash.specs.AgreeLaws.{slots-same, homes-same, content-same, footprint-agree, meaning-agree, held-agree}
 use Rattle.arena_hash.specs.Maps.{IsMapIn, IsLookIn, StaysMap, footprint}
-use Rattle.arena_hash.specs.Searches.{IsSpotFor, Ends}
-use Rattle.arena_hash.specs.Slots.{Has}
-use Rattle.arena_hash.specs.Tables.{home_of, pair_hash, slots_in}
 use Rattle.arena_hash.specs.declared.map.HashMap.{HashMap}
 use Rattle.arena_hash.specs.declared.map.Look.{Look}
-use Rattle.arena_hash.specs.declared.table.Spot.{Spot}
-use Rattle.arena_hash.specs.declared.table.Spot.TheVariants.{Taken, Open}
 
 -- A search ends at the same slot by other homes and contents that are the same for what stands there.
 module _ {X : Type 0} (one other : X → ℕ) (n : ℕ) (slots : List (Option X)) (homes : (x : X) → Has slots x → other x ≡ one x) where

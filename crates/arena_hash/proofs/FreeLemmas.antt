@@ -1,62 +1,21 @@
--- Tables with all slots free.
-use Rattle.std.proofs.Common.{◌≡◌, ℕ, zero, suc, ◌+◌, ◌*◌, ◌≤◌, List, [], ◌∷◌, length, replicate, take, drop, refl, sym, ap, ◌∙◌, arith}
+-- Maps whose slots are all free.
+use Rattle.std.proofs.Common.{◌≡◌, replicate, sym, ap, ◌∙◌, arith}
 use Rattle.std.proofs.Common.{None}
-use Rattle.std.proofs.lemmas.List.{length-replicate}
-use Rattle.std.proofs.Math.Nat.{mul-le-mul_left}
 use Rattle.std.specs.Prelude.{slice_get}
-use Rattle.arena_chunks.specs.Memory.{Memory, image, bytes_from}
-use Rattle.arena_chunks.specs.BlockCalls.{WritesBlock}
-use Rattle.arena_chunks.proofs.Layers.{take_bytes, wrote_first}
-use Rattle.arena_items.specs.Values.{bytes_of}
-use Rattle.arena_items.specs.declared.item.Item.{Ghosts}
-use Rattle.arena_items.proofs.Layers.{length-elements}
-use Rattle.arena_hash.specs.Contents.{Kind, content_in}
-use Rattle.arena_hash.specs.Finite.{empty, first_of}
+use Rattle.arena_chunks.specs.Memory.{Memory}
+use Rattle.hash_ring.specs.Finite.{empty, first_of}
+use Rattle.hash_ring.specs.Slots.{items}
+use Rattle.hash_ring.proofs.Count.{items-none, none-there}
+use Rattle.hash_ring.proofs.Once.{are_once}
+use Rattle.arena_table.specs.Contents.{Kind, content_in}
+use Rattle.arena_table.specs.Tables.{slots_in, IsTableHandle}
+use Rattle.arena_table.proofs.FreeLemmas.{free-table}
 use Rattle.arena_hash.specs.Maps.{IsMapIn, map_in}
-use Rattle.arena_hash.specs.Policy.{slot_size}
-use Rattle.arena_hash.specs.Slots.{items}
-use Rattle.arena_hash.specs.Tables.{marked, pair_of, slots_of, slots_in, IsTable, IsTableHandle}
 use Rattle.arena_hash.specs.declared.map.HashMap.{HashMap}
-use Rattle.arena_hash.specs.declared.table.Table.{Table}
-use Rattle.arena_hash.proofs.Count.{items-none, none-there}
-use Rattle.arena_hash.proofs.Fill.{ordered-none}
-use Rattle.arena_hash.proofs.Once.{are_once}
-
--- A slot with mark 0 is free.
-marked-none : {X : Type 0} (n : ℕ) (xs : List X) → length xs ≡ n → marked (replicate n 0) xs ≡ replicate n None
-marked-none zero xs long = refl
-marked-none (suc n) [] long = absurd (omega arith)
-marked-none (suc n) (x ∷ xs) long = ap (λ ys. None ∷ ys) (marked-none n xs (omega arith))
-
-pub free-slots : {K V : Type 0} (keys : Ghosts K) (values : Ghosts V) (n : ℕ) (bytes : List ℕ) → take n bytes ≡ replicate n 0
-    → slots_of keys values n bytes ≡ replicate n None
-unfolding slots_of
-free-slots keys values n bytes zeros = rw zeros (marked-none n _
-    (length-elements (keys.SIZE + values.SIZE) (pair_of keys values) n (drop n bytes)))
-
--- Where a table's marks were cleared, its slots are free.
-pub freed-slots : {K V : Type 0} (keys : Ghosts K) (values : Ghosts V) (old new : Memory) (t : Table K V) → IsTableHandle keys values old t
-    → WritesBlock old new t.block 0 (replicate t.slots 0) → slots_in keys values new t ≡ replicate t.slots None
-freed-slots keys values old new t handle writes =
-    let more : t.slots * 1 ≤ t.slots * slot_size keys.SIZE values.SIZE = mul-le-mul_left t.slots
-    (let le : 1 ≤ slot_size keys.SIZE values.SIZE = omega arith in le) in
-    let within : t.slots ≤ t.block.size = omega (arith, handle.place.of_size, more) in
-    let front : bytes_from (image new) t.block.addr t.slots ≡ replicate t.slots 0 =
-    ap (λ n. bytes_from (image new) t.block.addr n) (sym (length-replicate t.slots 0)) ∙ wrote_first old new t.block (replicate t.slots 0)
-    writes in
-    free-slots keys values t.slots (bytes_of new t.block) (take_bytes (image new) t.block.addr t.block.size t.slots within ∙ front)
-
--- Free slots are in order,
-pub free-table : {K V S : Type 0} (k : Kind K V S) (hash : K × V → ℕ) (n : ℕ) (bytes : List ℕ)
-    → slots_of k.keys k.values n bytes ≡ replicate n None → IsTable k.keys k.values hash n bytes
-free-table {K} {V} k hash n bytes free = record {
-  ordered = rw free (ordered-none _ n);
-  marks = λ i d p away. absurd (none-there n i p (ap (λ s. slice_get s i) (sym free) ∙ away.there));
-}
 
 module _ {K V S : Type 0} (k : Kind K V S) (memory : Memory) (m : HashMap K V S)
     (free : slots_in k.keys k.values memory m.table ≡ replicate m.table.slots None) where
-  -- and are a map
+  -- Free slots are a map
   pub free-map : IsTableHandle k.keys k.values memory m.table → m.len ≡ 0 → IsMapIn k memory m
   free-map handle none = record {
     handle = handle;

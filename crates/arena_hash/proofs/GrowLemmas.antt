@@ -1,70 +1,15 @@
--- A table that is read while another is filled.
-use Rattle.std.proofs.Common.{◌≡◌, ℕ, ◌*◌, ◌<◌, [], ◌∷◌, false, sym, ap, ◌∙◌, arith}
-use Rattle.std.specs.Prelude.{slice_get, Result, ◌==◌, if◌then◌else◌}
+-- The room for more.
+use Rattle.std.proofs.Common.{◌≡◌, ℕ, ◌*◌, ◌<◌, false, arith}
+use Rattle.std.specs.Prelude.{Result, ◌==◌, if◌then◌else◌}
 use Rattle.std.proofs.lemmas.Bool.Decides.{nat_tests}
 use Rattle.arena_chunks.specs.Source.{View}
 use Rattle.arena_chunks.specs.BlockCalls.{PlacesBlock}
-use Rattle.arena_items.specs.Values.{bytes_of}
 use Rattle.arena_items.specs.Room.{MakesRoom, RoomAnswer, TakesRoom, Took}
 use Rattle.arena_items.specs.declared.room.AllocError.{AllocError}
 use Rattle.arena_items.specs.declared.room.Growth.TheVariants.{GrowsTo, Overflows}
-use Rattle.arena_hash.specs.Policy.{most_pairs, next_slots}
+use Rattle.hash_ring.specs.Policy.{most_pairs, next_slots}
 use Rattle.arena_hash.proofs.AccountLemmas.{answer-map}
-use Rattle.arena_chunks.specs.Memory.{Memory}
-use Rattle.arena_chunks.specs.Frame.{Frame, Stays}
 use Rattle.arena_store.specs.declared.block.Block.{Block}
-use Rattle.arena_chunks.proofs.Layers.{frame_keeps}
-use Rattle.arena_hash.specs.Contents.{Kind}
-use Rattle.arena_hash.specs.Tables.{slots_of, slots_in, IsReadBeside, IsTableIn}
-use Rattle.arena_hash.specs.declared.table.Table.{Table}
-
-module _ {K V S : Type 0} (k : Kind K V S) (old new : Memory) (block : Block) (t : Table K V) where
-  -- It stays as it was while the block is written.
-  module _ (frame : Frame old new (block ∷ []) (block ∷ [])) (beside : IsReadBeside k old block t) where
-    own : Stays old new (block ∷ []) t.block
-    own = frame_keeps old new (block ∷ []) (block ∷ []) t.block frame beside.handle.place.readable (beside.apart, tt)
-
-    pub read-bytes : bytes_of new t.block ≡ bytes_of old t.block
-    read-bytes = own.bytes
-
-    read-same : slots_in k.keys k.values new t ≡ slots_in k.keys k.values old t
-    read-same = ap (slots_of k.keys k.values t.slots) own.bytes
-
-    pub read-stays : IsReadBeside k new block t
-    read-stays = record {
-      handle = record {
-        place = record { readable = own.readable; of_size = beside.handle.place.of_size; of_align = beside.handle.place.of_align };
-        ring = beside.handle.ring;
-      };
-      apart = own.apart.0;
-      texts = λ x h.
-          let text = beside.texts x (h.0, ap (λ s. slice_get s h.0) (sym read-same) ∙ h.1) in
-          let stays = frame_keeps old new (block ∷ []) (block ∷ []) (k.key.text x.0) frame text.readable (text.apart, tt) in
-          record { readable = stays.readable; apart = stays.apart.0 };
-    }
-
-  -- A block that was placed lies beside all that could be read.
-  module _ (hasher : S) (frame : Frame old new [] (block ∷ [])) (held : IsTableIn k old hasher t) where
-    kept : Stays old new (block ∷ []) t.block
-    kept = frame_keeps old new [] (block ∷ []) t.block frame held.handle.place.readable tt
-
-    pub placed-same : slots_in k.keys k.values new t ≡ slots_in k.keys k.values old t
-    placed-same = ap (slots_of k.keys k.values t.slots) kept.bytes
-
-    pub placed-beside : IsReadBeside k new block t
-    placed-beside = record {
-      handle = record {
-        place = record { readable = kept.readable; of_size = held.handle.place.of_size; of_align = held.handle.place.of_align };
-        ring = held.handle.ring;
-      };
-      apart = kept.apart.0;
-      texts = λ x h.
-          let text = held.texts x (h.0, ap (λ s. slice_get s h.0) (sym placed-same) ∙ h.1) in
-          let stays = frame_keeps old new [] (block ∷ []) (k.key.text x.0) frame text.readable tt in
-          record { readable = stays.readable; apart = stays.apart.0 };
-    }
-
--- ---- The room for more
 
 -- A call that placed a block, or was refused, makes room as a growth from no capacity.
 pub made-placed : {X : Type 0} (size align : ℕ) (old new : View) (block : Block) (len next more : ℕ) (f : X

@@ -5,10 +5,10 @@ use Rattle.std.specs.Prelude.{slice_get, slice_index_or, ◌↔◌}
 use Rattle.std.specs.List.{Contains}
 use Rattle.arena_chunks.specs.Memory.{Memory}
 use Rattle.arena_store.specs.declared.block.Block.{Block}
-use Rattle.arena_hash.specs.Contents.{Kind, content_in}
+use Rattle.hash_ring.proofs.Under.{under-in, in-under}
+use Rattle.arena_table.specs.Contents.{Kind, content_in}
 use Rattle.arena_hash.specs.Maps.{IsMapIn, map_in, pairs_in, texts_in}
 use Rattle.arena_hash.specs.declared.map.HashMap.{HashMap}
-use Rattle.arena_hash.proofs.Under.{under-in, in-under}
 
 -- what is in the list that a function makes of another, it makes of something in that,
 of-mapped : {X Y : Type 0} (f : X → Y) (xs : List X) (y : Y) (i : ℕ) → i < length (map f xs) → slice_index_or (map f xs) i y ≡ y

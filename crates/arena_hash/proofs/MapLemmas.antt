@@ -7,20 +7,20 @@ use Rattle.arena_chunks.specs.Memory.{Memory, is_readable}
 use Rattle.arena_chunks.specs.Frame.{Frame, IsApart}
 use Rattle.arena_store.specs.declared.block.Block.{Block}
 use Rattle.arena_chunks.proofs.Layers.{frame_keeps}
-use Rattle.arena_hash.specs.Contents.{Kind, content_in}
-use Rattle.arena_hash.specs.Finite.{Finite, first_of, with_pair, without}
+use Rattle.hash_ring.specs.Finite.{Finite, first_of, with_pair, without}
+use Rattle.hash_ring.specs.Policy.{limit}
+use Rattle.hash_ring.specs.Slots.{items, Has, IsOnce, Lacks, Settled, Closed, Moved}
+use Rattle.hash_ring.specs.AgreeLaws.{under-agree}
+use Rattle.hash_ring.proofs.Agree.{once-agree}
+use Rattle.hash_ring.proofs.Count.{count-swap}
+use Rattle.hash_ring.proofs.Once.{are_once, is_once}
+use Rattle.hash_ring.proofs.Places.{put-cases}
+use Rattle.hash_ring.proofs.Under.{has-under, lacks-under, under-moved, under-settled, under-closed, once-value, under-value}
+use Rattle.arena_table.specs.Contents.{Kind, content_in}
+use Rattle.arena_table.specs.Tables.{slots_in, HasFree, IsTableIn, IsTextBeside}
 use Rattle.arena_hash.specs.Maps.{IsMapIn, map_in, pairs_in}
-use Rattle.arena_hash.specs.Policy.{limit}
-use Rattle.arena_hash.specs.Slots.{items, Has, IsOnce, Lacks, Settled, Closed, Moved}
-use Rattle.arena_hash.specs.Tables.{slots_in, HasFree, IsTableIn, IsTextBeside}
 use Rattle.arena_hash.specs.declared.map.HashMap.{HashMap}
-use Rattle.arena_hash.specs.AgreeLaws.{under-agree}
-use Rattle.arena_hash.proofs.Agree.{once-agree}
 use Rattle.arena_hash.proofs.Beside.{texts-beside, texts-readable, texts-apart}
-use Rattle.arena_hash.proofs.Count.{count-swap}
-use Rattle.arena_hash.proofs.Once.{are_once, is_once}
-use Rattle.arena_hash.proofs.Places.{put-cases}
-use Rattle.arena_hash.proofs.Under.{has-under, lacks-under, under-moved, under-settled, under-closed, once-value, under-value}
 
 -- what stays where it is
 pub moved-none : {X : Type 0} (slots : List (Option X)) → Moved slots slots

@@ -7,15 +7,15 @@ use Rattle.arena_chunks.specs.Source.{View}
 use Rattle.arena_items.specs.Room.{SamePlaces}
 use Rattle.arena_items.specs.declared.room.AllocError.{AllocError}
 use Rattle.arena_items.proofs.Layers.{room_then, room_refused}
+use Rattle.hash_ring.specs.Finite.{Finite, value_of}
+use Rattle.hash_ring.specs.Walks.{AreBoth, AreEqual}
+use Rattle.hash_ring.specs.Policy.{slot_size, table_align}
+use Rattle.hash_ring.proofs.Equal.{both-has}
+use Rattle.arena_table.specs.Contents.{Kind}
 use Rattle.arena_hash.specs.Changes.{Puts, TakesOut}
-use Rattle.arena_hash.specs.Contents.{Kind}
-use Rattle.arena_hash.specs.Finite.{Finite, value_of}
 use Rattle.arena_hash.specs.Sets.{HaveSame, StepsInPairs}
-use Rattle.arena_hash.specs.Walks.{AreBoth, AreEqual}
-use Rattle.arena_hash.specs.Policy.{slot_size, table_align}
 use Rattle.arena_hash.specs.declared.map.HashMap.{HashMap}
 use Rattle.arena_hash.proofs.AccountLemmas.{answer-refused}
-use Rattle.arena_hash.proofs.Equal.{both-has}
 
 module _ {K V S X Y : Type 0} (k : Kind K V S) (old new : View) (m : HashMap K V S) (key : K) (value : V) (tells : Option V → X → Type 0)
     (says : Option V → Y → Type 0) (w : HashMap K V S) where

@@ -10,16 +10,17 @@ use Rattle.arena_items.specs.Room.{RoomAnswer, Took}
 use Rattle.arena_items.specs.Values.{bytes_of}
 use Rattle.arena_items.specs.declared.room.AllocError.{AllocError}
 use Rattle.arena_items.specs.declared.room.AllocError.TheVariants.{CapacityOverflow}
+use Rattle.hash_ring.specs.Policy.{slot_size, table_align, IsSlotsFor}
+use Rattle.hash_ring.proofs.PolicyLemmas.{slots-room, credit-none}
+use Rattle.arena_table.specs.Contents.{Kind}
+use Rattle.arena_table.specs.Tables.{slots_in, IsTableHandle}
+use Rattle.arena_table.specs.declared.table.Table.{Table}
+use Rattle.arena_table.proofs.FreeLemmas.{free-slots}
 use Rattle.arena_hash.specs.Accounts.{unit_of}
 use Rattle.arena_hash.specs.Changes.{IsNew, PlacesMap}
-use Rattle.arena_hash.specs.Contents.{Kind}
-use Rattle.arena_hash.specs.Policy.{slot_size, table_align, IsSlotsFor}
-use Rattle.arena_hash.specs.Tables.{slots_in, IsTableHandle}
 use Rattle.arena_hash.specs.declared.map.HashMap.{HashMap}
-use Rattle.arena_hash.specs.declared.table.Table.{Table}
 use Rattle.arena_hash.proofs.AccountLemmas.{took-refused, capacity-costs}
-use Rattle.arena_hash.proofs.FreeLemmas.{free-slots, free-map, free-is}
-use Rattle.arena_hash.proofs.PolicyLemmas.{slots-room, credit-none}
+use Rattle.arena_hash.proofs.FreeLemmas.{free-map, free-is}
 
 -- A handle with no table is a map of nothing in every arena.
 pub new-map : {K V S : Type 0} (k : Kind K V S) (m : HashMap K V S) → ((memory : Memory) → IsTableHandle k.keys k.values memory m.table)

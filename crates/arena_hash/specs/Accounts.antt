@@ -6,8 +6,8 @@ use Rattle.arena_chunks.specs.BlockCalls.{PlacesBlock}
 use Rattle.arena_store.specs.declared.block.Block.{Block}
 use Rattle.arena_items.specs.Room.{RoomAnswer, SamePlaces, Took}
 use Rattle.arena_items.specs.declared.room.AllocError.{AllocError}
-use Rattle.arena_hash.specs.Contents.{Kind}
-use Rattle.arena_hash.specs.Policy.{table_align, unit, spare, credit}
+use Rattle.hash_ring.specs.Policy.{table_align, unit, spare, credit}
+use Rattle.arena_table.specs.Contents.{Kind}
 use Rattle.arena_hash.specs.declared.map.HashMap.{HashMap}
 
 -- the bytes that one pair may cost, and a map's two numbers

@@ -8,11 +8,12 @@ use Rattle.arena_chunks.specs.Frame.{Frame}
 use Rattle.arena_items.specs.Room.{MakesRoom, SamePlaces, RoomAnswer, Took}
 use Rattle.arena_items.specs.declared.room.AllocError.{AllocError}
 use Rattle.arena_items.specs.declared.room.AllocError.TheVariants.{CapacityOverflow}
+use Rattle.hash_ring.specs.Finite.{Finite, empty, has, value_of, with_pair, without}
+use Rattle.hash_ring.specs.Policy.{table_align, slot_size, IsSlotsFor}
+use Rattle.arena_table.specs.Contents.{Kind, content_in}
 use Rattle.arena_hash.specs.Accounts.{unit_of, spare_of, credit_of, used, IsFree, AsksOnce, InsertCosts}
-use Rattle.arena_hash.specs.Contents.{Kind, content_in}
-use Rattle.arena_hash.specs.Finite.{Finite, empty, has, value_of, with_pair, without}
 use Rattle.arena_hash.specs.Maps.{IsMapIn, map_in}
-use Rattle.arena_hash.specs.Policy.{table_align, slot_size, growth_for, IsSlotsFor}
+use Rattle.arena_hash.specs.Policy.{growth_for}
 use Rattle.arena_hash.specs.declared.map.HashMap.{HashMap}
 
 -- A call that takes no memory makes the handle this map, in its table. No cursor moves, and nothing is asked for or counted.

@@ -3,10 +3,10 @@ use Rattle.std.specs.Prelude.{◌≡◌, ◌+◌, ◌*◌, ◌≤◌, List, [], 
 use Rattle.std.specs.Iterator.{Yields, Drains}
 use Rattle.arena_chunks.specs.Source.{View}
 use Rattle.arena_items.specs.declared.room.AllocError.{AllocError}
+use Rattle.hash_ring.specs.Finite.{empty, with_all}
+use Rattle.arena_table.specs.Contents.{Kind, content_in}
 use Rattle.arena_hash.specs.Accounts.{unit_of, credit_of, used}
 use Rattle.arena_hash.specs.Changes.{IsNew, Puts, is_value}
-use Rattle.arena_hash.specs.Contents.{Kind, content_in}
-use Rattle.arena_hash.specs.Finite.{empty, with_all}
 use Rattle.arena_hash.specs.Maps.{map_in}
 use Rattle.arena_hash.specs.declared.map.HashMap.{HashMap}
 

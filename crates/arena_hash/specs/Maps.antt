@@ -5,12 +5,13 @@ use Rattle.arena_chunks.specs.Frame.{AreAllApart}
 use Rattle.arena_store.specs.declared.block.Block.{Block}
 use Rattle.arena_items.specs.Footprint.{AreReadable}
 use Rattle.arena_items.specs.Values.{bytes_of}
-use Rattle.arena_hash.specs.Contents.{Kind, content_in}
-use Rattle.arena_hash.specs.Finite.{Finite, first_of, AreOnce}
-use Rattle.arena_hash.specs.Policy.{limit}
-use Rattle.arena_hash.specs.Searches.{Ends}
-use Rattle.arena_hash.specs.Slots.{items}
-use Rattle.arena_hash.specs.Tables.{home_of, slots_in, pair_hash, IsTable, IsTableHandle}
+use Rattle.hash_ring.specs.Finite.{Finite, first_of, AreOnce}
+use Rattle.hash_ring.specs.Policy.{limit}
+use Rattle.hash_ring.specs.Searches.{Ends}
+use Rattle.hash_ring.specs.Slots.{items}
+use Rattle.hash_ring.specs.Marks.{home_of}
+use Rattle.arena_table.specs.Contents.{Kind, content_in}
+use Rattle.arena_table.specs.Tables.{slots_in, pair_hash, IsTable, IsTableHandle}
 use Rattle.arena_hash.specs.declared.map.HashMap.{HashMap}
 use Rattle.arena_hash.specs.declared.map.Look.{Look}
 

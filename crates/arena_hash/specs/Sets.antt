@@ -1,9 +1,9 @@
 -- Sets: maps whose values have no bytes.
 use Rattle.std.specs.Prelude.{◌≡◌, ℕ, List, map, Option, Some, None}
 use Rattle.arena_items.specs.declared.item.Item.{Ghosts}
-use Rattle.arena_hash.specs.Contents.{Key, Kind, kind}
-use Rattle.arena_hash.specs.Finite.{Finite, has}
-use Rattle.arena_hash.specs.Walks.{Lists}
+use Rattle.hash_ring.specs.Finite.{Finite, has}
+use Rattle.hash_ring.specs.Walks.{Lists}
+use Rattle.arena_table.specs.Contents.{Key, Kind, kind}
 
 -- what the types of a set tell of it
 abbrev pub set_kind : {T S : Type 0} → Ghosts T → Key T → (S → List ℕ → ℕ) → Kind T (Unit {0}) S

@@ -3,15 +3,15 @@ ghost use Rattle.std.specs.Prelude.{◌^◌, ◌≤◌, List, [], ◌∷◌, IfO
 ghost use Rattle.std.specs.Iterator.{IsFinite, Yields};
 ghost use Rattle.arena_chunks.specs.Memory.{is_readable};
 ghost use Rattle.arena_chunks.specs.Frame.{Frame};
-ghost use Rattle.arena_hash.specs.Contents.{kind};
+ghost use Rattle.arena_table.specs.Contents.{kind};
 ghost use Rattle.arena_hash.specs.Maps.{IsMapIn};
 ghost use Rattle.arena_hash.specs.Collecting.{CollectsAll, CollectsSome};
 
-use crate::hasher::KeyHasher;
-use crate::key::ArenaKey;
 use crate::map::HashMap;
 use arena_chunks::{Allocator, ChunkSource};
 use arena_items::{Grown, Item};
+use arena_table::ArenaKey;
+use hash_ring::KeyHasher;
 
 impl<K: ArenaKey, V: Item, S: KeyHasher> HashMap<K, V, S> {
     /// A map of an iterator's pairs, inserted one by one. No hint is used. A later pair replaces the value

@@ -1,14 +1,14 @@
 // Equality of maps, by content.
 ghost use Rattle.std.specs.Prelude.{◌↔◌, ◌^◌, ◌≤◌, IsTrue};
-ghost use Rattle.arena_hash.specs.Contents.{kind};
+ghost use Rattle.hash_ring.specs.Walks.{AreEqual};
+ghost use Rattle.arena_table.specs.Contents.{kind};
 ghost use Rattle.arena_hash.specs.Maps.{IsMapIn, map_in};
-ghost use Rattle.arena_hash.specs.Walks.{AreEqual};
 
-use crate::hasher::KeyHasher;
-use crate::key::ArenaKey;
 use crate::map::HashMap;
 use arena_chunks::{Allocator, ChunkSource};
 use arena_items::Item;
+use arena_table::ArenaKey;
+use hash_ring::KeyHasher;
 
 impl<K: ArenaKey, V: Item + PartialEq, S: KeyHasher> HashMap<K, V, S> {
     /// Whether the same contents are keys of both maps, and have equal values.

@@ -1,15 +1,15 @@
 // What the handles of maps and sets mean.
-ghost use Rattle.arena_hash.specs.Contents.{kind};
-ghost use Rattle.arena_hash.specs.Finite.{Finite};
+ghost use Rattle.hash_ring.specs.Finite.{Finite};
+ghost use Rattle.arena_table.specs.Contents.{kind};
 ghost use Rattle.arena_hash.specs.Maps.{IsMapIn, map_in, footprint};
 ghost use Rattle.arena_hash.specs.Sets.{set_kind};
 ghost use Rattle.arena_hash.specs.AgreeLaws.{footprint-agree, meaning-agree, held-agree};
 
-use crate::hasher::KeyHasher;
-use crate::key::ArenaKey;
 use crate::map::HashMap;
 use crate::set::HashSet;
 use arena_items::{InArena, Item};
+use arena_table::ArenaKey;
+use hash_ring::KeyHasher;
 
 impl<K: ArenaKey, V: Item, S: KeyHasher> InArena for HashMap<K, V, S> {
     ghost Meaning = { Finite K V };

@@ -7,17 +7,17 @@ ghost use Rattle.arena_chunks.specs.Source.{View};
 ghost use Rattle.arena_store.specs.declared.block.Block.{Block};
 ghost use Rattle.arena_items.specs.Costs.{Costs, farthest};
 ghost use Rattle.arena_items.specs.declared.room.AllocError.{AllocError};
+ghost use Rattle.hash_ring.specs.Finite.{Finite, has};
+ghost use Rattle.hash_ring.specs.Policy.{credit, slot_size, table_align, IsSlotsFor};
+ghost use Rattle.arena_table.specs.Contents.{kind, content_in};
 ghost use Rattle.arena_hash.specs.Accounts.{used, credit_of, unit_of};
 ghost use Rattle.arena_hash.specs.Changes.{Becomes, Puts, is_new, is_value};
-ghost use Rattle.arena_hash.specs.Contents.{kind, content_in};
-ghost use Rattle.arena_hash.specs.Finite.{Finite, has};
 ghost use Rattle.arena_hash.specs.Maps.{IsMapIn, StaysMap, footprint, map_in, texts_in};
-ghost use Rattle.arena_hash.specs.Policy.{credit, slot_size, table_align, IsSlotsFor};
 ghost use Rattle.arena_hash.specs.declared.map.HashMap.{HashMap};
 
-use crate::hasher::KeyHasher;
-use crate::key::ArenaKey;
 use arena_items::Item;
+use arena_table::ArenaKey;
+use hash_ring::KeyHasher;
 
 /// A map's block has at least the bytes of its pairs. A new map's table for so many pairs takes a unit for each at
 /// most, with the padding before it, and once they are in it the map has half as much credit at most.

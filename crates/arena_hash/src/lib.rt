@@ -3,28 +3,17 @@
 
 mod collect;
 mod compare;
-mod far;
-mod gap;
+mod growth;
 mod handle;
-mod hasher;
-mod key;
 mod laws;
 mod map;
-mod marks;
-mod pairs;
-mod policy;
-mod put;
-mod rehash;
-mod same;
 mod set;
-mod table;
 mod walk;
 mod whole;
 
-pub use hasher::{FxHasher, KeyHasher};
-pub use key::ArenaKey;
+pub use arena_table::{ArenaKey, Table};
+pub use hash_ring::{FxHasher, KeyHasher};
 pub use laws::{bytes_law, costs_law, insert_law, lengths_law, map_frame_law, texts_law};
 pub use map::{ArenaHashMap, HashMap, Look};
 pub use set::{ArenaHashSet, HashSet, SetIter};
-pub use table::Table;
 pub use walk::{IntoKeys, IntoValues, Iter};

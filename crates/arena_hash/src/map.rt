@@ -1,29 +1,20 @@
 // Maps: their handles, and calls on one key.
-ghost use Rattle.std.specs.Prelude.{◌≡◌, ℕ, List, ◌+◌, ◌^◌, ◌<◌, ◌≤◌, ◌==◌, ◌↔◌, [], ◌∷◌, Some, IsTrue};
+ghost use Rattle.std.specs.Prelude.{◌≡◌, ◌+◌, ◌^◌, ◌<◌, ◌≤◌, ◌==◌, [], ◌∷◌, Some, IsTrue};
 ghost use Rattle.std.specs.Prelude.{slice_get, slice_set};
 ghost use Rattle.arena_chunks.specs.Memory.{is_readable};
 ghost use Rattle.arena_chunks.specs.Frame.{AreBlocksApart, Frame};
 ghost use Rattle.arena_items.specs.Room.{SamePlaces};
 ghost use Rattle.arena_items.specs.Values.{bytes_of};
-ghost use Rattle.arena_hash.specs.Searches.{Ends};
-ghost use Rattle.arena_hash.specs.Slots.{Has};
-ghost use Rattle.arena_hash.specs.Tables.{home_of, slots_in, HasFree, IsTable, IsTableHandle};
-ghost use Rattle.arena_hash.specs.Tables.{IsTableIn};
-ghost use Rattle.arena_hash.specs.Contents.{kind, content_in};
-ghost use Rattle.arena_hash.specs.Finite.{has, value_of};
+ghost use Rattle.hash_ring.specs.Finite.{has, value_of};
+ghost use Rattle.arena_table.specs.Tables.{slots_in, HasFree, IsTableHandle, IsTableIn};
+ghost use Rattle.arena_table.specs.Contents.{kind, content_in};
 ghost use Rattle.arena_hash.specs.Maps.{IsMapIn, IsLookIn, map_in};
 ghost use Rattle.arena_hash.specs.Changes.{Puts, TakesOut, is_value};
 
-use crate::hasher::{FxHasher, KeyHasher};
-use crate::key::ArenaKey;
-use crate::marks::{farther, home_mark, least, ring};
-use crate::pairs::{key_at, value_at};
-use crate::policy::limit_of;
-use crate::put::PutValue;
-use crate::same::same;
-use crate::table::{Spot, Table};
 use arena_chunks::{Allocator, ChunkSource};
 use arena_items::{Grown, Item};
+use arena_table::{ArenaKey, PutValue, Table, find, value_at};
+use hash_ring::{FxHasher, KeyHasher, Spot, limit_of};
 use std::marker::PhantomData;
 
 /// A finite map by the content of its keys. It is a name: two of them may name one table.
@@ -46,55 +37,6 @@ pub type ArenaHashMap<K, V, S = FxHasher> = HashMap<K, V, S>;
 pub struct Look {
     pub(crate) hash: u64,
     pub(crate) spot: Spot,
-}
-
-// Whether a key has this content.
-#[inline(always)]
-fn holds<K: ArenaKey, C: ChunkSource>(a: &Allocator<C>, key: K, wanted: &[u8]) -> bool
-    requires { IsTrue (is_readable a.now.memory.state (K.key.text key)) }
-    ensures { IsTrue result ↔ (content_in K.key a.now.memory key ≡ wanted.now) }
-{
-    let mut room = [0u8; 16];
-    same(key.content(a, &mut room), wanted)
-}
-
-// Looks for a content in a table that has slots, among its bytes.
-#[inline(always)]
-fn find<K: ArenaKey, V: Item, C: ChunkSource>(
-    a: &Allocator<C>,
-    table: Table<K, V>,
-    bytes: &[u8],
-    hash: u64,
-    wanted: &[u8],
-) -> Spot
-    requires keys_small { K.SIZE ≤ 2 ^ 24 }
-    requires values_small { V.SIZE ≤ 2 ^ 24 }
-    requires handle { IsTableHandle K.Item V.Item a.now.memory table }
-    requires bytes { bytes.now ≡ bytes_of a.now.memory table.block }
-    requires free { HasFree K.Item V.Item a.now.memory table }
-    requires texts { (x : K × V) → Has (slots_in K.Item V.Item a.now.memory table) x
-        → IsTrue (is_readable a.now.memory.state (K.key.text x.0)) }
-    ensures { (h : List ℕ → ℕ) → IsTable K.Item V.Item (λ p. h
-        (content_in K.key a.now.memory p.0)) table.slots (bytes_of a.now.memory table.block)
-        → h wanted.now ≡ hash
-        → Ends (λ p. home_of table.slots (h (content_in K.key a.now.memory p.0))) table.slots
-        (slots_in K.Item V.Item a.now.memory table)
-        (λ p. content_in K.key a.now.memory p.0) wanted.now hash result }
-{
-    let mut at = ring(table.slots, hash);
-    let mut mark = home_mark(hash);
-    'slots: for _ in 0..table.slots {
-        let found = bytes[at as usize];
-        if found == mark && holds(a, key_at::<K, V>(bytes, table.slots, at), wanted) {
-            return Spot::Taken { at };
-        }
-        if found < least(mark) {
-            return Spot::Open { at, mark };
-        }
-        at = ring(table.slots, at + 1);
-        mark = farther(mark);
-    }
-    Spot::Open { at, mark }
 }
 
 impl<K: ArenaKey, V: Item, S: KeyHasher> HashMap<K, V, S> {

@@ -3,21 +3,21 @@ ghost use Rattle.std.specs.Prelude.{◌≡◌, ◌==◌, ◌^◌, ◌≤◌, ◌
 ghost use Rattle.std.specs.Prelude.{List, [], ◌∷◌, Some, IfSome, length};
 ghost use Rattle.std.specs.Iterator.{IsFinite, Yields, YieldsFirst, UpTo, at_most, item_count};
 ghost use Rattle.std.specs.Iterator.SizeHint.{IsWithinCount};
-ghost use Rattle.arena_hash.specs.Collecting.{CollectsAll, CollectsSome};
-ghost use Rattle.arena_hash.specs.Sets.{set_kind, ListsKeys, HaveSame, StepsInPairs};
+ghost use Rattle.hash_ring.specs.Finite.{has};
+ghost use Rattle.arena_table.specs.Contents.{content_in};
 ghost use Rattle.arena_chunks.specs.Memory.{is_readable};
 ghost use Rattle.arena_chunks.specs.Frame.{AreBlocksApart, Frame};
-ghost use Rattle.arena_hash.specs.Contents.{content_in};
-ghost use Rattle.arena_hash.specs.Finite.{has};
+ghost use Rattle.arena_hash.specs.Collecting.{CollectsAll, CollectsSome};
+ghost use Rattle.arena_hash.specs.Sets.{set_kind, ListsKeys, HaveSame, StepsInPairs};
 ghost use Rattle.arena_hash.specs.Maps.{IsMapIn, map_in};
 ghost use Rattle.arena_hash.specs.Changes.{IsNew, PlacesMap, Puts, TakesOut, is_new, was_there};
 
-use crate::hasher::{FxHasher, KeyHasher};
-use crate::key::ArenaKey;
 use crate::map::HashMap;
 use crate::walk::IntoKeys;
 use arena_chunks::{Allocator, ChunkSource};
 use arena_items::{Grown, Item};
+use arena_table::ArenaKey;
+use hash_ring::{FxHasher, KeyHasher};
 use std::marker::Model;
 
 /// A finite set by content. It is a name: two of them may name one table.

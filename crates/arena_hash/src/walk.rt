@@ -1,101 +1,20 @@
 // The pairs of a map, in the order of its slots.
-ghost use Rattle.std.specs.Prelude.{◌≡◌, ◌≢◌, ℕ, ◌+◌, ◌*◌, ◌/◌, ◌%◌, ◌^◌, ◌<◌, ◌≤◌, ◌↔◌};
-ghost use Rattle.std.specs.Prelude.{List, Some, IfSome, length, map, slice_get, take};
-ghost use Rattle.std.specs.Option.{MatchOption};
+ghost use Rattle.std.specs.Prelude.{◌≡◌, ◌*◌, ◌^◌, ◌<◌, ◌≤◌};
+ghost use Rattle.std.specs.Prelude.{List, Some, IfSome, length, map, slice_get};
 ghost use Rattle.std.specs.Iterator.{YieldsFirst, UpTo, at_most, item_count};
 ghost use Rattle.std.specs.Iterator.SizeHint.{IsWithinCount};
-ghost use Rattle.arena_hash.specs.Contents.{kind, content_in};
+ghost use Rattle.hash_ring.specs.Walks.{Lists};
+ghost use Rattle.arena_table.specs.Contents.{kind, content_in};
+ghost use Rattle.arena_table.specs.Tables.{slots_in, IsTableHandle};
 ghost use Rattle.arena_hash.specs.Maps.{IsMapIn, map_in};
 ghost use Rattle.arena_hash.specs.Sets.{ListsKeys};
-ghost use Rattle.arena_hash.specs.Tables.{slots_in, IsTableHandle};
-ghost use Rattle.arena_hash.specs.Walks.{front_of, AreFree, AreTaken, IsByGroups, GoesOn, IsScan, Lists};
 
-use crate::hasher::KeyHasher;
-use crate::key::ArenaKey;
 use crate::map::HashMap;
-use crate::pairs::{key_at, value_at};
 use arena_chunks::{Allocator, ChunkSource};
 use arena_items::Item;
+use arena_table::{ArenaKey, key_at, value_at};
+use hash_ring::{KeyHasher, Scan, start, step};
 use std::marker::{Model, PhantomData};
-use std::simd::prelude::*;
-
-// A place in a walk over marks: the first slot of sixty-four, and a bit for each of them that is taken and
-// was not given.
-#[derive(Clone, Copy)]
-pub(crate) struct Scan {
-    pub(crate) base: u64,
-    pub(crate) rest: u64,
-}
-
-// The taken slots of sixty-four.
-#[inline(always)]
-fn taken_of_many(bytes: &[u8], base: u64) -> u64
-    requires { base + 64 ≤ length bytes.now }
-    ensures { AreTaken bytes.now base result }
-{
-    u8x64::from_slice(&bytes[base as usize..])
-        .simd_ne(u8x64::splat(0))
-        .to_bitmask()
-}
-
-// The taken slots of a table that has fewer.
-fn taken_of_few(bytes: &[u8], slots: u64) -> u64
-    requires few { slots < 64 }
-    requires long { slots ≤ length bytes.now }
-    ensures { AreTaken (take slots bytes.now) 0 result }
-{
-    let few = slots as usize;
-    let mut marks = [0u8; 64];
-    marks[..few].copy_from_slice(&bytes[..few]);
-    taken_of_many(&marks, 0)
-}
-
-// The place of a walk that gave nothing yet.
-#[inline(always)]
-pub(crate) fn start(bytes: &[u8], slots: u64) -> Scan
-    requires long { slots ≤ length bytes.now }
-    ensures scan { IsScan slots (take slots bytes.now) result }
-    ensures free { AreFree (take slots bytes.now) 0 (front_of result) }
-{
-    Scan {
-        base: 0,
-        rest: if slots < 64 {
-            taken_of_few(bytes, slots)
-        } else {
-            taken_of_many(bytes, 0)
-        },
-    }
-}
-
-// The next taken slot, and the place behind it.
-#[inline(always)]
-pub(crate) fn step(bytes: &[u8], slots: u64, scan: Scan) -> (Option<u64>, Scan)
-    requires groups { IsByGroups slots }
-    requires long { slots ≤ length bytes.now }
-    requires scan { IsScan slots (take slots bytes.now) scan }
-    ensures scan { IsScan slots (take slots bytes.now) result.1 }
-    ensures goes { let marks = take slots bytes.now in
-        MatchOption result.0 (AreFree marks (front_of scan) slots × (slots ≤ front_of result.1))
-        (λ at. GoesOn slots marks scan at result.1) }
-{
-    let mut base = scan.base;
-    let mut rest = scan.rest;
-    'groups: while rest == 0 {
-        if base + 64 >= slots {
-            return (None, Scan { base, rest });
-        }
-        base += 64;
-        rest = taken_of_many(bytes, base);
-    }
-    let slot = base + rest.trailing_zeros() as u64;
-    (
-        Some(slot),
-        Scan {
-            base,
-            rest: rest & (rest - 1),
-        },
-    )
-}
 
 /// The pairs of a map, each once, in an open order.
 #[derive(Drop)]
@@ -111,7 +30,7 @@ pub struct Iter<'a, K: Item, V: Item, C: ChunkSource> {
 
 impl<'a, K: Item, V: Item, C: ChunkSource> Model for Iter<'a, K, V, C> {
     ghost use Rattle.std.specs.Prelude.{List, map};
-    ghost use Rattle.arena_hash.specs.Walks.{left_in, IsWalk};
+    ghost use Rattle.arena_table.specs.Walks.{left_in, IsWalk};
 
     ghost Value = { List (K × V) };
 
@@ -141,7 +60,7 @@ impl<K: ArenaKey, V: Item, S: KeyHasher> HashMap<K, V, S> {
     }
 
     /// The pair in a slot of the table, if one stands there. A walk by slots can go on while the arena changes elsewhere.
-    #[tactic(auto, using(crate::proofs::SlotLemmas::slot_laws))]
+    #[tactic(auto, using(arena_table::proofs::SlotLemmas::slot_laws))]
     #[inline]
     pub fn pair_at<C: ChunkSource>(&self, a: &Allocator<C>, slot: u64) -> Option<(K, V)>
         requires keys_small { K.SIZE ≤ 2 ^ 24 }
@@ -229,7 +148,7 @@ pub struct IntoKeys<'a, K: Item, V: Item, C: ChunkSource> {
 
 impl<'a, K: Item, V: Item, C: ChunkSource> Model for IntoKeys<'a, K, V, C> {
     ghost use Rattle.std.specs.Prelude.{List, map};
-    ghost use Rattle.arena_hash.specs.Walks.{left_in, IsWalk};
+    ghost use Rattle.arena_table.specs.Walks.{left_in, IsWalk};
 
     ghost Value = { List K };
 
@@ -269,7 +188,7 @@ pub struct IntoValues<'a, K: Item, V: Item, C: ChunkSource> {
 
 impl<'a, K: Item, V: Item, C: ChunkSource> Model for IntoValues<'a, K, V, C> {
     ghost use Rattle.std.specs.Prelude.{List, map};
-    ghost use Rattle.arena_hash.specs.Walks.{left_in, IsWalk};
+    ghost use Rattle.arena_table.specs.Walks.{left_in, IsWalk};
 
     ghost Value = { List V };
 

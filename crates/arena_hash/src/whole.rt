@@ -1,17 +1,15 @@
 // Calls on whole maps.
 ghost use Rattle.std.specs.Prelude.{◌≡◌, ◌^◌, ◌≤◌, IfOk};
-ghost use Rattle.arena_hash.specs.Contents.{kind};
-ghost use Rattle.arena_hash.specs.Finite.{empty};
+ghost use Rattle.hash_ring.specs.Finite.{empty};
+ghost use Rattle.arena_table.specs.Contents.{kind};
 ghost use Rattle.arena_hash.specs.Maps.{IsMapIn};
 ghost use Rattle.arena_hash.specs.Changes.{Becomes, IsNew, PlacesMap};
 
-use crate::hasher::KeyHasher;
-use crate::key::ArenaKey;
 use crate::map::HashMap;
-use crate::policy::slots_for;
-use crate::table::Table;
 use arena_chunks::{Allocator, ChunkSource};
 use arena_items::{AllocError, Grown, Item};
+use arena_table::{ArenaKey, Table};
+use hash_ring::{KeyHasher, slots_for};
 
 impl<K: ArenaKey, V: Item, S: KeyHasher> HashMap<K, V, S> {
     /// An empty map with `S::default()` as its hasher. It places nothing.

@@ -11,7 +11,7 @@ use Rattle.arena_rules.specs.Moves.Resizing.{Stays, Moves, Anew, Refused}
 use Rattle.arena_rules.proofs.RoundingLemmas.{up_same, up_mono, power_positive, layout_power, layout_fits}
 use Rattle.arena_rules.proofs.UsedResizeLemmas.{growing_stays}
 use Rattle.arena_chunks.specs.Source.{View}
-use Rattle.arena_chunks.specs.Answers.Answer.{Placed, Wanting, Refused as Denied}
+use Rattle.arena_chunks.specs.Answers.Answer.{Placed, Exhausted, Refused as Denied}
 use Rattle.arena_chunks.specs.BlockCalls.{PlacesBlock, GrowsBlock, ResizesBlock, growing_of}
 use Rattle.arena_store.specs.declared.block.Block.{Block}
 use Rattle.arena_chunks.proofs.Layers.{placed_least, placed_most, grown_least, grown_most, anew_least, anew_most}
@@ -88,7 +88,7 @@ module _ (old new : View) (size align : ℕ) (block : Block) (one : old.memory.s
             }
         by Refused is = absurd (not_too_large is)
 
-    -- One that is refused was to be placed anew.
+    -- One that is refused was to be placed again.
     grown_refused : (k : ℕ) → GrowsBlock old new block size align (Denied k) → PlacesBlock old new size align (Denied k)
     grown_refused k grows = by (growing_of old.memory block size align) refl
       where
@@ -110,9 +110,9 @@ module _ (old new : View) (size align : ℕ) (block : Block) (one : old.memory.s
             )
         by Refused is = absurd (not_too_large is)
 
-    -- So was one for which memory is wanting.
-    grown_wanting : GrowsBlock old new block size align Wanting → PlacesBlock old new size align Wanting
-    grown_wanting grows = (grows.0, record { valid = grows.1.valid; outcome = grows.1.outcome.1 })
+    -- So was one for which memory runs out.
+    grown_exhausted : GrowsBlock old new block size align Exhausted → PlacesBlock old new size align Exhausted
+    grown_exhausted grows = (grows.0, record { valid = grows.1.valid; outcome = grows.1.outcome.1 })
 
 -- ---- Room
 
@@ -134,7 +134,7 @@ module _ (old new : View) (block : Block) (cap size align : ℕ) (one : old.memo
   ]
   taken_refused f OutOfMemory takes = elim (zero_or_more cap) [
     | inl none ↦ takes.placed none
-    | inr some ↦ grown_wanting old new size align block one layout same (takes.grown some)
+    | inr some ↦ grown_exhausted old new size align block one layout same (takes.grown some)
   ]
   taken_refused f CapacityOverflow takes = takes
 
@@ -145,11 +145,11 @@ refused_whole old between new size align k places same kept =
     let is : between ≡ new = same_view between new (places.1.outcome.1.memory ∙ sym kept) (sym same.source) in
     subst (λ (v : View). PlacesBlock old v size align (Denied k)) is places
 
-wanting_whole : (old between new : View) (size align : ℕ) → PlacesBlock old between size align Wanting → SamePlaces between new
-    → new.memory ≡ old.memory → PlacesBlock old new size align Wanting
-wanting_whole old between new size align places same kept =
+exhausted_whole : (old between new : View) (size align : ℕ) → PlacesBlock old between size align Exhausted → SamePlaces between new
+    → new.memory ≡ old.memory → PlacesBlock old new size align Exhausted
+exhausted_whole old between new size align places same kept =
     let is : between ≡ new = same_view between new (ap (λ (v : View). v.memory) places.1.outcome.same ∙ sym kept) (sym same.source) in
-    subst (λ (v : View). PlacesBlock old v size align Wanting) is places
+    subst (λ (v : View). PlacesBlock old v size align Exhausted) is places
 
 module _ {X : Type 0} (old new : View) (block : Block) (size align cap : ℕ) (f : X → Block) where
   -- No growth brings nothing into use.
@@ -176,6 +176,6 @@ module _ {X : Type 0} (old new : View) (block : Block) (size align cap : ℕ) (f
         refused_whole old made.between new (more * size) align k
         (taken_refused old made.between block cap (more * size) align one layout held.of_align f (AllocErr k) made.took) made.places kept
     room_refused_as OutOfMemory kept made =
-        wanting_whole old made.between new (more * size) align
+        exhausted_whole old made.between new (more * size) align
         (taken_refused old made.between block cap (more * size) align one layout held.of_align f OutOfMemory made.took) made.places kept
     room_refused_as CapacityOverflow kept made = made.took

@@ -9,7 +9,7 @@ use Rattle.arena_rules.specs.Source.{Source}
 use Rattle.arena_chunks.specs.Source.{View}
 use Rattle.arena_chunks.specs.Asking.{AsksWithin}
 use Rattle.arena_chunks.specs.Answers.{Answer}
-use Rattle.arena_chunks.specs.Answers.Answer.{Placed, Wanting, Refused}
+use Rattle.arena_chunks.specs.Answers.Answer.{Placed, Exhausted, Refused}
 use Rattle.arena_chunks.specs.BlockCalls.{PlacesBlock, growing_of}
 use Rattle.arena_store.specs.declared.block.Block.{Block}
 use Rattle.arena_chunks.proofs.Layers.{asks_same, asks_placed, asks_resized, placed_starved, placed_full}
@@ -19,7 +19,7 @@ use Rattle.arena_items.specs.Values.{IsHeld}
 use Rattle.arena_items.specs.declared.room.Growth.TheVariants as growth
 use Rattle.arena_items.specs.declared.room.AllocError.{AllocError}
 use Rattle.arena_items.specs.declared.room.AllocError.TheVariants.{AllocErr, CapacityOverflow, OutOfMemory}
-use Rattle.arena_items.proofs.RoomLemmas.{zero_or_more, refused_same, wanting_same}
+use Rattle.arena_items.proofs.RoomLemmas.{zero_or_more, refused_same, exhausted_same}
 use Rattle.arena_items.proofs.CostLemmas.{same_used, taken_refused, room_brings}
 
 -- ---- No memory
@@ -76,11 +76,11 @@ module _ {X : Type 0} (old new : View) (block : Block) (size align cap more : �
             record { still = still; short = omega (arith, short.short, covers.within, one) };
       }
   room_costs (Err OutOfMemory) greater covers made =
-      let kept = wanting_same old made.between block cap (more * size) align made.took in
+      let kept = exhausted_same old made.between block cap (more * size) align made.took in
       let equal = same_used made.between new made.places in
       record {
         takes = omega (arith, equal, ap (λ m. used_bytes m.state) kept, covers.err);
-        asks = taken_asks made.between Wanting covers.layout covers.small covers.within made.took made.places;
+        asks = taken_asks made.between Exhausted covers.layout covers.small covers.within made.took made.places;
         starved = λ growing k no. absurd (cc);
         full = λ still k no. absurd (cc);
       }

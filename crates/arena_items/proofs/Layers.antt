@@ -48,7 +48,7 @@ pub use Rattle.arena_items.proofs.RoomLemmas.{
   taken_frame,
   taken_front,
   refused_same,
-  wanting_same,
+  exhausted_same,
   same_then,
   wrote_same,
   room_then,

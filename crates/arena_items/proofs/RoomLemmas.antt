@@ -9,7 +9,7 @@ use Rattle.arena_rules.specs.Rounding.{up, is_layout}
 use Rattle.arena_chunks.specs.Memory.{Memory, image, bytes_from, is_readable}
 use Rattle.arena_chunks.specs.Source.{View}
 use Rattle.arena_chunks.specs.Answers.{Answer, answer_by, answer_of}
-use Rattle.arena_chunks.specs.Answers.Answer.{Placed, Refused, Wanting}
+use Rattle.arena_chunks.specs.Answers.Answer.{Placed, Refused, Exhausted}
 use Rattle.arena_chunks.specs.BlockCalls.{WritesBlock}
 use Rattle.arena_chunks.specs.Frame.{Frame}
 use Rattle.arena_store.specs.declared.block.Block.{Block}
@@ -120,10 +120,10 @@ refused_same old new b cap size align k takes = elim (zero_or_more cap) [
   | inr some ↦ (takes.grown some).1.outcome.1.memory
 ]
 
--- So does want of memory.
-pub wanting_same : (old new : View) (b : Block) (cap size align : ℕ) → TakesRoom old new b cap size align Wanting
+-- So does lack of memory.
+pub exhausted_same : (old new : View) (b : Block) (cap size align : ℕ) → TakesRoom old new b cap size align Exhausted
     → new.memory ≡ old.memory
-wanting_same old new b cap size align takes = elim (zero_or_more cap) [
+exhausted_same old new b cap size align takes = elim (zero_or_more cap) [
   | inl none ↦ ap (λ v. v.memory) (takes.placed none).1.outcome.same
   | inr some ↦ ap (λ v. v.memory) (takes.grown some).1.outcome.1.same
 ]
@@ -149,7 +149,7 @@ pub none_taken : (old new : View) (b : Block) (cap size align : ℕ) (answer : R
     → TakesRoom old new b cap size align (answer_of answer) → OnErr (growth_answer answer) (new.memory ≡ old.memory)
 none_taken old new b cap size align (Ok c) takes = tt
 none_taken old new b cap size align (Err (NoPlace refused)) takes = refused_same old new b cap size align refused takes
-none_taken old new b cap size align (Err NoTable) takes = wanting_same old new b cap size align takes
+none_taken old new b cap size align (Err NoTable) takes = exhausted_same old new b cap size align takes
 
 -- ---- Places
 

@@ -14,6 +14,7 @@ pub mod Placing
 pub mod Typed
 pub mod Room
 pub mod Costs
+pub mod Denied
 pub mod Rows
 pub mod Footprint
 pub mod FootprintLaws

@@ -4,7 +4,7 @@ use Rattle.std.specs.Iterator.{Drains}
 use Rattle.arena_rules.specs.Rounding.{is_layout}
 use Rattle.arena_chunks.specs.Source.{View}
 use Rattle.arena_chunks.specs.Answers.{Answer}
-use Rattle.arena_chunks.specs.Answers.Answer.{Placed, Refused, Wanting}
+use Rattle.arena_chunks.specs.Answers.Answer.{Placed, Refused, Exhausted}
 use Rattle.arena_chunks.specs.Frame.{Frame}
 use Rattle.arena_chunks.specs.BlockCalls.{PlacesBlock, Refuses, GivesBack}
 use Rattle.arena_store.specs.declared.block.Block.{Block}
@@ -15,7 +15,7 @@ use Rattle.arena_items.specs.declared.placing.ItemErr.TheVariants.{AllocErr, Out
 abbrev pub AnswersOr : {X : Type 0} → (ℕ → Type 0) → (X → Block) → Result X ItemErr → (Answer → Type 0) → Type 0
 AnswersOr early block (Ok x) P = P (Placed (block x))
 AnswersOr early block (Err (AllocErr refused)) P = P (Refused refused)
-AnswersOr early block (Err OutOfMemory) P = P Wanting
+AnswersOr early block (Err OutOfMemory) P = P Exhausted
 AnswersOr early block (Err (TooFew taken)) P = early taken
 
 -- the same of a call without an iterator: none ends early

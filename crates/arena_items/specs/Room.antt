@@ -2,7 +2,7 @@
 use Rattle.std.specs.Prelude.{◌≡◌, ℕ, ◌*◌, ◌<◌, Result, Ok, Err, IsOkAnd}
 use Rattle.arena_chunks.specs.Source.{View}
 use Rattle.arena_chunks.specs.Answers.{Answer}
-use Rattle.arena_chunks.specs.Answers.Answer.{Placed, Refused, Wanting}
+use Rattle.arena_chunks.specs.Answers.Answer.{Placed, Refused, Exhausted}
 use Rattle.arena_chunks.specs.BlockCalls.{PlacesBlock, GrowsBlock}
 use Rattle.arena_store.specs.declared.block.Block.{Block}
 use Rattle.arena_store.specs.declared.block.ArenaErr.{ArenaErr}
@@ -18,7 +18,7 @@ use Rattle.arena_items.specs.declared.room.AllocError.TheVariants.{AllocErr, Cap
 abbrev pub RoomAnswer : {X : Type 0} → (X → Block) → Result X AllocError → (Answer → Type 0) → Type 0
 RoomAnswer block (Ok x) P = P (Placed (block x))
 RoomAnswer block (Err (AllocErr refused)) P = P (Refused refused)
-RoomAnswer block (Err OutOfMemory) P = P Wanting
+RoomAnswer block (Err OutOfMemory) P = P Exhausted
 RoomAnswer block (Err CapacityOverflow) P = ⊥
 
 -- what the arena answered, as calls tell it that may grow a collection

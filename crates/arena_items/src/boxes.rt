@@ -125,8 +125,7 @@ impl<T: Item> Item for Box<T> {
     ghost layout = { plain_32_8 };
 
     fn known(&self) {
-        let _block = &self.block;
-        _block.known();
+        self.block.known();
     }
 
     fn encode(self, out: &mut [u8]) {

@@ -77,8 +77,7 @@ impl Item for Str {
     ghost layout = { plain_32_8 };
 
     fn known(&self) {
-        let _block = &self.block;
-        _block.known();
+        self.block.known();
     }
 
     fn encode(self, out: &mut [u8]) {

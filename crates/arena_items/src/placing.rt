@@ -15,7 +15,7 @@ use std::fmt;
 pub enum ItemErr {
     /// There is no place for it: all requests for a chunk, so many, were refused.
     AllocErr { refused: u32 },
-    /// Memory for the table of chunks is wanting. The source wasn't asked.
+    /// Memory for the table of chunks runs out. The source wasn't asked.
     OutOfMemory,
     /// The iterator ended early, after so many values.
     TooFew { taken: u64 },

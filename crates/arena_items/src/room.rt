@@ -17,7 +17,7 @@ pub enum AllocError {
     AllocErr { refused: u32 },
     /// What is required passes the greatest capacity.
     CapacityOverflow,
-    /// Memory for the table of chunks is wanting. The source wasn't asked.
+    /// Memory for the table of chunks runs out. The source wasn't asked.
     OutOfMemory,
 }
 

@@ -145,8 +145,7 @@ impl<T: Item> Item for BoxSlice<T> {
     ghost layout = { plain_40_8 };
 
     fn known(&self) {
-        let _block = &self.block;
-        _block.known();
+        self.block.known();
         let _length = self.length;
     }
 

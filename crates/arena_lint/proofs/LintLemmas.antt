@@ -1,6 +1,6 @@
 -- The report of one text.
-use Rattle.std.proofs.Common.{◌≡◌, ℕ, ◌+◌, ◌^◌, ◌≤◌, List, [], ◌∷◌, length, refl, sym, ap, ◌∙◌, true, false, Bool, Ok, Err, Some, None, arith}
-use Rattle.std.specs.Prelude.{Option, IfNone}
+use Rattle.std.proofs.Common.{◌≡◌, ℕ, ◌+◌, ◌^◌, ◌≤◌, List, [], ◌∷◌, length, refl, sym, ap, ◌∙◌, inl, inr, true, false, Bool, Ok, Err, Some, None, arith}
+use Rattle.std.specs.Prelude.{◌*◌, ◌⊎◌, Option, IfNone}
 use Rattle.arena_rules.specs.State.{used_bytes}
 use Rattle.arena_rules.proofs.AskingLemmas.{asks_more}
 use Rattle.arena_chunks.specs.Memory.{Memory}
@@ -10,6 +10,7 @@ use Rattle.arena_store.specs.declared.block.Block.{Block}
 use Rattle.arena_chunks.specs.Asking.{AsksWithin, IsStarved, IsFull}
 use Rattle.arena_chunks.proofs.Layers.{all_of_both}
 use Rattle.arena_items.specs.Costs.{used}
+use Rattle.arena_items.specs.Denied.{Layouts, Only, IsDenied}
 use Rattle.arena_items.specs.declared.room.AllocError.{AllocError}
 use Rattle.arena_items.specs.declared.room.AllocError.TheVariants as alloc
 use Rattle.arena_vec.specs.Vecs.{vec_list}
@@ -18,13 +19,14 @@ use Rattle.arena_symbols.specs.Names.{names_in, names_footprint}
 use Rattle.arena_symbols.specs.Scoping.{pair_count}
 use Rattle.arena_symbols.specs.Tables.{entry_item, scopes_in, table_blocks}
 use Rattle.arena_symbols.specs.declared.names.Names.{Names as Known}
-use Rattle.arena_symbols.proofs.Layers.{all_turned}
+use Rattle.arena_symbols.proofs.Layers.{all_turned, denied_more, more_asked}
 use Rattle.tree_rules.specs.Report.{findings_of}
 use Rattle.tree_rules.specs.Trees.{Stmts}
 use Rattle.tree_rules.specs.Refusals.{TreeOf}
 use Rattle.tree_rules.specs.Weights.{weights}
 use Rattle.tree_rules.specs.declared.finding.Finding.{Finding}
 use Rattle.arena_tree.specs.Given.{IsTreeIn, Means}
+use Rattle.arena_tree.specs.Layouts.{AskedFor}
 use Rattle.arena_tree.specs.Parsing.{Parses, TakesAtMost, IsProgramText, parse_bytes}
 use Rattle.arena_tree.specs.StmtsAt.{stmts_blocks}
 use Rattle.arena_tree.specs.TreesAt.{node_item}
@@ -37,9 +39,9 @@ use Rattle.lint_reports.specs.Reports.{Reports, said}
 use Rattle.lint_reports.specs.declared.report.FileReport.{FileReport}
 use Rattle.lint_reports.specs.declared.report.FileReport.TheVariants.{Checked, Syntax, TooDeep, NumberTooBig, Full, Refused, OutOfMemory}
 use Rattle.arena_lint.specs.Knowing.{Knows}
-use Rattle.arena_lint.specs.Linting.{Lints, lint_bytes, no_place, unparsed_by}
+use Rattle.arena_lint.specs.Linting.{Lints, LintsAsk, lint_bytes, no_place, unparsed_by}
 use Rattle.arena_lint.specs.Rooms.{ListHasStmts, IsLight}
-use Rattle.arena_lint.specs.Spending.{Spends, Takes, walk_bytes}
+use Rattle.arena_lint.specs.Spending.{Spends, Takes, numbers_in, walk_asks, walk_bytes}
 use Rattle.arena_lint.proofs.KnowLemmas.{no_names}
 use Rattle.arena_lint.proofs.SpendingLemmas.{spends_then, spends_nothing}
 
@@ -101,24 +103,28 @@ parsed_light bytes old new light small parsed given = record {
 -- A walk from nothing spends what the tree's statements take.
 pub nothing_spends : {old new : View} {t : Tree} {k l : Known} {error : Option AllocError} (trees : Stmts) → IsLight old.memory t
     → IsNothing k → Means old.memory t trees → Takes (weights trees) old new k l error
-    → Spends (walk_bytes (weights trees)) 0 0 old new error
-nothing_spends {old} trees is none means takes = spends_then (spends_nothing {bytes = 0} tt) (takes.spends (omega (
-  arith,
-  is.light,
-  ap weights (given_is is.tree trees means),
-  ap (λ (l : List (List ℕ)). length l) (none.names old.memory),
-  ap (λ (l : List (List (ℕ × ℕ))). pair_count l + length l) (none.scopes old.memory),
-))) (omega (arith, none.credit)) (omega (arith, none.credit))
+    → Spends (walk_asks (1 + 2 * weights trees)) (walk_bytes (weights trees)) 0 0 old new error
+nothing_spends {old} {k = k} trees is none means takes =
+    let one : numbers_in old.memory k ≡ 1 = omega (
+      arith,
+      ap (λ (l : List (List ℕ)). length l) (none.names old.memory),
+      ap (λ (l : List (List (ℕ × ℕ))). pair_count l + length l) (none.scopes old.memory),
+    ) in
+    spends_then (more_asked (omega (arith, one))) (spends_nothing {layouts = Only 0 1} {bytes = 0} tt)
+    (takes.spends (omega (arith, one, is.light, ap weights (given_is is.tree trees means)))) (omega (arith, none.credit))
+    (omega (arith, none.credit))
 
 -- ---- What is spent
 
 -- A text's tree was not refused.
-pub parse_spends : {few all : ℕ} {old new : View} → few ≤ all → TakesAtMost few old new → Spends all 0 0 old new None
-parse_spends {few} {all} {old} {new} less takes = record {
+pub parse_spends : {layouts : Layouts} {few all : ℕ} {old new : View} → few ≤ all → TakesAtMost few old new
+    → Spends layouts all 0 0 old new None
+parse_spends {old = old} {new = new} less takes = record {
   takes = omega (arith, takes.takes, less);
   asks = asks_more _ _ old.memory.state new.memory.state old.source new.source (omega (arith, less)) takes.asks;
   kind = takes.kind;
   fits = λ no. cc;
+  denied = λ k no. absurd (cc);
   starved = λ growing k no. absurd (cc);
   full = λ still k no. absurd (cc);
 }
@@ -128,19 +134,25 @@ starved old new growing since = record { growing = growing; cause = grind arith 
 
 -- ---- Reports
 
+never : {A B C : Type 0} → (A → ⊥) → (B → ⊥) → A ⊎ B → C
+never one other (inl is) = absurd (one is)
+never one other (inr is) = absurd (other is)
+
 module _ {bytes : List ℕ} {old new : View} {error : Option AllocError} (unused : used old ≡ 0)
-    (spends : Spends (lint_bytes (length bytes)) 0 0 old new error) where
+    (spends : Spends (LintsAsk bytes) (lint_bytes (length bytes)) 0 0 old new error) where
   -- No more was taken than may be, of an arena of which nothing was used.
   lints : (report : FileReport) → Reports bytes report → IfNone (said report) (IsProgramText bytes)
+      → ((report ≡ Full) ⊎ (report ≡ Refused) → IsDenied (LintsAsk bytes) new)
       → (report ≡ Full → IsFull (lint_bytes (length bytes)) old) → (report ≡ Refused → IsStarved (2 ^ 62) old new)
       → Lints bytes old new report
-  lints report reports stopped full refused =
+  lints report reports stopped denied full refused =
       let asks : AsksWithin (used old + lint_bytes (length bytes)) old new
       = asks_more _ _ old.memory.state new.memory.state old.source new.source (omega arith) spends.asks in record {
         reports = reports;
         stopped = stopped;
         most = omega (arith, spends.takes, unused);
         asks = asks;
+        denied = denied;
         full = full;
         refused = λ is. record { asks = asks; starved = refused is };
         kind = spends.kind;
@@ -148,48 +160,54 @@ module _ {bytes : List ℕ} {old new : View} {error : Option AllocError} (unused
 
   -- no place for a block
   lints_unplaced : (growing : Bool) → new.memory.state.is_growing ≡ growing → IsProgramText bytes
-      → (old.memory.state.is_growing ≡ true → IsStarved (2 ^ 62) old new)
+      → IsDenied (LintsAsk bytes) new → (old.memory.state.is_growing ≡ true → IsStarved (2 ^ 62) old new)
       → (old.memory.state.is_growing ≡ false → IsFull (used old + lint_bytes (length bytes)) old) → Lints bytes old new (no_place growing)
-  lints_unplaced true is program starved full =
-      lints Refused tt program (λ no. absurd (cc)) (λ refused. starved (sym spends.kind.is_growing ∙ is))
-  lints_unplaced false is program starved full = lints Full tt program (λ said.
+  lints_unplaced true is program denied starved full =
+      lints Refused tt program (λ said. denied) (λ no. absurd (cc)) (λ refused. starved (sym spends.kind.is_growing ∙ is))
+  lints_unplaced false is program denied starved full = lints Full tt program (λ said. denied) (λ said.
       let short = full (sym spends.kind.is_growing ∙ is) in record { still = short.still; short = omega (arith, short.short, unused) })
       (λ no. absurd (cc))
 
   -- A text that has no tree is told so.
   pub unparsed : (why : TreeErr) → Parses bytes old new (Err why) → Lints bytes old new (unparsed_by new.memory.state.is_growing why)
-  unparsed (tree.Syntax at) parsed = lints (Syntax at) parsed.0 tt (λ no. absurd (cc)) (λ no. absurd (cc))
-  unparsed (tree.TooDeep at) parsed = lints (TooDeep at) parsed.0 tt (λ no. absurd (cc)) (λ no. absurd (cc))
-  unparsed (tree.NumberTooBig at) parsed = lints (NumberTooBig at) parsed.0 tt (λ no. absurd (cc)) (λ no. absurd (cc))
-  unparsed (tree.AllocErr k) parsed = lints_unplaced new.memory.state.is_growing refl parsed.0 parsed.1.starved
+  unparsed (tree.Syntax at) parsed = lints (Syntax at) parsed.0 tt (never (λ no. cc) (λ no. cc)) (λ no. absurd (cc)) (λ no. absurd (cc))
+  unparsed (tree.TooDeep at) parsed = lints (TooDeep at) parsed.0 tt (never (λ no. cc) (λ no. cc)) (λ no. absurd (cc)) (λ no. absurd (cc))
+  unparsed (tree.NumberTooBig at) parsed = lints (NumberTooBig at) parsed.0 tt (never (λ no. cc) (λ no. cc))
+      (λ no. absurd (cc)) (λ no. absurd (cc))
+  unparsed (tree.AllocErr k) parsed = lints_unplaced new.memory.state.is_growing refl parsed.0
+      (denied_more (λ size align asks. inl asks) parsed.1.denied) parsed.1.starved
       (λ still. let short = parsed.1.full still in record { still = still; short = omega (arith, short.short) })
-  unparsed tree.OutOfMemory parsed = lints OutOfMemory tt parsed.0 (λ no. absurd (cc)) (λ no. absurd (cc))
+  unparsed tree.OutOfMemory parsed = lints OutOfMemory tt parsed.0 (never (λ no. cc) (λ no. cc)) (λ no. absurd (cc)) (λ no. absurd (cc))
 
 -- What a walk over a tree spends.
 abbrev Walks : View → View → Tree → Option AllocError → Type 0
-Walks old new t error = (trees : Stmts) → Means old.memory t trees → Spends (walk_bytes (weights trees)) 0 0 old new error
+Walks old new t error = (trees : Stmts) → Means old.memory t trees
+    → Spends (walk_asks (1 + 2 * weights trees)) (walk_bytes (weights trees)) 0 0 old new error
 
 -- A program that was walked over.
 module _ {bytes : List ℕ} {old mid new : View} (t : Tree) (light : AreLight) (unused : used old ≡ 0) (parsed : Parses bytes old mid (Ok t))
     (takes : TakesAtMost (parse_bytes (length bytes)) old mid) where
-  all_spends : {error : Option AllocError} → Walks mid new t error → Spends (lint_bytes (length bytes)) 0 0 old new error
+  all_spends : {error : Option AllocError} → Walks mid new t error
+      → Spends (LintsAsk bytes) (lint_bytes (length bytes)) 0 0 old new error
   all_spends walks = let few = light bytes parsed.0 parsed.1 in
-      spends_then (parse_spends {all = parse_bytes (length bytes)} (omega arith) takes) (walks parsed.0 parsed.2.stand)
+      spends_then (λ size align asks. inr (more_asked (omega (arith, few)) size align asks))
+      (parse_spends {layouts = AskedFor bytes} {all = parse_bytes (length bytes)} (omega arith) takes) (walks parsed.0 parsed.2.stand)
       (omega (arith, few)) (omega (arith, few))
 
   pub checked : (found : List Finding) → ((trees : Stmts) → Means mid.memory t trees → found ≡ findings_of trees) → Walks mid new t None
       → Lints bytes old new (Checked found)
   checked found is walks = lints unused (all_spends walks) (Checked found) (parsed.0, parsed.1, is parsed.0 parsed.2.stand) tt
-      (λ no. absurd (cc)) (λ no. absurd (cc))
+      (never (λ no. cc) (λ no. cc)) (λ no. absurd (cc)) (λ no. absurd (cc))
 
   pub unplaced : (k : ℕ) → Walks mid new t (Some (alloc.AllocErr k)) → Lints bytes old new (no_place new.memory.state.is_growing)
   unplaced k walks = let spent = all_spends walks in
-      lints_unplaced unused spent new.memory.state.is_growing refl (parsed.0, parsed.1)
+      lints_unplaced unused spent new.memory.state.is_growing refl (parsed.0, parsed.1) (spent.denied k refl)
       (λ growing. starved old new growing (spent.starved growing k refl))
       (λ still. let short = spent.full still k refl in record { still = still; short = omega (arith, short.short) })
 
-  pub wanting : Walks mid new t (Some alloc.OutOfMemory) → Lints bytes old new OutOfMemory
-  wanting walks = lints unused (all_spends walks) OutOfMemory tt (parsed.0, parsed.1) (λ no. absurd (cc)) (λ no. absurd (cc))
+  pub exhausted : Walks mid new t (Some alloc.OutOfMemory) → Lints bytes old new OutOfMemory
+  exhausted walks = lints unused (all_spends walks) OutOfMemory tt (parsed.0, parsed.1) (never (λ no. cc) (λ no. cc))
+      (λ no. absurd (cc)) (λ no. absurd (cc))
 
   pub fits : Walks mid new t (Some alloc.CapacityOverflow) → ⊥
   fits walks = (all_spends walks).fits refl

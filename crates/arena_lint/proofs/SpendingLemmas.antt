@@ -9,12 +9,14 @@ use Rattle.arena_chunks.specs.Frame.{Frame}
 use Rattle.arena_store.specs.declared.block.Block.{Block}
 use Rattle.arena_chunks.proofs.Layers.{asks_same}
 use Rattle.arena_items.specs.Costs.{Costs, used}
+use Rattle.arena_items.specs.Denied.{Layouts, Only, IsDenied}
 use Rattle.arena_items.specs.declared.room.AllocError.{AllocError}
 use Rattle.arena_items.specs.declared.room.AllocError.TheVariants.{AllocErr, CapacityOverflow}
 use Rattle.arena_symbols.specs.Paying.{far_up}
 use Rattle.arena_symbols.specs.declared.names.Names.{Names as Known}
+use Rattle.arena_symbols.proofs.Layers.{denied_more, more_asked}
 use Rattle.arena_tree.specs.Spending.{KeepsKind, error_of}
-use Rattle.arena_lint.specs.Spending.{Spends, Takes, IsWanting}
+use Rattle.arena_lint.specs.Spending.{Spends, Takes, IsExhausted}
 
 pub frame_kind : {old new : Memory} {before after : List Block} → Frame old new before after → KeepsKind old new
 frame_kind frame = record { is_growing = frame.is_growing; allocated = frame.allocated }
@@ -26,14 +28,16 @@ err_is (Err f) e is = ap Err (same_Some f e is)
 -- ---- Spending
 
 -- What the arena says of one call is what is said here.
-pub spends_costs : {X : Type 0} {few many before after all left : ℕ} {old new : View} {result : Result X AllocError}
+pub spends_costs : {X : Type 0} {layouts : Layouts} {few many before after all left : ℕ} {old new : View} {result : Result X AllocError}
     → Costs far_up few before after old new result → KeepsKind old.memory new.memory → (result ≡ Err CapacityOverflow → ⊥)
-    → few + before ≤ many + all → few + before + left ≤ many + all + after → Spends many all left old new (error_of result)
-spends_costs {X} {few} {many} {before} {after} {all} {left} {old} {new} {result} costs kind fits less paid = record {
+    → ((k : ℕ) → result ≡ Err (AllocErr k) → IsDenied layouts new) → few + before ≤ many + all
+    → few + before + left ≤ many + all + after → Spends layouts many all left old new (error_of result)
+spends_costs {X} {layouts} {few} {many} {before} {after} {all} {left} {old} {new} {result} costs kind fits denied less paid = record {
   takes = omega (arith, costs.takes, paid);
   asks = asks_more _ _ old.memory.state new.memory.state old.source new.source (omega (arith, less)) costs.asks;
   kind = kind;
   fits = λ is. fits (err_is result CapacityOverflow is);
+  denied = λ k is. denied k (err_is result (AllocErr k) is);
   starved = λ growing k is.
       grind (arith, (costs.starved growing k (err_is result (AllocErr k) is)).cause, costs.asks.chunks.allocated);
   full = λ still k is.
@@ -42,10 +46,12 @@ spends_costs {X} {few} {many} {before} {after} {all} {left} {old} {new} {result}
 }
 
 -- Calls, and then others.
-pub spends_then : {one two all total before between after left : ℕ} {old mid new : View} {error : Option AllocError}
-    → Spends one before between old mid None → Spends two between after mid new error → one + two + before ≤ all + total
-    → one + two + before + left ≤ all + total + after → Spends all total left old new error
-spends_then {one} {two} {all} {total} {before} {between} {after} {left} {old} {mid} {new} {error} first second less paid =
+pub spends_then : {asked asked_now layouts : Layouts} {one two all total before between after left : ℕ} {old mid new : View} {error : Option AllocError}
+    → ((size align : ℕ) → asked_now size align → layouts size align) → Spends asked one before between old mid None
+    → Spends asked_now two between after mid new error → one + two + before ≤ all + total
+    → one + two + before + left ≤ all + total + after → Spends layouts all total left old new error
+spends_then {one = one} {two = two} {all = all} {total = total} {before = before} {between = between} {after = after} {left = left} {old = old}
+    {mid = mid} {new = new} more first second less paid =
     let within : used mid + (two + between) ≤ used old + (all + total) = omega (arith, first.takes, less) in record {
       takes = omega (arith, first.takes, second.takes, paid);
       asks = asks_then _ old.memory.state mid.memory.state new.memory.state old.source mid.source new.source
@@ -56,6 +62,7 @@ spends_then {one} {two} {all} {total} {before} {between} {after} {left} {old} {m
         allocated = λ still. second.kind.allocated (first.kind.is_growing ∙ still) ∙ first.kind.allocated still;
       };
       fits = second.fits;
+      denied = λ k is. denied_more more (second.denied k is);
       starved = λ growing k is.
           let after = refused_after _ old.memory.state mid.memory.state old.source mid.source new.source first.asks in
           grind (arith, second.starved (first.kind.is_growing ∙ growing) k is, first.asks.chunks.top, after);
@@ -64,15 +71,17 @@ spends_then {one} {two} {all} {total} {before} {between} {after} {left} {old} {m
           record { still = still; short = omega (arith, full.short, first.kind.allocated still, within) };
     }
 
--- Nothing is done, and memory may be wanting.
-pub spends_nothing : {bytes saved : ℕ} {a : View} {error : Option AllocError} → IsWanting error → Spends bytes saved saved a a error
-spends_nothing {bytes} {saved} {a} {error} wanting = record {
+-- Nothing is done, and memory may run out.
+pub spends_nothing : {layouts : Layouts} {bytes saved : ℕ} {a : View} {error : Option AllocError} → IsExhausted error
+    → Spends layouts bytes saved saved a a error
+spends_nothing {bytes = bytes} {saved = saved} {a = a} exhausted = record {
   takes = omega arith;
   asks = asks_same _ a a refl refl;
   kind = record { is_growing = refl; allocated = λ still. refl };
-  fits = λ is. let no = rw is at wanting in cc;
-  starved = λ growing k is. let no = rw is at wanting in absurd (cc);
-  full = λ still k is. let no = rw is at wanting in absurd (cc);
+  fits = λ is. let no = rw is at exhausted in cc;
+  denied = λ k is. let no = rw is at exhausted in absurd (cc);
+  starved = λ growing k is. let no = rw is at exhausted in absurd (cc);
+  full = λ still k is. let no = rw is at exhausted in absurd (cc);
 }
 
 -- ---- Statements
@@ -81,8 +90,8 @@ pub takes_then : {one two : ℕ} {old mid new : View} {k j l : Known} {error : O
     → Takes two mid new j l error → Takes (one + two) old new k l error
 takes_then first second = record {
   numbers = λ is. omega (arith, first.numbers refl, second.numbers is);
-  spends = λ few. spends_then (first.spends (omega (arith, few))) (second.spends (omega (arith, few, first.numbers refl)))
-      (omega arith) (omega arith);
+  spends = λ few. spends_then (more_asked (omega (arith, first.numbers refl))) (first.spends (omega (arith, few)))
+      (second.spends (omega (arith, few, first.numbers refl))) (omega arith) (omega arith);
 }
 
 -- More may be taken than was.
@@ -90,13 +99,13 @@ pub takes_more : {few : ℕ} {old new : View} {k l : Known} {error : Option Allo
     → Takes few old new k l error → Takes many old new k l error
 takes_more many less takes = record {
   numbers = λ is. omega (arith, less, takes.numbers is);
-  spends = λ room. spends_then (spends_nothing {bytes = 0} tt) (takes.spends (omega (arith, less, room)))
-      (omega (arith, less)) (omega (arith, less));
+  spends = λ room. spends_then (more_asked (omega (arith, less))) (spends_nothing {layouts = Only 0 1} {bytes = 0} tt)
+      (takes.spends (omega (arith, less, room))) (omega (arith, less)) (omega (arith, less));
 }
 
--- Nothing is taken, and memory may be wanting.
-pub takes_wanting : {weight : ℕ} (a : View) (k : Known) (error : Option AllocError) → IsWanting error → Takes weight a a k k error
-takes_wanting a k error wanting = record { numbers = λ is. omega arith; spends = λ few. spends_nothing wanting }
+-- Nothing is taken, and memory may run out.
+pub takes_exhausted : {weight : ℕ} (a : View) (k : Known) (error : Option AllocError) → IsExhausted error → Takes weight a a k k error
+takes_exhausted a k error exhausted = record { numbers = λ is. omega arith; spends = λ few. spends_nothing exhausted }
 
 -- what `?` hands on
 pub err_takes : {X : Type 0} {weight : ℕ} {old new : View} {k l : Known} (result : Result X AllocError) {e : AllocError}

@@ -26,7 +26,7 @@ use Rattle.arena_lint.specs.Knowing.{Knows}
 use Rattle.arena_lint.specs.Rooms.{ListHasStmts}
 use Rattle.arena_lint.specs.Spending.{Takes}
 use Rattle.arena_lint.specs.Steps.{Finds, Halfway, Walking, IsNotEmpty}
-use Rattle.arena_lint.proofs.SpendingLemmas.{takes_then, takes_more, takes_wanting}
+use Rattle.arena_lint.proofs.SpendingLemmas.{takes_then, takes_more, takes_exhausted}
 use Rattle.arena_lint.proofs.StatementLemmas.{line_within, stands_still, same_list}
 
 pub moves_none : {m : Memory} {k : Known} → AreNames m k → Moves m m k k
@@ -58,7 +58,7 @@ walking_begin {a} {k} held = record {
     stand = at;
     spent = 0;
     all = omega arith;
-    takes = takes_wanting a k None tt;
+    takes = takes_exhausted a k None tt;
     halfway = λ sets knows. record { between = sets; knows = knows; all = refl };
   };
 }

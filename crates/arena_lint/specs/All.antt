@@ -14,7 +14,7 @@ use Rattle.lint_reports.specs.declared.report.FileReport.TheVariants.{Checked, S
 use Rattle.arena_lint.specs.Linting.{Lints, lint_bytes}
 
 -- What comes of a text alone, over a pool of this kind: its one report. A report that says nothing of the text comes of programs alone, or
--- of want of memory before the text was begun. It is `Full` only where the pool's arenas have fewer bytes than it may take, and `Refused`
+-- of lack of memory before the text was begun. It is `Full` only where the pool's arenas have fewer bytes than it may take, and `Refused`
 -- only over a standard pool, exactly where what shows why is there.
 pub record IsLintedAlone {C : Type 0} (source : C → Source) (kind : PoolKind) (bytes : List ℕ) (linted : Linted C) : Type 0 where
   pub reports : Reports bytes linted.report

@@ -1,9 +1,12 @@
 -- What the report of a text is, and what it takes.
-use Rattle.std.specs.Prelude.{◌≡◌, ℕ, ◌+◌, ◌*◌, ◌≤◌, Bool, true, false, List, length, IfNone}
+use Rattle.std.specs.Prelude.{◌≡◌, ℕ, ◌+◌, ◌*◌, ◌≤◌, ◌⊎◌, Bool, true, false, List, length, IfNone}
 use Rattle.arena_chunks.specs.Source.{View}
 use Rattle.arena_chunks.specs.Asking.{AsksWithin, IsFull}
 use Rattle.arena_items.specs.Costs.{used}
+use Rattle.arena_items.specs.Denied.{Layouts, IsDenied}
 use Rattle.arena_rules.specs.Asking.{IsStarvedWithin}
+use Rattle.arena_symbols.specs.Asks.{NamesAsk}
+use Rattle.arena_tree.specs.Layouts.{AskedFor}
 use Rattle.arena_tree.specs.Parsing.{IsProgramText}
 use Rattle.arena_tree.specs.Spending.{KeepsKind}
 use Rattle.arena_tree.specs.declared.tree.TreeErr.{TreeErr}
@@ -16,13 +19,18 @@ use Rattle.lint_reports.specs.declared.report.FileReport.TheVariants.{Syntax, To
 abbrev pub lint_bytes : ℕ → ℕ
 lint_bytes length = 4096 * (length + 1)
 
--- A text has its own report, on an arena of which nothing was used. Only a program is not read to its end: where the arena doesn't grow
--- and has fewer bytes than that may take, where it grows and was starved, or where memory is wanting.
+-- what the report of a text asks for: what its tree does, and for its names blocks of eight parts for each byte and twenty, at most
+abbrev pub LintsAsk : List ℕ → Layouts
+LintsAsk bytes size align = AskedFor bytes size align ⊎ NamesAsk (8 * length bytes + 20) size align
+
+-- A text has its own report, on an arena of which nothing was used. Only a program is not read to its end: where a block that it asks for has
+-- no place, in an arena that doesn't grow and has fewer bytes than it may take, or that grows and was starved; or where memory runs out.
 pub record Lints (bytes : List ℕ) (old new : View) (report : FileReport) : Type 0 where
   pub reports : Reports bytes report
   pub stopped : IfNone (said report) (IsProgramText bytes)
   pub most : used new ≤ lint_bytes (length bytes)
   pub asks : AsksWithin (used old + lint_bytes (length bytes)) old new
+  pub denied : (report ≡ Full) ⊎ (report ≡ Refused) → IsDenied (LintsAsk bytes) new
   pub full : report ≡ Full → IsFull (lint_bytes (length bytes)) old
   pub refused : report ≡ Refused
       → IsStarvedWithin (lint_bytes (length bytes)) old.memory.state new.memory.state old.source new.source

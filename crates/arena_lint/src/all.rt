@@ -16,10 +16,10 @@ use std::thread::Threads;
 fn parts_of<'a>(alloc: Global, sources: &'a [Bytes]) -> Result<Vec<Source<'a>>, OutOfMemory>
     ensures { IfOk result (λ parts. parts.items ≡ sources.now) }
 {
-    let mut parts = Vec::with_capacity(alloc, sources.len()).map_err(|_| OutOfMemory)?;
+    let mut parts = Vec::with_capacity(alloc, sources.len())?;
     for bytes in sources {
         let part = Source::new(bytes.as_slice());
-        parts.push(part).map_err(|_| OutOfMemory)?;
+        parts.push(part)?;
     }
     Ok(parts)
 }
@@ -38,7 +38,7 @@ fn parts_of<'a>(alloc: Global, sources: &'a [Bytes]) -> Result<Vec<Source<'a>>, 
 ///
 /// # Errors
 ///
-/// Memory for the claims, the workers or their reports is wanting.
+/// Memory for the claims, the workers or their reports runs out.
 pub fn lint_all<
     R: Threads + Wait + Sync,
     K: ChunkMaker + Drop + Send,

@@ -1,5 +1,5 @@
 // The report of one text.
-ghost use Rattle.std.specs.Prelude.{◌≡◌, ◌^◌, ◌≤◌, length, IfOk};
+ghost use Rattle.std.specs.Prelude.{◌≡◌, ◌+◌, ◌*◌, ◌^◌, ◌≤◌, length, IfOk};
 ghost use Rattle.arena_items.specs.Costs.{used};
 ghost use Rattle.arena_tree.specs.Given.{Means};
 ghost use Rattle.arena_tree.specs.Spending.{error_of};
@@ -8,7 +8,7 @@ ghost use Rattle.tree_rules.specs.Trees.{Stmts};
 ghost use Rattle.tree_rules.specs.Weights.{weights};
 ghost use Rattle.arena_lint.specs.Linting.{Lints, no_place, unparsed_by};
 ghost use Rattle.arena_lint.specs.Rooms.{IsLight};
-ghost use Rattle.arena_lint.specs.Spending.{Spends, walk_bytes};
+ghost use Rattle.arena_lint.specs.Spending.{Spends, walk_asks, walk_bytes};
 
 use crate::walk::walk;
 use arena_chunks::{Allocator, ChunkSource};
@@ -48,7 +48,7 @@ fn findings<C: ChunkSource>(alloc: Global, a: &mut Allocator<C>, tree: Tree) -> 
     requires { IsLight a.old.memory tree }
     ensures found { (trees : Stmts) → Means a.old.memory tree trees → IfOk result (λ found. found ≡ findings_of trees) }
     ensures spends { (trees : Stmts) → Means a.old.memory tree trees
-        → Spends (walk_bytes (weights trees)) 0 0 a.old a.new (error_of result) }
+        → Spends (walk_asks (1 + 2 * weights trees)) (walk_bytes (weights trees)) 0 0 a.old a.new (error_of result) }
 {
     let room = a.used_bytes();
     let mut known = Names::new_in();
@@ -62,9 +62,9 @@ fn findings<C: ChunkSource>(alloc: Global, a: &mut Allocator<C>, tree: Tree) -> 
 ///
 /// # Errors
 ///
-/// `Syntax`, `TooDeep` or `NumberTooBig` at the first token for which the text is no program. A program is `Full` where the
-/// arena doesn't grow and has fewer bytes than those, `Refused` where it grows and was starved, and `OutOfMemory` where
-/// memory is wanting.
+/// `Syntax`, `TooDeep` or `NumberTooBig` at the first token for which the text is no program. Where a block that a program asks
+/// for has no place, it is `Full` over an arena that doesn't grow, which has fewer bytes than those, and `Refused` over one that
+/// grows, which was starved. It is `OutOfMemory` where memory runs out.
 pub fn lint_one<C: ChunkSource>(alloc: Global, a: &mut Allocator<C>, src: &[u8]) -> FileReport
     requires unused { used a.old ≡ 0 }
     requires small { length src.now ≤ 2 ^ 24 }

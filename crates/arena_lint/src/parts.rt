@@ -24,7 +24,7 @@ pub struct Linted<C: ChunkSource> {
 /// Why no source has a report.
 #[derive(Clone, Copy, PartialEq, Eq, Debug, thiserror::Error)]
 pub enum LintErr {
-    /// Memory for the claims, the workers or the reports is wanting.
+    /// Memory for the claims, the workers or the reports runs out.
     #[error("out of memory")]
     OutOfMemory,
 }
@@ -71,14 +71,13 @@ fn with_names<C: ChunkSource + Drop>(
 ) -> Result<Vec<Linted<C>>, OutOfMemory>
     ensures { IfOk result (λ v. v.items ≡ map linted all.items) }
 {
-    let mut each = Vec::with_capacity(alloc, all.len()).map_err(|_| OutOfMemory)?;
+    let mut each = Vec::with_capacity(alloc, all.len())?;
     for served in all {
         let Served {
             outcome: report,
             starved,
         } = served;
-        each.push(Linted { report, starved })
-            .map_err(|_| OutOfMemory)?;
+        each.push(Linted { report, starved })?;
     }
     Ok(each)
 }
@@ -87,7 +86,7 @@ fn with_names<C: ChunkSource + Drop>(
 ///
 /// # Errors
 ///
-/// Memory for the claims, the workers or their reports is wanting.
+/// Memory for the claims, the workers or their reports runs out.
 #[tactic(auto, using(crate::proofs::AllLemmas::all_alone))]
 pub fn lint_parts<
     R: Threads + Wait + Sync,

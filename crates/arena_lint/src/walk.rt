@@ -12,7 +12,7 @@ ghost use Rattle.tree_rules.specs.Trees.{Stmt, Stmts};
 ghost use Rattle.tree_rules.specs.Weights.{weight, weights};
 ghost use Rattle.arena_lint.specs.Knowing.{Knows, found_of};
 ghost use Rattle.arena_lint.specs.Rooms.{ListHasExprs, AreNamed, HasStmt, ListHasStmts, stmt_names};
-ghost use Rattle.arena_lint.specs.Spending.{Takes, IsWanting};
+ghost use Rattle.arena_lint.specs.Spending.{Takes, IsExhausted};
 ghost use Rattle.arena_lint.specs.Steps.{Finds, Enters, IsNotEmpty};
 
 use crate::names::{Known, all_names};
@@ -27,9 +27,9 @@ use std::alloc::Global;
 use std::str;
 
 // Want of memory outside the arena.
-fn wanting(r: Result<(), OutOfMemory>) -> Grown<()>
+fn exhausted(r: Result<(), OutOfMemory>) -> Grown<()>
     ensures same { IfOk result (λ x. r ≡ Ok x) }
-    ensures wanting { IsWanting (error_of result) }
+    ensures exhausted { IsExhausted (error_of result) }
 {
     match r {
         Ok(x) => Ok(x),
@@ -74,10 +74,10 @@ fn finding(is_new: bool, is_seen: bool) -> Option<FindKind>
 // A finding, if there is one.
 fn add(found: &mut Findings, kind: Option<FindKind>, name: Bytes) -> Grown<()>
     ensures added { OnOk result (found.new ≡ found.old ++ found_of kind name) }
-    ensures wanting { IsWanting (error_of result) }
+    ensures exhausted { IsExhausted (error_of result) }
 {
     match kind {
-        Some(kind) => wanting(found.push(kind, name)),
+        Some(kind) => exhausted(found.push(kind, name)),
         None => Ok(()),
     }
 }
@@ -122,10 +122,10 @@ fn use_names<C: ChunkSource>(
     requires kind { node.kind ≢ Kind.Block }
     ensures finds { (s : Stmt) (sets : List NameSet) → StmtAt s a.now.memory node → Knows a.now.memory known.now sets
         → OnOk result (found.new ≡ found.old ++ undefined sets (stmt_names s)) }
-    ensures wanting { IsWanting (error_of result) }
+    ensures exhausted { IsExhausted (error_of result) }
 {
     let list = stmt_kids(a, known, node, room);
-    wanting(all_names(alloc, a, known, list, room, found))
+    exhausted(all_names(alloc, a, known, list, room, found))
 }
 
 // The list of the expression of a statement that is no block.

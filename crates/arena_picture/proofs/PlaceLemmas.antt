@@ -3,8 +3,7 @@ use Rattle.std.proofs.Common.{◌≡◌, ℕ, ◌+◌, ◌-◌, ◌<◌, ◌≤�
 use Rattle.std.specs.Prelude.{◌==◌}
 use Rattle.std.proofs.lemmas.Bool.{or_cases}
 use Rattle.std.proofs.lemmas.Bool.Decides.{nat_tests}
-use Rattle.arena_rules.specs.State.{State, Chunk, AreChunks, data_end, is_used_by, is_range_used}
-use Rattle.arena_rules.specs.State.{is_place_used}
+use Rattle.arena_rules.specs.State.{State, Chunk, AreChunks, data_end, is_used_by, is_range_used, is_place_used}
 use Rattle.arena_rules.specs.declared.place.Place.{Place}
 use Rattle.arena_rules.proofs.UsedLemmas.{used_under}
 use Rattle.arena_chunks.specs.Walks.{told_chunk}

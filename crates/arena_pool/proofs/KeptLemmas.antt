@@ -7,7 +7,7 @@ use Rattle.arena_chunks.specs.Memory.{Memory}
 use Rattle.arena_chunks.specs.Source.{View}
 use Rattle.arena_chunks.specs.Frame.{Frame, padded}
 use Rattle.arena_chunks.specs.Answers.{Answer}
-use Rattle.arena_chunks.specs.Answers.Answer.{Placed, Refused, Wanting}
+use Rattle.arena_chunks.specs.Answers.Answer.{Placed, Refused, Exhausted}
 use Rattle.arena_chunks.specs.BlockCalls.{PlacesAfter, PlacesBlock, ResizesAfter, ResizesBlock, GivesBack, WritesBlock}
 use Rattle.arena_store.specs.declared.block.Block.{Block}
 use Rattle.arena_items.specs.Placing.{Answers, PlacesArray}
@@ -41,7 +41,7 @@ placed_after : (kind : PoolKind) (old new : View) (size align k : ℕ) (answer :
 placed_after kind old new size align k (Placed b) after of_kind =
     frame_of_kind kind old.memory new.memory [] (b ∷ []) after.outcome.frame of_kind
 placed_after kind old new size align k (Refused n) after of_kind = same_of_kind kind old.memory new.memory after.outcome.1.memory of_kind
-placed_after kind old new size align k Wanting after of_kind = same_view kind old new after.outcome.same of_kind
+placed_after kind old new size align k Exhausted after of_kind = same_view kind old new after.outcome.same of_kind
 
 pub placed_of_kind : (kind : PoolKind) (old new : View) (size align : ℕ) (answer : Answer) → PlacesBlock old new size align answer
     → IsOfKind kind old.memory.state → IsOfKind kind new.memory.state
@@ -53,7 +53,7 @@ resized_after kind way old new block size align k (Placed b) after of_kind =
     frame_of_kind kind old.memory new.memory (block ∷ []) (b ∷ []) after.outcome.frame of_kind
 resized_after kind way old new block size align k (Refused n) after of_kind =
     same_of_kind kind old.memory new.memory after.outcome.1.memory of_kind
-resized_after kind way old new block size align k Wanting after of_kind = same_view kind old new after.outcome.1.same of_kind
+resized_after kind way old new block size align k Exhausted after of_kind = same_view kind old new after.outcome.1.same of_kind
 
 pub resized_of_kind : (kind : PoolKind) (way : Resizing) (old new : View) (block : Block) (size align : ℕ) (answer : Answer)
     → ResizesBlock way old new block size align answer → IsOfKind kind old.memory.state → IsOfKind kind new.memory.state
@@ -82,7 +82,7 @@ answered : {X : Type 0} (kind : PoolKind) (new : Memory) (P : Answer → Type 0)
     → ((answer : Answer) → P answer → IsOfKind kind new.state) → Answers block result P → IsOfKind kind new.state
 answered kind new P block (Ok x) keeps answers = keeps (Placed (block x)) answers
 answered kind new P block (Err (AllocErr refused)) keeps answers = keeps (Refused refused) answers
-answered kind new P block (Err OutOfMemory) keeps answers = keeps Wanting answers
+answered kind new P block (Err OutOfMemory) keeps answers = keeps Exhausted answers
 answered kind new P block (Err (TooFew taken)) keeps answers = absurd answers
 
 pub box_of_kind : {T : Type 0} (kind : PoolKind) (old new : View) (size align : ℕ) (result : Result (Box T) ItemErr)

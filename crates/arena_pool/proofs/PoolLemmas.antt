@@ -135,7 +135,7 @@ answers_limit p q (Err PoolEmpty) gets none standard most = absurd (standard_is_
 answers_limit p q (Err Limit) gets none standard most = refl
 answers_limit p q (Err OutOfMemory) gets none standard most = absurd (omega (arith, gets.0.2))
 
--- Who needn't wait is refused for want of memory alone.
+-- Who needn't wait is refused for lack of memory alone.
 goes : (p : Pool) (e : PoolErr) → IsTrue (can_take p) → LendsNone p e → e ≡ OutOfMemory
 goes p PoolEmpty can refused = let h = rw (refused.0, refused.1) at can in grind (arith, nat_tests)
 goes p Limit can refused = let h = rw (refused.0, refused.1, refused.2) at can in grind (arith, nat_tests)

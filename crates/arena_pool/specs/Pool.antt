@@ -61,7 +61,7 @@ pub record LendsNew (p : Pool) (lent : Pooled) (q : Pool) : Type 0 where
   pub id : lent.1 ≡ None
   pub pool : q ≡ record p { made = p.made + 1; lent = p.lent + 1 }
 
--- Why none is lent, where none is stored: the pool is fixed; it has made as many as can be counted; or memory is wanting.
+-- Why none is lent, where none is stored: the pool is fixed; it has made as many as can be counted; or memory runs out.
 abbrev pub LendsNone : Pool → PoolErr → Type 0
 LendsNone p PoolEmpty = (p.stack ≡ []) × IsTrue (is_fixed p.kind)
 LendsNone p Limit = (p.stack ≡ []) × (p.kind ≡ Standard) × (p.made ≡ 2 ^ 64 - 1)

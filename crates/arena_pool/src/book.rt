@@ -18,7 +18,7 @@ pub enum PoolErr {
     /// None is stored in a fixed pool.
     #[error("pool is empty")]
     PoolEmpty,
-    /// None is stored, and memory for the place of a new one is wanting.
+    /// None is stored, and memory for the place of a new one runs out.
     #[error("out of memory")]
     OutOfMemory,
     /// None is stored, and 2^64 - 1 were made.
@@ -61,7 +61,7 @@ impl<K: ChunkMaker> Book<K> {
     ///
     /// # Errors
     ///
-    /// Memory for their table is wanting.
+    /// Memory for their table runs out.
     pub fn new(alloc: Global, count: u32, maker: K) -> Result<Book<K>, OutOfMemory>
     where
         K: Drop,
@@ -76,7 +76,7 @@ impl<K: ChunkMaker> Book<K> {
     ///
     /// # Errors
     ///
-    /// Memory for their table is wanting.
+    /// Memory for their table runs out.
     pub fn new_with_limit(
         alloc: Global,
         count: u32,
@@ -95,7 +95,7 @@ impl<K: ChunkMaker> Book<K> {
     ///
     /// # Errors
     ///
-    /// Memory for their table or for a region is wanting.
+    /// Memory for their table or for a region runs out.
     pub fn new_fixed(
         alloc: Global,
         count: u32,

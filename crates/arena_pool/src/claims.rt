@@ -12,7 +12,7 @@ use std::marker::Model;
 /// Why there are no claims.
 #[derive(Debug, Drop, PartialEq, Eq, thiserror::Error)]
 pub enum ClaimErr {
-    /// Memory for the words is wanting.
+    /// Memory for the words runs out.
     #[error("out of memory")]
     OutOfMemory,
 }
@@ -66,7 +66,7 @@ impl Claims {
     ///
     /// # Errors
     ///
-    /// Memory is wanting.
+    /// Out of memory.
     pub fn new(alloc: Global, words: u32) -> Result<(Claims, ClaimSeat), ClaimErr>
         requires { 0 < words }
         ensures words { IfOk result (λ r. r.0.words ≡ words) }

@@ -28,7 +28,7 @@ impl<K: ChunkMaker, L: PoolName> FixedSizeAllocatorPool<K, L> {
     ///
     /// # Errors
     ///
-    /// Memory is wanting.
+    /// Out of memory.
     pub fn new(
         alloc: Global,
         thread_count: u32,

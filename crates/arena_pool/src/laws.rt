@@ -43,7 +43,7 @@ pub fn events()
 {}
 
 /// A get is refused exactly so: where none is stored, a fixed pool is empty, and one that has made as many as can be counted
-/// is at its limit. Else it lends one, or memory for a new one is wanting. It waits, under the lock, exactly where it would
+/// is at its limit. Else it lends one, or memory for a new one runs out. It waits, under the lock, exactly where it would
 /// be refused for one of the first two, or as many are lent as can be.
 pub fn answers()
     ensures stored { (p q : Pool) (answer : Result Pooled PoolErr) → Gets p answer q → 0 < length p.stack

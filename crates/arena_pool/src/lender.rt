@@ -49,7 +49,7 @@ impl<K: ChunkMaker, L: PoolName, P: Packing<Allocator<K::Chunks>>> Lender<K, L, 
     pub(crate) fn take(&mut self) -> Result<(P::Packed, Loan<L>), OutOfMemory>
         requires { IsTrue (can_take self.old) }
         ensures lent { IfOk result (λ lent. Gets self.old (Ok (P.unpacked lent.0, lent.1.id)) self.new) }
-        ensures wanting { OnErr result (Gets self.old (Err PoolErr.OutOfMemory) self.new) }
+        ensures exhausted { OnErr result (Gets self.old (Err PoolErr.OutOfMemory) self.new) }
         ensures unused { IfOk result (λ lent. IsUnused L.kind (P.unpacked lent.0)) }
         ensures within { IfOk result (λ lent. IsWithin L.limit (P.unpacked lent.0)) }
         ensures fixed { IsTrue (is_fixed L.kind) → IsOk result }

@@ -27,7 +27,7 @@ type Place<C> = Seat<Option<Allocator<C>>, OwnerView<Allocator<C>>>;
 /// Why an arena isn't shared. It comes back.
 #[derive(Drop)]
 pub enum ShareErr<C: ChunkSource> {
-    /// Memory for the two owners is wanting.
+    /// Memory for the two owners runs out.
     OutOfMemory { arena: Allocator<C> },
 }
 
@@ -88,7 +88,7 @@ pub enum GaveUp<C: ChunkSource> {
 ///
 /// # Errors
 ///
-/// Memory is wanting. The arena comes back.
+/// Out of memory. The arena comes back.
 pub fn share<C: ChunkSource + Drop>(
     alloc: Global,
     a: Allocator<C>,

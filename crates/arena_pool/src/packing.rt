@@ -14,7 +14,7 @@ pub(crate) trait Packing<A> {
     // The value in it.
     ghost unpacked: { Self.Packed → A };
 
-    // Packs the value. Memory may be wanting.
+    // Packs the value. Memory may run out.
     fn pack(alloc: Global, value: A) -> Result<Self::Packed, OutOfMemory>
         ensures { IfOk result (λ p. unpacked p ≡ value) };
 }

@@ -29,7 +29,7 @@ impl<K: ChunkMaker, L: PoolName> AllocatorPool<K, L> {
     ///
     /// # Errors
     ///
-    /// Memory is wanting.
+    /// Out of memory.
     pub fn new(
         alloc: Global,
         thread_count: u32,
@@ -53,7 +53,7 @@ impl<K: ChunkMaker, L: PoolName> AllocatorPool<K, L> {
     ///
     /// # Errors
     ///
-    /// Memory is wanting.
+    /// Out of memory.
     pub fn new_with_limit(
         alloc: Global,
         thread_count: u32,
@@ -77,7 +77,7 @@ impl<K: ChunkMaker, L: PoolName> AllocatorPool<K, L> {
     ///
     /// # Errors
     ///
-    /// Memory is wanting.
+    /// Out of memory.
     pub fn new_fixed_size(
         alloc: Global,
         thread_count: u32,
@@ -111,7 +111,7 @@ impl<K: ChunkMaker, L: PoolName> AllocatorPool<K, L> {
     ///
     /// # Errors
     ///
-    /// Memory for the place or the box of a new arena is wanting. A fixed pool never refuses.
+    /// Memory for the place or the box of a new arena runs out. A fixed pool never refuses.
     pub fn get<R: Wait>(&self, rt: &R) -> Result<AllocatorGuard<'_, K, L>, OutOfMemory>
         ensures unused { IfOk result (λ guard. IsUnused L.kind guard.0) }
         ensures within { IfOk result (λ guard. IsWithin L.limit guard.0) }

@@ -28,7 +28,7 @@ impl<K: ChunkMaker, L: PoolName> StandardAllocatorPool<K, L> {
     ///
     /// # Errors
     ///
-    /// Memory is wanting.
+    /// Out of memory.
     pub fn new(
         alloc: Global,
         thread_count: u32,
@@ -50,7 +50,7 @@ impl<K: ChunkMaker, L: PoolName> StandardAllocatorPool<K, L> {
     ///
     /// # Errors
     ///
-    /// Memory for the place of a new arena is wanting.
+    /// Memory for the place of a new arena runs out.
     pub fn get<R: Wait>(&self, rt: &R) -> Result<(Allocator<K::Chunks>, Loan<L>), OutOfMemory>
         ensures { IfOk result (λ lent. IsUnused Standard lent.0) }
     {

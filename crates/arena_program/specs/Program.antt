@@ -30,7 +30,7 @@ Args = IntoIter (String Global) Global
 abbrev pub words_of : Args → List (List ℕ)
 words_of args = drop 1 (map string_bytes (into_iter_items args))
 
--- how the program ends where it isn't told its words: memory was wanting, or one is no text
+-- how the program ends where it isn't told its words: memory ran out, or one is no text
 abbrev pub status_without : ErrorKind → Status
 status_without NoMemory = OutOfMemory
 status_without kind = Usage
@@ -55,7 +55,7 @@ pub record Serves {C : Type 0} (help_text version_text : List ℕ) (source : C �
   pub other : words ≢ codes "--help" ∷ [] → words ≢ codes "--version" ∷ []
       → MainEnds source worked words status old new before after
 
--- The words are served, unless they aren't told, or memory is wanting for them.
+-- The words are served, unless they aren't told, or memory runs out for them.
 abbrev pub Answers : {C : Type 0} → List ℕ → List ℕ → (C → Source) → (List Command → Outcome → Type 0) → Result Args Error → Status
     → Outside → Outside → List (ℕ × Starved C) → List (ℕ × Starved C) → Type 0
 Answers help version source worked (Ok args) status old new before after =

@@ -14,8 +14,8 @@ use arena_chunks::ChunkSource;
 use arena_script::Job;
 use script_rules::laws;
 
-/// Where nothing fails, the bytes of an input that tells them determine the status of a run of scripts, unless memory is
-/// wanting.
+/// Where nothing fails, the bytes of an input that tells them determine the status of a run of scripts, unless memory
+/// runs out.
 pub fn one_script_status<C: ChunkSource, J: Job<C>>()
     ensures within { (lender : Lender) (status : Status) (old new : Outside) (before after : List (ℕ × Starved C)) (bytes : List ℕ)
         (read : Result (List (List Command)) ℕ)
@@ -30,7 +30,7 @@ pub fn one_script_status<C: ChunkSource, J: Job<C>>()
     laws::one_reading();
 }
 
-/// A read that failed is told as a read fault, and a write that failed as a write fault, whatever else was wanting.
+/// A read that failed is told as a read fault, and a write that failed as a write fault, whatever else ran out.
 pub fn told_script_faults<C: ChunkSource, J: Job<C>>()
     ensures reads { (lender : Lender) (status : Status) (old new : Outside) (before after : List (ℕ × Starved C))
         → ScriptEnds C.source J.worked lender status old new before after
@@ -40,7 +40,7 @@ pub fn told_script_faults<C: ChunkSource, J: Job<C>>()
         → new.write_faults ≢ old.write_faults → status ≡ Status.WriteFault }
 {}
 
-/// Where nothing fails, an input that isn't too long is linted, unless memory is wanting.
+/// Where nothing fails, an input that isn't too long is linted, unless memory runs out.
 #[tactic(auto, using(crate::proofs::LintStatusLemmas::within, crate::proofs::LintStatusLemmas::over))]
 pub fn one_lint_status<C: ChunkSource>()
     ensures within { (status : Status) (old new : Outside) (before after : List (ℕ × Starved C)) (bytes : List ℕ)

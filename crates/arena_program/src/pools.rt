@@ -22,7 +22,7 @@ use std::thread::Threads;
 ///
 /// # Errors
 ///
-/// Memory for the pool, the workers or their outcomes is wanting.
+/// Memory for the pool, the workers or their outcomes runs out.
 pub fn run_task<R: Threads + Wait + Sync, K: ChunkMaker + Drop + Send, J: Job<K::Chunks> + Sync>(
     rt: &R,
     alloc: Global,

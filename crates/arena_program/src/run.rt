@@ -17,7 +17,7 @@ use std::sync::Wait;
 use std::thread::Threads;
 
 /// Reads all of the input as scripts, runs each as the task says, and writes what they answered. `starved` gains what shows
-/// that scripts were starved, once nothing more can be wanting.
+/// that scripts were starved, once nothing more can run out.
 pub fn run_lines_of_scripts<
     I: Input,
     O: Output,

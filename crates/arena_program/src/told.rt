@@ -104,7 +104,7 @@ fn tell<T: Tells<C> + Drop, C: ChunkSource + Drop>(
     Ok(Told { text, starved })
 }
 
-/// The text of all pieces. `starved` gains what shows that work was starved, once nothing more can be wanting.
+/// The text of all pieces. `starved` gains what shows that work was starved, once nothing more can run out.
 pub fn report<T: Tells<C> + Drop, C: ChunkSource + Drop>(
     alloc: Global,
     all: Vec<T>,

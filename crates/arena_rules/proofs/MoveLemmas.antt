@@ -4,10 +4,9 @@ use Rattle.std.specs.Prelude.{◌==◌, ◌&&◌, nat_le, nat_lt, MatchOption}
 use Rattle.std.proofs.lemmas.Bool.{and_parts, cond_both, ltb-false, cases_lt}
 use Rattle.std.proofs.lemmas.Option.{cond_some}
 use Rattle.arena_rules.specs.Rounding.{up, is_layout, is_power}
-use Rattle.arena_rules.specs.State.{State, is_min_align, IsValid, start_of, cursor_of, with_cursor}
+use Rattle.arena_rules.specs.State.{State, is_min_align, IsValid, start_of, cursor_of, with_cursor, is_place_used}
 use Rattle.arena_rules.specs.Search.{place}
 use Rattle.arena_rules.specs.Moves.{Outcome, Resizing, alloc, shrink, shrink_step, grow, resize, down_to, placed, stays, fails, unasked}
-use Rattle.arena_rules.specs.State.{is_place_used}
 use Rattle.arena_rules.specs.Blocks.{IsNewBlock, IsMovedBlock, IsBlock, LieBeside, padded_size}
 use Rattle.arena_rules.specs.declared.place.Place.{Place}
 use Rattle.arena_rules.proofs.RoundingLemmas.{down_le, down_mod, up_ge, up_mono, sum_multiple, power_multiple, max_power, min_align_power, min_align_positive, layout_power}

@@ -174,7 +174,7 @@ two_chunks_double = (omega arith, (omega arith, tt))
 
 -- ---- What becomes of a block that is given another size
 
--- a block that grows is placed anew only where it has no room to grow in place
+-- a block that grows is placed again only where it has no room to grow in place
 grows_in_place : growing (first_chunk 20406) 20406 10 1 11 1 ≡ Moves 20405
 unfolding is_power_among up down first_chunk
 grows_in_place = refl

@@ -4,11 +4,10 @@ use Rattle.std.specs.Prelude.{◌==◌, ◌&&◌, nat_le, nat_lt}
 use Rattle.std.proofs.lemmas.Bool.{and_parts, cond_both, cases_lt}
 use Rattle.std.proofs.lemmas.Option.{cond_some}
 use Rattle.arena_rules.specs.Rounding.{up, is_power, is_layout}
-use Rattle.arena_rules.specs.State.{State, IsValid, start_of, cursor_of, top_of, with_cursor, used_bytes}
+use Rattle.arena_rules.specs.State.{State, IsValid, start_of, cursor_of, top_of, with_cursor, used_bytes, is_place_used}
 use Rattle.arena_rules.specs.Search.{place}
 use Rattle.arena_rules.specs.Moves.{Outcome, Resizing, alloc, growth, growing, grow, shrink_step, shrinking, shrink, resize, down_to, placed, stays, fails, unasked, dealloc, set_cursor}
 use Rattle.arena_rules.specs.Moves.Resizing.{Stays, Moves, Anew, Refused}
-use Rattle.arena_rules.specs.State.{is_place_used}
 use Rattle.arena_rules.specs.Blocks.{padded_size}
 use Rattle.arena_rules.specs.Used.{taken, unit_of}
 use Rattle.arena_rules.specs.declared.place.Place.{Place}
@@ -38,7 +37,7 @@ pub resize_refused : (state : State) (way : Resizing) (p size align k : ℕ) (ou
 resize_refused state way p size align k outcome is step = let at : unasked k (fails state) ≡ Some outcome = rw is at step in
     sym (ap (λ (o : Outcome). o.state) (cond_some (k == 0) (fails state) outcome at).1)
 
--- a block that is placed anew is an allocation
+-- a block that is placed again is an allocation
 pub resize_anew : (state : State) (way : Resizing) (p size align k : ℕ) → way ≡ Anew
     → resize way state p size align k ≡ alloc state size align k
 resize_anew state way p size align k is = rw is refl

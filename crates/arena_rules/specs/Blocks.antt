@@ -1,9 +1,8 @@
 -- What a block that was just placed, or that shrank or grew, is to the states before and after.
 use Rattle.std.specs.Prelude.{◌≡◌, ℕ, ◌+◌, ◌-◌, ◌%◌, ◌<◌, ◌≤◌, IsTrue, Option}
 use Rattle.arena_rules.specs.Rounding.{up, is_layout}
-use Rattle.arena_rules.specs.State.{State, is_range_used, top_of, AreApart}
+use Rattle.arena_rules.specs.State.{State, is_range_used, top_of, AreApart, is_place_used}
 use Rattle.arena_rules.specs.Moves.{Outcome, Resizing, growing, grow, shrinking, shrink}
-use Rattle.arena_rules.specs.State.{is_place_used}
 use Rattle.arena_rules.specs.declared.place.Place.{Place}
 
 -- the size of a block at p with the addresses up to the next multiple of the least alignment

@@ -50,7 +50,7 @@ dealloc state p size = if p == cursor_of state.chunks then with_cursor (up (p + 
 
 -- ---- A block that is given another size
 
--- What becomes of it: it stays where it is, it and the cursor move to an address, it is placed anew by an allocation, or
+-- What becomes of it: it stays where it is, it and the cursor move to an address, it is placed again by an allocation, or
 -- the call is refused with no request.
 pub data Resizing : Type 0 where
   Stays : Resizing
@@ -68,7 +68,7 @@ down_to (Some q) = Moves q
 down_to None = Anew
 
 -- A block grows in place, downwards, only where it is the last one placed and its alignment doesn't rise, if there is room
--- below it; any other is placed anew. What is more than a layout can be is refused at once.
+-- below it; any other is placed again. What is more than a layout can be is refused at once.
 abbrev pub growing : State → ℕ → ℕ → ℕ → ℕ → ℕ → Resizing
 growing state p size align new_size new_align =
     if nat_le new_align align && p == cursor_of state.chunks
@@ -79,7 +79,7 @@ growing state p size align new_size new_align =
 abbrev pub shrink_step : State → ℕ → ℕ → ℕ → ℕ
 shrink_step state size new_size new_align = down (size - new_size) (max new_align state.min_align)
 
--- A block that shrinks is placed anew only where its address doesn't suit a greater alignment. Else it stays, unless it is
+-- A block that shrinks is placed again only where its address doesn't suit a greater alignment. Else it stays, unless it is
 -- the last one placed and half of it or more can be given back: then it moves up.
 abbrev pub shrinking : State → ℕ → ℕ → ℕ → ℕ → ℕ → Resizing
 shrinking state p size align new_size new_align =
@@ -103,7 +103,7 @@ unfoldable pub grow : State → ℕ → ℕ → ℕ → ℕ → ℕ → ℕ → 
 grow state p size align new_size new_align k =
     resize (growing state p size align new_size new_align) state p new_size new_align k
 
--- the layout that is placed anew by an allocation, if it is
+-- the layout that is placed again by an allocation, if it is
 abbrev pub anew : Resizing → ℕ × ℕ → Option (ℕ × ℕ)
 anew Anew layout = Some layout
 anew Stays layout = None

@@ -20,7 +20,7 @@ one_allocation s = record s { allocations = counted s.allocations 1 }
 abbrev pub one_reallocation : Statistics → Statistics
 one_reallocation s = record s { reallocations = counted s.reallocations 1 }
 
--- A block was placed anew in another's stead: one allocation more, which is taken back unless the count stands at its last
+-- A block was placed again in another's stead: one allocation more, which is taken back unless the count stands at its last
 -- value, and one reallocation more.
 abbrev pub one_move : Statistics → Statistics
 one_move s = record {

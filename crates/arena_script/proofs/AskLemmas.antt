@@ -3,7 +3,7 @@ use Rattle.std.proofs.Common.{◌≡◌, ℕ, ◌*◌, refl, sym, ap, ◌∙◌,
 use Rattle.std.proofs.lemmas.Option.{none-some}
 use Rattle.arena_chunks.specs.Source.{View}
 use Rattle.arena_chunks.specs.Answers.{Answer}
-use Rattle.arena_chunks.specs.Answers.Answer.{Placed, Wanting, Refused}
+use Rattle.arena_chunks.specs.Answers.Answer.{Placed, Exhausted, Refused}
 use Rattle.arena_chunks.specs.BlockCalls.{PlacesBlock}
 use Rattle.arena_store.specs.declared.block.Block.{Block}
 use Rattle.arena_items.specs.Room.{MakesRoom, RoomAnswer}
@@ -35,7 +35,7 @@ block_asked old new size align f (AllocErr k) places = record {
 block_asked old new size align f OutOfMemory places = record {
   start = old;
   between = new;
-  answer = Wanting;
+  answer = Exhausted;
   written = still old;
   places = places;
   then = (refl, refl, refl);
@@ -72,7 +72,7 @@ module _ {X : Type 0} (old new : View) (block : Block) (size align : ℕ) (f : X
   first_asked (GrowsTo more) OutOfMemory made = record {
     start = old;
     between = made.between;
-    answer = Wanting;
+    answer = Exhausted;
     written = still old;
     places = made.took.placed refl;
     then = (
@@ -111,10 +111,10 @@ module _ (old new : View) (blocks : List Block) (e : AllocError) where
         places = places;
         then = (is, refl, same);
       }
-      by Wanting places (is, none, same) = record {
+      by Exhausted places (is, none, same) = record {
         start = takes.start;
         between = takes.between;
-        answer = Wanting;
+        answer = Exhausted;
         written = takes.written;
         places = places;
         then = (is, refl, same);

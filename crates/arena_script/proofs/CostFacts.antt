@@ -9,7 +9,7 @@ use Rattle.arena_rules.proofs.GrownLemmas.{alloc_failed}
 use Rattle.arena_rules.proofs.RoundingLemmas.{layout_power}
 use Rattle.arena_chunks.specs.Source.{View}
 use Rattle.arena_chunks.specs.Answers.{Answer}
-use Rattle.arena_chunks.specs.Answers.Answer.{Placed, Wanting, Refused}
+use Rattle.arena_chunks.specs.Answers.Answer.{Placed, Exhausted, Refused}
 use Rattle.arena_chunks.specs.BlockCalls.{PlacesBlock}
 use Rattle.arena_store.specs.declared.block.Block.{Block}
 use Rattle.arena_chunks.proofs.Layers.{asks_same}
@@ -191,5 +191,5 @@ module _ (old between new : View) (size align : ℕ) (cost before after : ℕ) (
       (record { between = between; took = taken (Refused k) places; places = same })
   block_refused f OutOfMemory places = grown_refused old new nowhere size align 0 f cost before after one nowhere_held small
       (GrowsTo 1) OutOfMemory one_paid (same.state ∙ ap (λ (v : View). v.memory.state) places.1.outcome.same)
-      (record { between = between; took = taken Wanting places; places = same })
+      (record { between = between; took = taken Exhausted places; places = same })
   block_refused f CapacityOverflow places = absurd places

@@ -10,7 +10,7 @@ use Rattle.arena_chunks.specs.Asking.{AsksWithin, IsFull}
 use Rattle.arena_chunks.proofs.Layers.{asks_same}
 use Rattle.arena_hash.specs.Maps.{IsMapIn}
 use Rattle.arena_hash.specs.declared.map.HashMap.{HashMap}
-use Rattle.arena_hash.specs.declared.hasher.FxHasher.{FxHasher}
+use Rattle.hash_ring.specs.declared.hasher.FxHasher.{FxHasher}
 use Rattle.arena_clone.specs.Asks.{AsksFor}
 use Rattle.arena_items.specs.declared.room.AllocError.{AllocError}
 use Rattle.arena_items.specs.declared.room.AllocError.TheVariants.{AllocErr}
@@ -132,9 +132,9 @@ module _ (script : List Command) (start : View) {replies : List ScriptReply} {i 
       kind = stopped_kind c at.more after stops;
     }
 
-    -- Memory was wanting.
-    pub run_wanting : IsRun script start next (came replies OutOfMemory bytes)
-    run_wanting = run_stopped OutOfMemory (λ e. cc) (λ e. absurd (cc)) (λ e. absurd (cc)) (λ other. absurd (other refl))
+    -- Memory ran out.
+    pub run_exhausted : IsRun script start next (came replies OutOfMemory bytes)
+    run_exhausted = run_stopped OutOfMemory (λ e. cc) (λ e. absurd (cc)) (λ e. absurd (cc)) (λ other. absurd (other refl))
         (λ other. absurd (other refl))
 
     refused_then : (k : ℕ) → e ≡ AllocErr k → (ended : Ended) → IsDenied script (came replies ended bytes) start next
@@ -184,6 +184,6 @@ run_unbegun script start unused bytes is = record {
   refused = λ e. absurd (cc);
   asked = λ _ other. absurd (other refl);
   denied = λ _ other. absurd (other refl);
-  stopped = λ other. inl (record { wanting = refl; none = refl; same = refl });
+  stopped = λ other. inl (record { exhausted = refl; none = refl; same = refl });
   kind = record { is_growing = refl; allocated = λ stays. refl };
 }

@@ -18,9 +18,9 @@ use Rattle.arena_hash.specs.Policy.{limit, growth_for}
 use Rattle.arena_items.specs.declared.room.Growth.TheVariants.{Stays}
 use Rattle.arena_hash.specs.Maps.{map_in}
 use Rattle.arena_hash.specs.declared.map.HashMap.{HashMap}
-use Rattle.arena_hash.specs.declared.table.Table.{Table}
+use Rattle.arena_table.specs.declared.table.Table.{Table}
 use Rattle.arena_chunks.specs.Frame.{Frame}
-use Rattle.arena_hash.specs.declared.hasher.FxHasher.{FxHasher}
+use Rattle.hash_ring.specs.declared.hasher.FxHasher.{FxHasher}
 use Rattle.script_rules.specs.Objects.{Entries, get, bind, unbind, AMap, most_pairs}
 use Rattle.script_rules.specs.Effects.{Tells, Gives, binds, number_or_nothing, effect}
 use Rattle.script_rules.specs.declared.commands.Command.TheVariants.{MakeMap, Bind, Find, Unbind}

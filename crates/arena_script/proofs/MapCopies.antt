@@ -11,13 +11,13 @@ use Rattle.arena_hash.specs.Finite.{has, value_of}
 use Rattle.arena_hash.specs.Maps.{IsMapIn, map_in, pairs_in}
 use Rattle.arena_hash.specs.Policy.{IsSlotsFor, slot_size, table_align}
 use Rattle.arena_hash.specs.declared.map.HashMap.{HashMap}
-use Rattle.arena_hash.specs.declared.hasher.FxHasher.{FxHasher}
+use Rattle.hash_ring.specs.declared.hasher.FxHasher.{FxHasher}
 use Rattle.arena_clone.specs.Asks.{AsksFor}
 use Rattle.arena_clone.specs.Copies.{Copies}
 use Rattle.arena_clone.specs.FlatLaws.{none_in_all}
 use Rattle.arena_clone.specs.Kinds.{Kind, plain, row_of, of_some}
 use Rattle.arena_clone.specs.MapKind.{map_of, pair_of, table_ask}
-use Rattle.arena_clone.specs.declared.ids.CloneInSemanticIds.TheVariants.{With}
+use Rattle.arena_exchange.specs.declared.ids.CloneInSemanticIds.TheVariants.{With}
 use Rattle.script_rules.specs.Objects.{Entries, get, AMap}
 use Rattle.script_rules.specs.declared.commands.Command.TheVariants.{CopyTo}
 use Rattle.script_rules.specs.declared.commands.ScriptReply.TheVariants.{Done}
@@ -38,7 +38,7 @@ abbrev Map : Type 0
 Map = HashMap ℕ ℕ FxHasher
 
 abbrev map_kind : Kind Map
-map_kind = map_of pairs Rattle.arena_hash.specs.contracts.hasher.FxHasherDefault.TheImpl.ghosts.is_default plain plain
+map_kind = map_of pairs Rattle.hash_ring.specs.contracts.hasher.FxHasherDefault.TheImpl.ghosts.is_default plain plain
 
 -- numbers are held wherever they are
 plain_all : (m : Memory) (ps : List (ℕ × ℕ)) → (row_of (pair_of (plain {T = ℕ}) (plain {T = ℕ}))).is_held m ps

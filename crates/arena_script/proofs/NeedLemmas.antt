@@ -11,7 +11,7 @@ use Rattle.arena_items.specs.Values.{bytes_of}
 use Rattle.arena_items.proofs.Layers.{length-elements}
 use Rattle.arena_hash.specs.Maps.{IsMapIn}
 use Rattle.arena_hash.specs.declared.map.HashMap.{HashMap}
-use Rattle.arena_hash.specs.declared.hasher.FxHasher.{FxHasher}
+use Rattle.hash_ring.specs.declared.hasher.FxHasher.{FxHasher}
 use Rattle.script_rules.specs.Objects.{Entries, get, are_rising, need, need_of}
 use Rattle.script_rules.proofs.EntryLemmas.{both_true, none_below}
 use Rattle.arena_script.specs.Kinds.{short, pairs}

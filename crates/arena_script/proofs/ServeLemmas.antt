@@ -43,10 +43,10 @@ no_place_within le denied = record {
   none = denied.none;
 }
 
--- What was given costs as much where memory is wanting then.
-costs_wanting : {cost before after : ℕ} {old new : View} → CostsGiven cost before after old new
+-- What was given costs as much where memory runs out then.
+costs_exhausted : {cost before after : ℕ} {old new : View} → CostsGiven cost before after old new
     → CostsRefused cost before after old new OutOfMemory
-costs_wanting costs = record {
+costs_exhausted costs = record {
   takes = costs.takes;
   asks = costs.asks;
   starved = λ growing k no. absurd (cc);
@@ -168,14 +168,14 @@ module _ {command : Command} {things : Things} {old new : View} {name : ℕ} {t 
     kind = kind_stays;
   }
 
-  -- Where memory for the name is wanting, it is a new one.
+  -- Where memory for the name runs out, it is a new one.
   pub given_stops : get things name ≡ None → Stops command old new things OutOfMemory
   given_stops none =
       let costs = costs_all 0 (omega arith) in record {
         fits = λ no. cc;
         taken = or_right (tells_much command) (takes_room command) (gives.taken none);
         costs = subst (λ n. CostsRefused n (credits_of things) 0 old new OutOfMemory) (sym (ap (λ (a : Answer). a.cost) answer_is))
-            (costs_wanting costs);
+            (costs_exhausted costs);
         asked = λ k no. absurd (cc);
         denied = λ k no. absurd (cc);
         kind = kind_stays;
@@ -251,12 +251,12 @@ nothing_stops {command} {things} {old} {new} {e} gives =
       kind = rw gives.same (record { is_growing = refl; allocated = λ stays. refl });
     }
 
--- Where memory was wanting for what was to be told, nothing changed.
+-- Where memory ran out for what was to be told, nothing changed.
 untold_stops : {command : Command} {things : Things} {old : View} → IsTrue (tells_much command) → Stops command old old things OutOfMemory
 untold_stops {command} {things} {old} much = record {
   fits = λ no. cc;
   taken = ap (λ b. b || takes_room command) much;
-  costs = costs_wanting (nothing_given (step command (objects_in old.memory things)).cost (credits_of things) 0 old old (still old)
+  costs = costs_exhausted (nothing_given (step command (objects_in old.memory things)).cost (credits_of things) 0 old old (still old)
       (omega arith));
   asked = λ k no. absurd (cc);
   denied = λ k no. absurd (cc);
@@ -279,4 +279,4 @@ acted_settled command things after old new (LetsGo name) result are acts settles
 pub acted_not : (command : Command) (things : Things) (old new : View) (e : AllocError) → Acts command things old new (Err e)
     → Stops command old new things e
 acted_not command things old new e (inl gives) = nothing_stops gives
-acted_not command things old new e (inr untold) = rw (untold.same, untold.wanting) (untold_stops untold.much)
+acted_not command things old new e (inr untold) = rw (untold.same, untold.exhausted) (untold_stops untold.much)

@@ -7,7 +7,7 @@ use Rattle.arena_rules.specs.Rounding.{is_layout}
 use Rattle.arena_rules.specs.State.{State}
 use Rattle.arena_chunks.specs.Source.{View}
 use Rattle.arena_chunks.specs.Answers.{Answer}
-use Rattle.arena_chunks.specs.Answers.Answer.{Placed, Wanting, Refused}
+use Rattle.arena_chunks.specs.Answers.Answer.{Placed, Exhausted, Refused}
 use Rattle.arena_chunks.specs.BlockCalls.{PlacesBlock}
 use Rattle.arena_store.specs.declared.block.Block.{Block}
 use Rattle.arena_chunks.proofs.Layers.{placed_least}
@@ -63,7 +63,7 @@ module _ (old new : View) (size align : ℕ) (blocks : List Block) (cost : ℕ) 
             bounded paid same b places);
       }
       by (Refused k) places (is, none, same) = absurd (none-some (AllocErr k) is)
-      by Wanting places (is, none, same) = absurd (none-some OutOfMemory is)
+      by Exhausted places (is, none, same) = absurd (none-some OutOfMemory is)
 
   pub not_taken : (e : AllocError) → size + (align - 1) ≤ cost + 0
       → Takes size align old new blocks (Some e) (λ between rest. AsksFor [] between new rest (Some e)) → IsRefused cost 0 old new e
@@ -85,4 +85,4 @@ module _ (old new : View) (size align : ℕ) (blocks : List Block) (cost : ℕ) 
           → Follows a takes.between new blocks (Some e) (λ rest. AsksFor [] takes.between new rest (Some e)) → IsRefused cost 0 old new e
       by (Placed b) places (rest, is, (last, empties, same)) = absurd (none-some e (sym last))
       by (Refused k) places (is, none, same) = refused (AllocErr k) places same is
-      by Wanting places (is, none, same) = refused OutOfMemory places same is
+      by Exhausted places (is, none, same) = refused OutOfMemory places same is

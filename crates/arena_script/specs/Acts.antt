@@ -54,7 +54,7 @@ pub record GivesThing (command : Command) (things : Things) (old new : View) (na
   pub frame : Frame old.memory new.memory (blocks_of (get things name)) (block_of thing ∷ [])
 
 -- A call gives nothing, where the plain machine would give an object at a cost: the arena was asked for the command's block, which
--- the cost and the credit would have paid, and refused it, or memory was wanting. No collection overflows, since the plain machine
+-- the cost and the credit would have paid, and refused it, or memory ran out. No collection overflows, since the plain machine
 -- refuses before.
 pub record GivesNothing (command : Command) (things : Things) (old new : View) (e : AllocError) : Type 0 where
   pub name : ℕ
@@ -69,10 +69,10 @@ pub record GivesNothing (command : Command) (things : Things) (old new : View) (
   pub denied : (k : ℕ) → e ≡ AllocErr k → HasNoPlace (used old + (cost + credit_held (get things name))) new
   pub same : new.memory.state ≡ old.memory.state
 
--- Memory was wanting for what a command was to tell. Nothing changed.
+-- Memory ran out for what a command was to tell. Nothing changed.
 pub record TellsNothing (command : Command) (old new : View) (e : AllocError) : Type 0 where
   pub much : IsTrue (tells_much command)
-  pub wanting : e ≡ OutOfMemory
+  pub exhausted : e ≡ OutOfMemory
   pub same : new ≡ old
 
 -- What a call on a command does.

@@ -32,9 +32,9 @@ pub record Replies (script : List Command) (outcome : Outcome) : Type 0 where
 abbrev pub cost_with_next : List Command → Outcome → ℕ
 cost_with_next script outcome = cost_of_first (length outcome.replies + 1) script
 
--- No command was served, since memory was wanting for the replies. Nothing was used.
+-- No command was served, since memory ran out for the replies. Nothing was used.
 pub record IsUnbegun (old new : View) (outcome : Outcome) : Type 0 where
-  pub wanting : outcome.ended ≡ ended.OutOfMemory
+  pub exhausted : outcome.ended ≡ ended.OutOfMemory
   pub none : outcome.replies ≡ []
   pub same : new ≡ old
 

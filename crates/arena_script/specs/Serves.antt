@@ -42,7 +42,7 @@ pub record Serves (command : Command) (old new : View) (things later : Things) (
   pub kind : KeepsKind old.memory new.memory
 
 -- A command wasn't served: the arena was asked for its block, which the credits and the cost would have paid, and refused it; or memory
--- was wanting, and it is one that takes some.
+-- ran out, and it is one that takes some.
 pub record Stops (command : Command) (old new : View) (things : Things) (e : AllocError) : Type 0 where
   pub fits : e ≢ CapacityOverflow
   pub taken : IsTrue (takes_memory command)
@@ -56,7 +56,7 @@ abbrev pub ServesOrStops : Command → View → View → Things → Things → R
 ServesOrStops command old new things later (Ok reply) = Serves command old new things later reply
 ServesOrStops command old new things later (Err e) = Stops command old new things e
 
--- What was done is noted under names. Memory can be wanting for a name that holds nothing.
+-- What was done is noted under names. Memory can run out for a name that holds nothing.
 abbrev pub Settles : Act → Things → Things → Result ScriptReply AllocError → Type 0
 Settles (Tells reply) old new result = (result ≡ Ok reply) × (new ≡ old)
 Settles (Gives name thing reply) old new (Ok told) = (told ≡ reply) × (new ≡ bind old name thing)

@@ -17,7 +17,7 @@ use Rattle.arena_bits.specs.declared.set.BitSet.{BitSet}
 use Rattle.arena_hash.specs.Maps.{IsMapIn, map_in, footprint}
 use Rattle.arena_hash.specs.Finite.{Finite, value_of}
 use Rattle.arena_hash.specs.declared.map.HashMap.{HashMap}
-use Rattle.arena_hash.specs.declared.hasher.FxHasher.{FxHasher}
+use Rattle.hash_ring.specs.declared.hasher.FxHasher.{FxHasher}
 use Rattle.arena_hash.specs.Accounts as accounts
 use Rattle.script_rules.specs.Objects.{Entries, get, Bits, bits_end, Object, Objects, AList, AText, ASet, AMap, AValue, are_rising, AreObjects}
 use Rattle.arena_script.specs.Kinds.{short, long, pairs}

@@ -1,4 +1,4 @@
--- Which commands take memory, so that it can be wanting.
+-- Which commands take memory, so that it can run out.
 use Rattle.std.specs.Prelude.{Bool, true, false, ◌||◌}
 use Rattle.script_rules.specs.declared.commands.Command.{Command}
 use Rattle.script_rules.specs.declared.commands.Command.TheVariants.{MakeList, MakeText, MakeBits, MakeMap, MakeValue, Push, Insert, Byte, Front, Append, Ones, Bind, Show, CopyTo}

@@ -40,7 +40,7 @@ pub(crate) fn make_bits<C: ChunkSource>(
     requires { AreThings a.old.memory things.now }
     ensures { Acts (Command.MakeBits name capacity) things.now a.old a.new result }
 {
-    let _ = a.min_align();
+    a.known();
     if things.get(name).is_some() {
         return Ok(Act::Tells(ScriptReply::NameTaken));
     }
@@ -154,7 +154,7 @@ pub(crate) fn union<C: ChunkSource>(
 fn numbers_of<C: ChunkSource>(alloc: Global, a: &Allocator<C>, set: BitSet) -> Grown<Numbers>
     requires { IsSetIn a.now.memory set }
     ensures numbers { IfOk result (λ n. n ≡ members (bits_in a.now.memory set) 0 set.capacity) }
-    ensures wanting { IfErr result (λ e. e ≡ AllocError.OutOfMemory) }
+    ensures exhausted { IfErr result (λ e. e ≡ AllocError.OutOfMemory) }
 {
     match set.ones(a).collect(alloc) {
         Ok(items) => Ok(Numbers::from_vec(items)),
@@ -189,7 +189,7 @@ pub(crate) fn printed_of<C: ChunkSource>(
     requires { IsSetIn a.now.memory set }
     ensures text { let bits = bits_below (bits_end set.capacity) (bits_in a.now.memory set) in
         IfOk result (λ text. text ≡ printed (words_for set.capacity) (has bits)) }
-    ensures wanting { IfErr result (λ e. e ≡ AllocError.OutOfMemory) }
+    ensures exhausted { IfErr result (λ e. e ≡ AllocError.OutOfMemory) }
 {
     limit_law();
     match set.display(alloc, a) {
@@ -226,7 +226,7 @@ pub(crate) fn copied<C: ChunkSource>(
     requires none { get things.now other ≡ None }
     ensures { Acts (Command.CopyTo name other) things.now a.old a.new result }
 {
-    let _ = a.min_align();
+    a.known();
     let copy = copy_of(a, set)?;
     Ok(Act::Gives {
         name: other,

@@ -52,7 +52,7 @@ pub(crate) fn push<C: ChunkSource>(
     growth_rule();
     growth_costs();
     // So the least alignment is known to be 1.
-    let _ = a.min_align();
+    a.known();
     let mut list = match list_of(things, name) {
         Ok(list) => list,
         Err(reply) => return Ok(Act::Tells(reply)),
@@ -81,7 +81,7 @@ pub(crate) fn insert<C: ChunkSource>(
 {
     growth_rule();
     growth_costs();
-    let _ = a.min_align();
+    a.known();
     let mut list = match list_of(things, name) {
         Ok(list) => list,
         Err(reply) => return Ok(Act::Tells(reply)),
@@ -218,7 +218,7 @@ pub(crate) fn numbers_of<C: ChunkSource>(
 ) -> Grown<Numbers>
     requires { IsVecIn short a.now.memory list }
     ensures numbers { IfOk result (λ n. n ≡ vec_list short a.now.memory list) }
-    ensures wanting { IfErr result (λ e. e ≡ AllocError.OutOfMemory) }
+    ensures exhausted { IfErr result (λ e. e ≡ AllocError.OutOfMemory) }
 {
     let mut numbers = std::vec::Vec::new(alloc);
     for item in list.into_iter(a) {
@@ -245,7 +245,7 @@ pub(crate) fn copied<C: ChunkSource>(
     ensures { Acts (Command.CopyTo name other) things.now a.old a.new result }
 {
     growth_rule();
-    let _ = a.min_align();
+    a.known();
     let mut source = list;
     let copy = source.split_off(a, 0)?;
     Ok(Act::Gives {

@@ -97,7 +97,7 @@ pub(crate) fn bind<C: ChunkSource>(
     requires { AreThings a.old.memory things.now }
     ensures { Acts (Command.Bind name key value) things.now a.old a.new result }
 {
-    let _ = a.min_align();
+    a.known();
     let mut map = match map_of(things, name) {
         Ok(map) => map,
         Err(reply) => return Ok(Act::Tells(reply)),
@@ -129,7 +129,7 @@ pub(crate) fn copied<C: ChunkSource>(
 {
     bytes_law::<u32, u32, FxHasher>();
     lengths_law::<u32, u32, FxHasher>();
-    let _ = a.min_align();
+    a.known();
     let copy = map.clone_within(CloneInSemanticIds::With, a)?;
     Ok(Act::Gives {
         name: other,
@@ -146,7 +146,7 @@ pub(crate) fn numbers_of<C: ChunkSource>(
 ) -> Grown<Numbers>
     requires { IsPairsIn a.now.memory map }
     ensures numbers { IfOk result (λ all. all ≡ flat_map (λ e. e.0 ∷ e.1 ∷ []) (pairs_of (map_in pairs a.now.memory map))) }
-    ensures wanting { IfErr result (λ e. e ≡ AllocError.OutOfMemory) }
+    ensures exhausted { IfErr result (λ e. e ≡ AllocError.OutOfMemory) }
 {
     by_keys(alloc, a, map)?.listed(alloc)
 }

@@ -58,7 +58,7 @@ fn serve_all<C: ChunkSource>(
 /// - `Done`: to the end. The arena uses at least what the last objects need, and at most what the script costs.
 /// - `Full`: the arena doesn't grow, and has fewer bytes than the commands up to the next one cost.
 /// - `Refused`: the arena grows, and was starved with that cost as its bound.
-/// - `OutOfMemory`: memory was wanting beside the arena's chunks. No command that takes none ends so; where there is none for
+/// - `OutOfMemory`: memory ran out beside the arena's chunks. No command that takes none ends so; where there is none for
 ///   the replies, no command is served.
 ///
 /// In an arena that is reset another script can be run.

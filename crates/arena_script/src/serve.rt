@@ -32,7 +32,7 @@ fn settle(things: &mut Names<Thing>, act: Act) -> Result<ScriptReply, AllocError
 ///
 /// # Errors
 ///
-/// The arena refused a block, or memory is wanting.
+/// The arena refused a block, or memory runs out.
 pub(crate) fn serve<C: ChunkSource>(
     alloc: Global,
     a: &mut Allocator<C>,

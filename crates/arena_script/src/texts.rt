@@ -65,7 +65,7 @@ pub(crate) fn append<C: ChunkSource>(
 {
     length_rule();
     growth_rule();
-    let _ = a.min_align();
+    a.known();
     let mut text = match text_of(things, name) {
         Ok(text) => text,
         Err(reply) => return Ok(Act::Tells(reply)),
@@ -109,7 +109,7 @@ pub(crate) fn front<C: ChunkSource>(
 {
     length_rule();
     growth_rule();
-    let _ = a.min_align();
+    a.known();
     let mut text = match text_of(things, name) {
         Ok(text) => text,
         Err(reply) => return Ok(Act::Tells(reply)),
@@ -136,7 +136,7 @@ pub(crate) fn bytes_of<C: ChunkSource>(
 ) -> Grown<Bytes>
     requires { IsBuilderIn a.now.memory text }
     ensures bytes { IfOk result (λ bytes. bytes ≡ builder_bytes a.now.memory text) }
-    ensures wanting { IfErr result (λ e. e ≡ AllocError.OutOfMemory) }
+    ensures exhausted { IfErr result (λ e. e ≡ AllocError.OutOfMemory) }
 {
     match Bytes::of(alloc, text.as_bytes(a)) {
         Ok(bytes) => Ok(bytes),
@@ -159,7 +159,7 @@ pub(crate) fn copied<C: ChunkSource>(
     ensures { Acts (Command.CopyTo name other) things.now a.old a.new result }
 {
     length_rule();
-    let _ = a.min_align();
+    a.known();
     let source = text.into_str();
     let copy = source.clone_within(CloneInSemanticIds::With, a)?;
     Ok(Act::Gives {

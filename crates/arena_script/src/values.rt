@@ -24,7 +24,7 @@ pub(crate) fn make_value<C: ChunkSource>(
     requires { AreThings a.old.memory things.now }
     ensures { Acts (Command.MakeValue name value) things.now a.old a.new result }
 {
-    let _ = a.min_align();
+    a.known();
     if things.get(name).is_some() {
         return Ok(Act::Tells(ScriptReply::NameTaken));
     }
@@ -84,7 +84,7 @@ pub(crate) fn copied<C: ChunkSource>(
     requires none { get things.now other ≡ None }
     ensures { Acts (Command.CopyTo name other) things.now a.old a.new result }
 {
-    let _ = a.min_align();
+    a.known();
     let content = value.get(a);
     let made: Grown<Box<u64>> = Box::from_in(content, a);
     let copy = made?;

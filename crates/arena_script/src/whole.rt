@@ -49,7 +49,7 @@ pub(crate) fn len<C: ChunkSource>(_a: &Allocator<C>, things: &Names<Thing>, name
 fn shown<C: ChunkSource>(alloc: Global, a: &Allocator<C>, thing: Thing) -> Grown<ScriptReply>
     requires { IsThingIn a.now.memory thing }
     ensures told { IfOk result (λ reply. reply ≡ effects.shown (object_in a.now.memory thing)) }
-    ensures wanting { IfErr result (λ e. e ≡ AllocError.OutOfMemory) }
+    ensures exhausted { IfErr result (λ e. e ≡ AllocError.OutOfMemory) }
 {
     Ok(match thing {
         Thing::List(list) => ScriptReply::Numbers(lists::numbers_of(alloc, a, list)?),

@@ -33,7 +33,7 @@ impl Block {
 pub enum ArenaErr {
     /// There is no place for the block: all requests for a chunk, so many, were refused.
     AllocErr { refused: u32 },
-    /// Memory for the table of chunks is wanting. The source wasn't asked.
+    /// Memory for the table of chunks runs out. The source wasn't asked.
     OutOfMemory,
 }
 

@@ -24,12 +24,16 @@ const LEAST_STEP: usize = 4096;
 
 const LARGEST_STEP: usize = 16384;
 
-// The bytes of a chunk stand from its base on; those from the cursor on are used, and are ready. What begins at 16 stands for
-// no chunk: no chunk does, since the lowest base is 4096, and a cursor there has room for nothing.
+/// A chunk with its bytes, which stand from its base on. Those from the cursor on are used, and are ready.
+// What begins at 16 stands for no chunk: no chunk does, since the lowest base is 4096, and a cursor there has room for
+// nothing.
 #[derive(Drop)]
 pub struct StoredChunk {
+    /// Its lowest address.
     pub base: u64,
+    /// The lowest address in use.
     pub cursor: u64,
+    /// Its bytes, upwards from the base.
     pub bytes: Region,
 }
 
@@ -63,6 +67,7 @@ impl StoredChunk {
         }
     }
 
+    /// How many bytes it has.
     pub fn size(&self) -> u64
         ensures { result ≡ length self.now.bytes.items }
     {

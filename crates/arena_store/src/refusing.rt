@@ -10,7 +10,7 @@ use arena_region::Region;
 use std::alloc::Global;
 
 /// Chunks from memory, but for the requests whose numbers, from 1, are listed: these it refuses. It tells its
-/// requests. One that it can't note for want of memory it refuses, and from then on it tells none.
+/// requests. One that it can't note for lack of memory it refuses, and from then on it tells none.
 #[derive(Drop)]
 pub struct RefusingChunks {
     alloc: Global,

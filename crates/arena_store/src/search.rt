@@ -25,10 +25,14 @@ pub fn possible_size(base: u64, tried: u64, layout: Layout) -> Option<u64>
     }
 }
 
+/// What the source gave for one possible chunk after another.
 #[derive(Drop)]
 pub struct Granted {
+    /// The base of the chunk, if one was granted.
     pub base: u64,
+    /// The first chunk that was granted. None where all requests were refused.
     pub chunk: Option<Region>,
+    /// How many requests were refused.
     pub refused: u32,
 }
 

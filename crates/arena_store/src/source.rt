@@ -32,10 +32,8 @@ pub trait ChunkSource {
         ensures bounded { IfNone result ((source self.new).refusals < 2 ^ 64) }
         ensures told { TellsRequests (source self.old).asked (source self.new).asked ((size, align) ∷ []) }
     {
-        match self.request(size, align) {
-            Some(chunk) => Some(Region::from_vec(chunk)),
-            None => None,
-        }
+        let chunk = self.request(size, align)?;
+        Some(Region::from_vec(chunk))
     }
 }
 

@@ -275,6 +275,7 @@ impl Table {
         used
     }
 
+    /// How many bytes the older chunks have together.
     pub fn size(&self) -> u64
         requires { sum_by (λ c. length c.bytes.items) self.now.items < 2 ^ 64 }
         ensures { result ≡ sum_by (λ c. length c.bytes.items) self.now.items }

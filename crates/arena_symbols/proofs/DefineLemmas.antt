@@ -1,32 +1,38 @@
 -- What `define` does, in each of its ways.
-use Rattle.std.proofs.Common.{◌≡◌, ℕ, ◌+◌, ◌*◌, ◌^◌, ◌<◌, ◌≤◌, List, [], ◌∷◌, length, reverse, refl, sym, ap, ◌∙◌, arith, Some, Option, Ok, Err, Bool, true, false, cond}
-use Rattle.std.specs.Prelude.{Result, OnOk, OnErr, if◌then◌else◌}
+use Rattle.std.proofs.Common.{◌≡◌, ℕ, ◌+◌, ◌*◌, ◌^◌, ◌<◌, ◌≤◌, List, [], ◌∷◌, length, reverse, refl, sym, ap, subst, ◌∙◌, arith, Some, None, Option, Ok, Err, Bool, true, false, cond}
+use Rattle.std.specs.Prelude.{Result, OnOk, OnErr, is_some, if◌then◌else◌}
 use Rattle.std.specs.Int.{w32, to_le_bytes}
 use Rattle.std.proofs.lemmas.List.{length-map, length-reverse}
 use Rattle.arena_chunks.specs.Source.{View}
 use Rattle.arena_chunks.specs.Frame.{ArePairwiseApart}
 use Rattle.arena_chunks.proofs.Layers.{all_apart, pairwise_both, blocks_turned, apart_empty, frame_reflexive, frame_beside}
+use Rattle.arena_items.specs.Denied.{IsDenied}
 use Rattle.arena_items.specs.declared.item.Item.{Ghosts}
 use Rattle.arena_items.specs.declared.room.AllocError.{AllocError}
-use Rattle.arena_items.specs.declared.room.AllocError.TheVariants.{CapacityOverflow}
-use Rattle.arena_hash.specs.Finite.{Finite, value_of}
+use Rattle.arena_items.specs.declared.room.AllocError.TheVariants.{AllocErr, CapacityOverflow}
+use Rattle.arena_hash.specs.Finite.{Finite, has, value_of}
 use Rattle.arena_hash.specs.Maps.{map_in}
-use Rattle.arena_hash.specs.declared.hasher.FxHasher.{FxHasher}
+use Rattle.hash_ring.specs.declared.hasher.FxHasher.{FxHasher}
 use Rattle.arena_hash.specs.declared.map.HashMap.{HashMap}
 use Rattle.arena_vec.specs.Credit.{credit_of as list_credit}
 use Rattle.arena_vec.specs.declared.vec.Vec.{Vec}
+use Rattle.arena_symbols.specs.Asks.{OneMore}
 use Rattle.arena_symbols.specs.Listing.{CanList, Lists, place_item}
 use Rattle.arena_symbols.specs.Paying.{Pays, far_up}
-use Rattle.arena_symbols.specs.Scoping.{is_in_last, with_pair, scopes_of, stands_from, most_pairs}
-use Rattle.arena_symbols.specs.TableCalls.{Defines}
+use Rattle.arena_symbols.specs.Scoping.{lookup, is_in_last, with_pair, scopes_of, stands_from, most_pairs}
+use Rattle.arena_symbols.specs.TableCalls.{IsPairDenied, Defines}
 use Rattle.arena_symbols.specs.TableLaws.{table_of}
 use Rattle.arena_symbols.specs.Tables.{Entry, id_kind, pairs_of, newest, first_count, entries_in, recent_in, starts_in, scopes_in, table_blocks, IsTableOf, IsTableIn, table_credit}
 use Rattle.arena_symbols.specs.declared.scopes.Scopes.{Scopes}
 use Rattle.arena_symbols.proofs.BesideLemmas.{VecStays, plain_apart, vec_beside}
 use Rattle.arena_symbols.proofs.InternLemmas.{value_if}
-use Rattle.arena_symbols.proofs.PayLemmas.{told, pays_nothing, pays_more, pays_told}
+use Rattle.arena_symbols.proofs.PayLemmas.{told, told_err, pays_nothing, pays_more, pays_told}
 use Rattle.arena_symbols.proofs.ScopeLemmas.{reverse_push, pairs_push, scopes_push, less_starts, start_within, first_most, ids_equal}
-use Rattle.arena_symbols.proofs.TableLemmas.{length_recent, counted_pairs, newest_is, in_last_is}
+use Rattle.arena_symbols.proofs.TableLemmas.{length_recent, counted_pairs, newest_is, looked_is, in_last_is}
+
+some_value : {K V : Type 0} (o : Option (K × V)) → is_some (value_of o) ≡ is_some o
+some_value None = refl
+some_value (Some p) = refl
 
 module _ {item : Ghosts Entry} (old : View) (s : Scopes) (id value : ℕ) (held : IsTableIn item old.memory s) where
   abbrev scopes : List (List (ℕ × ℕ))
@@ -65,6 +71,10 @@ module _ {item : Ghosts Entry} (old : View) (s : Scopes) (id value : ℕ) (held 
 
       abbrev Puts : Result ℕ AllocError → Type 0
       Puts result = Lists item id_kind old new s.newest s.pairs id (id, (value, hid)) n v result
+
+      -- whether some map has the id, as the table's own map tells
+      is_there : has (map_in id_kind old.memory s.newest) (to_le_bytes w32 id) ≡ is_some (lookup scopes id)
+      is_there = sym (looked_is held id _ fits refl ∙ some_value (map_in id_kind old.memory s.newest (to_le_bytes w32 id)))
 
       module _ {result : Result ℕ AllocError} (lists : Puts result) where
         -- The list of starts is as it was, and the three blocks lie apart.
@@ -121,4 +131,6 @@ module _ {item : Ghosts Entry} (old : View) (s : Scopes) (id value : ℕ) (held 
           (pays_more (list_credit 4 s.starts.raw.len s.starts.raw.cap) (omega arith) (omega arith) (omega arith) (omega arith)
           (rw size.0 at lists.pays)) in
           let frame = frame_beside old.memory new.memory _ _ (s.starts.raw.block ∷ []) lists.frame in
-          grind (arith, in_last stands, after result lists, lists.fits, few, counted_pairs item old.memory s, pays, frame)
+          let denied : (k : ℕ) → told (λ _. true) result ≡ Err (AllocErr k) → IsPairDenied item old new s now id = λ k is.
+          subst (λ (b : Bool). IsDenied (OneMore item id_kind b v n) new) is_there (lists.denied k (told_err (λ _. true) result is)) in
+          grind (arith, in_last stands, after result lists, lists.fits, few, counted_pairs item old.memory s, denied, pays, frame)

@@ -1,5 +1,5 @@
 -- What `intern` does, in each of its ways.
-use Rattle.std.proofs.Common.{◌≡◌, ℕ, ◌+◌, ◌^◌, ◌<◌, ◌≤◌, List, [], ◌∷◌, ◌++◌, length, refl, sym, ap, ◌∙◌, arith, Some, None, Ok, Err, append-nil}
+use Rattle.std.proofs.Common.{◌≡◌, ℕ, ◌+◌, ◌^◌, ◌<◌, ◌≤◌, List, [], ◌∷◌, ◌++◌, length, refl, sym, ap, ◌∙◌, arith, inl, inr, Bool, false, Some, None, Ok, Err, append-nil}
 use Rattle.std.specs.Prelude.{Result, ◌↔◌}
 use Rattle.std.proofs.lemmas.Slice.Eq.{bytes_eq-Decides}
 use Rattle.arena_chunks.specs.Memory.{Memory}
@@ -13,17 +13,21 @@ use Rattle.arena_chunks.proofs.Layers.{blocks_turned, all_from_none, frame_refle
 use Rattle.arena_items.specs.Room.{RoomAnswer}
 use Rattle.arena_items.specs.Values.{bytes_of}
 use Rattle.arena_items.specs.declared.room.AllocError.{AllocError}
-use Rattle.arena_items.specs.declared.room.AllocError.TheVariants.{CapacityOverflow}
-use Rattle.arena_hash.specs.Maps.{IsMapIn}
-use Rattle.arena_hash.specs.declared.hasher.FxHasher.{FxHasher}
+use Rattle.arena_items.specs.declared.room.AllocError.TheVariants.{AllocErr, CapacityOverflow}
+use Rattle.arena_hash.specs.Contents.{content_in}
+use Rattle.arena_hash.specs.Finite.{has}
+use Rattle.arena_hash.specs.Maps.{IsMapIn, map_in}
+use Rattle.hash_ring.specs.declared.hasher.FxHasher.{FxHasher}
 use Rattle.arena_hash.specs.declared.map.HashMap.{HashMap}
 use Rattle.arena_vec.specs.declared.vec.Vec.{Vec}
+use Rattle.arena_symbols.specs.Asks.{OneMore}
 use Rattle.arena_symbols.specs.Interner.{number_of, most_texts}
-use Rattle.arena_symbols.specs.Interning.{KeepsTexts, Interns}
+use Rattle.arena_symbols.specs.Interning.{KeepsTexts, IsTextDenied, Interns}
 use Rattle.arena_symbols.specs.Listing.{CanList, Lists}
 use Rattle.arena_symbols.specs.Names.{name_kind, blocks_of, contents_of, texts_in, names_in, own_blocks, names_footprint, names_credit, IsInternerIn}
 use Rattle.arena_symbols.specs.Paying.{Pays, far_up}
 use Rattle.arena_symbols.specs.declared.symbols.Symbols.{Symbols}
+use Rattle.arena_symbols.proofs.DeniedLemmas.{err_same, block_denied, denied_more, new_key}
 use Rattle.arena_symbols.proofs.InternLemmas.{AreTexts, IsNewText, InternerStays, interner_beside, length_names, blocks_push, can_append, appended, not_appended}
 use Rattle.arena_symbols.proofs.NumberLemmas.{number_push}
 use Rattle.arena_symbols.proofs.PayLemmas.{pays_nothing, pays_as, pays_more, pays_then, pays_text}
@@ -47,18 +51,22 @@ module _ (old : View) (s : Symbols) (text : List ℕ) (held : IsInternerIn old.m
   interns_not : (new : View) (u : Symbols) (e : AllocError) → number_of names text ≡ None → IsInternerIn new.memory u
       → texts_in new.memory u ≡ list → names_in new.memory u ≡ names
       → ◌≡◌ {A = Result ℕ AllocError} (Err e) (Err CapacityOverflow) ↔ (most_texts ≤ length names)
+      → ((k : ℕ) → e ≡ AllocErr k → IsTextDenied old new u text)
       → Pays {X = ℕ} far_up (1024 + length text) (names_credit s) (names_credit u) old new (Err e)
       → Frame old.memory new.memory (own_blocks s) (own_blocks u) → Interns old new s u text (Err e)
-  interns_not new u e none still same kept full pays frame =
+  interns_not new u e none still same kept full denied pays frame =
+      let denied : (k : ℕ) → (◌≡◌ {A = Result ℕ AllocError} (Err e) (Err (AllocErr k))) → IsTextDenied old new u text =
+      λ k is. denied k (err_same is) in
       let texts : (more : List Block) × KeepsTexts old new s u more =
       ([], record { blocks = ap blocks_of same ∙ sym (append-nil (blocks_of list)); frame = frame }) in
-      grind (arith, none, still, kept, full, pays, texts)
+      grind (arith, none, still, kept, full, denied, pays, texts)
 
   -- There are as many as there may be.
   pub interns_full : number_of names text ≡ None → most_texts ≤ s.texts.raw.len → Interns old old s s text (Err CapacityOverflow)
   interns_full none full =
       let pays = pays_nothing {X = ℕ} far_up (1024 + length text) (names_credit s) old (Err CapacityOverflow) (λ k no. cc) in
-      interns_not old s CapacityOverflow none held refl refl (grind (arith, full, length_names old.memory s)) pays (frame_reflexive _ _)
+      interns_not old s CapacityOverflow none held refl refl (grind (arith, full, length_names old.memory s)) (λ k no. absurd (cc)) pays
+      (frame_reflexive _ _)
 
   module _ (none : number_of names text ≡ None) (few : s.texts.raw.len < most_texts) (one : old.memory.state.min_align ≡ 1)
       (short : length text < 2 ^ 32) where
@@ -75,6 +83,10 @@ module _ (old : View) (s : Symbols) (text : List ℕ) (held : IsInternerIn old.m
     interns_unplaced new e places =
         let same : new.memory ≡ old.memory = grind (arith, places) in
         interns_not new s e none (rw same held) (cc) (cc) (grind (arith, places, few, length_names old.memory s))
+        (λ k is. inl (
+          block_denied old new new (length text) 1 k (rw is at places) (record { state = refl; statistics = refl; source = refl }),
+          same,
+        ))
         (pays_as 0 (λ d is. cc) (omega arith) (omega arith) (omega arith) (omega arith) (pays_place new (Err e) places))
         (rw same (frame_reflexive _ _))
 
@@ -109,6 +121,11 @@ module _ (old : View) (s : Symbols) (text : List ℕ) (held : IsInternerIn old.m
             pays_more {few = length text + 839} 0 (omega arith) (omega arith) (omega arith) (omega arith) (pays_then t
             places.1.outcome.frame.is_growing places.1.outcome.frame.allocated lists.pays.refused (pays_place mid (Ok t) places) lists.pays)
 
+        one_more : (is_there : Bool) (size align : ℕ) → OneMore name_kind.keys name_kind is_there v n size align
+            → OneMore name_kind.keys name_kind false v n size align
+        one_more is_there size align (inl long) = inl long
+        one_more is_there size align (inr larger) = inr (new_key _ _ n.table.slots n.len is_there size align larger)
+
         -- and then it is put at the end, or not.
         pub interns_placed : (result : Result ℕ AllocError)
             → ((memory : Memory) (m : HashMap Str ℕ FxHasher) → IsMapIn name_kind memory m → AreTexts memory m)
@@ -129,6 +146,8 @@ module _ (old : View) (s : Symbols) (text : List ℕ) (held : IsInternerIn old.m
             let are = not_appended mid new n v stays.held fresh lists in
             interns_not new now e none are.0 (lists.kept.1 ∙ stays.texts)
             (ap (contents_of new.memory) lists.kept.1 ∙ are.1 ∙ stays.names)
-            (grind (arith, lists.fits, few, length_names old.memory s)) (pays_all (Err e) lists)
+            (grind (arith, lists.fits, few, length_names old.memory s)) (λ k is. inr (denied_more
+            (one_more (has (map_in name_kind mid.memory s.numbers) (content_in name_kind.key mid.memory t))) (lists.denied k (ap Err is))))
+            (pays_all (Err e) lists)
             (frame_weaken _ _ (own_blocks s) (own_blocks s) (own_blocks now ++ t.block ∷ []) (own_blocks now)
             (λ addr n some apart. apart) (λ addr n some apart after. (after.0, (after.1.0, tt))) (framed lists.frame))

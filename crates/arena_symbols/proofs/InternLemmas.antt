@@ -18,7 +18,7 @@ use Rattle.arena_items.proofs.Layers.{length-elements, stays_readable, stays_agr
 use Rattle.arena_items.specs.declared.room.AllocError.{AllocError}
 use Rattle.arena_hash.specs.Finite.{Finite, value_of, with_pair}
 use Rattle.arena_hash.specs.Maps.{map_in, texts_in as map_texts}
-use Rattle.arena_hash.specs.declared.hasher.FxHasher.{FxHasher}
+use Rattle.hash_ring.specs.declared.hasher.FxHasher.{FxHasher}
 use Rattle.arena_hash.specs.declared.map.HashMap.{HashMap}
 use Rattle.arena_vec.specs.declared.vec.Vec.{Vec}
 use Rattle.arena_symbols.specs.Interner.{number_of, most_texts}

@@ -1,5 +1,6 @@
 pub mod NumberLemmas
 pub mod BesideLemmas
+pub mod DeniedLemmas
 pub mod PayLemmas
 pub mod ListingLemmas
 pub mod InternLemmas
@@ -7,6 +8,7 @@ pub mod InternCalls
 pub mod ScopeLemmas
 pub mod TableLemmas
 pub mod TableCallLemmas
+pub mod AskLemmas
 pub mod DefineLemmas
 pub mod UndoLemmas
 pub mod LeaveLemmas

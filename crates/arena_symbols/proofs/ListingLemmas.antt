@@ -1,5 +1,5 @@
 -- A value at a list's end, and its place in a map.
-use Rattle.std.proofs.Common.{◌≡◌, ℕ, ◌+◌, ◌*◌, ◌^◌, ◌<◌, ◌≤◌, List, [], ◌∷◌, ◌++◌, length, take, refl, sym, ap, subst, ◌∙◌, arith, Option, Ok, Err, length-append}
+use Rattle.std.proofs.Common.{◌≡◌, ℕ, ◌+◌, ◌*◌, ◌^◌, ◌<◌, ◌≤◌, List, [], ◌∷◌, ◌++◌, length, take, refl, sym, ap, subst, ◌∙◌, arith, inl, inr, Bool, Option, Ok, Err, length-append}
 use Rattle.std.specs.Prelude.{Result, OnErr, if◌then◌else◌}
 use Rattle.std.proofs.lemmas.List.{length-take, take_at}
 use Rattle.std.proofs.Math.Nat.{mul-le-mul_left}
@@ -9,10 +9,11 @@ use Rattle.arena_chunks.specs.Frame.{AreBlocksApart, Frame, Stays}
 use Rattle.arena_store.specs.declared.block.Block.{Block}
 use Rattle.arena_chunks.proofs.Layers.{blocks_turned, frame_behind, frame_both, frame_keeps}
 use Rattle.arena_items.specs.Costs.{Costs, farthest}
+use Rattle.arena_items.specs.Denied.{IsDenied}
 use Rattle.arena_items.specs.Layout.{IsItemLayout}
 use Rattle.arena_items.specs.declared.item.Item.{Ghosts}
 use Rattle.arena_items.specs.declared.room.AllocError.{AllocError}
-use Rattle.arena_items.specs.declared.room.AllocError.TheVariants.{CapacityOverflow}
+use Rattle.arena_items.specs.declared.room.AllocError.TheVariants.{AllocErr, CapacityOverflow}
 use Rattle.arena_items.proofs.Layers.{length-elements}
 use Rattle.arena_vec.specs.Changes.{Grows, Becomes}
 use Rattle.arena_vec.specs.Credit.{credit_of as list_credit}
@@ -23,15 +24,17 @@ use Rattle.arena_hash.specs.Accounts.{unit_of, credit_of}
 use Rattle.arena_hash.specs.Changes.{Puts, is_value}
 use Rattle.arena_hash.specs.Contents.{Kind, content_in}
 use Rattle.arena_hash.specs.Finite.{has, with_pair}
-use Rattle.arena_hash.specs.Maps.{IsLookIn, StaysMap}
-use Rattle.arena_hash.specs.declared.hasher.FxHasher.{FxHasher}
+use Rattle.arena_hash.specs.Maps.{IsLookIn, StaysMap, map_in}
+use Rattle.hash_ring.specs.declared.hasher.FxHasher.{FxHasher}
 use Rattle.arena_hash.proofs.Layers.{map_stays}
 use Rattle.arena_hash.specs.declared.map.HashMap.{HashMap}
 use Rattle.arena_hash.specs.declared.map.Look.{Look}
+use Rattle.arena_symbols.specs.Asks.{LongerList, LargerMap, OneMore}
 use Rattle.arena_symbols.specs.Listing.{CanList, Lists}
 use Rattle.arena_symbols.specs.Paying.{Pays, far_up}
 use Rattle.arena_symbols.proofs.BesideLemmas.{vec_beside}
-use Rattle.arena_symbols.proofs.PayLemmas.{Paid, pays_as, pays_more, pays_told, pays_then, pays_push, pays_insert, insert_fits, credit_less}
+use Rattle.arena_symbols.proofs.DeniedLemmas.{err_same, denied_more}
+use Rattle.arena_symbols.proofs.PayLemmas.{Paid, pays_as, pays_more, pays_told, pays_then, pays_push, denied_push, pays_insert, denied_insert, insert_fits, credit_less}
 
 -- so many values, and their bytes, fit 32 bits
 pub fits_both : (n size : ℕ) → 4 ≤ size → n * (2 * size) ≤ 2 ^ 32 → (n < 2 ^ 32) × (n * size < 2 ^ 32)
@@ -70,6 +73,10 @@ module _ {K T : Type 0} (paid : Paid) {item : Ghosts T} (plain : IsItemLayout it
   pays_list result fits grows =
       pays_push paid item plain can.some can.small can.low old mid v w (list ++ value ∷ []) one can.list can.few many result fits grows
 
+  unplaced : (j : ℕ) → Pushes (Err (AllocErr j)) → IsDenied (LongerList item w) mid
+  unplaced j grows =
+      denied_push paid item plain can.some can.small can.low old mid v w (list ++ value ∷ []) one can.list can.few many j grows
+
   -- The push is refused.
   pub unlisted : (e : AllocError) → (◌≡◌ {A = Result (Unit {0}) AllocError} (Err e) (Err CapacityOverflow) → ⊥) → Pushes (Err e)
       → Lists item k old mid m v key value m w (Err e)
@@ -78,7 +85,10 @@ module _ {K T : Type 0} (paid : Paid) {item : Ghosts T} (plain : IsItemLayout it
       mid (Err e) = pays_as (credit_of k m) (λ d is. cc) (omega arith) (omega arith) refl (omega arith) (pays_list (Err e) fits grows) in
       let frame = frame_behind old.memory mid.memory (v.raw.block ∷ []) (w.raw.block ∷ []) (m.table.block ∷ []) grows.frame in
       let same : vec_list item mid.memory w ≡ list = λ i. vec_list item (grows.err.1 i) (grows.err.0 i) in
-      grind (arith, stays can grows.frame, grows.held, same, fits, pays, frame)
+      let denied : (j : ℕ) → (◌≡◌ {A = Result ℕ AllocError} (Err e) (Err (AllocErr j)))
+      → IsDenied (OneMore item k (has (map_in k old.memory m) (content_in k.key old.memory key)) w m) mid = λ j is.
+      denied_more (λ s a long. inl long) (unplaced j (rw (err_same is) at grows)) in
+      grind (arith, stays can grows.frame, grows.held, same, fits, pays, denied, frame)
 
   module _ (grows : Pushes (Ok tt)) (new : View) (n : HashMap K ℕ FxHasher) where
     -- A push, and then an insert, after which some of the credit may be gone.
@@ -121,9 +131,14 @@ module _ {K T : Type 0} (paid : Paid) {item : Ghosts T} (plain : IsItemLayout it
         let less = credit_less item.SIZE u.raw.len w.raw.len w.raw.cap u.raw.cap (omega (arith, len, more)) (omega (arith, cut.cap)) in
         let held : IsVecIn item new.memory u = rw puts.err.1 cut.held in
         let apart : AreBlocksApart n.table.block u.raw.block = rw (puts.err.0, cut.block) same.apart.0.0 in
+        let denied : (j : ℕ) → (◌≡◌ {A = Result ℕ AllocError} (Err e) (Err (AllocErr j)))
+        → IsDenied (OneMore item k (has (map_in k old.memory m) (content_in k.key old.memory key)) u n) new = λ j is.
+        let content = ap (k.key.content key) (text can grows.frame).bytes in
+        denied_more (λ s a larger. inr larger) (subst (λ (b : Bool). IsDenied (LargerMap k b n) new)
+        (λ i. has (same.means i) (content i)) (denied_insert k is_value mid new m n key v.raw.len j (rw (err_same is) at puts))) in
         let fits = insert_fits k is_value mid new m n key v.raw.len (Err e) can.few_keys puts in
         let pays = pays_told {Y = ℕ} (λ _. 0) (Err e) (both {after = saved u + credit_of k n} (Err e) costs puts (omega (arith, less))
         (omega (arith, back, puts.costs.refused.1))) in
         let frame : Frame old.memory new.memory (m.table.block ∷ v.raw.block ∷ []) (n.table.block ∷ u.raw.block ∷ []) =
         rw cut.block (frame_both _ _ _ _ _ _ _ grows.frame puts.frame) in
-        grind (arith, puts.held, held, apart, puts.err, front, same.means, same.blocks, fits, pays, frame)
+        grind (arith, puts.held, held, apart, puts.err, front, same.means, same.blocks, fits, pays, denied, frame)

@@ -1,6 +1,6 @@
 -- An interner and a scoped table side by side.
 use Rattle.std.proofs.Common.{◌≡◌, ℕ, List, [], ◌∷◌, ◌++◌, refl, sym, ap, ◌∙◌, inl, inr, Some, Ok, Err, Bool, true, false, ◌<◌, ◌≤◌, length, arith, None, ◌+◌, ◌-◌, ◌^◌}
-use Rattle.std.specs.Prelude.{if◌then◌else◌, not, Result, IfOk, ◌↔◌}
+use Rattle.std.specs.Prelude.{if◌then◌else◌, not, Result, IfOk, ◌↔◌, ◌⊎◌}
 use Rattle.std.proofs.lemmas.Result.{IfOk-weaker}
 use Rattle.arena_rules.proofs.AskingLemmas.{asks_more}
 use Rattle.arena_chunks.specs.Memory.{Memory}
@@ -11,15 +11,15 @@ use Rattle.arena_chunks.proofs.Layers.{all_apart, all_from_none, all_from_both, 
 use Rattle.arena_items.specs.Costs.{Costs}
 use Rattle.arena_items.specs.Room.{SamePlaces}
 use Rattle.arena_items.specs.declared.room.AllocError.{AllocError}
-use Rattle.arena_items.specs.declared.room.AllocError.TheVariants.{CapacityOverflow}
+use Rattle.arena_items.specs.declared.room.AllocError.TheVariants.{AllocErr, CapacityOverflow}
 use Rattle.arena_items.proofs.Layers.{stays_readable, stays_agree, stays_apart, costs_weaken, costs_ok, costs_then}
 use Rattle.arena_symbols.specs.Interner.{number_of, most_texts}
-use Rattle.arena_symbols.specs.Interning.{Interns}
+use Rattle.arena_symbols.specs.Interning.{IsTextDenied, Interns}
 use Rattle.arena_symbols.specs.Named.{AreNames, Moves, Declares, Spends, DeclaresWithin, OwnScopeWithin, IsFullFor, all_credit, meant, meaning}
 use Rattle.arena_symbols.specs.Names.{names_in, own_blocks, names_footprint, names_credit}
 use Rattle.arena_symbols.specs.Scoping.{innermost, is_in_last, outer_of, with_pair, pair_count, most_scopes, most_pairs}
 use Rattle.arena_symbols.specs.Paying.{Pays, far_up}
-use Rattle.arena_symbols.specs.TableCalls.{Defines}
+use Rattle.arena_symbols.specs.TableCalls.{IsPairDenied, Defines}
 use Rattle.arena_symbols.specs.TableLaws.{table_readable, table_same, table_held_again}
 use Rattle.arena_symbols.specs.Tables.{entry_item, IsTableIn, scopes_in, table_blocks, table_credit}
 use Rattle.arena_symbols.specs.declared.scopes.Scopes.{Scopes}
@@ -83,7 +83,10 @@ unnamed {old = old} {mid = mid} {n = n} {t = t} {name = name} {e = e} held inter
     let moved = texts_moved held interns in
     let pays : Pays {X = Bool} (far_up - 2 ^ 61) (1536 + length name) (all_credit n) (all_credit (record n { symbols = t })) old mid
     (Err e) = pays_as (table_credit n.scopes) (λ d is. cc) (omega arith) (omega arith) (omega arith) (omega arith) interns.pays in
-    grind (arith, moved, interns.overflows, interns.kept, interns.fresh, spent {n = n} {m = record n { symbols = t }} pays)
+    let denied : (k : ℕ) → (◌≡◌ {A = Result Bool AllocError} (Err e) (Err (AllocErr k))) → IsTextDenied old mid t name
+    ⊎ ((id : ℕ) × (number_of (names_in mid.memory t) name ≡ Some id) × IsPairDenied entry_item old mid n.scopes n.scopes id) =
+    λ k is. inl (interns.denied k (cc)) in
+    grind (arith, moved, interns.overflows, interns.kept, interns.fresh, denied, spent {n = n} {m = record n { symbols = t }} pays)
 
 -- One that overflows at the pairs, as the name has its number.
 overflows_at : {P : Type 0} {maps scopes : List (List (ℕ × ℕ))} {id : ℕ} (texts now : List (List ℕ)) (name : List ℕ) → maps ≡ scopes
@@ -119,9 +122,12 @@ bound {old = old} {mid = mid} {new = new} {n = n} {t = t} {u = u} {name = name} 
     × (scopes_in entry_item new.memory u ≡ (if b then with_pair scopes id value else scopes))) _ (λ b is. (id, number, is.0, is.1))
     (grind (arith, one.1, defines.says, defines.scopes)) in
     let moves = moves_then one.0 two.0 in
+    let denied : (k : ℕ) → result ≡ Err (AllocErr k) → IsTextDenied old new t name
+    ⊎ ((id : ℕ) × (number_of (names_in new.memory t) name ≡ Some id) × IsPairDenied entry_item old new n.scopes u id) =
+    λ k is. inr (id, number, rw one.1 at (defines.denied k is)) in
     let spends : Spends (far_up - 2 ^ 61) (1536 + length name) old new n (record { symbols = t; scopes = u }) result =
     record { costs = costs; told = grind (arith, second.told, first.costs.asks.refusals) } in
-    grind (arith, moves, two.1, interns.names, put, one.1, defines.kept, overflows, spends)
+    grind (arith, moves, two.1, interns.names, put, one.1, defines.kept, overflows, denied, spends)
 
 -- the outer maps where a pair was put
 outer_put : (scopes : List (List (ℕ × ℕ))) (id value : ℕ) → outer_of (with_pair scopes id value) ≡ outer_of scopes
@@ -162,6 +168,7 @@ module _ {X Y : Type 0} {old new : View} {n m : Names} {name : List ℕ} where
   within_ok y within =
       record {
         overflows = (λ no. absurd (cc), λ full. let no = within.overflows.1 full in absurd (cc));
+        denied = λ k no. absurd (cc);
         spends = record {
           costs = record {
             takes = within.spends.costs.takes;
@@ -176,6 +183,7 @@ module _ {X Y : Type 0} {old new : View} {n m : Names} {name : List ℕ} where
   pub within_err : {e : AllocError} → DeclaresWithin {X = X} old new n m name (Err e) → DeclaresWithin {X = Y} old new n m name (Err e)
   within_err within = record {
     overflows = (λ is. within.overflows.0 (cc), λ full. let is = within.overflows.1 full in cc);
+    denied = λ k is. within.denied k (cc);
     spends = record {
       costs = record {
         takes = within.spends.costs.takes;

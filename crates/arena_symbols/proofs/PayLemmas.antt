@@ -1,9 +1,10 @@
 -- What calls pay, by what they are made of: nothing, a text that is placed, a value at a vector's end, a pair in a map; and one after
 -- another.
-use Rattle.std.proofs.Common.{◌≡◌, ℕ, ◌+◌, ◌-◌, ◌*◌, ◌^◌, ◌<◌, ◌≤◌, refl, arith, inl, inr, false, Ok, Err, Option, List, length}
+use Rattle.std.proofs.Common.{◌≡◌, ℕ, ◌+◌, ◌-◌, ◌*◌, ◌^◌, ◌<◌, ◌≤◌, refl, arith, inl, inr, false, IsTrue, Ok, Err, Option, List, length}
 use Rattle.std.specs.Prelude.{Result, OnErr}
 use Rattle.std.proofs.lemmas.Bool.{cases_Bool}
 use Rattle.std.proofs.Math.Nat.{mul-le-mul_left}
+use Rattle.arena_rules.specs.Rounding.{is_layout}
 use Rattle.arena_rules.specs.State.{allocated_bytes}
 use Rattle.arena_rules.proofs.AskingLemmas.{asks_more, starved_nearer}
 use Rattle.arena_chunks.specs.Answers.{Answer}
@@ -12,6 +13,7 @@ use Rattle.arena_chunks.specs.BlockCalls.{PlacesBlock}
 use Rattle.arena_store.specs.declared.block.Block.{Block}
 use Rattle.arena_chunks.proofs.Layers.{asks_same}
 use Rattle.arena_items.specs.Costs.{used, Costs, Covers, farthest}
+use Rattle.arena_items.specs.Denied.{RoomFor, IsDenied}
 use Rattle.arena_items.specs.Layout.{IsItemLayout}
 use Rattle.arena_items.specs.LayoutLaws.{plain_1}
 use Rattle.arena_items.specs.Room.{capacity_after, MakesRoom, SamePlaces, TakesRoom, RoomAnswer}
@@ -21,7 +23,7 @@ use Rattle.arena_items.specs.declared.room.AllocError.{AllocError}
 use Rattle.arena_items.specs.declared.room.AllocError.TheVariants.{AllocErr, CapacityOverflow}
 use Rattle.arena_items.specs.declared.room.Growth.{Growth}
 use Rattle.arena_items.specs.declared.room.Growth.TheVariants.{Stays, GrowsTo, Overflows}
-use Rattle.arena_items.proofs.Layers.{zero_or_more, row_is_layout, costs_nothing, costs_then, room_costs}
+use Rattle.arena_items.proofs.Layers.{zero_or_more, row_is_layout, costs_nothing, costs_then, room_costs, room_refused_as}
 use Rattle.arena_vec.specs.Changes.{Grows}
 use Rattle.arena_vec.specs.Credit.{asked_by, credit_of as list_credit}
 use Rattle.arena_vec.specs.Growth.{amortised_growth}
@@ -31,15 +33,22 @@ use Rattle.arena_hash.specs.Accounts.{spare_of, credit_of}
 use Rattle.arena_hash.specs.Changes.{Puts}
 use Rattle.arena_hash.specs.Contents.{Kind, content_in}
 use Rattle.arena_hash.specs.Finite.{has}
+use Rattle.arena_hash.specs.Policy.{growth_for}
 use Rattle.arena_hash.specs.Maps.{map_in}
 use Rattle.arena_hash.specs.declared.map.HashMap.{HashMap}
 use Rattle.arena_chunks.specs.Asking.{IsCounted}
+use Rattle.arena_symbols.specs.Asks.{LongerList, LargerMap}
 use Rattle.arena_symbols.specs.Paying.{Pays}
+use Rattle.arena_symbols.proofs.DeniedLemmas.{block_denied, room_denied}
 
 -- A call's answer, told as another's.
 abbrev pub told : {X Y : Type 0} → (X → Y) → Result X AllocError → Result Y AllocError
 told f (Ok x) = Ok (f x)
 told f (Err e) = Err e
+
+pub told_err : {X Y : Type 0} {e : AllocError} (f : X → Y) (result : Result X AllocError) → told f result ≡ Err e → result ≡ Err e
+told_err f (Ok x) is = absurd (cc)
+told_err f (Err d) is = cc
 
 -- ---- No memory
 
@@ -117,7 +126,7 @@ pays_room {X} size align old new block cap more f bytes before after result one 
 abbrev nowhere : Block
 nowhere = record { generation = 0; addr = 1; size = 0; align = 1 }
 
--- what is placed anew is room that is taken where there was none
+-- what is placed again is room that is taken where there was none
 pub pays_text : {X : Type 0} (f : X → Block) (old new : View) (n : ℕ) (result : Result X AllocError) → old.memory.state.min_align ≡ 1
     → n < 2 ^ 32 → RoomAnswer f result (PlacesBlock old new n 1) → Pays farthest n 0 0 old new result
 pays_text f old new n result one short places =
@@ -152,6 +161,29 @@ module _ {T : Type 0} (paid : Paid) (item : Ghosts T) (plain : IsItemLayout item
   abbrev after : ℕ
   after = list_credit item.SIZE w.raw.len w.raw.cap
 
+  -- The block that is asked for is small.
+  row_bytes : (more : ℕ) → more * item.SIZE + list_credit item.SIZE (v.raw.len + 1) more ≤ before + 4 * item.SIZE
+      → more * item.SIZE ≤ 2 ^ 32 + 2 * item.SIZE
+  row_bytes more asked =
+      let half : 2 * v.raw.len - v.raw.cap ≤ v.raw.len = omega (arith, held.within) in
+      omega (arith, asked, mul-le-mul_left (2 * item.SIZE) half, few)
+
+  row_layout : (more : ℕ) → more * item.SIZE + list_credit item.SIZE (v.raw.len + 1) more ≤ before + 4 * item.SIZE
+      → IsTrue (is_layout (more * item.SIZE) item.ALIGN)
+  row_layout more asked =
+      let four : more * 4 ≤ more * item.SIZE = mul-le-mul_left more some in
+      row_is_layout more item.SIZE item.ALIGN plain (omega (arith, four, row_bytes more asked, small)) small
+
+  denied_growth : {X : Type 0} (k : ℕ) (growth : Growth)
+      → asked_by item.SIZE growth + list_credit item.SIZE (v.raw.len + 1) (capacity_after growth v.raw.cap) ≤ before + 4 * item.SIZE
+      → Grows {X = X} item old new v growth list w (Err (AllocErr k)) → IsDenied (RoomFor item.SIZE item.ALIGN growth) new
+  denied_growth k Stays asked grows = absurd grows.made.0
+  denied_growth k Overflows asked grows = absurd (let no = grows.made.0 in cc)
+  denied_growth {X} k (GrowsTo more) asked grows =
+      block_denied old new new (more * item.SIZE) item.ALIGN k
+      (room_refused_as old new v.raw.block item.SIZE item.ALIGN v.raw.cap (λ (x : X). w.raw.block) more one held.place
+      (row_layout more asked) (AllocErr k) grows.err.1 grows.made) (record { state = refl; statistics = refl; source = refl })
+
   pays_growth : {X : Type 0} (growth : Growth) (result : Result X AllocError) → v.raw.cap ≤ capacity_after growth v.raw.cap
       → asked_by item.SIZE growth + list_credit item.SIZE (v.raw.len + 1) (capacity_after growth v.raw.cap) ≤ before + 4 * item.SIZE
       → (result ≡ Err CapacityOverflow → ⊥) → Grows item old new v growth list w result
@@ -162,12 +194,10 @@ module _ {T : Type 0} (paid : Paid) (item : Ghosts T) (plain : IsItemLayout item
   pays_growth Stays (Err e) keeps asked fits grows = absurd grows.made.0
   pays_growth Overflows result keeps asked fits grows = absurd (fits grows.made.0)
   pays_growth {X} (GrowsTo more) result keeps asked fits grows =
-      let half : 2 * v.raw.len - v.raw.cap ≤ v.raw.len = omega (arith, held.within) in
-      let four : more * 4 ≤ more * item.SIZE = mul-le-mul_left more some in
-      let most : more * item.SIZE ≤ 2 ^ 32 + 2 * item.SIZE = omega (arith, asked, mul-le-mul_left (2 * item.SIZE) half, few) in
+      let most = row_bytes more asked in
       let err : OnErr result (after ≤ before) = grind (arith, grows.err) in
       pays_room item.SIZE item.ALIGN old new v.raw.block v.raw.cap more (λ _. w.raw.block) _ before after result one held.place keeps
-      (let layout = row_is_layout more item.SIZE item.ALIGN plain (omega (arith, four, most, small)) small in
+      (let layout = row_layout more asked in
       grind (arith, layout, most, small, low, asked, longer, grows.len, grows.cap, err)) err grows.made
 
   pub pays_push : {X : Type 0} (result : Result X AllocError) → (result ≡ Err CapacityOverflow → ⊥)
@@ -176,6 +206,13 @@ module _ {T : Type 0} (paid : Paid) (item : Ghosts T) (plain : IsItemLayout item
   pays_push result fits grows = pays_growth (amortised_growth item.SIZE v.raw.cap (v.raw.len + 1)) result
       (paid.keeps item.SIZE v.raw.cap (v.raw.len + 1))
       (omega (arith, paid.asks item.SIZE v.raw.cap v.raw.len 1 held.within (omega (arith, some)) few)) fits grows
+
+  -- Refused, the list is as it was, and what it asks for has no place.
+  pub denied_push : {X : Type 0} (k : ℕ)
+      → Grows {X = X} item old new v (amortised_growth item.SIZE v.raw.cap (v.raw.len + 1)) list w (Err (AllocErr k))
+      → IsDenied (LongerList item w) new
+  denied_push k grows = rw grows.err.0 (denied_growth k (amortised_growth item.SIZE v.raw.cap (v.raw.len + 1))
+      (omega (arith, paid.asks item.SIZE v.raw.cap v.raw.len 1 held.within (omega (arith, some)) few)) grows)
 
 -- ---- A pair in a map
 
@@ -189,6 +226,12 @@ module _ {X K V S : Type 0} (k : Kind K V S) (tells : Option V → X → Type 0)
         let told : (j : ℕ) → result ≡ Err (AllocErr j) → IsCounted j old new = λ j is.
         room_told _ _ old new m.table.block 0 (λ (x : X). w.table.block) j _ (rw is at puts.made) in
         grind (arith, costs, puts.costs.refused, told)
+
+    -- Refused, the map is as it was, and what it asks for has no place.
+    pub denied_insert : (j : ℕ) → Puts {X = X} k old new m key value tells w (Err (AllocErr j))
+        → IsDenied (LargerMap k (has (map_in k old.memory m) (content_in k.key old.memory key)) w) new
+    denied_insert j puts = rw puts.err.0 (room_denied _ _ old new m.table.block (λ (x : X). w.table.block) j
+        (growth_for (has (map_in k old.memory m) (content_in k.key old.memory key)) m.table.slots m.len) puts.made)
 
     -- It fits where there are fewer pairs than a map can have.
     pub insert_fits : (result : Result X AllocError) → m.len < 2 ^ 32 - 1 → Puts k old new m key value tells w result

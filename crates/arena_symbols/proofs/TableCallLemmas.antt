@@ -6,10 +6,11 @@ use Rattle.std.proofs.lemmas.List.{length-map}
 use Rattle.arena_chunks.specs.Memory.{Memory}
 use Rattle.arena_chunks.specs.Source.{View}
 use Rattle.arena_chunks.proofs.Layers.{frame_reflexive, frame_behind}
+use Rattle.arena_items.specs.Denied.{IsDenied}
 use Rattle.arena_items.specs.LayoutLaws.{plain_4}
 use Rattle.arena_items.specs.declared.item.Item.{Ghosts}
 use Rattle.arena_items.specs.declared.room.AllocError.{AllocError}
-use Rattle.arena_items.specs.declared.room.AllocError.TheVariants.{CapacityOverflow}
+use Rattle.arena_items.specs.declared.room.AllocError.TheVariants.{AllocErr, CapacityOverflow}
 use Rattle.arena_items.proofs.Layers.{length-elements}
 use Rattle.arena_vec.specs.Changes.{Grows}
 use Rattle.arena_vec.specs.Credit.{credit_of as list_credit}
@@ -18,6 +19,7 @@ use Rattle.arena_vec.specs.Vecs.{vec_list}
 use Rattle.arena_vec.specs.declared.vec.Vec.{Vec}
 use Rattle.arena_hash.specs.Accounts.{credit_of}
 use Rattle.arena_hash.specs.Finite.{Finite, value_of}
+use Rattle.arena_symbols.specs.Asks.{LongerList}
 use Rattle.arena_symbols.specs.Listing.{place_item}
 use Rattle.arena_symbols.specs.Paying.{Pays, far_up}
 use Rattle.arena_symbols.specs.Scoping.{scopes_of}
@@ -26,7 +28,8 @@ use Rattle.arena_symbols.specs.TableCalls.{Enters}
 use Rattle.arena_symbols.specs.TableLaws.{table_of}
 use Rattle.arena_symbols.specs.declared.scopes.Scopes.{Scopes}
 use Rattle.arena_symbols.proofs.BesideLemmas.{plain_beside, vec_beside}
-use Rattle.arena_symbols.proofs.PayLemmas.{Paid, pays_nothing, pays_more, pays_push}
+use Rattle.arena_symbols.proofs.DeniedLemmas.{err_same}
+use Rattle.arena_symbols.proofs.PayLemmas.{Paid, pays_nothing, pays_more, pays_push, denied_push}
 use Rattle.arena_symbols.proofs.ScopeLemmas.{reverse_push, scopes_enter}
 use Rattle.arena_symbols.proofs.TableLemmas.{depth_is, length_recent}
 
@@ -57,6 +60,10 @@ module _ (paid : Paid) {item : Ghosts Entry} (old new : View) {s : Scopes} (v : 
       (omega arith)
       (pays_push paid place_item plain_4 (omega arith) (omega arith) (omega arith) old new s.starts v
       (vec_list place_item old.memory s.starts ++ s.pairs.raw.len ∷ []) one held.starts (omega (arith, few)) longer result fits grows)
+
+  unplaced : (k : ℕ) → Pushes (Err (AllocErr k)) → IsDenied (LongerList place_item v) new
+  unplaced k grows = denied_push paid place_item plain_4 (omega arith) (omega arith) (omega arith) old new s.starts v
+      (vec_list place_item old.memory s.starts ++ s.pairs.raw.len ∷ []) one held.starts (omega (arith, few)) longer k grows
 
   pub enters : (result : Result (Unit {0}) AllocError) → (result ≡ Err CapacityOverflow → ⊥) → Pushes result
       → Enters item old new s (entered result) result
@@ -91,4 +98,6 @@ module _ (paid : Paid) {item : Ghosts Entry} (old new : View) {s : Scopes} (v : 
       let still : IsTableIn item new.memory (record s { starts = v }) =
       rw grows.err.0 (subst (λ (m : Memory). IsTableIn item m s) (sym same) held) in
       let frame = frame_behind _ _ _ _ (s.newest.table.block ∷ s.pairs.raw.block ∷ []) grows.frame in
-      grind (arith, still, same, grows.err.0, fits, few, depth_is item old.memory s, pays_start (Err e) fits grows, frame)
+      let denied : (k : ℕ) → (◌≡◌ {A = Result (Unit {0}) AllocError} (Err e) (Err (AllocErr k))) → IsDenied (LongerList place_item v) new =
+      λ k is. unplaced k (rw (err_same is) at grows) in
+      grind (arith, still, same, grows.err.0, fits, few, depth_is item old.memory s, denied, pays_start (Err e) fits grows, frame)

@@ -1,7 +1,9 @@
 -- Scoped tables in an arena.
-use Rattle.std.proofs.Common.{◌≡◌, ℕ, ◌+◌, ◌^◌, ◌<◌, length, sym, ◌∙◌, arith, refl, Some, Option}
+use Rattle.std.proofs.Common.{◌≡◌, ℕ, ◌+◌, ◌^◌, ◌<◌, length, sym, ap, ◌∙◌, arith, refl, Some, None, Option}
+use Rattle.std.specs.Prelude.{is_some}
 use Rattle.std.specs.Int.{w32, to_le_bytes}
 use Rattle.std.proofs.lemmas.List.{length-map, length-reverse, reverse-reverse}
+use Rattle.std.proofs.lemmas.Option.{slice_get-get_or}
 use Rattle.arena_rules.specs.Rounding.{up}
 use Rattle.arena_chunks.specs.Memory.{Memory}
 use Rattle.arena_items.specs.Layout.{pair_size, second_at, option_size}
@@ -43,6 +45,16 @@ module _ {item : Ghosts Entry} {memory : Memory} {s : Scopes} (held : IsTableIn 
   pub looked_up : lookup (scopes_in item memory s) id ≡ told (entries_in item memory s) o
   looked_up = lookup_whole (pairs_of (entries_in item memory s)) (starts_in memory s) id
       ∙ (rw (reverse-reverse (entries_in item memory s), ← newest_is) at (value_told (recent_in item memory s) id))
+
+  -- so some map has one where this tells of one,
+  pub looked_is : is_some (lookup (scopes_in item memory s) id) ≡ is_some o
+  looked_is = ap is_some looked_up ∙ by o refl
+    where
+      by : (p : Option ℕ) → o ≡ p → is_some (told (entries_in item memory s) p) ≡ is_some p
+      by None found = refl
+      by (Some at) found =
+          let within : at < length (entries_in item memory s) = simp length-elements (stands at found) in
+          rw (slice_get-get_or (entries_in item memory s) at (0, (0, None)) within) refl
 
   -- and is of the innermost map where it stands from that one's start on.
   pub in_last_is : is_in_last (scopes_in item memory s) id ≡ stands_from o s.start

@@ -16,7 +16,7 @@ use Rattle.arena_vec.specs.declared.vec.Vec.{Vec}
 use Rattle.arena_hash.specs.Changes.{Puts, TakesOut, is_value}
 use Rattle.arena_hash.specs.Finite.{Finite, has, value_of}
 use Rattle.arena_hash.specs.Maps.{map_in}
-use Rattle.arena_hash.specs.declared.hasher.FxHasher.{FxHasher}
+use Rattle.hash_ring.specs.declared.hasher.FxHasher.{FxHasher}
 use Rattle.arena_hash.specs.declared.map.HashMap.{HashMap}
 use Rattle.arena_symbols.specs.Listing.{place_item}
 use Rattle.arena_symbols.specs.TableCalls.{Cuts, Unhides}

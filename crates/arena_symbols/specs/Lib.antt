@@ -1,6 +1,7 @@
 pub mod Interner
 pub mod Scoping
 pub mod Paying
+pub mod Asks
 pub mod Listing
 pub mod Names
 pub mod Interning

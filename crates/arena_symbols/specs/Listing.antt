@@ -3,9 +3,10 @@ use Rattle.std.specs.Prelude.{◌≡◌, ℕ, ◌+◌, ◌-◌, ◌*◌, ◌^◌
 use Rattle.arena_chunks.specs.Memory.{Memory, is_readable}
 use Rattle.arena_chunks.specs.Source.{View}
 use Rattle.arena_chunks.specs.Frame.{Frame, IsApart, AreAllApart, AreBlocksApart}
+use Rattle.arena_items.specs.Denied.{IsDenied}
 use Rattle.arena_items.specs.declared.item.Item.{Ghosts}
 use Rattle.arena_items.specs.declared.room.AllocError.{AllocError}
-use Rattle.arena_items.specs.declared.room.AllocError.TheVariants.{CapacityOverflow}
+use Rattle.arena_items.specs.declared.room.AllocError.TheVariants.{AllocErr, CapacityOverflow}
 use Rattle.arena_vec.specs.Credit.{credit_of as list_credit}
 use Rattle.arena_vec.specs.Vecs.{IsVecIn, vec_list}
 use Rattle.arena_vec.specs.declared.vec.Vec.{Vec}
@@ -13,8 +14,9 @@ use Rattle.arena_hash.specs.Accounts.{unit_of, credit_of}
 use Rattle.arena_hash.specs.Contents.{Key, Kind, kind, content_in}
 use Rattle.arena_hash.specs.Finite.{has, with_pair}
 use Rattle.arena_hash.specs.Maps.{IsMapIn, map_in, footprint}
-use Rattle.arena_hash.specs.declared.hasher.FxHasher.{FxHasher}
+use Rattle.hash_ring.specs.declared.hasher.FxHasher.{FxHasher}
 use Rattle.arena_hash.specs.declared.map.HashMap.{HashMap}
+use Rattle.arena_symbols.specs.Asks.{OneMore}
 use Rattle.arena_symbols.specs.Paying.{Pays, far_up}
 
 -- the byte form of a place, and what the types of a map to places tell
@@ -22,7 +24,7 @@ abbrev pub place_item : Ghosts ℕ
 place_item = Rattle.arena_items.specs.contracts.numbers.unsigned.U32Item.TheImpl.ghosts
 
 abbrev pub place_kind : {K : Type 0} → Ghosts K → Key K → Kind K ℕ FxHasher
-place_kind keys key = kind keys key place_item Rattle.arena_hash.specs.contracts.hasher.FxHasherKeyHasher.TheImpl.ghosts.hash_of
+place_kind keys key = kind keys key place_item Rattle.hash_ring.specs.contracts.hasher.FxHasherKeyHasher.TheImpl.ghosts.hash_of
 
 -- A value may come to the list's end, and its place under a key into the map. Both lie apart, and the key's text from both.
 pub record CanList {K T : Type 0} (item : Ghosts T) (k : Kind K ℕ FxHasher) (memory : Memory) (m : HashMap K ℕ FxHasher) (v : Vec T)
@@ -39,7 +41,8 @@ pub record CanList {K T : Type 0} (item : Ghosts T) (k : Kind K ℕ FxHasher) (m
   pub few : (v.raw.len + 1) * (2 * item.SIZE) ≤ 2 ^ 32
   pub few_keys : m.len < 2 ^ 32 - 1
 
--- It came there. Refused, both are as they were, though the list's block may be another.
+-- It came there. Refused, both are as they were, though the list's block may be another; the arena refuses where the list is full then,
+-- or the map, and what that asks for has no place.
 pub record Lists {K T : Type 0} (item : Ghosts T) (k : Kind K ℕ FxHasher) (old new : View) (m : HashMap K ℕ FxHasher) (v : Vec T) (key : K)
     (value : T) (n : HashMap K ℕ FxHasher) (w : Vec T) (result : Result ℕ AllocError) : Type 0 where
   pub map : IsMapIn k new.memory n
@@ -53,6 +56,8 @@ pub record Lists {K T : Type 0} (item : Ghosts T) (k : Kind K ℕ FxHasher) (old
   pub kept : OnErr result ((n ≡ m) × (vec_list item new.memory w ≡ vec_list item old.memory v)
       × (map_in k new.memory m ≡ map_in k old.memory m) × (footprint k new.memory m ≡ footprint k old.memory m))
   pub fits : result ≡ Err CapacityOverflow → ⊥
+  pub denied : (j : ℕ) → result ≡ Err (AllocErr j)
+      → IsDenied (OneMore item k (has (map_in k old.memory m) (content_in k.key old.memory key)) w n) new
   pub pays : Pays (far_up + 2 ^ 61) (4 * item.SIZE + 7 + 2 * unit_of k) (list_credit item.SIZE v.raw.len v.raw.cap + credit_of k m)
       (list_credit item.SIZE w.raw.len w.raw.cap + credit_of k n) old new result
   pub frame : Frame old.memory new.memory (m.table.block ∷ v.raw.block ∷ []) (n.table.block ∷ w.raw.block ∷ [])

@@ -8,12 +8,12 @@ use Rattle.arena_items.specs.Costs.{Costs}
 use Rattle.arena_items.specs.declared.room.AllocError.{AllocError}
 use Rattle.arena_items.specs.declared.room.AllocError.TheVariants.{AllocErr, CapacityOverflow}
 use Rattle.arena_symbols.specs.Interner.{number_of, with_text, most_texts}
-use Rattle.arena_symbols.specs.Interning.{IsNewInterner}
+use Rattle.arena_symbols.specs.Interning.{IsNewInterner, IsTextDenied}
 use Rattle.arena_symbols.specs.Names.{IsInternerIn, names_in, names_footprint, names_credit}
 use Rattle.arena_chunks.specs.Asking.{IsCounted}
 use Rattle.arena_symbols.specs.Paying.{far_up}
 use Rattle.arena_symbols.specs.Scoping.{lookup, is_in_last, with_pair, pair_count, most_scopes, most_pairs}
-use Rattle.arena_symbols.specs.TableCalls.{IsNewTable}
+use Rattle.arena_symbols.specs.TableCalls.{IsNewTable, IsPairDenied}
 use Rattle.arena_symbols.specs.Tables.{entry_item, IsTableIn, scopes_in, table_blocks, table_credit}
 use Rattle.arena_symbols.specs.declared.names.Names.{Names}
 
@@ -78,10 +78,12 @@ pub record Spends {X : Type 0} (far bytes : ℕ) (old new : View) (n m : Names) 
   pub costs : Costs far bytes (all_credit n) (all_credit m) old new result
   pub told : (k : ℕ) → result ≡ Err (AllocErr k) → IsCounted k old new
 
--- When a declaration overflows, and what it costs.
+-- When a declaration overflows, where the arena refuses it, and what it costs.
 pub record DeclaresWithin {X : Type 0} (old new : View) (n m : Names) (name : List ℕ) (result : Result X AllocError) : Type 0 where
   pub overflows : (result ≡ Err CapacityOverflow) ↔ IsFullFor (names_in old.memory n.symbols) (names_in new.memory m.symbols)
       (scopes_in entry_item old.memory n.scopes) name
+  pub denied : (k : ℕ) → result ≡ Err (AllocErr k) → IsTextDenied old new m.symbols name
+      ⊎ ((id : ℕ) × (number_of (names_in new.memory m.symbols) name ≡ Some id) × IsPairDenied entry_item old new n.scopes m.scopes id)
   pub spends : Spends (far_up - 2 ^ 61) (1536 + length name) old new n m result
 
 -- When a declaration in a scope of its own overflows, and what it costs: where there are as many scopes as there may be; and where there is

@@ -13,7 +13,7 @@ use Rattle.arena_hash.specs.Accounts.{credit_of}
 use Rattle.arena_hash.specs.Contents.{Kind}
 use Rattle.arena_hash.specs.Finite.{value_of}
 use Rattle.arena_hash.specs.Maps.{IsMapIn, map_in, texts_in as map_texts}
-use Rattle.arena_hash.specs.declared.hasher.FxHasher.{FxHasher}
+use Rattle.hash_ring.specs.declared.hasher.FxHasher.{FxHasher}
 use Rattle.arena_symbols.specs.Interner.{number_of, AreDistinct}
 use Rattle.arena_symbols.specs.Listing.{place_kind}
 use Rattle.arena_symbols.specs.declared.symbols.Symbols.{Symbols}
@@ -21,7 +21,7 @@ use Rattle.arena_symbols.specs.declared.symbols.Symbols.{Symbols}
 -- what the types of its map tell: texts are keys, and numbers values
 abbrev pub name_kind : Kind Str ℕ FxHasher
 name_kind = place_kind Rattle.arena_items.specs.contracts.handles.StrItem.TheImpl.ghosts
-    Rattle.arena_hash.specs.contracts.key.StrArenaKey.TheImpl.ghosts.key
+    Rattle.arena_table.specs.contracts.key.StrArenaKey.TheImpl.ghosts.key
 
 -- the blocks of texts, and their bytes
 abbrev pub blocks_of : List Str → List Block

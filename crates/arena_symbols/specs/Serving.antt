@@ -3,14 +3,20 @@ use Rattle.std.specs.Prelude.{◌≡◌, ℕ, ◌+◌, ◌-◌, ◌^◌, ◌⊎�
 use Rattle.arena_chunks.specs.Memory.{Memory}
 use Rattle.arena_chunks.specs.Source.{View}
 use Rattle.arena_items.specs.Costs.{Costs}
+use Rattle.arena_items.specs.Denied.{IsDenied}
 use Rattle.arena_items.specs.declared.room.AllocError.{AllocError}
-use Rattle.arena_items.specs.declared.room.AllocError.TheVariants.{CapacityOverflow, OutOfMemory}
+use Rattle.arena_items.specs.declared.room.AllocError.TheVariants.{AllocErr, CapacityOverflow, OutOfMemory}
+use Rattle.arena_symbols.specs.Asks.{LongerList}
 use Rattle.arena_symbols.specs.Calls.{State, answer, after, answers, after_all, IsFull, HaveRoom, Changes, MayAnswer, bytes_for, bytes_for_all}
+use Rattle.arena_symbols.specs.Interning.{IsTextDenied}
+use Rattle.arena_symbols.specs.Listing.{place_item}
 use Rattle.arena_symbols.specs.Named.{Moves, all_credit}
 use Rattle.arena_symbols.specs.Names.{names_in}
 use Rattle.arena_symbols.specs.Paying.{Pays, far_up}
+use Rattle.arena_symbols.specs.TableCalls.{IsPairDenied}
 use Rattle.arena_symbols.specs.Tables.{entry_item, scopes_in}
 use Rattle.arena_symbols.specs.declared.calls.Call.{Call}
+use Rattle.arena_symbols.specs.declared.calls.Call.TheVariants.{Intern, Enter, Define}
 use Rattle.arena_symbols.specs.declared.calls.Reply.{Reply}
 use Rattle.arena_symbols.specs.declared.names.Names.{Names}
 
@@ -18,9 +24,16 @@ use Rattle.arena_symbols.specs.declared.names.Names.{Names}
 abbrev pub state_in : Memory → Names → State
 state_in memory n = record { texts = names_in memory n.symbols; scopes = scopes_in entry_item memory n.scopes }
 
+-- why the arena refuses a call: a block that what the call adds asks for has no place
+abbrev pub IsCallDenied : View → View → Names → Names → Call → Type 0
+IsCallDenied old new n m (Intern text) = IsTextDenied old new m.symbols text.now
+IsCallDenied old new n m Enter = IsDenied (LongerList place_item m.scopes.starts) new
+IsCallDenied old new n m (Define id value) = IsPairDenied entry_item old new n.scopes m.scopes id
+IsCallDenied old new n m call = ⊥
+
 -- A call is answered as the texts and the maps say, and leaves what they say. Refused, for one of its causes, they are as they were. One
--- that changes nothing of them changes nothing at all. The arena refuses it only where it was starved of the call's bytes, or is short of
--- them.
+-- that changes nothing of them changes nothing at all. The arena refuses it only where a block that it asks for has no
+-- place, and it was starved of the call's bytes, or is short of them.
 pub record Serves (old new : View) (n m : Names) (call : Call) (result : Result Reply AllocError) : Type 0 where
   pub moves : Moves old.memory new.memory n m
   pub answer : IfOk result (λ reply. reply ≡ answer (state_in old.memory n) call)
@@ -28,6 +41,7 @@ pub record Serves (old new : View) (n m : Names) (call : Call) (result : Result 
   pub kept : OnErr result (state_in new.memory m ≡ state_in old.memory n)
   pub cause : IfErr result (MayAnswer (state_in old.memory n) call)
   pub overflows : (result ≡ Err CapacityOverflow) ↔ IsFull (state_in old.memory n) call
+  pub denied : (k : ℕ) → result ≡ Err (AllocErr k) → IsCallDenied old new n m call
   pub still : (Changes (state_in old.memory n) call → ⊥) → (new ≡ old) × (m ≡ n)
   pub pays : Pays far_up (bytes_for call) (all_credit n) (all_credit m) old new result
 

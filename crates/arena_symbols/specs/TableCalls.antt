@@ -5,17 +5,20 @@ use Rattle.arena_chunks.specs.Memory.{Memory}
 use Rattle.arena_chunks.specs.Source.{View}
 use Rattle.arena_chunks.specs.Frame.{AreAllApart, Frame}
 use Rattle.arena_store.specs.declared.block.Block.{Block}
+use Rattle.arena_items.specs.Denied.{IsDenied}
 use Rattle.arena_items.specs.Room.{SamePlaces}
 use Rattle.arena_items.specs.declared.item.Item.{Ghosts}
 use Rattle.arena_items.specs.declared.room.AllocError.{AllocError}
-use Rattle.arena_items.specs.declared.room.AllocError.TheVariants.{CapacityOverflow}
+use Rattle.arena_items.specs.declared.room.AllocError.TheVariants.{AllocErr, CapacityOverflow}
 use Rattle.arena_hash.specs.Accounts.{credit_of}
 use Rattle.arena_hash.specs.Finite.{value_of}
 use Rattle.arena_hash.specs.Maps.{IsMapIn, map_in}
-use Rattle.arena_hash.specs.declared.hasher.FxHasher.{FxHasher}
+use Rattle.hash_ring.specs.declared.hasher.FxHasher.{FxHasher}
 use Rattle.arena_hash.specs.declared.map.HashMap.{HashMap}
+use Rattle.arena_symbols.specs.Asks.{LongerList, OneMore}
+use Rattle.arena_symbols.specs.Listing.{place_item}
 use Rattle.arena_symbols.specs.Paying.{Pays, far_up}
-use Rattle.arena_symbols.specs.Scoping.{with_pair, outer_of, is_in_last, pair_count, most_scopes, most_pairs}
+use Rattle.arena_symbols.specs.Scoping.{lookup, with_pair, outer_of, is_in_last, pair_count, most_scopes, most_pairs}
 use Rattle.arena_symbols.specs.Tables.{Entry, id_kind, IsTableIn, entries_in, starts_in, scopes_in, table_blocks, table_credit}
 use Rattle.arena_symbols.specs.declared.scopes.Scopes.{Scopes}
 
@@ -26,12 +29,13 @@ pub record IsNewTable (item : Ghosts Entry) (s : Scopes) : Type 0 where
   pub apart : (others : List Block) → AreAllApart (table_blocks s) others
   pub credit : table_credit s ≡ 0
 
--- An empty map more, innermost.
+-- An empty map more, innermost. The arena refuses it where the list of their places is full, and what that asks for has no place.
 pub record Enters (item : Ghosts Entry) (old new : View) (s t : Scopes) (result : Result (Unit {0}) AllocError) : Type 0 where
   pub held : IsTableIn item new.memory t
   pub scopes : OnOk result (scopes_in item new.memory t ≡ [] ∷ scopes_in item old.memory s)
   pub kept : OnErr result (scopes_in item new.memory t ≡ scopes_in item old.memory s)
   pub overflows : (result ≡ Err CapacityOverflow) ↔ (most_scopes ≤ length (scopes_in item old.memory s))
+  pub denied : (k : ℕ) → result ≡ Err (AllocErr k) → IsDenied (LongerList place_item t.starts) new
   pub pays : Pays far_up 64 (table_credit s) (table_credit t) old new result
   pub frame : Frame old.memory new.memory (table_blocks s) (table_blocks t)
 
@@ -65,6 +69,11 @@ pub record Leaves (item : Ghosts Entry) (old new : View) (s t : Scopes) (result 
   pub credit : table_credit t ≤ table_credit s
   pub frame : Frame old.memory new.memory (table_blocks s) (table_blocks t)
 
+-- why the arena refuses a pair: the list of pairs is full then, or the map of the newest, and what that asks for has no place
+abbrev pub IsPairDenied : Ghosts Entry → View → View → Scopes → Scopes → ℕ → Type 0
+IsPairDenied item old new s t id =
+    IsDenied (OneMore item id_kind (is_some (lookup (scopes_in item old.memory s) id)) t.pairs t.newest) new
+
 -- The innermost map has the pair, unless it has the id.
 pub record Defines (item : Ghosts Entry) (old new : View) (s t : Scopes) (id value : ℕ) (result : Result Bool AllocError) : Type 0 where
   pub held : IsTableIn item new.memory t
@@ -75,6 +84,7 @@ pub record Defines (item : Ghosts Entry) (old new : View) (s t : Scopes) (id val
   pub kept : OnErr result (scopes_in item new.memory t ≡ scopes_in item old.memory s)
   pub overflows : (result ≡ Err CapacityOverflow)
       ↔ ((is_in_last (scopes_in item old.memory s) id ≡ false) × (most_pairs ≤ pair_count (scopes_in item old.memory s)))
+  pub denied : (k : ℕ) → result ≡ Err (AllocErr k) → IsPairDenied item old new s t id
   pub fresh : OnErr result (is_in_last (scopes_in item old.memory s) id ≡ false)
   pub pays : Pays far_up 512 (table_credit s) (table_credit t) old new result
   pub frame : Frame old.memory new.memory (table_blocks s) (table_blocks t)

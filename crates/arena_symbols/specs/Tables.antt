@@ -12,7 +12,7 @@ use Rattle.arena_hash.specs.Accounts.{credit_of}
 use Rattle.arena_hash.specs.Contents.{Kind, whole_key}
 use Rattle.arena_hash.specs.Finite.{value_of}
 use Rattle.arena_hash.specs.Maps.{IsMapIn, map_in}
-use Rattle.arena_hash.specs.declared.hasher.FxHasher.{FxHasher}
+use Rattle.hash_ring.specs.declared.hasher.FxHasher.{FxHasher}
 use Rattle.arena_symbols.specs.Listing.{place_item, place_kind}
 use Rattle.arena_symbols.specs.Scoping.{scopes_of, AreStarts, start_in}
 use Rattle.arena_symbols.specs.declared.scopes.Scopes.{Scopes}

@@ -130,19 +130,8 @@ impl Names {
                 return Err(AllocError::OutOfMemory);
             }
             let reply = self.serve(alloc, a, call)?;
-            push_within(replies, reply);
+            replies.push_reserved(reply);
         }
         Ok(())
-    }
-}
-
-// Adds a reply where there is room for one more.
-fn push_within(replies: &mut Vec<Reply>, reply: Reply)
-    requires { vec_len replies.old < vec_capacity replies.old }
-    ensures { replies.new.items ≡ replies.old.items ++ reply ∷ [] }
-{
-    match replies.push(reply) {
-        Ok(()) => {}
-        Err(_) => unreachable!(),
     }
 }

@@ -7,7 +7,6 @@ mod pieces;
 mod push;
 mod room;
 mod text;
-mod uses;
 mod values;
 
 pub use text::{ArenaStringBuilder, StringBuilder};

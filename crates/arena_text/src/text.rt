@@ -220,7 +220,7 @@ fn write_all<T: AsStr, C: ChunkSource>(a: &mut Allocator<C>, block: Block, strin
     ensures source { a.new.source ≡ a.old.source }
 {
     // So the arena's state is known to be valid.
-    let _ = a.min_align();
+    a.known();
     let mut at = 0;
     for s in strings {
         let text = s.as_str();

@@ -1,8 +1,9 @@
 -- Blocks that the tree of a text asks for.
 use Rattle.std.proofs.Common.{ℕ, ◌+◌, ◌*◌, ◌≤◌, inl, inr, List, length, max, arith}
 use Rattle.tree_rules.specs.Tokens.{Word}
+use Rattle.arena_items.specs.Denied.{TextOf}
 use Rattle.arena_tree.specs.Parts.{IsTokenAt}
-use Rattle.arena_tree.specs.Layouts.{TextOf, ListOf, LongerList, AskedFor}
+use Rattle.arena_tree.specs.Layouts.{ListOf, LongerList, AskedFor}
 
 pub asked_list : {bytes : List ℕ} (nodes : ℕ) → nodes ≤ length bytes → (size align : ℕ) → ListOf nodes size align
     → AskedFor bytes size align

@@ -6,16 +6,16 @@ use Rattle.arena_rules.specs.State.{used_bytes, allocated_bytes, top_of}
 use Rattle.arena_chunks.specs.Memory.{Memory}
 use Rattle.arena_chunks.specs.Source.{View}
 use Rattle.arena_chunks.specs.Answers.{Answer}
-use Rattle.arena_chunks.specs.Answers.Answer.{Placed, Refused, Wanting}
+use Rattle.arena_chunks.specs.Answers.Answer.{Placed, Refused, Exhausted}
 use Rattle.arena_chunks.specs.Asking.{AsksWithin}
 use Rattle.arena_chunks.specs.BlockCalls.{PlacesBlock}
 use Rattle.arena_store.specs.declared.block.Block.{Block}
 use Rattle.arena_chunks.proofs.Layers.{asks_placed, placed_most, placed_full, placed_starved_any}
 use Rattle.arena_items.specs.Costs.{used}
+use Rattle.arena_items.specs.Denied.{Layouts, Only}
 use Rattle.arena_items.specs.Room.{SamePlaces}
 use Rattle.arena_items.specs.declared.room.AllocError.{AllocError}
 use Rattle.arena_items.specs.declared.room.AllocError.TheVariants.{AllocErr, OutOfMemory}
-use Rattle.arena_tree.specs.Layouts.{Layouts, Only}
 use Rattle.arena_tree.specs.Spending.{Stops, Spends, far_end}
 use Rattle.arena_tree.proofs.NodeCostLemmas.{told, refused_place, unchanged}
 use Rattle.arena_tree.proofs.SpendingLemmas.{frame_kind}
@@ -75,10 +75,10 @@ module _ (old new : View) (size align : ℕ) (one : old.memory.state.min_align �
         unchanged same,
       )
 
-  pub block_wanting : PlacesBlock old new size align Wanting → Spends (Only size align) cost 0 0 old new (Some OutOfMemory)
-  block_wanting places =
+  pub block_exhausted : PlacesBlock old new size align Exhausted → Spends (Only size align) cost 0 0 old new (Some OutOfMemory)
+  block_exhausted places =
       let same = ap (λ (v : View). v.memory) places.1.outcome.same in
-      stopped Wanting (Some OutOfMemory) places same (unchanged same)
+      stopped Exhausted (Some OutOfMemory) places same (unchanged same)
 
 -- Calls after which no cursor moved spend nothing more.
 pub spends_same : {layouts : Layouts} {bytes before after : ℕ} {old mid new : View} → SamePlaces mid new

@@ -3,12 +3,12 @@ use Rattle.std.proofs.Common.{◌≡◌, ℕ, suc, ◌+◌, ◌*◌, ◌≤◌, 
 use Rattle.arena_chunks.specs.Memory.{Memory}
 use Rattle.arena_chunks.specs.Source.{View}
 use Rattle.arena_chunks.specs.Frame.{Frame}
+use Rattle.arena_items.specs.Denied.{Layouts}
 use Rattle.arena_items.specs.declared.room.AllocError.{AllocError}
 use Rattle.tree_rules.specs.Trees.{Exprs, NoExprs, And, Sum, Prod, Stmts, NoStmts, Then}
 use Rattle.tree_rules.specs.Trees as tree
 use Rattle.arena_tree.specs.declared.node.Node.{Node}
 use Rattle.arena_tree.specs.Counts.{nodes}
-use Rattle.arena_tree.specs.Layouts.{Layouts}
 use Rattle.arena_tree.specs.Spending.{Spends}
 use Rattle.arena_tree.specs.Cloning.{names_bytes, clone_bytes, below_bytes, row_bytes, RowCopyOf, TreeCopyOf}
 use Rattle.arena_tree.specs.Subtrees.{Subtree, OfExpr, OfStmt, expr_row, stmt_row, RowAt}

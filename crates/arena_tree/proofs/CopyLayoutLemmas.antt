@@ -1,12 +1,12 @@
 -- Which blocks the copies of nodes and of lists of nodes ask for.
 use Rattle.std.proofs.Common.{◌≡◌, ℕ, zero, suc, ap, sym, ◌∙◌, true, ◌⊎◌, inl, inr, List, [], ◌∷◌, length, drop}
 use Rattle.arena_chunks.specs.Memory.{Memory}
+use Rattle.arena_items.specs.Denied.{TextOf}
 use Rattle.arena_items.specs.Values.{text_bytes}
 use Rattle.tree_rules.specs.Trees.{Exprs, NoExprs, And, Num, Name, Neg, Sum, Prod, Let, Show, Stmts, NoStmts, Then}
 use Rattle.tree_rules.specs.Trees as tree
 use Rattle.arena_tree.specs.declared.node.Kind.TheVariants as kind
 use Rattle.arena_tree.specs.declared.node.Node.{Node}
-use Rattle.arena_tree.specs.Layouts.{TextOf}
 use Rattle.arena_tree.specs.Cloning.{CopiesOf, StmtsCopyOf, TreeCopyOf, BelowCopyOf, KidsCopyOf, RowCopyOf}
 use Rattle.arena_tree.specs.Subtrees.{Subtree, OfExpr, OfStmt, SubtreeAt, expr_row, stmt_row, has_kids}
 use Rattle.arena_tree.proofs.SubtreeLemmas.{kids_it, true_false}

@@ -15,6 +15,7 @@ use Rattle.arena_chunks.specs.BlockCalls.{PlacesBlock}
 use Rattle.arena_chunks.specs.Frame.{Frame}
 use Rattle.arena_chunks.proofs.Layers.{frame_reflexive}
 use Rattle.arena_items.specs.Costs.{Costs, used, farthest}
+use Rattle.arena_items.specs.Denied.{IsDenied}
 use Rattle.arena_items.specs.Room.{capacity_after}
 use Rattle.arena_items.specs.declared.room.AllocError.{AllocError}
 use Rattle.arena_items.specs.declared.room.AllocError.TheVariants.{AllocErr, CapacityOverflow, OutOfMemory}
@@ -28,7 +29,7 @@ use Rattle.arena_vec.specs.Vecs.{IsVecIn}
 use Rattle.arena_vec.specs.declared.vec.Vec.{Vec}
 use Rattle.arena_tree.specs.NodeForms.{plain_88_8}
 use Rattle.arena_tree.specs.TreesAt.{node_item}
-use Rattle.arena_tree.specs.Layouts.{ListOf, LongerList, IsDenied}
+use Rattle.arena_tree.specs.Layouts.{ListOf, LongerList}
 use Rattle.arena_tree.specs.Spending.{IsStarvedBehind, Stops, Spends, error_of}
 use Rattle.arena_tree.specs.declared.node.Node.{Node}
 use Rattle.arena_tree.proofs.SpendingLemmas.{frame_kind, spends_more, asks_of}

@@ -7,12 +7,12 @@ use Rattle.arena_rules.proofs.AskingLemmas.{asks_more}
 use Rattle.arena_chunks.specs.Source.{View}
 use Rattle.arena_chunks.specs.Frame.{Frame}
 use Rattle.arena_chunks.specs.Asking.{IsStarved, IsRefusedBySource}
+use Rattle.arena_items.specs.Denied.{Layouts}
 use Rattle.arena_items.specs.declared.room.AllocError.{AllocError}
 use Rattle.arena_items.specs.declared.room.AllocError.TheVariants as alloc
 use Rattle.tree_rules.specs.Refusals.{TreeOf}
 use Rattle.tree_rules.specs.declared.refused.Refused.{Refused}
 use Rattle.tree_rules.specs.declared.refused.Refused.TheVariants.{Syntax, TooDeep, NumberTooBig}
-use Rattle.arena_tree.specs.Layouts.{Layouts}
 use Rattle.arena_tree.specs.Spending.{Spends, IsStarvedBehind}
 use Rattle.arena_tree.specs.Parsing.{Parses, TakesAtMost, IsShortOf, error_for}
 

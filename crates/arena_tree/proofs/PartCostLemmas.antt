@@ -2,7 +2,7 @@
 use Rattle.std.proofs.Common.{ℕ, ◌+◌, ◌-◌, ◌<◌, arith, None, []}
 use Rattle.arena_chunks.specs.Source.{View}
 use Rattle.arena_chunks.specs.Frame.{Frame}
-use Rattle.arena_tree.specs.Layouts.{Layouts}
+use Rattle.arena_items.specs.Denied.{Layouts}
 use Rattle.arena_tree.specs.Spending.{Spends, most_for, left_for_node, node_cost}
 use Rattle.arena_tree.proofs.SpendingLemmas.{spends_then}
 

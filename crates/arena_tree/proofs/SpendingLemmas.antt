@@ -8,10 +8,11 @@ use Rattle.arena_chunks.specs.Frame.{Frame}
 use Rattle.arena_store.specs.declared.block.Block.{Block}
 use Rattle.arena_chunks.proofs.Layers.{asks_same, frame_reflexive, frame_then, frame_forget}
 use Rattle.arena_items.specs.Costs.{used}
+use Rattle.arena_items.specs.Denied.{Layouts}
 use Rattle.arena_items.specs.declared.room.AllocError.{AllocError}
 use Rattle.arena_items.specs.declared.room.AllocError.TheVariants.{AllocErr, CapacityOverflow, OutOfMemory}
 use Rattle.arena_chunks.specs.Asking.{IsCounted}
-use Rattle.arena_tree.specs.Layouts.{Layouts, AskedFor}
+use Rattle.arena_tree.specs.Layouts.{AskedFor}
 use Rattle.arena_tree.specs.Spending.{KeepsKind, IsStarvedBehind, Stops, Spends, error_of, most_for, SpendsUpTo, SpendsAll, SpendsOrNot}
 
 pub frame_kind : {old new : Memory} {before after : List Block} → Frame old new before after → KeepsKind old new

@@ -4,10 +4,11 @@ use Rattle.arena_chunks.specs.Source.{View}
 use Rattle.arena_chunks.specs.Frame.{Frame}
 use Rattle.tree_rules.specs.Trees.{Expr, Num, Name, Neg, Sum, Prod, Exprs, NoExprs, And, Stmt, Let, Show, Stmts, NoStmts, Then}
 use Rattle.tree_rules.specs.Trees as tree
+use Rattle.arena_items.specs.Denied.{Layouts, TextOf}
 use Rattle.arena_tree.specs.Counts.{below, below_stmt, stmt_nodes}
 use Rattle.arena_tree.specs.StmtsAt.{AreBuilt}
 use Rattle.arena_tree.specs.Subtrees.{Subtree, OfExpr, OfStmt, expr_row, stmt_row}
-use Rattle.arena_tree.specs.Layouts.{Layouts, TextOf, ListOf}
+use Rattle.arena_tree.specs.Layouts.{ListOf}
 use Rattle.arena_tree.specs.Parsing.{IsShortOf}
 use Rattle.arena_tree.specs.declared.tree.Tree.{Tree}
 use Rattle.arena_tree.specs.declared.tree.TreeErr.{TreeErr}

@@ -1,34 +1,16 @@
--- Which blocks calls ask their arena for, by size and alignment, and that one of them has no place.
-use Rattle.std.specs.Prelude.{◌≡◌, ℕ, ◌+◌, ◌*◌, ◌≤◌, ◌⊎◌, max, None, List, length}
-use Rattle.arena_rules.specs.Search.{place}
-use Rattle.arena_chunks.specs.Source.{View}
+-- Which blocks calls on trees ask their arena for, by size and alignment.
+use Rattle.std.specs.Prelude.{◌≡◌, ℕ, ◌+◌, ◌*◌, ◌≤◌, ◌⊎◌, max, List, length}
+use Rattle.arena_items.specs.Denied.{Layouts, Only, TextOf}
 use Rattle.tree_rules.specs.Tokens.{Word}
 use Rattle.arena_tree.specs.Parts.{IsTokenAt}
 
-abbrev pub Layouts : Type 1
-Layouts = ℕ → ℕ → Type 0
-
--- this one alone
-abbrev pub Only : ℕ → ℕ → Layouts
-Only wanted align_wanted size align = (size ≡ wanted) × (align ≡ align_wanted)
-
--- a text of so many bytes, and a list with room for so many nodes
-abbrev pub TextOf : ℕ → Layouts
-TextOf bytes = Only bytes 1
-
+-- a list with room for so many nodes
 abbrev pub ListOf : ℕ → Layouts
 ListOf nodes = Only (nodes * 88) 8
 
 -- what a list that is full becomes, to get room for one node more: twice as long, and a first node alone
 abbrev pub LongerList : (len cap : ℕ) → Layouts
 LongerList len cap size align = (cap ≤ len) × ListOf (max (2 * cap) (len + 1)) size align
-
--- A block of one of these layouts has no place in the arena.
-pub record IsDenied (layouts : Layouts) (a : View) : Type 0 where
-  pub size : ℕ
-  pub align : ℕ
-  pub asked : layouts size align
-  pub none : place a.memory.state size align ≡ None
 
 -- ---- What the tree of a text asks for
 

@@ -9,7 +9,8 @@ use Rattle.arena_items.specs.Costs.{used}
 use Rattle.arena_vec.specs.Credit.{credit_of}
 use Rattle.arena_vec.specs.declared.vec.Vec.{Vec}
 use Rattle.arena_tree.specs.declared.node.Node.{Node}
-use Rattle.arena_tree.specs.Layouts.{Layouts, IsDenied, AskedFor}
+use Rattle.arena_tree.specs.Layouts.{AskedFor}
+use Rattle.arena_items.specs.Denied.{Layouts, IsDenied}
 use Rattle.arena_items.specs.declared.room.AllocError.{AllocError}
 use Rattle.arena_items.specs.declared.room.AllocError.TheVariants.{AllocErr, CapacityOverflow, OutOfMemory}
 

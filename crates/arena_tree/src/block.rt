@@ -1,8 +1,8 @@
 // Blocks in an arena.
 ghost use Rattle.std.specs.Prelude.{◌+◌, ◌-◌, ◌^◌, ◌≤◌, [], ◌∷◌, IfOk};
 ghost use Rattle.arena_chunks.specs.Frame.{Frame};
+ghost use Rattle.arena_items.specs.Denied.{Only};
 ghost use Rattle.arena_items.specs.Values.{IsHeld};
-ghost use Rattle.arena_tree.specs.Layouts.{Only};
 ghost use Rattle.arena_tree.specs.Spending.{Spends, error_of};
 
 use arena_chunks::{Allocator, ArenaErr, Block, ChunkSource};

@@ -1,13 +1,13 @@
 // The dummy of a node.
 ghost use Rattle.std.specs.Prelude.{[]};
-ghost use Rattle.arena_clone.specs.Kinds.{plain};
-ghost use Rattle.arena_clone.specs.KindLaws.{plain_lawful};
+ghost use Rattle.arena_exchange.specs.Kinds.{plain};
+ghost use Rattle.arena_exchange.specs.KindLaws.{plain_lawful};
 ghost use Rattle.arena_tree.specs.NodeForms.{number_node};
 
 use crate::build::number;
 use crate::node::Node;
 use arena_chunks::{Allocator, ChunkSource};
-use arena_clone::Dummy;
+use arena_exchange::Dummy;
 use arena_items::Grown;
 
 // The number 0.

@@ -11,7 +11,7 @@ use crate::build::number;
 use crate::node::{Kind, Node};
 use crate::walk::kids;
 use arena_chunks::{Allocator, ChunkSource};
-use arena_clone::ReplaceWith;
+use arena_exchange::ReplaceWith;
 use arena_vec::Vec;
 
 impl ReplaceWith for Node {}

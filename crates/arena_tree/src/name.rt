@@ -1,10 +1,10 @@
 // Names in an arena.
 ghost use Rattle.std.specs.Prelude.{◌≡◌, ◌+◌, ◌^◌, ◌≤◌, [], ◌∷◌, length, IfOk, OnOk};
 ghost use Rattle.arena_chunks.specs.Frame.{Frame};
+ghost use Rattle.arena_items.specs.Denied.{TextOf};
 ghost use Rattle.arena_items.specs.Values.{IsTextIn, text_bytes};
 ghost use Rattle.tree_rules.specs.Trees.{Name};
 ghost use Rattle.arena_tree.specs.TreesAt.{IsPlaced};
-ghost use Rattle.arena_tree.specs.Layouts.{TextOf};
 ghost use Rattle.arena_tree.specs.Spending.{Spends, error_of};
 
 use crate::block::place_block;

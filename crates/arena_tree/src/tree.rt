@@ -38,7 +38,7 @@ pub enum TreeErr {
     NumberTooBig { at: u64 },
     /// There is no place for a block. At most so many requests for a chunk were refused in the call.
     AllocErr { refused: u32 },
-    /// Memory for the arena's table of chunks is wanting.
+    /// Memory for the arena's table of chunks runs out.
     OutOfMemory,
 }
 
@@ -61,7 +61,7 @@ impl Tree {
     ///
     /// `Syntax`, `TooDeep` or `NumberTooBig` at the first token for which the text is no program: then the arena is as it was.
     /// `AllocErr` where the arena has no place for a block: it grows and was starved, or it doesn't and has fewer bytes than
-    /// those. `OutOfMemory` where memory outside the chunks is wanting. Blocks placed until then stay in the arena, unused.
+    /// those. `OutOfMemory` where memory outside the chunks runs out. Blocks placed until then stay in the arena, unused.
     pub fn parse<C: ChunkSource>(a: &mut Allocator<C>, src: &[u8]) -> Result<Tree, TreeErr>
         requires { length src.now ≤ 2 ^ 24 }
         ensures parses { Parses src.now a.old a.new result }
@@ -88,7 +88,7 @@ impl Tree {
     ///
     /// # Errors
     ///
-    /// `OutOfMemory` where memory for the text is wanting.
+    /// `OutOfMemory` where memory for the text runs out.
     pub fn print<C: ChunkSource>(
         &self,
         alloc: Global,
@@ -109,7 +109,7 @@ impl Tree {
     /// # Errors
     ///
     /// `AllocErr` where the other arena has no place for a block: it grows and was starved, or it doesn't and has fewer bytes
-    /// than those. `OutOfMemory` where memory outside the chunks is wanting. Blocks placed until then stay in the arena, unused.
+    /// than those. `OutOfMemory` where memory outside the chunks runs out. Blocks placed until then stay in the arena, unused.
     pub fn clone_in<C: ChunkSource, D: ChunkSource>(
         &self,
         from: &Allocator<C>,

@@ -11,7 +11,7 @@ use Rattle.arena_store.specs.declared.block.Block.{Block}
 use Rattle.arena_items.specs.declared.item.Item.{Ghosts}
 use Rattle.arena_items.specs.Values.{elements, bytes_of}
 use Rattle.arena_items.proofs.Layers.{length-elements, elements-all, elements-cut}
-use Rattle.arena_vec.specs.Growth.{fits, growth_to, amortised_growth}
+use Rattle.raw_vec.specs.Growth.{fits, growth_to, amortised_growth}
 use Rattle.arena_vec.specs.Vecs.{IsVecIn, vec_list}
 use Rattle.arena_vec.specs.Changes.{Grows, IsNow}
 use Rattle.arena_items.specs.declared.room.Growth.TheVariants.{Stays as RoomStays}

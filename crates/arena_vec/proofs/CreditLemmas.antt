@@ -14,7 +14,7 @@ use Rattle.arena_items.specs.declared.room.AllocError.TheVariants.{AllocErr, Cap
 use Rattle.arena_items.specs.declared.room.Growth.TheVariants.{Stays, GrowsTo, Overflows}
 use Rattle.arena_vec.specs.Changes.{Grows}
 use Rattle.arena_vec.specs.Credit.{asked_by, credit_of}
-use Rattle.arena_vec.specs.Growth.{fits, amortised, growth_to, amortised_growth}
+use Rattle.raw_vec.specs.Growth.{fits, amortised, growth_to, amortised_growth}
 use Rattle.arena_vec.specs.declared.vec.Vec.{Vec}
 
 -- ---- Which growth it is

@@ -5,14 +5,14 @@ use Rattle.arena_items.specs.declared.item.Item.{Ghosts}
 use Rattle.arena_vec.specs.Changes.{Grows}
 use Rattle.arena_vec.specs.Draining.{SameDrain}
 use Rattle.arena_items.specs.Room.{SamePlaces}
-use Rattle.arena_vec.specs.Rows.{window}
+use Rattle.raw_vec.specs.Rows.{window}
 use Rattle.arena_items.specs.declared.room.Growth.{Growth}
 use Rattle.arena_items.specs.declared.room.Growth.TheVariants.{Stays}
 use Rattle.arena_items.specs.declared.room.AllocError.{AllocError}
 use Rattle.arena_vec.specs.declared.drain.Drain.{Drain}
 use Rattle.arena_vec.specs.declared.vec.Vec.{Vec}
 pub use Rattle.arena_items.proofs.Layers.{length-elements, same_then, room_then, room_refused}
-pub use Rattle.arena_vec.proofs.Windows.{window-whole, window_start, first_left}
+pub use Rattle.raw_vec.proofs.Windows.{window-whole, window_start, first_left}
 
 -- ---- Where there is room
 

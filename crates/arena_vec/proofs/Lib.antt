@@ -1,10 +1,8 @@
-mod RoomLemmas
 mod RowLemmas
 mod VecLemmas
 mod CreditLemmas
 mod BulkLemmas
 mod ExtendLemmas
-mod Windows
 mod FilterLemmas
 mod TurnLemmas
 mod Walks

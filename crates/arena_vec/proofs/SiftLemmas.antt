@@ -1,5 +1,5 @@
 -- Walks over a list in which the values that a test picks are moved to the front, and the others are written as well.
-use Rattle.std.proofs.Common.{◌≡◌, ℕ, suc, ◌+◌, ◌-◌, ◌*◌, ◌<◌, ◌≤◌, refl, sym, ap, subst, ◌∙◌, arith, Some, Bool, true, false, cond}
+use Rattle.std.proofs.Common.{◌≡◌, ℕ, suc, ◌+◌, ◌<◌, ◌≤◌, refl, sym, subst, ◌∙◌, arith, Some, Bool, true, false, cond}
 use Rattle.std.proofs.Common.{List, [], ◌∷◌, ◌++◌, length, take, drop, set, drop-cons, append_assoc, append-nil}
 use Rattle.std.proofs.lemmas.Grind.{common_steps}
 use Rattle.std.proofs.lemmas.List.{drop_all}
@@ -7,15 +7,8 @@ use Rattle.std.proofs.lemmas.Option.{slice_get_within, get_or_from_slice_get}
 use Rattle.std.specs.Prelude.{slice_get}
 use Rattle.std.specs.Array.{list_steps}
 use Rattle.std.specs.Iterator.{CallableAtEachTurn}
-use Rattle.arena_rules.specs.Lists.{splice}
-use Rattle.arena_items.specs.Values.{elements}
 use mir.Val.{bool_byte}
-use borrow.Rule.Slice.PartMut.{put_mid}
-use Rattle.arena_items.proofs.Layers.{rows_before, length-elements, elements-get, elements-set, elements-empty}
 use Rattle.arena_vec.proofs.TurnLemmas.{turn_on}
-
--- for automatic proof: the values of bytes
-pub ruleset list_laws = (rows_before, elements-get, length-elements, elements-empty)
 
 -- ---- A list with a value set
 
@@ -78,16 +71,6 @@ module _ {S X : Type 0} {Leaves : S → List X → List X → Type 0} {IsWhole :
       → IsWhole (take kept xs)
   sift_ends {s} {kept} {k} {xs} sifts ended left =
       rw (append-nil (take kept xs)) at (sifts.onward [] (subst (λ l. Leaves s l []) (sym (drop_all k xs ended)) left))
-
--- ---- A value put in bytes
-
-pub put_sets : {T : Type 0} (size : ℕ) (dec : List ℕ → T) (n i : ℕ) (bs ys : List ℕ) (v : T) → length ys ≡ size → dec ys ≡ v
-    → i < n → n * size ≤ length bs
-    → elements size dec n (put_mid (i * size) (i * size + size - i * size) bs ys) ≡ set (elements size dec n bs) i v
-put_sets size dec n i bs ys v long back less room =
-    let inner = rows_before i n size less in
-    let spliced : put_mid (i * size) (i * size + size - i * size) bs ys ≡ splice bs (i * size) ys = grind (arith, common_steps) in
-    ap (elements size dec n) spliced ∙ elements-set size dec n bs i ys less room long ∙ ap (set (elements size dec n bs) i) back
 
 -- A closure that can be called at each value from an index on can then be called at those behind it, also where one was put in front.
 pub turn_sifts : {X P : Type 0} {R : P → X → P → Type 0} {Q : P → X → Type 0} {p q : P} {kept k : ℕ} {x : X} (xs : List X) (y : X)

@@ -14,8 +14,8 @@ use Rattle.arena_chunks.proofs.Layers.{frame_then, frame_reflexive, frame_weaken
 use Rattle.arena_items.specs.declared.item.Item.{Ghosts}
 use Rattle.arena_items.specs.Values.{elements, bytes_of}
 use Rattle.arena_items.proofs.Layers.{Yields-push, length-elements, written_held, elements-front, elements-over, same_then, wrote_same, room_then}
-use Rattle.arena_vec.specs.Growth.{empty_capacity, amortised_growth}
-use Rattle.arena_vec.specs.Held.{empty_block}
+use Rattle.raw_vec.specs.Growth.{empty_capacity, amortised_growth}
+use Rattle.raw_vec.specs.Held.{empty_block}
 use Rattle.arena_items.specs.Room.{SamePlaces}
 use Rattle.arena_items.specs.Rows.{over}
 use Rattle.arena_vec.specs.Vecs.{IsVecIn, vec_list}

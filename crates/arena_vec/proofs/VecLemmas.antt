@@ -9,16 +9,16 @@ use Rattle.arena_chunks.proofs.Layers.{frame_then, frame_reflexive, take_bytes}
 use Rattle.arena_items.specs.declared.item.Item.{Ghosts}
 use Rattle.arena_items.specs.Values.{elements, bytes_of, IsHeld}
 use Rattle.arena_items.proofs.Layers.{rows_before, elements-empty, length-elements, written_held, elements-cut, elements-front, front_readable, wrote_same, room_then, room_refused}
-use Rattle.arena_vec.specs.Growth.{empty_capacity, new_growth}
-use Rattle.arena_vec.specs.Held.{raw_values, empty_block}
+use Rattle.raw_vec.specs.Growth.{empty_capacity, new_growth}
+use Rattle.raw_vec.specs.Held.{raw_values, empty_block}
 use Rattle.arena_items.specs.Room.{MakesRoom, SamePlaces}
 use Rattle.arena_items.specs.Rows.{over}
-use Rattle.arena_vec.specs.Storage.{IsGrown, Makes}
+use Rattle.raw_vec.specs.Storage.{IsGrown, Makes}
 use Rattle.arena_vec.specs.Vecs.{IsVecIn, vec_list}
 use Rattle.arena_vec.specs.Changes.{Becomes, Grows}
 use Rattle.arena_items.specs.declared.room.Growth.{Growth}
 use Rattle.arena_items.specs.declared.room.AllocError.{AllocError}
-use Rattle.arena_vec.specs.declared.raw.RawVec.{RawVec}
+use Rattle.raw_vec.specs.declared.raw.RawVec.{RawVec}
 use Rattle.arena_vec.specs.declared.vec.Vec.{Vec}
 use Rattle.arena_vec.proofs.RowLemmas.{moved_down, moved_up}
 

@@ -14,7 +14,7 @@ use Rattle.arena_items.specs.Values.{elements, bytes_of}
 use Rattle.arena_items.specs.declared.item.Item.{Ghosts}
 use Rattle.arena_items.proofs.Layers.{elements-empty, elements-drop, wrote_same, same_then}
 use Rattle.arena_items.specs.Room.{SamePlaces}
-use Rattle.arena_vec.proofs.Windows.{left_first_at}
+use Rattle.raw_vec.proofs.Windows.{left_first_at}
 use Rattle.arena_vec.proofs.TurnLemmas.{turn_now, turn_on}
 
 -- What is behind a value that is replaced is as it was.

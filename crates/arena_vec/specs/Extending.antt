@@ -4,8 +4,8 @@ use Rattle.std.specs.Iterator.{Count, UpTo, Drains}
 use Rattle.std.specs.Iterator.SizeHint.{IsWithinCount}
 use Rattle.arena_chunks.specs.Source.{View}
 use Rattle.arena_items.specs.declared.item.Item.{Ghosts}
-use Rattle.arena_vec.specs.Growth.{fits, amortised_growth}
-use Rattle.arena_vec.specs.Storage.{Makes}
+use Rattle.raw_vec.specs.Growth.{fits, amortised_growth}
+use Rattle.raw_vec.specs.Storage.{Makes}
 use Rattle.arena_vec.specs.Vecs.{vec_list}
 use Rattle.arena_vec.specs.Changes.{Grows}
 use Rattle.arena_items.specs.declared.room.Growth.{Growth}

@@ -1,7 +1,7 @@
-pub mod Growth
-pub mod Held
-pub mod Storage
-pub mod Rows
+pub use Rattle.raw_vec.specs.Growth
+pub use Rattle.raw_vec.specs.Held
+pub use Rattle.raw_vec.specs.Storage
+pub use Rattle.raw_vec.specs.Rows
 pub mod Vecs
 pub mod Changes
 pub mod Calling

@@ -7,8 +7,8 @@ use Rattle.arena_chunks.specs.Memory.{Memory}
 use Rattle.arena_chunks.specs.Source.{View}
 use Rattle.arena_chunks.specs.Frame.{Frame}
 use Rattle.arena_items.specs.declared.item.Item.{Ghosts}
-use Rattle.arena_vec.specs.Growth.{fits, amortised_growth, empty_capacity}
-use Rattle.arena_vec.specs.Held.{empty_block}
+use Rattle.raw_vec.specs.Growth.{fits, amortised_growth, empty_capacity}
+use Rattle.raw_vec.specs.Held.{empty_block}
 use Rattle.arena_vec.specs.Vecs.{IsVecIn, vec_list}
 use Rattle.arena_vec.specs.Changes.{Becomes, Grows, IsNow}
 use Rattle.arena_vec.specs.Extending.{TakesAll, TakesSome}

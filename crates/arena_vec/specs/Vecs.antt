@@ -6,7 +6,7 @@ use Rattle.arena_items.specs.declared.item.Item.{Ghosts}
 use Rattle.arena_items.specs.ByteForms.{IsBlockValue, block_bytes, block_of}
 use Rattle.arena_items.specs.HandleLaws.{block_back}
 use Rattle.arena_items.specs.NumberLaws.{bytes_back}
-use Rattle.arena_vec.specs.Held.{IsRawIn, raw_list}
+use Rattle.raw_vec.specs.Held.{IsRawIn, raw_list}
 use Rattle.arena_vec.specs.declared.vec.Vec.{Vec}
 
 -- This handle in this arena is well formed, and the list that it is there.

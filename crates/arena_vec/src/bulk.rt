@@ -4,17 +4,15 @@ ghost use Rattle.std.specs.List.{flat_map};
 ghost use Rattle.arena_chunks.specs.Memory.{Memory};
 ghost use Rattle.arena_chunks.specs.Frame.{AreBlocksApart};
 ghost use Rattle.arena_items.specs.Values.{IsSliceIn, slice_list};
-ghost use Rattle.arena_vec.specs.Growth.{amortised_growth};
-ghost use Rattle.arena_vec.specs.Storage.{Makes};
+ghost use Rattle.raw_vec.specs.Growth.{amortised_growth};
+ghost use Rattle.raw_vec.specs.Storage.{Makes};
 ghost use Rattle.arena_vec.specs.Vecs.{IsVecIn, vec_list};
 ghost use Rattle.arena_vec.specs.Changes.{Grows, IsNow};
 
-use crate::raw::RawVec;
-use crate::room::roomy;
-use crate::rows::{count_all, put_all};
 use crate::vec::Vec;
 use arena_chunks::{Allocator, Block, ChunkSource};
 use arena_items::{BoxSlice, Grown, Item, copy_items, put_copies, put_items};
+use raw_vec::{RawVec, count_all, put_all, roomy};
 use std::marker::PhantomData;
 
 #[tactic(auto, using(crate::proofs::VecLemmas::vec_laws))]

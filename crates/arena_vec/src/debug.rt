@@ -31,7 +31,7 @@ impl<T: Item + Debug> Vec<T> {
     ///
     /// # Errors
     ///
-    /// `OutOfMemory` where memory for the text is wanting, or where a value's own text fails.
+    /// `OutOfMemory` where memory for the text runs out, or where a value's own text fails.
     pub fn debug<C: ChunkSource>(
         &self,
         alloc: Global,

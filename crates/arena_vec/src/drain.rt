@@ -4,7 +4,7 @@ ghost use Rattle.std.specs.List.{remove_range};
 ghost use Rattle.std.specs.Iterator.{YieldsFirst, YieldsLast, UpTo, at_most, item_count};
 ghost use Rattle.std.specs.Iterator.SizeHint.{IsWithinCount};
 ghost use Rattle.arena_vec.specs.Vecs.{IsVecIn, vec_list};
-ghost use Rattle.arena_vec.specs.Rows.{window};
+ghost use Rattle.raw_vec.specs.Rows.{window};
 ghost use Rattle.arena_vec.specs.Changes.{Becomes};
 ghost use Rattle.arena_vec.specs.Draining.{IsDrain, left, SameDrain};
 
@@ -30,7 +30,7 @@ pub struct Drain<'s, T: Item, C: ChunkSource> {
     pub back: u32,
 }
 
-#[tactic(auto, using(crate::proofs::Windows::drain_laws))]
+#[tactic(auto, using(raw_vec::proofs::Windows::drain_laws))]
 impl<T: Item> Vec<T> {
     /// Takes a range out, once `finish` is called. An iterator that is dropped before leaves the vector as it is.
     pub fn drain<'s, C: ChunkSource>(
@@ -83,7 +83,7 @@ impl<'s, T: Item, C: ChunkSource> Drain<'s, T, C> {
     }
 }
 
-#[tactic(auto, using(crate::proofs::Windows::drain_laws))]
+#[tactic(auto, using(raw_vec::proofs::Windows::drain_laws))]
 impl<'s, T: Item, C: ChunkSource> Iterator for Drain<'s, T, C> {
     type Item = T;
 
@@ -112,7 +112,7 @@ impl<'s, T: Item, C: ChunkSource> Iterator for Drain<'s, T, C> {
     }
 }
 
-#[tactic(auto, using(crate::proofs::Windows::drain_laws))]
+#[tactic(auto, using(raw_vec::proofs::Windows::drain_laws))]
 impl<'s, T: Item, C: ChunkSource> DoubleEndedIterator for Drain<'s, T, C> {
     ghost can_next_back = { IsDrain T.Item };
 
@@ -128,7 +128,7 @@ impl<'s, T: Item, C: ChunkSource> DoubleEndedIterator for Drain<'s, T, C> {
     }
 }
 
-#[tactic(auto, using(crate::proofs::Windows::drain_laws))]
+#[tactic(auto, using(raw_vec::proofs::Windows::drain_laws))]
 impl<'s, T: Item, C: ChunkSource> ExactSizeIterator for Drain<'s, T, C> {
     fn len(&self) -> usize {
         self.back.saturating_sub(self.front) as usize

@@ -35,7 +35,7 @@ pub struct DrainFilter<'s, T: Item, C: ChunkSource, F: Drop> {
 impl<T: Item> Vec<T> {
     /// Takes out the values that a test picks, once `finish` is called. One that is dropped before leaves values moved: nothing
     /// is said of the vector's list then.
-    #[tactic(auto, using(crate::proofs::Windows::drain_laws))]
+    #[tactic(auto, using(raw_vec::proofs::Windows::drain_laws))]
     pub fn drain_filter<'s, C: ChunkSource, F: FnMut(&mut T) -> bool + Drop>(
         &'s mut self,
         a: &'s mut Allocator<C>,

@@ -3,18 +3,18 @@ ghost use Rattle.std.specs.Prelude.{◌≡◌, ◌+◌, ◌^◌, ◌≤◌, ◌+
 ghost use Rattle.std.specs.Iterator.{IsFinite};
 ghost use Rattle.std.specs.Iterator.SizeHint.{IsWithinCount};
 ghost use Rattle.arena_chunks.specs.Frame.{Frame};
-ghost use Rattle.arena_vec.specs.Growth.{amortised_growth};
+ghost use Rattle.raw_vec.specs.Growth.{amortised_growth};
 ghost use Rattle.arena_vec.specs.Vecs.{IsVecIn, vec_list};
 ghost use Rattle.arena_vec.specs.Changes.{Grows};
 ghost use Rattle.arena_vec.specs.Extending.{hinted_growth, first_room, TakesAll, TakesSome, BuildsWith, BuildsFrom};
 
-use crate::growth::has_room;
 use crate::vec::Vec;
 use arena_chunks::{Allocator, ChunkSource};
 use arena_items::{Grown, Item};
+use raw_vec::has_room;
 
 // For how many values more a vector makes room, where so many are said to follow one that is put at the end.
-#[tactic(auto, unfolding(crate::specs::Growth::fits, crate::specs::Growth::growth_to, crate::specs::Extending::hinted_growth))]
+#[tactic(auto, unfolding(raw_vec::specs::Growth::fits, raw_vec::specs::Growth::growth_to, crate::specs::Extending::hinted_growth))]
 fn wanted(size: u64, cap: u32, len: u32, hint: u64) -> u64
     requires small { size ≤ 2 ^ 24 }
     ensures some { 1 ≤ result }

@@ -6,10 +6,10 @@ ghost use Rattle.std.proofs.Common.{ap};
 ghost use Rattle.arena_items.specs.Values.{elements};
 ghost use Rattle.arena_items.specs.FootprintLaws.{held_readable, held_again};
 
-use crate::raw::RawVec;
 use crate::vec::Vec;
 use arena_chunks::Block;
 use arena_items::{InArena, Item};
+use raw_vec::RawVec;
 use std::marker::PhantomData;
 
 impl<T: Item> Item for Vec<T> {
@@ -34,8 +34,7 @@ impl<T: Item> Item for Vec<T> {
     ghost layout = { plain_40_8 };
 
     fn known(&self) {
-        let _block = &self.raw.block;
-        _block.known();
+        self.raw.block.known();
         let _len = self.raw.len;
         let _cap = self.raw.cap;
     }

@@ -23,7 +23,7 @@ pub struct IntoIter<'a, T: Item, C: ChunkSource> {
 impl<'a, T: Item, C: ChunkSource> Model for IntoIter<'a, T, C> {
     ghost use Rattle.std.specs.Prelude.{ℕ, ◌^◌, ◌≤◌, List};
     ghost use Rattle.arena_vec.specs.Vecs.{IsVecIn, vec_list};
-    ghost use Rattle.arena_vec.specs.Rows.{window};
+    ghost use Rattle.raw_vec.specs.Rows.{window};
 
     ghost Value = { List T };
 
@@ -33,7 +33,7 @@ impl<'a, T: Item, C: ChunkSource> Model for IntoIter<'a, T, C> {
         × (s.front ≤ s.back) × (T.SIZE ≤ 2 ^ 24) };
 }
 
-#[tactic(auto, using(crate::proofs::Windows::window_laws))]
+#[tactic(auto, using(raw_vec::proofs::Windows::window_laws))]
 impl<T: Item> Vec<T> {
     /// All values, from both ends.
     pub fn into_iter<'a, C: ChunkSource>(self, a: &'a Allocator<C>) -> IntoIter<'a, T, C>
@@ -50,7 +50,7 @@ impl<T: Item> Vec<T> {
     }
 }
 
-#[tactic(auto, using(crate::proofs::Windows::window_laws))]
+#[tactic(auto, using(raw_vec::proofs::Windows::window_laws))]
 impl<'a, T: Item, C: ChunkSource> IntoIter<'a, T, C> {
     /// The bytes of the values that are left, one after another.
     pub fn as_slice(&self) -> &[u8]
@@ -64,7 +64,7 @@ impl<'a, T: Item, C: ChunkSource> IntoIter<'a, T, C> {
     }
 }
 
-#[tactic(auto, using(crate::proofs::Windows::window_laws))]
+#[tactic(auto, using(raw_vec::proofs::Windows::window_laws))]
 impl<'a, T: Item, C: ChunkSource> Iterator for IntoIter<'a, T, C> {
     type Item = T;
 
@@ -91,7 +91,7 @@ impl<'a, T: Item, C: ChunkSource> Iterator for IntoIter<'a, T, C> {
     }
 }
 
-#[tactic(auto, using(crate::proofs::Windows::window_laws))]
+#[tactic(auto, using(raw_vec::proofs::Windows::window_laws))]
 impl<'a, T: Item, C: ChunkSource> DoubleEndedIterator for IntoIter<'a, T, C> {
     ghost next_back_gives = { YieldsLast (λ s. s) };
 
@@ -105,7 +105,7 @@ impl<'a, T: Item, C: ChunkSource> DoubleEndedIterator for IntoIter<'a, T, C> {
     }
 }
 
-#[tactic(auto, using(crate::proofs::Windows::window_laws))]
+#[tactic(auto, using(raw_vec::proofs::Windows::window_laws))]
 impl<'a, T: Item, C: ChunkSource> ExactSizeIterator for IntoIter<'a, T, C> {
     fn len(&self) -> usize {
         (self.back - self.front) as usize

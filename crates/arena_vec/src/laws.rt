@@ -1,8 +1,8 @@
 // The growth rule, as facts. A law is a call that does nothing: made in a body, it gives its facts there.
-#![tactic(auto, unfolding(crate::specs::Growth::fits, crate::specs::Growth::amortised, crate::specs::Growth::growth_to))]
+#![tactic(auto, unfolding(raw_vec::specs::Growth::fits, raw_vec::specs::Growth::amortised, raw_vec::specs::Growth::growth_to))]
 
 ghost use Rattle.std.specs.Prelude.{◌≡◌, ℕ, ◌*◌, ◌^◌, ◌<◌, ◌≤◌, ◌⊎◌, max};
-ghost use Rattle.arena_vec.specs.Growth.{amortised, growth_to};
+ghost use Rattle.raw_vec.specs.Growth.{amortised, growth_to};
 ghost use Rattle.arena_items.specs.declared.room.Growth.{Growth};
 
 mod compare;

@@ -10,10 +10,10 @@ ghost use Rattle.arena_vec.specs.Vecs.{IsVecIn, vec_list};
 ghost use Rattle.arena_items.specs.Room.{SamePlaces};
 ghost use Rattle.arena_vec.specs.Changes.{Becomes};
 
-use crate::lent::{put_in, value_in};
 use crate::vec::Vec;
 use arena_chunks::{Allocator, Block, ChunkSource};
 use arena_items::Item;
+use raw_vec::{put_in, value_in};
 
 // Moves the values that a test picks to the front of their bytes, and tells how many they are. A value that it
 // doesn't pick is written as well, where the next one that it picks will stand, so that no jump hangs on the test.

@@ -1,36 +1,14 @@
 // Room for more values, and for no more than there are.
-ghost use Rattle.std.specs.Prelude.{◌≡◌, ◌+◌, ◌^◌, ◌≤◌, IfOk, OnErr, OnOk};
-ghost use Rattle.arena_items.specs.Room.{MakesRoom};
-ghost use Rattle.arena_vec.specs.Growth.{amortised_growth, exact_growth};
-ghost use Rattle.arena_vec.specs.Held.{IsRawIn};
-ghost use Rattle.arena_vec.specs.Storage.{IsGrown, ShrinksTo};
+ghost use Rattle.std.specs.Prelude.{◌≡◌, ◌+◌, ◌^◌, ◌≤◌, OnOk};
+ghost use Rattle.raw_vec.specs.Growth.{amortised_growth, exact_growth};
+ghost use Rattle.raw_vec.specs.Storage.{ShrinksTo};
 ghost use Rattle.arena_vec.specs.Vecs.{IsVecIn, vec_list};
 ghost use Rattle.arena_vec.specs.Changes.{Grows};
 
-use crate::raw::{RawVec, reserved};
 use crate::vec::Vec;
 use arena_chunks::{Allocator, ChunkSource};
 use arena_items::{Grown, Item};
-
-// The storage with room for so many more values.
-#[tactic(auto, unfolding(crate::specs::Growth::growth_to), using(crate::proofs::RoomLemmas::room_laws))]
-#[inline(always)]
-pub(crate) fn roomy<T: Item, C: ChunkSource>(
-    a: &mut Allocator<C>,
-    raw: RawVec<T>,
-    additional: u64,
-) -> Grown<RawVec<T>>
-    requires small { T.SIZE ≤ 2 ^ 24 }
-    requires held { IsRawIn T.Item a.old.memory raw }
-    ensures made { let growth = amortised_growth T.SIZE raw.cap (raw.len + additional) in
-        MakesRoom T.SIZE T.ALIGN a.old a.new raw.block raw.cap growth (λ r. r.block) result }
-    ensures grown { let growth = amortised_growth T.SIZE raw.cap (raw.len + additional) in
-        IfOk result (IsGrown T.Item a.old.memory a.new.memory raw growth) }
-    ensures enough { IfOk result (λ r. raw.len + additional ≤ r.cap) }
-    ensures err { OnErr result (a.new.memory ≡ a.old.memory) }
-{
-    reserved(a, raw, raw.len, additional, false)
-}
+use raw_vec::{reserved, roomy};
 
 #[tactic(auto, using(crate::proofs::VecLemmas::vec_laws))]
 impl<T: Item> Vec<T> {

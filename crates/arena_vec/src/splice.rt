@@ -4,17 +4,16 @@ ghost use Rattle.std.specs.List.{replace_range};
 ghost use Rattle.std.specs.Iterator.{IsFinite, YieldsFirst, YieldsLast, UpTo, at_most, item_count};
 ghost use Rattle.std.specs.Iterator.SizeHint.{IsWithinCount};
 ghost use Rattle.arena_chunks.specs.Frame.{AreBlocksApart};
-ghost use Rattle.arena_vec.specs.Growth.{amortised_growth};
+ghost use Rattle.raw_vec.specs.Growth.{amortised_growth};
 ghost use Rattle.arena_vec.specs.Vecs.{IsVecIn, vec_list};
-ghost use Rattle.arena_vec.specs.Rows.{window};
+ghost use Rattle.raw_vec.specs.Rows.{window};
 ghost use Rattle.arena_vec.specs.Changes.{Grows};
 ghost use Rattle.arena_vec.specs.Splicing.{IsSplice, SameSplice, left_of, Replaces, Fills, Widens, FillsThen, PutsRest, is_useful, PutsMore, Splices};
 
-use crate::growth::has_room;
-use crate::room::roomy;
 use crate::vec::Vec;
 use arena_chunks::{Allocator, ChunkSource};
 use arena_items::{Grown, Item, copy_items, move_items, put_item};
+use raw_vec::{has_room, roomy};
 
 /// A range of a vector on its way out, in whose place an iterator's items come. Its values are taken from both ends, and
 /// `finish` puts the items there.
@@ -174,7 +173,7 @@ fn put_hinted<T: Item, C: ChunkSource, I: Iterator<Item = T> + Drop>(
 }
 
 // How many items are said to come, where it is useful to make room for them.
-#[tactic(auto, unfolding(crate::specs::Growth::fits, crate::specs::Splicing::is_useful))]
+#[tactic(auto, unfolding(raw_vec::specs::Growth::fits, crate::specs::Splicing::is_useful))]
 fn useful_hint(size: u64, len: u32, hint: u64) -> Option<u32>
     requires small { size ≤ 2 ^ 24 }
     ensures none { IfNone result (is_useful size len hint ≡ false) }
@@ -242,7 +241,7 @@ impl<T: Item> Vec<T> {
 
     /// Takes a range out, and puts an iterator's items in its place, once `finish` is called. An iterator that is dropped
     /// before leaves the vector as it is.
-    #[tactic(auto, using(crate::proofs::Windows::drain_laws))]
+    #[tactic(auto, using(raw_vec::proofs::Windows::drain_laws))]
     pub fn splice<'s, C: ChunkSource, I: Iterator<Item = T> + Drop>(
         &'s mut self,
         a: &'s mut Allocator<C>,
@@ -309,7 +308,7 @@ impl<'s, T: Item, C: ChunkSource, I: Iterator<Item = T> + Drop> Splice<'s, T, C,
     }
 }
 
-#[tactic(auto, using(crate::proofs::Windows::drain_laws))]
+#[tactic(auto, using(raw_vec::proofs::Windows::drain_laws))]
 impl<'s, T: Item, C: ChunkSource, I: Iterator<Item = T> + Drop> Iterator for Splice<'s, T, C, I> {
     type Item = T;
 
@@ -339,7 +338,7 @@ impl<'s, T: Item, C: ChunkSource, I: Iterator<Item = T> + Drop> Iterator for Spl
     }
 }
 
-#[tactic(auto, using(crate::proofs::Windows::drain_laws))]
+#[tactic(auto, using(raw_vec::proofs::Windows::drain_laws))]
 impl<'s, T: Item, C: ChunkSource, I: Iterator<Item = T> + Drop> DoubleEndedIterator
     for Splice<'s, T, C, I> {
     ghost can_next_back = { IsSplice T.Item I.can_next I.remaining };
@@ -357,7 +356,7 @@ impl<'s, T: Item, C: ChunkSource, I: Iterator<Item = T> + Drop> DoubleEndedItera
     }
 }
 
-#[tactic(auto, using(crate::proofs::Windows::drain_laws))]
+#[tactic(auto, using(raw_vec::proofs::Windows::drain_laws))]
 impl<'s, T: Item, C: ChunkSource, I: Iterator<Item = T> + Drop> ExactSizeIterator
     for Splice<'s, T, C, I> {
     fn len(&self) -> usize {

@@ -5,16 +5,15 @@ ghost use Rattle.arena_chunks.specs.Memory.{Memory, image, bytes_from};
 ghost use Rattle.arena_chunks.specs.Source.{View};
 ghost use Rattle.arena_chunks.specs.BlockCalls.{WritesBlock};
 ghost use Rattle.arena_items.specs.Values.{elements, bytes_of, IsHeld};
-ghost use Rattle.arena_vec.specs.Growth.{amortised_growth, empty_capacity};
-ghost use Rattle.arena_vec.specs.Held.{empty_block};
-ghost use Rattle.arena_vec.specs.Storage.{Makes};
+ghost use Rattle.raw_vec.specs.Growth.{amortised_growth, empty_capacity};
+ghost use Rattle.raw_vec.specs.Held.{empty_block};
+ghost use Rattle.raw_vec.specs.Storage.{Makes};
 ghost use Rattle.arena_vec.specs.Vecs.{IsVecIn, vec_list};
 ghost use Rattle.arena_vec.specs.Changes.{Becomes, Grows};
 
-use crate::raw::RawVec;
-use crate::room::roomy;
 use arena_chunks::{Allocator, Block, ChunkSource};
 use arena_items::{Grown, Item, item_at, move_items, put_item, put_items};
+use raw_vec::{RawVec, roomy};
 
 /// The handle of a list in an arena. It is a name: two of them may name the same list.
 #[derive(Clone, Copy)]

@@ -81,7 +81,7 @@ fn share_out<
 ///
 /// # Errors
 ///
-/// Memory for the claims, the workers or their outcomes is wanting.
+/// Memory for the claims, the workers or their outcomes runs out.
 pub fn run_all<
     R: Threads + Wait + Sync,
     K: ChunkMaker + Drop + Send,

@@ -26,7 +26,7 @@ abbrev pub is_placed : Reply → Bool
 is_placed (Placed addr refused) = true
 is_placed reply = false
 
--- A call that answers a place counts its block, and one that gives all blocks back begins anew.
+-- A call that answers a place counts its block, and one that gives all blocks back begins again.
 abbrev pub call_statistics : Call → Reply → Machine → Statistics → Statistics
 call_statistics call reply m s = if is_reset call then uncounted else (if is_placed reply then placed_by call m s else s)
 

@@ -1,4 +1,4 @@
--- What calls by name place anew, and so what they ask the source for.
+-- What calls by name place again, and so what they ask the source for.
 use Rattle.std.specs.Prelude.{ℕ, nat_lt, Bool, false, ◌&&◌, ◌||◌, not, if◌then◌else◌, Option, Some, None, List, [], ◌∷◌, ◌++◌, length}
 use Rattle.std.specs.FinMap as map
 use Rattle.std.specs.Option.{is_some, is_none, option_and_then, option_map_or}
@@ -57,6 +57,6 @@ abbrev pub notes : Call → Machine → Bool
 notes (Mark name) m = is_none (mark_named m.marks name)
 notes call m = nat_lt 0 (length m.marks) && resizes call m
 
--- A call for which memory can be wanting: one that places a block by an allocation, answers bytes, or notes something.
+-- A call for which memory can run out: one that places a block by an allocation, answers bytes, or notes something.
 abbrev pub takes_memory : Call → Machine → Bool
 takes_memory call m = is_some (placed_anew call m) || reads call m || notes call m

@@ -90,7 +90,7 @@ impl Bytes {
     ///
     /// # Errors
     ///
-    /// `OutOfMemory` where there are more than 14 and memory is wanting.
+    /// `OutOfMemory` where there are more than 14 and memory runs out.
     pub fn from_vec(alloc: Global, items: Vec<u8>) -> Result<Bytes, OutOfMemory>
         ensures value { IfOk result (λ bytes. bytes ≡ items.items) }
         ensures short { length items.items ≤ 14 → IsOk result }
@@ -109,7 +109,7 @@ impl Bytes {
     ///
     /// # Errors
     ///
-    /// `OutOfMemory` where there are more than 14 and memory is wanting.
+    /// `OutOfMemory` where there are more than 14 and memory runs out.
     pub fn of(alloc: Global, src: &[u8]) -> Result<Bytes, OutOfMemory>
         ensures value { IfOk result (λ bytes. bytes ≡ src.now) }
         ensures short { length src.now ≤ 14 → IsOk result }
@@ -124,7 +124,7 @@ impl Bytes {
     ///
     /// # Errors
     ///
-    /// `OutOfMemory` where there are 14 or more and memory is wanting. The bytes stay as they are.
+    /// `OutOfMemory` where there are 14 or more and memory runs out. The bytes stay as they are.
     pub fn push(&mut self, b: u8) -> Result<(), OutOfMemory>
         ensures ok { OnOk result (self.new ≡ self.old ++ b ∷ []) }
         ensures err { OnErr result (self.new ≡ self.old) }

@@ -2,7 +2,7 @@
 use Rattle.std.specs.Prelude.{◌≡◌, ℕ, ◌*◌, ◌<◌, ◌≤◌, max, Result, Ok, Err, List, [], ◌∷◌, IsTrue}
 use Rattle.arena_chunks.specs.Memory.{Memory, image, is_readable, bytes_from}
 use Rattle.arena_chunks.specs.Answers.{Answer}
-use Rattle.arena_chunks.specs.Answers.Answer.{Placed, Refused, Wanting}
+use Rattle.arena_chunks.specs.Answers.Answer.{Placed, Refused, Exhausted}
 use Rattle.arena_chunks.specs.Frame.{Frame}
 use Rattle.arena_store.specs.declared.block.Block.{Block}
 use Rattle.arena_store.specs.declared.block.ArenaErr.TheVariants.{AllocErr, OutOfMemory}
@@ -29,7 +29,7 @@ abbrev pub buffer_answer : {X : Type 0} → (X → Block) → Result X BufferErr
 buffer_answer block (Ok x) = Placed (block x)
 buffer_answer block (Err CapacityOverflow) = Refused 0
 buffer_answer block (Err (NoPlace (AllocErr refused))) = Refused refused
-buffer_answer block (Err (NoPlace OutOfMemory)) = Wanting
+buffer_answer block (Err (NoPlace OutOfMemory)) = Exhausted
 
 -- how large a full block becomes
 abbrev pub doubled : ℕ → ℕ

@@ -3,7 +3,7 @@ use Rattle.std.specs.Prelude.{◌≡◌, ◌⊎◌, ℕ, Result, Ok, Err, false,
 use Rattle.arena_rules.specs.Rounding.{is_layout}
 use Rattle.arena_chunks.specs.Memory.{Memory}
 use Rattle.arena_chunks.specs.Source.{View}
-use Rattle.arena_chunks.specs.Answers.Answer.{Placed, Refused, Wanting}
+use Rattle.arena_chunks.specs.Answers.Answer.{Placed, Refused, Exhausted}
 use Rattle.arena_chunks.specs.BlockCalls.{PlacesBlock}
 use Rattle.arena_store.specs.declared.block.Block.{Block}
 use Rattle.arena_items.specs.declared.item.Item.{Ghosts}
@@ -29,6 +29,6 @@ BoxThenRow number old new n size align (Err (AllocErr k)) =
     PlacesBlock old new number.SIZE number.ALIGN (Refused k)
     ⊎ AfterPlacing number old (λ v. v ≡ n) (λ between box. PlacesBlock between new size align (Refused k))
 BoxThenRow number old new n size align (Err OutOfMemory) =
-    PlacesBlock old new number.SIZE number.ALIGN Wanting
-    ⊎ AfterPlacing number old (λ v. v ≡ n) (λ between box. PlacesBlock between new size align Wanting)
+    PlacesBlock old new number.SIZE number.ALIGN Exhausted
+    ⊎ AfterPlacing number old (λ v. v ≡ n) (λ between box. PlacesBlock between new size align Exhausted)
 BoxThenRow number old new n size align (Err CapacityOverflow) = (is_layout size align ≡ false) × (new ≡ old)

@@ -40,12 +40,8 @@ pub fn place_then_grow<C: ChunkSource>(
     used_by_placing();
     used_by_resizing();
     // So the least alignment is known to be 1.
-    let _ = a.min_align();
-    match a.alloc_layout(small) {
-        Ok(block) => match a.grow(block, large) {
-            Ok(grown) => Ok(grown),
-            Err(e) => Err(e),
-        },
-        Err(e) => Err(e),
-    }
+    a.known();
+    let block = a.alloc_layout(small)?;
+    let grown = a.grow(block, large)?;
+    Ok(grown)
 }

@@ -17,7 +17,7 @@ use arena_place::Layout;
 ///
 /// # Errors
 ///
-/// As of `alloc_layout`, and `OutOfMemory` where memory for the list is wanting, before the arena is called.
+/// As of `alloc_layout`, and `OutOfMemory` where memory for the list runs out, before the arena is called.
 /// The list and the arena stay as they were.
 pub fn add_block<C: ChunkSource>(
     a: &mut Allocator<C>,

@@ -25,7 +25,7 @@ pub fn give_back<C: ChunkSource>(a: &mut Allocator<C>, block: Block)
         → IsDoubling z a.old.memory.state.chunks → IsDoubling z a.new.memory.state.chunks }
 {
     // So the least alignment is known to be 1.
-    let _ = a.min_align();
+    a.known();
     doubling();
     given_back();
     used_by_giving_back();

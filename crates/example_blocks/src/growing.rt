@@ -25,7 +25,7 @@ pub fn begin_row<C: ChunkSource>(a: &mut Allocator<C>, n: u32, cap: u64) -> Grow
     room_law::<Block>();
     costs_law::<Block, Block>();
     // So the least alignment is known to be 1.
-    let _ = a.min_align();
+    a.known();
     let Some(layout) = Layout::array(cap, 32, 8) else {
         return Err(AllocError::CapacityOverflow);
     };

@@ -17,7 +17,7 @@ pub fn end_of<C: ChunkSource>(a: &Allocator<C>, block: Block) -> u64
 {
     readable();
     // So the arena's state is known to be valid.
-    let _ = a.min_align();
+    a.known();
     block.addr + block.size
 }
 

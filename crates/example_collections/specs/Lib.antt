@@ -7,3 +7,4 @@ pub mod CopyAndPush
 pub mod Nodes
 pub mod NodeLaws
 pub mod Through
+pub mod Texts

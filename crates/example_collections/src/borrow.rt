@@ -27,7 +27,7 @@ pub fn read_back<T: Item, C: ChunkSource>(a: &mut Allocator<C>, value: T) -> Opt
 }
 
 /// Sends a value through a borrowed arena, which goes back to its pool. It comes back as it was; that it stood in the arena
-/// `take_out` and `put_in` show. None where there is no place for it, or memory for an arena is wanting.
+/// `take_out` and `put_in` show. None where there is no place for it, or memory for an arena runs out.
 pub fn through<T: Item, K: ChunkMaker, L: PoolName, R: Wait>(
     rt: &R,
     pool: &AllocatorPool<K, L>,
@@ -43,7 +43,7 @@ pub fn through<T: Item, K: ChunkMaker, L: PoolName, R: Wait>(
 }
 
 /// Places a value in a borrowed arena, and takes the arena out of its pool, with the value's box. None where there is no place for it,
-/// or memory for an arena is wanting; then the arena, if there was one, goes back.
+/// or memory for an arena runs out; then the arena, if there was one, goes back.
 pub fn take_out<T: Item, K: ChunkMaker, L: PoolName, R: Wait>(
     rt: &R,
     pool: &AllocatorPool<K, L>,

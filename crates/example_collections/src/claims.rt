@@ -10,7 +10,7 @@ use std::thread::{Threads, join};
 ///
 /// # Errors
 ///
-/// Memory for them is wanting. None is claimed.
+/// Memory for them runs out. None is claimed.
 pub fn claim_all(
     alloc: Global,
     claims: &Claims,
@@ -53,7 +53,7 @@ fn shift(
 ///
 /// # Errors
 ///
-/// Memory is wanting.
+/// Out of memory.
 pub fn claim_by_two<R: Threads>(
     rt: &R,
     alloc: Global,

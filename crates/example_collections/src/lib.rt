@@ -1,12 +1,14 @@
 //! Small callers of the collections in an arena and of pools, for who builds on them. Of vectors: numbers are put in order, picked,
 //! taken out, put in the place of others, compared and read back. Of maps: pairs are put beside other maps and many into one, at a known
-//! cost, and a hasher has a seed where others choose the keys. Of copies: a tree of one's own that is copied part by part, an enum that
+//! cost, and a hasher has a seed where others choose the keys. Of texts and sets: lines are put together, numbers put in beside another
+//! set. Of copies: a tree of one's own that is copied part by part, an enum that
 //! is copied by its variants, a list that changes beside its copy, and a copy whose bytes are counted. Of pools: what a thread knows of
 //! the arena that it borrows, the words that it claims and the arena that it owns with another. Nothing of the crates below is opened
 //! here: each proof uses the records of their calls, their laws and the lemmas of `Layers` alone.
 #![tactic(auto)]
 
 mod beside;
+mod bits;
 mod books;
 mod borrow;
 mod branches;
@@ -23,9 +25,11 @@ mod ranking;
 mod seeded;
 mod sorting;
 mod taking;
+mod texts;
 mod threads;
 
 pub use beside::{copy_and_push, put_beside};
+pub use bits::{copied, count, insert_beside};
 pub use books::through_book;
 pub use borrow::{put_in, read_back, take_out, through};
 pub use branches::Branch;
@@ -42,4 +46,5 @@ pub use ranking::split_lowest;
 pub use seeded::SeededHasher;
 pub use sorting::{insert_sorted, place_of, sorted_of};
 pub use taking::{exchange, keep_from, put_numbers, take_front};
+pub use texts::{push_and_count, push_line, push_number, row_of, rule_of};
 pub use threads::{all_through, over_fixed, over_limited, over_standard};

@@ -48,7 +48,7 @@ pub fn through_standard<T: Item, K: ChunkMaker, L: PoolName, R: Wait>(
 ///
 /// # Errors
 ///
-/// Memory for the results is wanting.
+/// Memory for the results runs out.
 pub fn all_through_fixed<K: ChunkMaker + Send, L: PoolName + Send + Sync, R: Threads + Wait + Sync>(
     rt: &R,
     alloc: Global,
@@ -64,7 +64,7 @@ pub fn all_through_fixed<K: ChunkMaker + Send, L: PoolName + Send + Sync, R: Thr
 ///
 /// # Errors
 ///
-/// Memory for the results is wanting.
+/// Memory for the results runs out.
 pub fn all_through_standard<
     K: ChunkMaker + Send,
     L: PoolName + Send + Sync,

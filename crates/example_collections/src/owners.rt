@@ -44,7 +44,7 @@ pub fn alone<C: ChunkSource + Drop>(owner: Owner<C>) -> Result<Allocator<C>, Own
 ///
 /// # Errors
 ///
-/// Memory is wanting. The arena comes back.
+/// Out of memory. The arena comes back.
 pub fn freed_by_two<C: ChunkSource + Drop + Send, R: Threads>(
     rt: &R,
     alloc: Global,
@@ -52,7 +52,7 @@ pub fn freed_by_two<C: ChunkSource + Drop + Send, R: Threads>(
 ) -> Result<(Option<Allocator<C>>, Option<Allocator<C>>), ShareErr<C>>
     ensures first { IfOk result (λ r. IfSome r.0 (λ b. b ≡ a)) }
     ensures second { IfOk result (λ r. IfSome r.1 (λ b. b ≡ a)) }
-    ensures wanting { IfErr result (IsReturned a) }
+    ensures exhausted { IfErr result (IsReturned a) }
 {
     let (one, other) = share(alloc, a)?;
     Ok(join(rt, || freed(one), || freed(other)))

@@ -5,7 +5,7 @@ ghost use Rattle.example_collections.specs.Seeded.{prime, at_seed, seeded};
 use arena_hash::KeyHasher;
 
 /// Hashes a content as a polynomial, at a seed: two contents of n bytes and less hash alike at n seeds at most, of
-/// 2^61 - 1. So draw the seed anew for each run, below 2^61 - 1, and keep it from who chooses the keys.
+/// 2^61 - 1. So draw the seed again for each run, below 2^61 - 1, and keep it from who chooses the keys.
 #[derive(Clone, Copy, Default)]
 pub struct SeededHasher {
     /// Where the polynomials are taken.

@@ -65,7 +65,7 @@ pub(crate) fn all_sent<K: ChunkMaker + Send, L: PoolName + Send + Sync, R: Threa
 ///
 /// # Errors
 ///
-/// Memory for the results is wanting.
+/// Memory for the results runs out.
 pub fn all_through<K: ChunkMaker + Send, L: PoolName + Send + Sync, R: Threads + Wait + Sync>(
     rt: &R,
     alloc: Global,
@@ -81,7 +81,7 @@ pub fn all_through<K: ChunkMaker + Send, L: PoolName + Send + Sync, R: Threads +
 ///
 /// # Errors
 ///
-/// Memory is wanting.
+/// Out of memory.
 pub fn over_standard<R: Threads + Wait + Sync>(
     rt: &R,
     alloc: Global,
@@ -117,7 +117,7 @@ fn in_standard<L: PoolName + Send + Sync, R: Threads + Wait + Sync>(
 ///
 /// # Errors
 ///
-/// Memory is wanting.
+/// Out of memory.
 pub fn over_limited<R: Threads + Wait + Sync>(
     rt: &R,
     alloc: Global,
@@ -163,7 +163,7 @@ fn in_limited<L: PoolName + Send + Sync, R: Threads + Wait + Sync>(
 ///
 /// # Errors
 ///
-/// Memory is wanting.
+/// Out of memory.
 pub fn over_fixed<R: Threads + Wait + Sync>(
     rt: &R,
     alloc: Global,

@@ -6,7 +6,7 @@ ghost use Rattle.line_parts.specs.Room.{rooms};
 
 use arena_rules::OutOfMemory;
 
-/// Makes room for so many bytes more. Where memory is wanting the text stays.
+/// Makes room for so many bytes more. Where memory runs out the text stays.
 pub fn make_room(out: &mut Vec<u8>, more: usize) -> Result<(), OutOfMemory>
     ensures same { out.new.items ≡ out.old.items }
     ensures room { OnOk result (vec_len out.new + more ≤ vec_capacity out.new) }

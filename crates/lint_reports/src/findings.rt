@@ -32,7 +32,7 @@ impl Findings {
         }
     }
 
-    /// Adds a finding at the end. Where memory is wanting the findings stay as they are.
+    /// Adds a finding at the end. Where memory runs out the findings stay as they are.
     pub fn push(&mut self, kind: FindKind, name: Bytes) -> Result<(), OutOfMemory>
         ensures ok { OnOk result (self.new ≡ self.old ++ record { kind = kind; name = name } ∷ []) }
         ensures err { OnErr result (self.new ≡ self.old) }

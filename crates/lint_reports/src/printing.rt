@@ -82,7 +82,7 @@ fn put_lines(out: &mut Vec<u8>, report: &FileReport)
     }
 }
 
-/// The lines of the report of source number `i`. Memory is taken once, and where it is wanting the text stays.
+/// The lines of the report of source number `i`. Memory is taken once, and where it runs out the text stays.
 pub fn put_report(out: &mut Vec<u8>, i: u64, report: &FileReport) -> Result<(), OutOfMemory>
     ensures ok { OnOk result (out.new.items ≡ out.old.items ++ report_text i report.now) }
     ensures err { OnErr result (out.new.items ≡ out.old.items) }

@@ -16,6 +16,6 @@ pub enum FileReport {
     Full,
     /// An arena that grows refused a block.
     Refused,
-    /// Memory is wanting.
+    /// Out of memory.
     OutOfMemory,
 }

@@ -78,7 +78,7 @@ fn add<'a>(all: &mut Vec<Source<'a>>, bytes: &'a [u8]) -> Result<(), OutOfMemory
 ///
 /// # Errors
 ///
-/// Memory is wanting.
+/// Out of memory.
 pub fn sources_of<'a>(alloc: Global, bytes: &'a [u8]) -> Result<Vec<Source<'a>>, OutOfMemory>
     ensures { IfOk result (λ all. all.items ≡ sources bytes.now) }
 {

@@ -34,7 +34,7 @@ pub fn is_program(src: &[u8]) -> bool
 ///
 /// # Errors
 ///
-/// As of `Tree::parse`, and `OutOfMemory` where memory for the text is wanting.
+/// As of `Tree::parse`, and `OutOfMemory` where memory for the text runs out.
 pub fn set_out<C: ChunkSource>(
     alloc: Global,
     a: &mut Allocator<C>,
@@ -55,7 +55,7 @@ pub fn set_out<C: ChunkSource>(
 ///
 /// # Errors
 ///
-/// As of `Tree::parse` and `Tree::clone_in`, and `OutOfMemory` where memory for the text is wanting.
+/// As of `Tree::parse` and `Tree::clone_in`, and `OutOfMemory` where memory for the text runs out.
 pub fn set_out_copy<C: ChunkSource, D: ChunkSource>(
     alloc: Global,
     a: &mut Allocator<C>,
@@ -141,7 +141,7 @@ pub fn set_out_beside<T: Item, C: ChunkSource>(
 ///
 /// # Errors
 ///
-/// Memory for the text is wanting.
+/// Memory for the text runs out.
 pub fn put_two(
     out: &mut std::vec::Vec<u8>,
     a: &FileReport,

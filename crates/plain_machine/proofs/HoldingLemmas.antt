@@ -8,10 +8,9 @@ use Rattle.std.specs.FinMap.{get-empty, get-insert, get-remove, get-retain_keys,
 use Rattle.std.proofs.lemmas.Bool.{cases_eq}
 use Rattle.std.proofs.lemmas.Option.{none-some, same_Some}
 use Rattle.arena_rules.specs.Rounding.{up}
-use Rattle.arena_rules.specs.State.{State, IsValid, cursor_of, top_of}
+use Rattle.arena_rules.specs.State.{State, IsValid, cursor_of, top_of, is_place_used}
 use Rattle.arena_rules.specs.Moves.{dealloc}
 use Rattle.call_rules.specs.Machine.{Held, is_left}
-use Rattle.arena_rules.specs.State.{is_place_used}
 use Rattle.arena_rules.specs.declared.place.Place.{Place}
 use Rattle.arena_rules.proofs.CursorLemmas.{top_set}
 use Rattle.arena_rules.proofs.ReturnLemmas.{dealloc_at, dealloc_elsewhere, used_filled}

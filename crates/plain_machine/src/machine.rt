@@ -59,7 +59,7 @@ impl PlainMachine {
     }
 
     /// What the call answers where so many of its requests are refused, or none where there is no such step. Where
-    /// memory is wanting, what the machine holds is open.
+    /// memory runs out, what the machine holds is open.
     pub fn step(
         &mut self,
         alloc: Global,

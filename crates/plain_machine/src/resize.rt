@@ -38,7 +38,7 @@ impl PlainState {
         }
     }
 
-    // Downwards, where there is a place, and otherwise anew.
+    // Downwards, where there is a place, and otherwise again.
     fn grow_at_cursor(
         &mut self,
         alloc: Global,

@@ -98,10 +98,8 @@ impl PlainState {
         ensures valid { IsValid self.now }
         ensures growing { self.now.is_growing ≡ true }
     {
-        match self.chunks.first() {
-            None => None,
-            Some(newest) => Some(newest.base + newest.size),
-        }
+        let newest = self.chunks.first()?;
+        Some(newest.base + newest.size)
     }
 
     pub(crate) fn place(&self, layout: Layout) -> Option<u64>

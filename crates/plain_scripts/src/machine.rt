@@ -126,11 +126,11 @@ impl PlainScripts {
         }
     }
 
-    /// Serves a command. Where memory is wanting, the objects stay as they are.
+    /// Serves a command. Where memory runs out, the objects stay as they are.
     ///
     /// # Errors
     ///
-    /// Memory is wanting.
+    /// Out of memory.
     pub fn step(&mut self, alloc: Global, command: &Command) -> Result<Answered, OutOfMemory>
         ensures ok { IfOk result (λ a. gives self.new a ≡ machine.step command.now self.old) }
         ensures err { OnErr result (self.new ≡ self.old) }

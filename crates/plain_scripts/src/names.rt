@@ -49,7 +49,7 @@ impl<V: Drop> Names<V> {
         self.values.len()
     }
 
-    /// The name holds this value. Where memory is wanting, it holds what it held.
+    /// The name holds this value. Where memory runs out, it holds what it held.
     pub(crate) fn insert(&mut self, name: u32, value: V) -> Result<(), OutOfMemory>
         ensures ok { OnOk result (self.new ≡ bind self.old name value) }
         ensures err { OnErr result (self.new ≡ self.old) }

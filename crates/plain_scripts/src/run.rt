@@ -22,7 +22,7 @@ impl PlainScripts {
     ///
     /// # Errors
     ///
-    /// Memory is wanting. The objects are then as after a first part of the commands.
+    /// Out of memory. The objects are then as after a first part of the commands.
     pub fn run_from(&mut self, alloc: Global, commands: &[Command]) -> Result<PlainRun, OutOfMemory>
         ensures { IfOk result (λ run. gives_all self.new run ≡ machine.run_from self.old commands.now) }
     {
@@ -40,7 +40,7 @@ impl PlainScripts {
     ///
     /// # Errors
     ///
-    /// Memory is wanting.
+    /// Out of memory.
     pub fn run(alloc: Global, script: &Script) -> Result<PlainRun, OutOfMemory>
         ensures replies { IfOk result (λ run. run.replies ≡ (machine.run script.now).replies) }
         ensures costs { IfOk result (λ run. run.costs.items ≡ (machine.run script.now).costs) }

@@ -42,7 +42,7 @@ impl<V: Drop> Names<V> {
     ///
     /// # Errors
     ///
-    /// Memory is wanting. The names hold what they held.
+    /// Out of memory. The names hold what they held.
     pub fn insert(&mut self, name: u32, value: V) -> Result<(), OutOfMemory>
         ensures ok { OnOk result (self.new ≡ bind self.old name value) }
         ensures err { OnErr result (self.new ≡ self.old) }

@@ -31,7 +31,7 @@ impl Replies {
         }
     }
 
-    /// Adds a reply at the end. Where memory is wanting the replies stay as they are.
+    /// Adds a reply at the end. Where memory runs out the replies stay as they are.
     pub fn push(&mut self, reply: ScriptReply) -> Result<(), OutOfMemory>
         ensures ok { OnOk result (self.new ≡ self.old ++ reply ∷ []) }
         ensures err { OnErr result (self.new ≡ self.old) }

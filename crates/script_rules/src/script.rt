@@ -31,7 +31,7 @@ impl Script {
         }
     }
 
-    /// Adds a command at the end. Where memory is wanting the script stays as it is.
+    /// Adds a command at the end. Where memory runs out the script stays as it is.
     pub fn push(&mut self, c: Command) -> Result<(), OutOfMemory>
         ensures ok { OnOk result (self.new ≡ self.old ++ c ∷ []) }
         ensures err { OnErr result (self.new ≡ self.old) }

@@ -61,7 +61,7 @@ module _ {C : Type 0} (source : C → Source) (kind : PoolKind) (worked : List C
     stopped_alone other = elim (done.done.ran.stopped other) [
       | inl unbegun ↦ inl (record {
         replies = unbegun.none;
-        ended = unbegun.wanting;
+        ended = unbegun.exhausted;
         used = done.done.ran.used ∙ ap used unbegun.same ∙ done.unused.used;
       })
       | inr at ↦ inr at

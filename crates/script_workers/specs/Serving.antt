@@ -17,7 +17,7 @@ use Rattle.arena_workers.specs.declared.served.Served.{Served}
 
 -- ---- What is promised of each script
 
--- No command was served, since memory was wanting. Nothing was used.
+-- No command was served, since memory ran out. Nothing was used.
 pub record IsUnserved (outcome : Outcome) : Type 0 where
   pub replies : outcome.replies ≡ []
   pub ended : outcome.ended ≡ ended.OutOfMemory

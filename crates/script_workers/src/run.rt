@@ -18,7 +18,7 @@ pub type Served<C> = arena_workers::Served<Outcome, C>;
 /// Why no script was run to an outcome.
 #[derive(Clone, Copy, PartialEq, Eq, Debug, thiserror::Error)]
 pub enum ScriptsErr {
-    /// Memory for the claims, the workers or their outcomes is wanting.
+    /// Memory for the claims, the workers or their outcomes runs out.
     #[error("out of memory")]
     OutOfMemory,
 }
@@ -43,7 +43,7 @@ impl From<OutOfMemory> for ScriptsErr {
 ///
 /// # Errors
 ///
-/// Memory for the claims, the workers or their outcomes is wanting.
+/// Memory for the claims, the workers or their outcomes runs out.
 #[tactic(auto, using(crate::proofs::AloneLemmas::all_alone))]
 pub fn run_scripts<
     R: Threads + Wait + Sync,

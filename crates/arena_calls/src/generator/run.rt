@@ -40,15 +40,11 @@ fn count_replies<C: ChunkSource>(
     tally.reserve(count)?;
     for i in 0..count {
         let call = draws.call(i);
-        let Ok(()) = run.serve(arena, chunks, &call, count - i - 1, &mut tally) else {
-            return Err(OutOfMemory);
-        };
+        run.serve(arena, chunks, &call, count - i - 1, &mut tally)?;
         // A drawn call has taken no memory, so there is none to be freed.
         mem::forget(call);
     }
-    let Ok(_) = run.held(arena) else {
-        return Err(OutOfMemory);
-    };
+    run.held(arena)?;
     Ok(tally)
 }
 

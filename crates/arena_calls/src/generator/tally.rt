@@ -34,7 +34,8 @@ fn sum_of(bytes: &[u8]) -> u128
     total + u128::from(sum_of_piece(rest))
 }
 
-// What the replies so far come to. A slice has fewer than 2 ^ 64 bytes, so no sum is too great for its type.
+/// What the replies so far come to: the first six numbers of a `Summary`.
+// A slice has fewer than 2^64 bytes, so no sum is too great for its type.
 #[derive(Drop)]
 pub struct Tally {
     pub calls: u32,
@@ -54,7 +55,7 @@ impl Tally {
     ghost use Rattle.std.specs.Prelude.{[]};
     ghost use Rattle.arena_calls.specs.Tallies.{IsTally};
 
-    // No reply was counted.
+    /// The tally of no replies.
     pub fn new() -> Tally
         ensures { IsTally result [] }
     {

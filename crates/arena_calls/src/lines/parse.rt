@@ -38,7 +38,7 @@ fn take_line<'a>(
 pub fn parse_calls(alloc: Global, bytes: &[u8]) -> Result<Vec<Call>, LinesErr>
     // Each line is empty or a call, and these are all of the calls.
     ensures calls { IfOk result (λ calls. CallsOf bytes.now (Ok calls.items)) }
-    // The first line that is refused, or memory is wanting.
+    // The first line that is refused, or memory runs out.
     ensures refused { IfErr result (IsCause (λ n. CallsOf bytes.now (Err n))) }
 {
     let mut calls = Vec::new(alloc);

@@ -22,6 +22,7 @@ pub struct MemoryInput {
 }
 
 impl MemoryInput {
+    /// An input of which no byte was read.
     pub fn new(_alloc: Global, bytes: Vec<u8>, step: u32, fail: Vec<u64>) -> MemoryInput
         requires { 0 < step }
         ensures left { ⟦<MemoryInput as Input>⟧.left result ≡ Some bytes.items }
@@ -112,6 +113,7 @@ pub struct MemoryOutput {
 }
 
 impl MemoryOutput {
+    /// An output to which nothing was written.
     pub fn new(alloc: Global, step: u32, fail: Vec<u64>) -> MemoryOutput
         requires { 0 < step }
         ensures written { ⟦<MemoryOutput as Output>⟧.written result ≡ Some [] }
@@ -155,7 +157,7 @@ impl Output for MemoryOutput {
         ensures one_fault { let faults = ⟦<MemoryOutput as Output>⟧.faults in
             OnErr result (faults self.new ≡ counted (faults self.old) 1) }
         ensures count { IfOk result (λ n. n ≡ min (length piece.now) self.old.step) }
-        // One that isn't listed fails only for want of memory.
+        // One that isn't listed fails only for lack of memory.
         ensures listed { Contains self.old.fail.items self.new.calls → IsErr result }
         ensures calls { self.new.calls ≡ counted self.old.calls 1 }
         ensures fail { self.new.fail.items ≡ self.old.fail.items }

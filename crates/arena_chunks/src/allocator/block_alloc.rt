@@ -14,8 +14,8 @@ pub trait BlockAlloc: OverArena {
     ///
     /// # Errors
     ///
-    /// `AllocErr` where all requests for a chunk were refused, `OutOfMemory` where memory for the table of chunks is
-    /// wanting. Nothing changes.
+    /// `AllocErr` where all requests for a chunk were refused, `OutOfMemory` where memory for the table of chunks
+    /// runs out. Nothing changes.
     fn allocate(&mut self, layout: Layout) -> Result<Block, ArenaErr>
         ensures { PlacesBlock (Self.view self.old) (Self.view self.new) layout.size layout.align
             (answer_of result) };

@@ -114,7 +114,7 @@ impl<C: ChunkSource> Allocator<C> {
         ensures source { self.new.source ≡ self.old.source }
     {
         // So the arena's state is known to be valid.
-        let _ = self.min_align();
+        self.known();
         let mut at = 0;
         for s in strings {
             let text = s.as_str();

@@ -32,7 +32,7 @@ pub fn used_by_placing()
 
 /// A block that grows in place brings into use what it grows by, or more: less than the least alignment for its end, and
 /// less than a unit for its place. One that shrinks in place gives back no more than it shrinks by, and half of itself or
-/// more. One that is placed anew is a new block, and one that stays brings nothing into use. So whichever way a block grows,
+/// more. One that is placed again is a new block, and one that stays brings nothing into use. So whichever way a block grows,
 /// it brings its new size into use at most, with the padding of its end and of its place.
 pub fn used_by_resizing()
     ensures grown_least { (old new : View) (block b : Block) (size align q : ℕ)

@@ -43,19 +43,6 @@ pub(crate) struct Listed {
     pub(crate) replies: Vec<Reply>,
 }
 
-// Adds a reply where there is room for one more.
-fn push_within(replies: &mut Vec<Reply>, reply: Reply)
-    requires { vec_len replies.old < vec_capacity replies.old }
-    ensures items { replies.new.items ≡ replies.old.items ++ reply ∷ [] }
-    ensures capacity { vec_capacity replies.old ≤ vec_capacity replies.new }
-    ensures len { vec_len replies.new ≡ vec_len replies.old + 1 }
-{
-    match replies.push(reply) {
-        Ok(()) => {}
-        Err(_) => unreachable!(),
-    }
-}
-
 impl Replies for Listed {
     ghost has_taken = { λ a list. a.replies.items ≡ list };
 
@@ -66,12 +53,12 @@ impl Replies for Listed {
     }
 
     fn take(&mut self, reply: Reply) {
-        push_within(&mut self.replies, reply);
+        self.replies.push_reserved(reply);
     }
 
     fn take_bytes(&mut self, bytes: &[u8], _left: usize) -> Result<(), OutOfMemory> {
         let bytes = Bytes::of(self.alloc, bytes)?;
-        push_within(&mut self.replies, Reply::Bytes(bytes));
+        self.replies.push_reserved(Reply::Bytes(bytes));
         Ok(())
     }
 }

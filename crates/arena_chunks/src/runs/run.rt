@@ -26,7 +26,7 @@ pub struct Ran {
 /// Why a run stopped early.
 #[derive(Drop, Debug)]
 pub enum Stopped {
-    /// Memory is wanting. The first `done` calls were run, and the arena is as after them.
+    /// Out of memory. The first `done` calls were run, and the arena is as after them.
     OutOfMemory { done: u64 },
 }
 
@@ -43,13 +43,13 @@ impl Run {
     ///
     /// # Errors
     ///
-    /// `OutOfMemory` where memory is wanting.
+    /// `OutOfMemory` where memory runs out.
     pub fn new<const M: usize>(alloc: Global, arena: &Arena<M>) -> Result<Run, OutOfMemory>
         ensures { (source : Source) → IfOk result (λ run. IsRunning
             (view arena.now source) (view arena.now source) run.names run.marks [] []) }
     {
         // The contract of this call tells that the state is valid.
-        let _ = arena.cursor();
+        arena.known();
         Ok(Run {
             alloc,
             names: Names::new(alloc)?,
@@ -62,7 +62,7 @@ impl Run {
     ///
     /// # Errors
     ///
-    /// `OutOfMemory` where memory is wanting, at a call that places a block anew, answers bytes or sets a mark, or that gives
+    /// `OutOfMemory` where memory runs out, at a call that places a block again, answers bytes or sets a mark, or that gives
     /// a block another size while there is a mark. The arena is as after the calls before, and no reply was taken; the run
     /// is over.
     #[inline(always)]
@@ -93,7 +93,7 @@ impl Run {
     ///
     /// # Errors
     ///
-    /// `OutOfMemory` where memory is wanting.
+    /// `OutOfMemory` where memory runs out.
     pub fn held<const M: usize>(&self, arena: &Arena<M>) -> Result<Vec<(u32, Block)>, OutOfMemory>
         ensures ok { (source : Source) → IfOk result (λ held.
             EndsWith (view arena.now source) self.now.names self.now.marks held.items) }
@@ -109,9 +109,9 @@ impl Run {
 ///
 /// # Errors
 ///
-/// `OutOfMemory` where memory is wanting, which leaves the arena as after a first part of the calls, its blocks sound
+/// `OutOfMemory` where memory runs out, which leaves the arena as after a first part of the calls, its blocks sound
 /// and with their bytes; the replies of these calls were taken. That is before the first call, after the last, or at
-/// one that places a block anew, answers bytes or sets a mark, or that gives a block another size while there is a mark.
+/// one that places a block again, answers bytes or sets a mark, or that gives a block another size while there is a mark.
 pub fn run_calls_into<const M: usize, C: ChunkSource, R: Replies>(
     alloc: Global,
     arena: &mut Arena<M>,
@@ -128,7 +128,7 @@ pub fn run_calls_into<const M: usize, C: ChunkSource, R: Replies>(
         (TakesMore R.has_taken replies.old replies.new)) }
 {
     // A run begins with a valid state, which the contract of this call tells.
-    let _ = arena.cursor();
+    arena.known();
     let Ok(mut run) = Run::new(alloc, arena) else {
         return Err(Stopped::OutOfMemory { done: 0 });
     };
@@ -154,8 +154,8 @@ pub fn run_calls_into<const M: usize, C: ChunkSource, R: Replies>(
 ///
 /// # Errors
 ///
-/// `OutOfMemory` where memory is wanting, which leaves the arena as after a first part of the calls, its blocks sound and
-/// with their bytes. That is before the first call, after the last, or at one that places a block anew, answers bytes or
+/// `OutOfMemory` where memory runs out, which leaves the arena as after a first part of the calls, its blocks sound and
+/// with their bytes. That is before the first call, after the last, or at one that places a block again, answers bytes or
 /// sets a mark, or that gives a block another size while there is a mark.
 pub fn run_calls<const M: usize, C: ChunkSource>(
     alloc: Global,

@@ -6,9 +6,8 @@ ghost use Rattle.call_rules.specs.declared.calls.Reply.{Reply};
 ghost use Rattle.arena_chunks.specs.Replies.{has_bytes, StillTaken, TakesMore};
 ghost use Rattle.arena_store.specs.Source.{Source, view};
 ghost use Rattle.arena_chunks.specs.Marks.{Noted, named, Tracks};
-ghost use Rattle.arena_store.specs.Memory.{is_readable};
+ghost use Rattle.arena_store.specs.Memory.{is_readable, block_at};
 ghost use Rattle.arena_core.specs.Answers.{OnCounted};
-ghost use Rattle.arena_store.specs.Memory.{block_at};
 ghost use Rattle.arena_chunks.specs.Serving.{Serves, ServesNoting, ServesRun, Wants, Holds, resizing, is_wrong, ResizesFilling};
 
 use crate::runs::names::Names;
@@ -74,7 +73,7 @@ fn serve_alloc<const M: usize, C: ChunkSource>(
     let Some(layout) = Layout::new(wanted.size, wanted.align) else {
         return Ok(Reply::BadLayout);
     };
-    // The name's entry is made first, since memory may be wanting for it.
+    // The name's entry is made first, since memory may run out for it.
     run.names.insert(name, wanted.at(0))?;
     run.marks.note(name)?;
     match arena.alloc_counted(chunks, layout) {

@@ -89,7 +89,7 @@ impl<C: ChunkSource> ArenaItems for Allocator<C> {
                 Some(value) => put_item(self, block, i, value),
                 None => {
                     // So the least alignment is known to be 1.
-                    let _ = self.min_align();
+                    self.known();
                     self.deallocate(block);
                     return Err(ItemErr::TooFew { taken: i });
                 }

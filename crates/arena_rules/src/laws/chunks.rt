@@ -32,7 +32,7 @@ pub fn doubling()
         → IsDoubling z outcome.state.chunks }
 {}
 
-/// Chunks go on to double through a move of one block, where a block that is placed anew makes no chunk or makes it at
+/// Chunks go on to double through a move of one block, where a block that is placed again makes no chunk or makes it at
 /// the first size that is tried. A block that is given back and a cursor that is set make none.
 pub fn doubling_moves()
     ensures by_resize { (z : ℕ) (way : Resizing) (state : State) (p size align k : ℕ) (outcome : Outcome)

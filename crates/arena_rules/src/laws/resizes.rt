@@ -1,14 +1,13 @@
 // How many bytes of the chunks are used after a block was given another size.
 ghost use Rattle.std.specs.Prelude.{◌≡◌, ◌≢◌, ℕ, ◌+◌, ◌-◌, ◌*◌, ◌%◌, ◌≤◌, IsTrue};
-ghost use Rattle.arena_rules.specs.State.{State, IsValid, used_bytes};
+ghost use Rattle.arena_rules.specs.State.{State, IsValid, used_bytes, is_place_used};
 ghost use Rattle.arena_rules.specs.Moves.{Outcome, alloc, growth};
 ghost use Rattle.arena_rules.specs.Moves.Resizing.{Stays, Anew, Refused};
-ghost use Rattle.arena_rules.specs.State.{is_place_used};
 ghost use Rattle.arena_rules.specs.Blocks.{growing_block, grow_block, shrinking_block, shrink_block};
 ghost use Rattle.arena_rules.specs.Used.{taken, unit_of, GrowsTo, ShrinksTo};
 ghost use Rattle.arena_rules.specs.declared.place.Place.{Place};
 
-/// A block that grows where it is moves down, and so many more bytes are used. One that doesn't is allocated anew, or
+/// A block that grows where it is moves down, and so many more bytes are used. One that doesn't is allocated again, or
 /// refused with as many bytes used as before.
 pub fn used_by_grow()
     ensures grown { (state : State) (block : Place) (size align k q : ℕ) (outcome : Outcome) → IsValid state
@@ -52,7 +51,7 @@ pub fn moved_down()
 {}
 
 /// A block in use, or an empty one, that shrinks where it is moves up, and so many fewer bytes are used. One that doesn't
-/// stays with as many bytes used as before, or is allocated anew.
+/// stays with as many bytes used as before, or is allocated again.
 pub fn used_by_shrink()
     ensures shrunk { (state : State) (block : Place) (size align k q : ℕ) (outcome : Outcome) → IsValid state
         → IsTrue (is_place_used state block) → ShrinksTo state block size align q

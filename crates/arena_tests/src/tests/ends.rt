@@ -25,7 +25,7 @@ pub(super) const ENDS: &[Step] = &[
     Step::Shrink(0, 0, 2 * FAR, Err(0)),
     Step::Held(0, true),
     Step::Requests(&[(16320, FAR)]),
-    // One that doesn't lie last is placed anew.
+    // One that doesn't lie last is placed again.
     Step::Case("one byte above another", &[]),
     Step::Alloc(1, 1, Ok(20415)),
     Step::Alloc(1, 1, Ok(20414)),

@@ -5,7 +5,7 @@ ghost use Rattle.arena_items.specs.Room.{capacity_after};
 ghost use Rattle.arena_items.specs.declared.room.AllocError.{AllocError};
 ghost use Rattle.arena_vec.specs.Changes.{Grows};
 ghost use Rattle.arena_vec.specs.Credit.{asked_by, credit_of};
-ghost use Rattle.arena_vec.specs.Growth.{amortised_growth};
+ghost use Rattle.raw_vec.specs.Growth.{amortised_growth};
 ghost use Rattle.arena_vec.specs.Vecs.{IsVecIn};
 ghost use Rattle.arena_vec.specs.declared.vec.Vec.{Vec};
 

@@ -103,7 +103,7 @@ fn moved_anew(rt: &impl Abort, alloc: Global, what: &str, call: &Call<'_, u32>, 
     has(rt, what, &a, 20416u64.wrapping_sub(addr), (2, 1));
 }
 
-// Behind a block of one byte it is placed anew, 16 bytes further down.
+// Behind a block of one byte it is placed again, 16 bytes further down.
 #[test]
 fn many_values_at_once(rt: HostRuntime) {
     for (what, call, addr) in AT_ONCE {

@@ -46,7 +46,7 @@ pub(super) enum Answer<T> {
     Overflows,
     // There is no place. So many requests were refused.
     Refused(u32),
-    Wanting,
+    Exhausted,
 }
 
 // A call, what it answers, and the list and the capacity then.
@@ -56,7 +56,7 @@ pub(super) fn failed<T>(e: AllocError) -> Answer<T> {
     match e {
         AllocError::AllocErr { refused } => Answer::Refused(refused),
         AllocError::CapacityOverflow => Answer::Overflows,
-        AllocError::OutOfMemory => Answer::Wanting,
+        AllocError::OutOfMemory => Answer::Exhausted,
     }
 }
 

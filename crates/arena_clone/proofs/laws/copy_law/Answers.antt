@@ -1,5 +1,4 @@
-use Rattle.arena_clone.proofs.CopyLemmas.{placed_stays, made_stays, beside_new}
-use Rattle.arena_clone.proofs.LawLemmas.{all_turned}
+use Rattle.arena_exchange.proofs.Layers.{placed_stays, made_stays, beside_new, all_turned}
 use Rattle.arena_clone.proofs.laws.copy_law.Goals as goal
 
 pub returns-clause-copy : goal.returns-clause-copy

@@ -1,6 +1,6 @@
 use Rattle.std.proofs.Common.{◌-◌, arith}
-use Rattle.arena_hash.specs.Policy.{slot_size, table_align, unit}
-use Rattle.arena_hash.proofs.PolicyLemmas.{table-holds, capacity-bytes, full-credit, unit-covers}
+use Rattle.hash_ring.specs.Policy.{slot_size, table_align, unit}
+use Rattle.hash_ring.proofs.PolicyLemmas.{table-holds, capacity-bytes, full-credit, unit-covers}
 use Rattle.arena_hash.proofs.laws.bytes_law.Goals as goal
 
 pub returns-clause-pairs : goal.returns-clause-pairs

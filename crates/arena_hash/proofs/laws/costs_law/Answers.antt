@@ -1,5 +1,5 @@
 use Rattle.std.proofs.Common.{arith}
-use Rattle.arena_hash.specs.Contents.{kind}
+use Rattle.arena_table.specs.Contents.{kind}
 use Rattle.arena_hash.proofs.CostLemmas.{insert-most}
 use Rattle.arena_hash.proofs.laws.costs_law.Goals as goal
 

@@ -1,4 +1,4 @@
-use Rattle.arena_hash.specs.Contents.{kind}
+use Rattle.arena_table.specs.Contents.{kind}
 use Rattle.arena_hash.proofs.CostLemmas.{insert-all}
 use Rattle.arena_hash.proofs.laws.insert_law.Goals as goal
 

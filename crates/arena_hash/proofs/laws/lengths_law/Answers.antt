@@ -1,7 +1,7 @@
 use Rattle.std.proofs.Common.{◌≤◌, length, sym, ◌∙◌, arith}
-use Rattle.arena_hash.specs.Contents.{kind, content_in}
+use Rattle.hash_ring.proofs.Equal.{few-contents}
+use Rattle.arena_table.specs.Contents.{kind, content_in}
 use Rattle.arena_hash.specs.Maps.{pairs_in}
-use Rattle.arena_hash.proofs.Equal.{few-contents}
 use Rattle.arena_hash.proofs.laws.lengths_law.Goals as goal
 
 pub returns : goal.returns

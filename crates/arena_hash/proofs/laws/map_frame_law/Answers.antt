@@ -1,4 +1,4 @@
-use Rattle.arena_hash.specs.Contents.{kind}
+use Rattle.arena_table.specs.Contents.{kind}
 use Rattle.arena_hash.proofs.FrameLemmas.{map_stays}
 use Rattle.arena_hash.proofs.laws.map_frame_law.Goals as goal
 

@@ -1,4 +1,4 @@
-use Rattle.arena_hash.specs.Contents.{kind}
+use Rattle.arena_table.specs.Contents.{kind}
 use Rattle.arena_hash.proofs.KeyLemmas.{stands-under, texts-are}
 use Rattle.arena_hash.proofs.laws.texts_law.Goals as goal
 

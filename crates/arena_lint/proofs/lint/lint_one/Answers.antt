@@ -1,5 +1,5 @@
 use Rattle.std.proofs.Common.{arith}
-use Rattle.arena_lint.proofs.LintLemmas.{parsed_light, parse_spends, unparsed, checked, unplaced, wanting, fits}
+use Rattle.arena_lint.proofs.LintLemmas.{parsed_light, parse_spends, unparsed, checked, unplaced, exhausted, fits}
 use Rattle.arena_lint.proofs.lint.lint_one.Goals as goal
 
 pub findings-requires : goal.findings-requires
@@ -23,7 +23,7 @@ returns-in-Err-AllocErr g c = rw c.no_place.ensures (unplaced c.in-Ok.tree c.tre
     (λ trees means. rw c.in-Err-AllocErr.field-0-is at (c.in-Err-AllocErr.ensures.spends trees means)))
 
 pub returns-in-Err-OutOfMemory : goal.returns-in-Err-OutOfMemory
-returns-in-Err-OutOfMemory g c = wanting c.in-Ok.tree c.tree_weight.ensures c.requires.unused c.in-Ok.ensures.parses c.in-Ok.ensures.bytes
+returns-in-Err-OutOfMemory g c = exhausted c.in-Ok.tree c.tree_weight.ensures c.requires.unused c.in-Ok.ensures.parses c.in-Ok.ensures.bytes
     (λ trees means. rw c.in-Err-OutOfMemory.field-0-is at (c.in-Err-OutOfMemory.ensures.spends trees means))
 
 pub unreachable-requires : goal.unreachable-requires

@@ -2,7 +2,7 @@ use Rattle.std.proofs.Common.{ap, arith}
 use Rattle.arena_tree.specs.Spending.{error_of}
 use Rattle.arena_tree.specs.declared.node.Kind.TheVariants as kind
 use Rattle.arena_tree.proofs.Layers.{line_seen}
-use Rattle.arena_lint.proofs.SpendingLemmas.{err_takes, takes_wanting, takes_then, takes_more}
+use Rattle.arena_lint.proofs.SpendingLemmas.{err_takes, takes_exhausted, takes_then, takes_more}
 use Rattle.arena_symbols.proofs.Layers.{moves_then}
 use Rattle.tree_rules.specs.Weights.{weight}
 use Rattle.arena_lint.proofs.StatementLemmas.{list_moved, show_finds}
@@ -74,5 +74,5 @@ walk_stmt-returns-in_default g t c = record {
   moves = moves_none c.requires.known;
   finds = λ s at. show_finds c.args.a.now.memory c.args.known.now c.args.found.now c.use_names.new.found c.use_names.result s c.args.node
       at c.in_default.not-Let c.in_default.not-Block (λ sets knows. c.use_names.ensures.finds s sets at knows);
-  takes = λ s at. takes_wanting c.args.a.now c.args.known.now (error_of c.use_names.result) c.use_names.ensures.wanting;
+  takes = λ s at. takes_exhausted c.args.a.now c.args.known.now (error_of c.use_names.result) c.use_names.ensures.exhausted;
 }

@@ -1,6 +1,6 @@
 use Rattle.std.proofs.Common.{ℕ, List, length, ap, ◌∙◌, arith}
 use Rattle.arena_tree.specs.Spending.{error_of}
-use Rattle.arena_lint.proofs.SpendingLemmas.{err_takes, takes_more, takes_then, takes_wanting}
+use Rattle.arena_lint.proofs.SpendingLemmas.{err_takes, takes_more, takes_then, takes_exhausted}
 use Rattle.arena_lint.proofs.walk.define.Goals as goal
 
 pub returns-in_err-kind-clause-takes : goal.returns-in_err-kind-clause-takes
@@ -13,4 +13,4 @@ pub returns-clause-takes : goal.returns-clause-takes
 returns-clause-takes g c =
     let is = c.from_utf8_unchecked-spelled.ensures ∙ c.as_slice.ensures ∙ c.in-Ok.ensures.value ∙ c.read.ensures in
     takes_more _ (omega (arith, ap (λ (t : List ℕ). length t) is)) (takes_then c.in_ok-kind.ensures.takes
-    (takes_wanting {weight = 0} c.define_name.new.a c.define_name.new.known (error_of c.add.result) c.add.ensures.wanting))
+    (takes_exhausted {weight = 0} c.define_name.new.a c.define_name.new.known (error_of c.add.result) c.add.ensures.exhausted))

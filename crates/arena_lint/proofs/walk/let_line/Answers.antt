@@ -1,7 +1,7 @@
 use Rattle.std.proofs.Common.{Some}
 use Rattle.arena_tree.specs.declared.node.Kind.TheVariants as kind
 use Rattle.arena_tree.proofs.Layers.{line_seen}
-use Rattle.arena_lint.proofs.SpendingLemmas.{err_takes, takes_wanting}
+use Rattle.arena_lint.proofs.SpendingLemmas.{err_takes, takes_exhausted}
 use Rattle.arena_lint.proofs.StatementLemmas.{let_name, let_finds}
 use Rattle.arena_lint.proofs.walk.let_line.Goals as goal
 
@@ -22,7 +22,7 @@ returns-clause-finds g c s at =
 
 pub returns-in_err-use_names-clause-takes : goal.returns-in_err-use_names-clause-takes
 returns-in_err-use_names-clause-takes g c s at = err_takes c.from_residual.result c.from_residual.ensures
-    (takes_wanting c.args.a.now c.args.known.now (Some _) c.in_err-use_names.ensures.wanting)
+    (takes_exhausted c.args.a.now c.args.known.now (Some _) c.in_err-use_names.ensures.exhausted)
 
 pub returns-clause-takes : goal.returns-clause-takes
 returns-clause-takes g c s at = rw (line_seen kind.Let c.args.a.now.memory c.args.node c.requires.kind s at).3 c.define.ensures.takes

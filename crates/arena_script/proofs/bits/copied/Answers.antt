@@ -11,11 +11,11 @@ pub returns-in_err-copy : goal.returns-in_err-copy
 returns-in_err-copy g c =
     let h = holds c.requires.things c.args.name (thing.Bits c.args.set) c.requires.found in
     not_given c.from_residual.result c.from_residual.ensures.1
-    (made_gives_nothing refl c.requires.none h.held.small c.min_align.ensures.state (copy_given h c.args.other c.requires.none)
+    (made_gives_nothing refl c.requires.none h.held.small c.known.ensures.state (copy_given h c.args.other c.requires.none)
     (ap copy_ask h.found) c.in_err-copy.ensures)
 
 pub returns : goal.returns
 returns g c =
     let h = holds c.requires.things c.args.name (thing.Bits c.args.set) c.requires.found in
-    made_gives refl c.requires.none h.held.small c.min_align.ensures.state (copy_given h c.args.other c.requires.none)
+    made_gives refl c.requires.none h.held.small c.known.ensures.state (copy_given h c.args.other c.requires.none)
     c.in_ok-copy.ensures

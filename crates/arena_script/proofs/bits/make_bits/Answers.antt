@@ -8,11 +8,11 @@ pub returns-in_err-set : goal.returns-in_err-set
 returns-in_err-set g c =
     let none = sym c.get.ensures ∙ is_none c.get.result (sym c.if-is_some.ensures) in
     not_given c.from_residual.result c.from_residual.ensures.1
-    (made_gives_nothing refl none c.ranges.capacity.fits c.min_align.ensures.state
+    (made_gives_nothing refl none c.ranges.capacity.fits c.known.ensures.state
     (made_given c.args.things.now c.args.a.now.memory c.args.name c.args.capacity none) refl c.in_err-set.ensures)
 
 pub returns : goal.returns
 returns g c =
     let none = sym c.get.ensures ∙ is_none c.get.result (sym c.if-is_some.ensures) in
-    made_gives refl none c.ranges.capacity.fits c.min_align.ensures.state
+    made_gives refl none c.ranges.capacity.fits c.known.ensures.state
     (made_given c.args.things.now c.args.a.now.memory c.args.name c.args.capacity none) c.in_ok-set.ensures

@@ -9,10 +9,10 @@ returns-in_err-copy g c =
     let h = holds c.requires.things c.args.name (thing.List c.args.list) c.requires.found in
     not_given c.from_residual.result c.from_residual.ensures.1
     (list_copy_gives_nothing (record { stays = c.growth_rule.ensures.stays; grows = c.growth_rule.ensures.grows }) _ _ _ h c.requires.none
-    c.min_align.ensures.state c.in_err-copy.ensures.makes)
+    c.known.ensures.state c.in_err-copy.ensures.makes)
 
 pub returns : goal.returns
 returns g c =
     let h = holds c.requires.things c.args.name (thing.List c.args.list) c.requires.found in
     list_copy_gives (record { stays = c.growth_rule.ensures.stays; grows = c.growth_rule.ensures.grows }) _ _ _ h c.requires.none
-    c.min_align.ensures.state c.in_ok-copy.ensures.makes
+    c.known.ensures.state c.in_ok-copy.ensures.makes

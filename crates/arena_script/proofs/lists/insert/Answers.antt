@@ -24,12 +24,12 @@ returns-in_err-insert g c =
     let h = holds c.requires c.args.name (thing.List c.in-Ok.list) c.in-Ok.ensures in
     not_given c.from_residual.result c.from_residual.ensures.1
     (list_gives_nothing (record { stays = c.growth_rule.ensures.stays; grows = c.growth_rule.ensures.grows })
-    (record { keeps = c.growth_costs.ensures.keeps; asks = c.growth_costs.ensures.asks }) _ _ _ h c.min_align.ensures.state
+    (record { keeps = c.growth_costs.ensures.keeps; asks = c.growth_costs.ensures.asks }) _ _ _ h c.known.ensures.state
     (insert_grows h c.args.at c.args.value (omega (arith, c.len.ensures)) (omega (arith, c.len-2.ensures))) c.in_err-insert.ensures)
 
 pub returns : goal.returns
 returns g c =
     let h = holds c.requires c.args.name (thing.List c.in-Ok.list) c.in-Ok.ensures in
     list_gives (record { stays = c.growth_rule.ensures.stays; grows = c.growth_rule.ensures.grows })
-    (record { keeps = c.growth_costs.ensures.keeps; asks = c.growth_costs.ensures.asks }) _ _ _ h c.min_align.ensures.state
+    (record { keeps = c.growth_costs.ensures.keeps; asks = c.growth_costs.ensures.asks }) _ _ _ h c.known.ensures.state
     (insert_grows h c.args.at c.args.value (omega (arith, c.len.ensures)) (omega (arith, c.len-2.ensures))) c.in_ok-insert.ensures

@@ -17,11 +17,11 @@ pub returns-in_err-old : goal.returns-in_err-old
 returns-in_err-old g c =
     let h = holds c.requires c.args.name (thing.Map c.in-Ok.map) c.in-Ok.ensures in
     not_given c.from_residual.result c.from_residual.ensures.1
-    (bind_gives_nothing _ _ _ _ h c.ranges.key.fits (c.has_no_room.ensures.room c.if-has_no_room.false) c.min_align.ensures.state
+    (bind_gives_nothing _ _ _ _ h c.ranges.key.fits (c.has_no_room.ensures.room c.if-has_no_room.false) c.known.ensures.state
     c.in_err-old.ensures)
 
 pub returns : goal.returns
 returns g c =
     let h = holds c.requires c.args.name (thing.Map c.in-Ok.map) c.in-Ok.ensures in rw c.number_or_nothing.ensures
-    (bind_gives _ _ _ _ h c.ranges.key.fits (c.has_no_room.ensures.room c.if-has_no_room.false) c.min_align.ensures.state
+    (bind_gives _ _ _ _ h c.ranges.key.fits (c.has_no_room.ensures.room c.if-has_no_room.false) c.known.ensures.state
     c.in_ok-old.ensures)

@@ -17,10 +17,10 @@ pub returns-in_err-copy : goal.returns-in_err-copy
 returns-in_err-copy g c =
     let h = holds c.requires.things c.args.name (thing.Map c.args.map) c.requires.found in
     not_given c.from_residual.result c.from_residual.ensures.1
-    (map_copy_gives_nothing _ _ _ h c.requires.none c.min_align.ensures.state c.bytes_law.ensures.table c.lengths_law.ensures
+    (map_copy_gives_nothing _ _ _ h c.requires.none c.known.ensures.state c.bytes_law.ensures.table c.lengths_law.ensures
     c.in_err-copy.ensures)
 
 pub returns : goal.returns
 returns g c =
     let h = holds c.requires.things c.args.name (thing.Map c.args.map) c.requires.found in
-    map_copy_gives _ _ _ h c.requires.none c.min_align.ensures.state c.bytes_law.ensures.table c.lengths_law.ensures c.in_ok-copy.ensures
+    map_copy_gives _ _ _ h c.requires.none c.known.ensures.state c.bytes_law.ensures.table c.lengths_law.ensures c.in_ok-copy.ensures

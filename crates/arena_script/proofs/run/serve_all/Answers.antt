@@ -1,7 +1,7 @@
 use Rattle.std.proofs.Common.{◌≡◌, ◌∙◌, ◌+◌, arith, refl, sym, subst, ap, [], ◌∷◌, ◌++◌, length, length-append}
 use Rattle.arena_script.specs.Running.{IsRun}
 use Rattle.arena_script.proofs.RunningLemmas.{after_none, after_more, reply_more, none_replied}
-use Rattle.arena_script.proofs.EndingLemmas.{came, is_at, run_done, run_wanting, run_refused}
+use Rattle.arena_script.proofs.EndingLemmas.{came, is_at, run_done, run_exhausted, run_refused}
 use Rattle.arena_script.proofs.run.serve_all.Goals as goal
 
 pub loop-command-init : goal.loop-command-init
@@ -24,7 +24,7 @@ pub returns-in-Err : goal.returns-in-Err
 returns-in-Err g c = λ bytes is.
     let l = c.loop-command in
     let at = is_at c.args.commands.now l.command-index c.command-item.result c.loop-command-test.true c.command-item.is in
-    run_wanting _ _ (omega (arith, c.loop-command-test.true)) l.invariant.replies at c.requires.unused l.invariant.after c.in-Err.ensures is
+    run_exhausted _ _ (omega (arith, c.loop-command-test.true)) l.invariant.replies at c.requires.unused l.invariant.after c.in-Err.ensures is
 
 pub loop-command-preserved : goal.loop-command-preserved
 loop-command-preserved g c =

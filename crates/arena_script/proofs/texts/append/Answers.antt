@@ -18,7 +18,7 @@ returns-in_err-push_bytes_unchecked g c =
     let h = holds c.requires c.args.name (thing.Text c.in-Ok.text) c.in-Ok.ensures in
     not_given c.from_residual.result c.from_residual.ensures.1
     (put_gives_nothing (record { stays = c.growth_rule.ensures.stays; grows = c.growth_rule.ensures.grows }) _ _ _ h
-    c.min_align.ensures.state (append_puts h c.args.bytes.now) (sym c.has_other.ensures ∙ c.if-has_other.false)
+    c.known.ensures.state (append_puts h c.args.bytes.now) (sym c.has_other.ensures ∙ c.if-has_other.false)
     (c.length_rule.ensures c.args.a.now.memory c.in-Ok.text h.held.held)
     (omega (arith, c.len.ensures, c.saturating_add.ensures)) c.in_err-push_bytes_unchecked.ensures)
 
@@ -26,6 +26,6 @@ pub returns : goal.returns
 returns g c =
     let h = holds c.requires c.args.name (thing.Text c.in-Ok.text) c.in-Ok.ensures in
     put_gives (record { stays = c.growth_rule.ensures.stays; grows = c.growth_rule.ensures.grows }) _ _ _ h
-    c.min_align.ensures.state (append_puts h c.args.bytes.now) (sym c.has_other.ensures ∙ c.if-has_other.false)
+    c.known.ensures.state (append_puts h c.args.bytes.now) (sym c.has_other.ensures ∙ c.if-has_other.false)
     (c.length_rule.ensures c.args.a.now.memory c.in-Ok.text h.held.held)
     (omega (arith, c.len.ensures, c.saturating_add.ensures)) c.in_ok-push_bytes_unchecked.ensures

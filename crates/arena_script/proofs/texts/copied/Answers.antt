@@ -14,13 +14,13 @@ pub returns-in_err-copy : goal.returns-in_err-copy
 returns-in_err-copy g c =
     let h = holds c.requires.things c.args.name (thing.Text c.args.text) c.requires.found in
     not_given c.from_residual.result c.from_residual.ensures.1
-    (text_copy_gives_nothing _ _ _ h c.requires.none c.into_str-source.result c.min_align.ensures.state
+    (text_copy_gives_nothing _ _ _ h c.requires.none c.into_str-source.result c.known.ensures.state
     (c.length_rule.ensures c.args.a.now.memory c.args.text h.held.held) (c.into_str-source.ensures.bytes c.args.a.now.memory h.held.held)
     (rw c.into_str-source.ensures.block refl) c.in_err-copy.ensures)
 
 pub returns : goal.returns
 returns g c =
     let h = holds c.requires.things c.args.name (thing.Text c.args.text) c.requires.found in
-    text_copy_gives _ _ _ h c.requires.none c.into_str-source.result c.min_align.ensures.state
+    text_copy_gives _ _ _ h c.requires.none c.into_str-source.result c.known.ensures.state
     (c.length_rule.ensures c.args.a.now.memory c.args.text h.held.held) (c.into_str-source.ensures.bytes c.args.a.now.memory h.held.held)
     (rw c.into_str-source.ensures.block refl) c.in_ok-copy.ensures

@@ -7,11 +7,11 @@ pub returns-in_err-value : goal.returns-in_err-value
 returns-in_err-value g c =
     let none = sym c.get.ensures ∙ is_none c.get.result (sym c.if-is_some.ensures) in
     not_given c.from_residual.result c.from_residual.ensures.1
-    (made_gives_nothing refl none c.min_align.ensures.state (made_given c.args.things.now c.args.a.now.memory c.args.name c.args.value none)
+    (made_gives_nothing refl none c.known.ensures.state (made_given c.args.things.now c.args.a.now.memory c.args.name c.args.value none)
     refl c.in_err-value.ensures)
 
 pub returns : goal.returns
 returns g c =
     let none = sym c.get.ensures ∙ is_none c.get.result (sym c.if-is_some.ensures) in
-    made_gives refl none c.min_align.ensures.state (made_given c.args.things.now c.args.a.now.memory c.args.name c.args.value none)
+    made_gives refl none c.known.ensures.state (made_given c.args.things.now c.args.a.now.memory c.args.name c.args.value none)
     c.in_ok-value.ensures

@@ -8,7 +8,7 @@ use Rattle.arena_text.proofs.text.write_all.Goals as goal
 pub loop-s-init : goal.loop-s-init
 loop-s-init g c = record {
   end = refl;
-  writes = writes_nothing c.args.a.now.memory c.args.block 0 c.min_align.ensures.valid (omega arith);
+  writes = writes_nothing c.args.a.now.memory c.args.block 0 c.known.ensures.valid (omega arith);
   utf8 = IsUtf8-nil;
   source = refl;
 }

@@ -1,4 +1,4 @@
-use Rattle.arena_tree.proofs.BlockCostLemmas.{block_placed, block_refused, block_wanting}
+use Rattle.arena_tree.proofs.BlockCostLemmas.{block_placed, block_refused, block_exhausted}
 use Rattle.arena_tree.proofs.block.place_block.Goals as goal
 
 pub returns-in-Ok-clause-spends : goal.returns-in-Ok-clause-spends
@@ -12,5 +12,5 @@ returns-in-Err-AllocErr-clause-spends g c =
 
 pub returns-in-Err-OutOfMemory-clause-spends : goal.returns-in-Err-OutOfMemory-clause-spends
 returns-in-Err-OutOfMemory-clause-spends g c =
-    block_wanting _ _ _ _ c.min_align.ensures.state c.args.layout.valid c.requires.aligned c.requires.small
+    block_exhausted _ _ _ _ c.min_align.ensures.state c.args.layout.valid c.requires.aligned c.requires.small
     (rw c.in-Err-OutOfMemory.field-0-is at c.in-Err-OutOfMemory.ensures)

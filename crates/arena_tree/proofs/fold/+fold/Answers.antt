@@ -1,5 +1,5 @@
 use Rattle.std.proofs.Common.{rules, ◌≡◌, ◌-◌, ◌∙◌, refl, sym, Some, None, arith}
-use Rattle.arena_clone.proofs.Layers.{same_places}
+use Rattle.arena_exchange.proofs.Layers.{same_places}
 use Rattle.arena_items.proofs.Layers.{same_then}
 use Rattle.arena_tree.specs.FoldingParts.{CanFold, CanFoldRow, kids_folded}
 use Rattle.arena_tree.proofs.SubtreeLemmas.{kids_at}

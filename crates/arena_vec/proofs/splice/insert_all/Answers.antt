@@ -2,7 +2,7 @@ use Rattle.std.proofs.Common.{arith, ◌≡◌, ◌+◌, [], refl}
 use Rattle.arena_chunks.proofs.Layers.{frame_keeps_beside}
 use Rattle.arena_items.specs.Values.{bytes_of}
 use Rattle.arena_items.proofs.Layers.{elements-empty}
-use Rattle.arena_vec.specs.Growth.{amortised_growth}
+use Rattle.raw_vec.specs.Growth.{amortised_growth}
 use Rattle.arena_vec.specs.Vecs.{vec_list}
 use Rattle.arena_items.specs.declared.room.Growth.TheVariants.{Stays}
 use Rattle.arena_vec.proofs.VecLemmas.{untouched, room_of}

@@ -3,7 +3,7 @@ use Rattle.std.proofs.lemmas.List.{length-take, length-drop}
 use Rattle.std.proofs.lemmas.Result.{err_from_is_err_and}
 use Rattle.arena_items.specs.Values.{bytes_of}
 use Rattle.arena_items.proofs.Layers.{length-elements, wrote_same}
-use Rattle.arena_vec.specs.Held.{raw_values}
+use Rattle.raw_vec.specs.Held.{raw_values}
 use Rattle.arena_vec.proofs.VecLemmas.{grows, refused, same_front, room_of}
 use Rattle.arena_vec.proofs.SpliceLemmas.{widened}
 use Rattle.arena_vec.proofs.splice.widen.Goals as goal

@@ -66,12 +66,12 @@ fn are_held<K: CheckedKey, V: Checked + Item, C: ChunkSource>(
 
 // A map in an arena of its own. It always stands there.
 #[derive(Drop)]
-pub struct Kept<K: CheckedKey, V: Checked + Item> {
+pub struct Kept<K: ArenaKey, V: Item> {
     a: Allocator<MemoryChunks>,
     map: HashMap<K, V>,
 }
 
-impl<K: CheckedKey, V: Checked + Item> Model for Kept<K, V> {
+impl<K: ArenaKey, V: Item> Model for Kept<K, V> {
     ghost Value = { Unit {0} };
 
     ghost view = { λ s. tt };

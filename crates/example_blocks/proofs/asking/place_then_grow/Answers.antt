@@ -1,4 +1,5 @@
 use Rattle.std.proofs.Common.{◌≡◌, ℕ, ◌+◌, ◌^◌, ◌≤◌, refl, subst, ◌∙◌, arith, Err, IsTrue}
+use Rattle.std.proofs.lemmas.Result.{err_from_is_err_and}
 use Rattle.arena_rules.specs.Rounding.{is_power}
 use Rattle.arena_rules.proofs.RoundingLemmas.{layout_power}
 use Rattle.arena_chunks.specs.Source.{View}
@@ -11,51 +12,52 @@ use Rattle.example_blocks.proofs.asking.place_then_grow.Goals as goal
 
 -- ---- The first call is refused
 
-pub returns-in-Err-clause-accounts : goal.returns-in-Err-clause-accounts
-returns-in-Err-clause-accounts g c =
+pub returns-in_err-block-clause-accounts : goal.returns-in_err-block-clause-accounts
+returns-in_err-block-clause-accounts g c =
     let small = c.args.small in
     let old : View = c.args.a.now in
     let new : View = c.alloc_layout.new.self in
-    let places : (k : ℕ) → answer_of (Err c.in-Err.e) ≡ Refused k → PlacesBlock old new small.size small.align (Refused k) =
-    λ k is. subst (λ (a : Answer). PlacesBlock old new small.size small.align a) is c.in-Err.ensures in
-    record {
+    let places : (k : ℕ) → answer_of (Err c.in_err-block.field-0.0) ≡ Refused k → PlacesBlock old new small.size small.align (Refused k) =
+    λ k is. subst (λ (a : Answer). PlacesBlock old new small.size small.align a) is c.in_err-block.ensures in
+    let p = err_from_is_err_and c.from_residual.result c.from_residual.ensures.1 in
+    rw (p.1, p.2) (record {
       asks = c.asks.ensures.placed (needed old small.size c.args.large.size) old new small.size small.align
-          (answer_of (Err c.in-Err.e)) small.valid
-          (omega arith) (omega (arith, c.min_align.ensures.state)) c.in-Err.ensures;
+          (answer_of (Err c.in_err-block.field-0.0)) small.valid
+          (omega arith) (omega (arith, c.known.ensures.state)) c.in_err-block.ensures;
       starved = λ growing k is. c.starved_together.ensures.by (2 ^ 63) old.memory.state new.memory.state old.source new.source growing
           (λ low. c.starved.ensures.placed old new small.size small.align k small.valid (omega arith) (omega arith) growing (places k is)
           (omega (arith, low)));
       full = λ still k is. full_within _ (needed old small.size c.args.large.size) old old
-          (omega (arith, c.min_align.ensures.state)) refl refl
+          (omega (arith, c.known.ensures.state)) refl refl
           (c.full.ensures.placed old new small.size small.align k small.valid still (places k is));
-    }
+    })
 
 -- ---- The second call
 
-pub returns-in-Ok-grow-clause-used : goal.returns-in-Ok-grow-clause-used
-returns-in-Ok-grow-clause-used g c =
-    let first = c.in-Ok.ensures.1.outcome in
-    let most = c.used_by_placing.ensures.most _ _ c.args.small.size c.args.small.align c.in-Ok.block c.args.small.valid c.in-Ok.ensures in
-    let low : c.in-Ok.block.align ≤ c.args.large.align = omega (arith, first.of_layout.of_align) in
-    let more = c.used_by_resizing.ensures.grown _ _ c.in-Ok.block c.in-Ok-grow.grown c.args.large.size c.args.large.align c.args.large.valid
-    low c.in-Ok-grow.ensures in
-    omega (arith, most, more, first.frame.min_align, c.min_align.ensures.state)
+pub returns-clause-used : goal.returns-clause-used
+returns-clause-used g c =
+    let first = c.in_ok-block.ensures.1.outcome in
+    let most = c.used_by_placing.ensures.most _ _ c.args.small.size c.args.small.align c.in_ok-block.block c.args.small.valid c.in_ok-block.ensures in
+    let low : c.in_ok-block.block.align ≤ c.args.large.align = omega (arith, first.of_layout.of_align) in
+    let more = c.used_by_resizing.ensures.grown _ _ c.in_ok-block.block c.in_ok-grown.grown c.args.large.size c.args.large.align c.args.large.valid
+    low c.in_ok-grown.ensures in
+    omega (arith, most, more, first.frame.min_align, c.known.ensures.state)
 
-pub returns-in-Ok-grow-clause-accounts : goal.returns-in-Ok-grow-clause-accounts
-returns-in-Ok-grow-clause-accounts g c =
+pub returns-clause-accounts : goal.returns-clause-accounts
+returns-clause-accounts g c =
     let old : View = c.args.a.now in
     let mid : View = c.alloc_layout.new.self in
     let new : View = c.grow.new.self in
     let small = c.args.small in
     let large = c.args.large in
-    let most = c.used_by_placing.ensures.most old mid small.size small.align c.in-Ok.block small.valid c.in-Ok.ensures in
-    let same = c.in-Ok.ensures.1.outcome.frame.min_align in
-    let one = c.asks.ensures.placed (needed old small.size large.size) old mid small.size small.align (Placed c.in-Ok.block) small.valid
-    (omega arith) (omega (arith, c.min_align.ensures.state)) c.in-Ok.ensures in
-    let two = c.asks.ensures.resized (needed old small.size large.size) (growing_of mid.memory c.in-Ok.block large.size large.align) mid new
-    c.in-Ok.block large.size large.align (Placed c.in-Ok-grow.grown) large.valid (omega arith)
-    (omega (arith, most, same, c.min_align.ensures.state))
-    c.in-Ok-grow.ensures in
+    let most = c.used_by_placing.ensures.most old mid small.size small.align c.in_ok-block.block small.valid c.in_ok-block.ensures in
+    let same = c.in_ok-block.ensures.1.outcome.frame.min_align in
+    let one = c.asks.ensures.placed (needed old small.size large.size) old mid small.size small.align (Placed c.in_ok-block.block) small.valid
+    (omega arith) (omega (arith, c.known.ensures.state)) c.in_ok-block.ensures in
+    let two = c.asks.ensures.resized (needed old small.size large.size) (growing_of mid.memory c.in_ok-block.block large.size large.align) mid new
+    c.in_ok-block.block large.size large.align (Placed c.in_ok-grown.grown) large.valid (omega arith)
+    (omega (arith, most, same, c.known.ensures.state))
+    c.in_ok-grown.ensures in
     record {
       asks = c.asked_together.ensures.then (needed old small.size large.size) old.memory.state mid.memory.state new.memory.state
           old.source mid.source new.source one two;
@@ -63,26 +65,27 @@ returns-in-Ok-grow-clause-accounts g c =
       full = λ still k is. absurd (cc);
     }
 
-pub returns-in-Err-grow-clause-accounts : goal.returns-in-Err-grow-clause-accounts
-returns-in-Err-grow-clause-accounts g c =
+pub returns-in_err-grown-clause-accounts : goal.returns-in_err-grown-clause-accounts
+returns-in_err-grown-clause-accounts g c =
     let old : View = c.args.a.now in
     let mid : View = c.alloc_layout.new.self in
     let new : View = c.grow.new.self in
     let small = c.args.small in
     let large = c.args.large in
-    let block = c.in-Ok.block in
-    let first = c.in-Ok.ensures.1.outcome in
-    let most = c.used_by_placing.ensures.most old mid small.size small.align block small.valid c.in-Ok.ensures in
+    let block = c.in_ok-block.block in
+    let first = c.in_ok-block.ensures.1.outcome in
+    let most = c.used_by_placing.ensures.most old mid small.size small.align block small.valid c.in_ok-block.ensures in
     let one = c.asks.ensures.placed (needed old small.size large.size) old mid small.size small.align (Placed block) small.valid
-    (omega arith) (omega (arith, c.min_align.ensures.state)) c.in-Ok.ensures in
+    (omega arith) (omega (arith, c.known.ensures.state)) c.in_ok-block.ensures in
     let two = c.asks.ensures.resized (needed old small.size large.size) (growing_of mid.memory block large.size large.align) mid new
-    block large.size large.align (answer_of (Err c.in-Err-grow.e)) large.valid (omega arith)
-    (omega (arith, most, first.frame.min_align, c.min_align.ensures.state)) c.in-Err-grow.ensures in
+    block large.size large.align (answer_of (Err c.in_err-grown.field-0.0)) large.valid (omega arith)
+    (omega (arith, most, first.frame.min_align, c.known.ensures.state)) c.in_err-grown.ensures in
     let power : IsTrue (is_power block.align) = rw first.of_layout.of_align (layout_power small.size small.align small.valid) in
     let low : block.align ≤ 16 = omega (arith, first.of_layout.of_align) in
-    let grows : (k : ℕ) → answer_of (Err c.in-Err-grow.e) ≡ Refused k → GrowsBlock mid new block large.size large.align (Refused k) =
-    λ k is. subst (λ (a : Answer). GrowsBlock mid new block large.size large.align a) is c.in-Err-grow.ensures in
-    record {
+    let grows : (k : ℕ) → answer_of (Err c.in_err-grown.field-0.0) ≡ Refused k → GrowsBlock mid new block large.size large.align (Refused k) =
+    λ k is. subst (λ (a : Answer). GrowsBlock mid new block large.size large.align a) is c.in_err-grown.ensures in
+    let p = err_from_is_err_and c.from_residual-in_err-grown.result c.from_residual-in_err-grown.ensures.1 in
+    rw (p.1, p.2) (record {
       asks = c.asked_together.ensures.then (needed old small.size large.size) old.memory.state mid.memory.state new.memory.state
           old.source mid.source new.source one two;
       starved = λ growing k is.
@@ -94,7 +97,7 @@ returns-in-Err-grow-clause-accounts g c =
           (omega arith) still_growing
           (grows k is) (omega (arith, near))));
       full = λ still k is. full_within _ (needed old small.size large.size) old mid
-          (omega (arith, most, first.frame.min_align, c.min_align.ensures.state))
+          (omega (arith, most, first.frame.min_align, c.known.ensures.state))
           first.frame.is_growing (first.frame.allocated still)
           (c.full.ensures.grown mid new block large.size large.align k large.valid power low (first.frame.is_growing ∙ still) (grows k is));
-    }
+    })

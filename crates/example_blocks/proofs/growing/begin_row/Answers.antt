@@ -46,7 +46,7 @@ returns-in_err-boxed-clause-costs g c = λ few.
     let old = c.args.a.now in
     let new = c.new_in.new.a in
     let e = c.in_err-boxed.field-0.0 in
-    let first = c.room_law.ensures.costs old new (no_block 4) 4 4 0 1 (λ b. b) 7 0 0 (Err (growth_error e)) c.min_align.ensures.state
+    let first = c.room_law.ensures.costs old new (no_block 4) 4 4 0 1 (λ b. b) 7 0 0 (Err (growth_error e)) c.known.ensures.state
     (none_held 4 4 old.memory.state) (omega arith) (number_covered (Err (growth_error e)))
     (made old new new 4 4 1 (still_same new) (Err (growth_error e))
     (refused_as (λ (b : Box ℕ). b.block) (λ (b : Block). b) e (PlacesBlock old new 4 4) c.in_err-boxed.ensures.placed)) in
@@ -63,9 +63,9 @@ returns-in_err-row-clause-costs g c = λ few.
     let box : Block = c.in_ok-boxed.boxed.block in
     let e = c.in_err-row.field-0.0 in
     let frame = c.in_ok-boxed.ensures.placed.1.outcome.frame in
-    let one = frame.min_align ∙ c.min_align.ensures.state in
+    let one = frame.min_align ∙ c.known.ensures.state in
     let layout = rw (is.0, is.1) at c.in-Some.layout.valid in
-    let first = c.room_law.ensures.costs old mid (no_block 4) 4 4 0 1 (λ b. b) 7 0 0 (Ok box) c.min_align.ensures.state
+    let first = c.room_law.ensures.costs old mid (no_block 4) 4 4 0 1 (λ b. b) 7 0 0 (Ok box) c.known.ensures.state
     (none_held 4 4 old.memory.state) (omega arith) (number_covered (Ok box))
     (made old mid mid 4 4 1 (still_same mid) (Ok box) c.in_ok-boxed.ensures.placed) in
     let places = c.room_law.ensures.not_taken mid new c.empty.result 0 (c.args.cap * 32) 8 (λ b. b) e one layout
@@ -86,9 +86,9 @@ returns-clause-costs g c = λ few.
     let box : Block = c.in_ok-boxed.boxed.block in
     let row : Block = c.in_ok-row.row in
     let frame = c.in_ok-boxed.ensures.placed.1.outcome.frame in
-    let one = frame.min_align ∙ c.min_align.ensures.state in
+    let one = frame.min_align ∙ c.known.ensures.state in
     let layout = rw (is.0, is.1) at c.in-Some.layout.valid in
-    let first = c.room_law.ensures.costs old mid (no_block 4) 4 4 0 1 (λ b. b) 7 0 0 (Ok box) c.min_align.ensures.state
+    let first = c.room_law.ensures.costs old mid (no_block 4) 4 4 0 1 (λ b. b) 7 0 0 (Ok box) c.known.ensures.state
     (none_held 4 4 old.memory.state) (omega arith) (number_covered (Ok box))
     (made old mid mid 4 4 1 (still_same mid) (Ok box) c.in_ok-boxed.ensures.placed) in
     let second = c.room_law.ensures.costs mid new (no_block 8) 32 8 0 c.args.cap (λ b. b) (c.args.cap * 32 + 7) 0 0 (Ok row) one

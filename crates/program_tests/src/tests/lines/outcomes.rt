@@ -7,7 +7,7 @@ use std::alloc::Global;
 use std::process::Abort;
 use std::test::Fail;
 
-// The text of outcomes that used 7 bytes each, which it doesn't tell. None where memory is wanting.
+// The text of outcomes that used 7 bytes each, which it doesn't tell. None where memory runs out.
 fn text_of(alloc: Global, replies: Vec<ScriptReply>, endings: &[Ended]) -> Option<Vec<u8>> {
     let mut outcomes = Vec::new(alloc);
     let mut first = Some(replies);

@@ -1,6 +1,7 @@
 use Rattle.std.proofs.Common.{◌≡◌, ◌++◌, ◌∷◌, [], inr, ◌∙◌, arith, length}
 use Rattle.std.proofs.lemmas.List.{length-append}
 use Rattle.call_rules.specs.Generator.{gen_calls}
+use Rattle.arena_calls.proofs.StreamLemmas.{on_err}
 use Rattle.arena_calls.proofs.GeneratingLemmas.{seed_first, seed_more, calls_more, calls_first, call_next}
 use Rattle.arena_calls.proofs.generator.run.count_replies.Goals as goal
 
@@ -19,7 +20,7 @@ loop-i-init g c =
 pub loop-i-preserved : goal.loop-i-preserved
 loop-i-preserved g c =
     let now = c.loop-i.invariant in
-    let served = c.in-Ok.ensures.serves in
+    let served = c.in_ok-serve.ensures.serves in
     let counted = served.2 now.list now.tally in
     record {
       list = now.list ++ served.0 ∷ [];
@@ -36,25 +37,25 @@ returns-clause-ok g c =
     let now = c.loop-i.invariant in
     let over : c.loop-i.i ≡ c.args.count = omega arith in (
       now.list,
-      c.in-Ok-held.field-0.items,
-      c.in-Ok-held.ensures.ok _ _ (gen_calls c.args.start c.args.count) now.list (rw over at now.running),
+      c.in_ok-held.field-0.items,
+      c.in_ok-held.ensures.ok _ _ (gen_calls c.args.start c.args.count) now.list (rw over at now.running),
       now.tally,
     )
 
--- ---- Where memory is wanting
+-- ---- Where memory runs out
 
-pub returns-in_default-clause-err : goal.returns-in_default-clause-err
-returns-in_default-clause-err g c =
+pub returns-in_err-serve-clause-err : goal.returns-in_err-serve-clause-err
+returns-in_err-serve-clause-err g c =
     let now = c.loop-i.invariant in
     let next = call_next c.args.start c.args.count c.loop-i.i c.loop-i.draws.seed c.call-call.result (omega arith) now.seed
     c.call-call.ensures.call in
-    let stopped = c.in_default.ensures.stays _ (gen_calls c.args.start c.args.count) c.loop-i.i now.list
+    let stopped = c.in_err-serve.ensures.stays _ (gen_calls c.args.start c.args.count) c.loop-i.i now.list
     (rw (calls_first c.args.start c.args.count c.loop-i.i (omega arith)) at now.running) next in
-    inr (c.loop-i.i, stopped.0)
+    on_err c.from_residual-in_err-serve.result (inr (c.loop-i.i, stopped.0))
 
-pub returns-in_default-held-clause-err : goal.returns-in_default-held-clause-err
-returns-in_default-held-clause-err g c =
+pub returns-in_err-held-clause-err : goal.returns-in_err-held-clause-err
+returns-in_err-held-clause-err g c =
     let now = c.loop-i.invariant in
     let over : c.loop-i.i ≡ c.args.count = omega arith in
-    let stopped = c.in_default-held.ensures.err _ _ (gen_calls c.args.start c.args.count) now.list (rw over at now.running) in
-    inr (length (gen_calls c.args.start c.args.count), stopped.0)
+    let stopped = c.in_err-held.ensures.err _ _ (gen_calls c.args.start c.args.count) now.list (rw over at now.running) in
+    on_err c.from_residual-in_err-held.result (inr (length (gen_calls c.args.start c.args.count), stopped.0))

@@ -4,7 +4,7 @@ use Rattle.arena_chunks.proofs.TextLemmas.{no_texts, one_more_text}
 use Rattle.arena_chunks.proofs.allocator.Allocator.write_strings.Goals as goal
 
 pub loop-s-init : goal.loop-s-init
-loop-s-init g c = (no_texts g.T.AsStr.text c.args.strings.now c.args.self.now.memory c.args.block c.min_align.ensures.valid, refl)
+loop-s-init g c = (no_texts g.T.AsStr.text c.args.strings.now c.args.self.now.memory c.args.block c.known.ensures.valid, refl)
 
 pub write-requires-clause-readable : goal.write-requires-clause-readable
 write-requires-clause-readable g c = search rules

@@ -38,17 +38,17 @@ returns-in-Ok-held-clause-ok g c =
       λ list taken. now.taken list (c.reserve.ensures.same list taken),
     )
 
--- ---- Where memory is wanting
+-- ---- Where memory runs out
 
 pub returns-in_default-clause-err : goal.returns-in_default-clause-err
 returns-in_default-clause-err g c =
-    let first = running_stopped _ _ _ _ c.args.calls.now 0 [] (omega arith) (running_first _ c.cursor.ensures.valid)
+    let first = running_stopped _ _ _ _ c.args.calls.now 0 [] (omega arith) (running_first _ c.known.ensures.valid)
     (λ call some at. absurd (omega arith)) in
     (first.0, rw first.1 (λ list taken. rw (append-nil list) taken))
 
 pub returns-in_default-reserve-clause-err : goal.returns-in_default-reserve-clause-err
 returns-in_default-reserve-clause-err g c =
-    let first = running_stopped _ _ _ _ c.args.calls.now 0 [] (omega arith) (running_first _ c.cursor.ensures.valid)
+    let first = running_stopped _ _ _ _ c.args.calls.now 0 [] (omega arith) (running_first _ c.known.ensures.valid)
     (λ call some at. absurd (omega arith)) in
     (first.0, rw first.1 (λ list taken. rw (append-nil list) (c.reserve.ensures.same list taken)))
 

@@ -63,7 +63,7 @@ returns-in-Err-AllocErr-clause-serves g c =
       notes_refused _ _ _ _ _ c.args.wanted.name c.note.ensures.marks c.in_ok-note.ensures.log c.settle.ensures.marks c.settle.ensures.log,
     )
 
--- ---- Where memory is wanting
+-- ---- Where memory runs out
 
 pub returns-in_err-insert-clause-wants : goal.returns-in_err-insert-clause-wants
 unfolding placed_anew

@@ -80,7 +80,7 @@ returns-in-Err-AllocErr-clause-serves g c =
           c.settle-in-Err-AllocErr.ensures.log,
     )
 
--- ---- Where memory is wanting
+-- ---- Where memory runs out
 
 pub returns-in-Err-OutOfMemory-clause-wants : goal.returns-in-Err-OutOfMemory-clause-wants
 returns-in-Err-OutOfMemory-clause-wants g c =

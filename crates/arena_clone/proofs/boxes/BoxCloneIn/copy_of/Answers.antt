@@ -2,8 +2,7 @@ use Rattle.std.proofs.Common.{[], ◌∷◌, ap, ◌∙◌}
 use Rattle.std.proofs.lemmas.Result.{err_from_is_err_and}
 use Rattle.arena_items.specs.Values.{box_value}
 use Rattle.arena_clone.specs.Asks.Ask.{Room}
-use Rattle.arena_clone.proofs.CopyLemmas.{makes_refused}
-use Rattle.arena_clone.proofs.BoxLemmas.{makes_box}
+use Rattle.arena_exchange.proofs.Layers.{makes_refused, makes_box}
 use Rattle.arena_clone.proofs.boxes.BoxCloneIn.copy_of.Goals as goal
 
 pub returns-in_err-copy : goal.returns-in_err-copy

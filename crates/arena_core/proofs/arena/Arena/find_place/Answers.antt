@@ -1,4 +1,5 @@
 use Rattle.std.proofs.Common.{subst, Some, None}
+use Rattle.std.proofs.lemmas.Result.{err_from_is_err_and}
 use Rattle.arena_rules.specs.State.{IsValid}
 use Rattle.arena_store.specs.Memory.{Memory}
 use Rattle.arena_store.proofs.AskedLemmas.{asked_none}
@@ -17,23 +18,24 @@ returns-in-Some-clause-found g c =
       asked = rw at (asked_none _);
     }
 
-pub returns-in-Ok-clause-found : goal.returns-in-Ok-clause-found
-returns-in-Ok-clause-found g c =
+pub returns-in_ok-added-in-None-clause-found : goal.returns-in_ok-added-in-None-clause-found
+returns-in_ok-added-in-None-clause-found g c =
     let none = place_stored g.row.MIN_ALIGN c.self.inside c.args.self.now c.args.layout.size c.args.layout.align None c.self.invariant
     c.self.view_is c.in-None.ensures in
-    let added = c.in-Ok.ensures.added.added in
+    let added = c.in_ok-added-in-None.ensures.added.added in
     record {
       valid = added.valid;
-      place = added_place c.args.self.now c.add_chunk.new.self c.args.layout.size c.args.layout.align c.in-Ok.refused c.in-Ok.addr
+      place = added_place c.args.self.now c.add_chunk.new.self c.args.layout.size c.args.layout.align c.in_ok-added-in-None.added.1 c.in_ok-added-in-None.added.0
           c.args.layout.valid none added;
-      placing = placing_in_new c.args.self.now c.add_chunk.new.self c.args.layout.size c.args.layout.align c.in-Ok.refused c.in-Ok.addr
+      placing = placing_in_new c.args.self.now c.add_chunk.new.self c.args.layout.size c.args.layout.align c.in_ok-added-in-None.added.1 c.in_ok-added-in-None.added.0
           c.args.layout.valid none added;
-      asked = rw none c.in-Ok.ensures.added.asked;
+      asked = rw none c.in_ok-added-in-None.ensures.added.asked;
     }
 
-pub returns-in-Err-clause-refused : goal.returns-in-Err-clause-refused
-returns-in-Err-clause-refused g c =
+pub returns-in_err-added-in-None-clause-refused : goal.returns-in_err-added-in-None-clause-refused
+returns-in_err-added-in-None-clause-refused g c =
     let none = place_stored g.row.MIN_ALIGN c.self.inside c.args.self.now c.args.layout.size c.args.layout.align None c.self.invariant
     c.self.view_is c.in-None.ensures in
-    all_refused c.args.self.now c.add_chunk.new.self _ _ c.args.layout.size c.args.layout.align c.in-Err.e
-    (subst (λ (w : Memory). IsValid w.state) c.self.view_is c.self.invariant.valid) none c.in-Err.ensures.err c.in-Err.ensures.added
+    let p = err_from_is_err_and c.from_residual.result c.from_residual.ensures.1 in
+    rw (p.1, p.2) (all_refused c.args.self.now c.add_chunk.new.self _ _ c.args.layout.size c.args.layout.align c.in_err-added-in-None.field-0.0
+    (subst (λ (w : Memory). IsValid w.state) c.self.view_is c.self.invariant.valid) none c.in_err-added-in-None.ensures.err c.in_err-added-in-None.ensures.added)

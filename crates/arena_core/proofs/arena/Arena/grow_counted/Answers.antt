@@ -119,7 +119,7 @@ returns-in-Some-place g c =
     (cursor_view g.row.MIN_ALIGN c.self-2.inside c.args.self.now c.in-Some-place.addr c.self-2.inside.newest.bytes.low c.self-2.view_is)
     c.move_down.ensures.state c.move_down.ensures.statistics c.move_down.ensures.bytes c.move_down.ensures.block
 
--- ---- Further down, or anew
+-- ---- Further down, or again
 
 pub grow_below-slow-requires : goal.grow_below-slow-requires
 grow_below-slow-requires g c =

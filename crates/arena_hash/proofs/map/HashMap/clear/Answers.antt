@@ -1,5 +1,5 @@
 use Rattle.std.proofs.Common.{arith, refl}
-use Rattle.arena_hash.specs.Contents.{kind}
+use Rattle.arena_table.specs.Contents.{kind}
 use Rattle.arena_hash.specs.declared.map.HashMap.{HashMap}
 use Rattle.arena_hash.proofs.AccountLemmas.{free-costs}
 use Rattle.arena_hash.proofs.FreeLemmas.{free-map, free-is}

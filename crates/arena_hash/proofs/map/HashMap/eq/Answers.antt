@@ -1,10 +1,10 @@
 use Rattle.std.proofs.Common.{◌++◌, sym, ap, subst, ◌∙◌, append-nil, refl}
 use Rattle.std.proofs.lemmas.Bool.{false≢true}
-use Rattle.arena_hash.specs.Contents.{kind, content_in}
-use Rattle.arena_hash.specs.Finite.{value_of}
+use Rattle.hash_ring.specs.Finite.{value_of}
+use Rattle.hash_ring.specs.Walks.{Lists}
+use Rattle.hash_ring.proofs.Equal.{AreFound, found-more, found-next, found-none}
+use Rattle.arena_table.specs.Contents.{kind, content_in}
 use Rattle.arena_hash.specs.Maps.{map_in}
-use Rattle.arena_hash.specs.Walks.{Lists}
-use Rattle.arena_hash.proofs.Equal.{AreFound, found-more, found-next, found-none}
 use Rattle.arena_hash.proofs.EqualLemmas.{equal-len, gave-equal, gave-none, gave-other, listed-equal, listed-found, listed-readable}
 use Rattle.arena_hash.proofs.map.HashMap.eq.Goals as goal
 

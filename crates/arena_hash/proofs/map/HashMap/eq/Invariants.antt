@@ -1,6 +1,6 @@
-use Rattle.arena_hash.specs.Contents.{kind, content_in}
+use Rattle.hash_ring.proofs.Equal.{AreFound}
+use Rattle.arena_table.specs.Contents.{kind, content_in}
 use Rattle.arena_hash.specs.Maps.{map_in}
-use Rattle.arena_hash.proofs.Equal.{AreFound}
 use Rattle.arena_hash.proofs.map.HashMap.eq.Given as goal
 
 abbrev pub invariant-loop-key : goal.invariant-loop-key

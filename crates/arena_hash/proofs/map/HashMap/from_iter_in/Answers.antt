@@ -1,7 +1,7 @@
 use Rattle.std.proofs.Common.{[], ◌∷◌}
 use Rattle.std.proofs.lemmas.Result.{err_from_is_err_and}
 use Rattle.arena_chunks.proofs.Layers.{frame_keeps}
-use Rattle.arena_hash.specs.Contents.{kind}
+use Rattle.arena_table.specs.Contents.{kind}
 use Rattle.arena_hash.proofs.CollectLemmas.{collecting-none, collecting-more, collecting-refused, collecting-all}
 use Rattle.arena_hash.proofs.map.HashMap.from_iter_in.Goals as goal
 

@@ -1,4 +1,4 @@
-use Rattle.arena_hash.specs.Contents.{kind}
+use Rattle.arena_table.specs.Contents.{kind}
 use Rattle.arena_hash.proofs.CollectLemmas.{IsCollecting}
 use Rattle.arena_hash.proofs.map.HashMap.from_iter_in.Given as goal
 

@@ -3,14 +3,15 @@ use Rattle.std.specs.Prelude.{slice_get}
 use Rattle.std.proofs.lemmas.Result.{err_from_is_err_and}
 use Rattle.arena_chunks.proofs.Layers.{frame_then}
 use Rattle.arena_items.specs.Values.{bytes_of}
-use Rattle.arena_hash.specs.Contents.{kind}
-use Rattle.arena_hash.specs.Policy.{next_slots, slot_size, table_align, most_pairs}
-use Rattle.arena_hash.specs.Slots.{Moved}
-use Rattle.arena_hash.specs.Tables.{pair_hash, slots_in}
-use Rattle.arena_hash.proofs.Count.{items-most, none-there}
-use Rattle.arena_hash.proofs.FreeLemmas.{free-table}
-use Rattle.arena_hash.proofs.GrowLemmas.{placed-same, placed-beside, made-placed, next-above}
-use Rattle.arena_hash.proofs.PolicyLemmas.{next-ring}
+use Rattle.hash_ring.specs.Policy.{next_slots, slot_size, table_align, most_pairs}
+use Rattle.hash_ring.specs.Slots.{Moved}
+use Rattle.hash_ring.proofs.Count.{items-most, none-there}
+use Rattle.hash_ring.proofs.PolicyLemmas.{next-ring}
+use Rattle.arena_table.specs.Contents.{kind}
+use Rattle.arena_table.specs.Tables.{pair_hash, slots_in}
+use Rattle.arena_table.proofs.FreeLemmas.{free-table}
+use Rattle.arena_table.proofs.ReadLemmas.{placed-same, placed-beside}
+use Rattle.arena_hash.proofs.GrowLemmas.{made-placed, next-above}
 use Rattle.arena_hash.proofs.map.HashMap.grown.Goals as goal
 
 pub place-requires-clause-ring : goal.place-requires-clause-ring

@@ -1,8 +1,8 @@
 use Rattle.std.proofs.Common.{◌<◌, arith, ap, refl, Some, None}
+use Rattle.hash_ring.specs.Policy.{limit}
+use Rattle.arena_table.specs.Contents.{kind}
+use Rattle.arena_table.specs.Tables.{IsTextBeside}
 use Rattle.arena_hash.specs.Changes.{is_value}
-use Rattle.arena_hash.specs.Contents.{kind}
-use Rattle.arena_hash.specs.Policy.{limit}
-use Rattle.arena_hash.specs.Tables.{IsTextBeside}
 use Rattle.arena_hash.proofs.CallLemmas.{puts-there, puts-room}
 use Rattle.arena_hash.proofs.MapLemmas.{map-table}
 use Rattle.arena_hash.proofs.map.HashMap.insert_at.Goals as goal

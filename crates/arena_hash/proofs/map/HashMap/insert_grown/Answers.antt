@@ -1,7 +1,7 @@
 use Rattle.std.proofs.Common.{ap, sym, ◌∙◌, refl, None}
 use Rattle.std.proofs.lemmas.Result.{err_from_is_err_and}
+use Rattle.arena_table.specs.Contents.{kind}
 use Rattle.arena_hash.specs.Changes.{is_value}
-use Rattle.arena_hash.specs.Contents.{kind}
 use Rattle.arena_hash.proofs.CallLemmas.{puts-grown, puts-refused}
 use Rattle.arena_hash.proofs.MapLemmas.{map-table, content-stays, text-beside}
 use Rattle.arena_hash.proofs.map.HashMap.insert_grown.Goals as goal

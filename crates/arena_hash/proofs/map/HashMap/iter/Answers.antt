@@ -1,5 +1,6 @@
-use Rattle.arena_hash.specs.Contents.{kind}
-use Rattle.arena_hash.proofs.WalkLemmas.{map-lists, map-walk, table-long}
+use Rattle.arena_table.specs.Contents.{kind}
+use Rattle.arena_table.proofs.WalkLemmas.{table-long}
+use Rattle.arena_hash.proofs.WalkLemmas.{map-lists, map-walk}
 use Rattle.arena_hash.proofs.map.HashMap.iter.Goals as goal
 
 pub start-requires : goal.start-requires

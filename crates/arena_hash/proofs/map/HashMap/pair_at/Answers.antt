@@ -1,7 +1,7 @@
 use Rattle.std.proofs.Common.{◌≡◌, ℕ, ◌<◌, ◌∙◌, sym, ap, arith, Some}
 use Rattle.arena_items.specs.Values.{bytes_of}
-use Rattle.arena_hash.proofs.HandleLemmas.{handle-shape}
-use Rattle.arena_hash.proofs.SlotLemmas.{slot-free, slot-taken}
+use Rattle.arena_table.proofs.HandleLemmas.{handle-shape}
+use Rattle.arena_table.proofs.SlotLemmas.{slot-free, slot-taken}
 use Rattle.arena_hash.proofs.map.HashMap.pair_at.Goals as goal
 
 positive : (n : ℕ) → (n ≡ 0 → ⊥) → 0 < n

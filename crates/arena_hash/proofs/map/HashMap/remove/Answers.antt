@@ -1,6 +1,6 @@
 use Rattle.std.proofs.Common.{arith, ap, refl, Some}
+use Rattle.arena_table.specs.Contents.{kind}
 use Rattle.arena_hash.specs.Changes.{is_value}
-use Rattle.arena_hash.specs.Contents.{kind}
 use Rattle.arena_hash.proofs.CallLemmas.{takes-out, takes-none}
 use Rattle.arena_hash.proofs.MapLemmas.{map-table, taken-within}
 use Rattle.arena_hash.proofs.map.HashMap.remove.Goals as goal

@@ -1,9 +1,9 @@
 use Rattle.std.proofs.Common.{◌<◌, Some, arith}
 use Rattle.std.proofs.lemmas.Option.{slice_get_within}
-use Rattle.arena_hash.specs.Contents.{kind}
-use Rattle.arena_hash.specs.Tables.{slots_in, IsShape}
-use Rattle.arena_hash.proofs.ChangedLemmas.{changed-slots, changed-table}
-use Rattle.arena_hash.proofs.HandleLemmas.{handle-shape, given-whole}
+use Rattle.arena_table.specs.Contents.{kind}
+use Rattle.arena_table.specs.Tables.{slots_in, IsShape}
+use Rattle.arena_table.proofs.ChangedLemmas.{changed-slots, changed-table}
+use Rattle.arena_table.proofs.HandleLemmas.{handle-shape, given-whole}
 use Rattle.arena_hash.proofs.map.HashMap.replace.Goals as goal
 
 pub write_with-requires-clause-suits : goal.write_with-requires-clause-suits

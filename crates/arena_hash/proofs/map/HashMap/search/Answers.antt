@@ -1,7 +1,7 @@
 use Rattle.std.proofs.Common.{◌<◌, ap, sym, ◌∙◌, Some, arith}
-use Rattle.arena_hash.specs.Contents.{kind}
-use Rattle.arena_hash.specs.Finite.{value_of}
-use Rattle.arena_hash.proofs.HandleLemmas.{handle-shape}
+use Rattle.hash_ring.specs.Finite.{value_of}
+use Rattle.arena_table.specs.Contents.{kind}
+use Rattle.arena_table.proofs.HandleLemmas.{handle-shape}
 use Rattle.arena_hash.proofs.MapLemmas.{map-table, taken-within, found-under, open-under}
 use Rattle.arena_hash.proofs.map.HashMap.search.Goals as goal
 

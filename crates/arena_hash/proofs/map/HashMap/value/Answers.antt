@@ -1,5 +1,5 @@
 use Rattle.std.proofs.Common.{arith}
-use Rattle.arena_hash.proofs.HandleLemmas.{handle-shape}
+use Rattle.arena_table.proofs.HandleLemmas.{handle-shape}
 use Rattle.arena_hash.proofs.map.HashMap.value.Goals as goal
 
 pub value_at-requires-clause-shape : goal.value_at-requires-clause-shape

@@ -1,8 +1,8 @@
 use Rattle.std.proofs.Common.{arith, refl}
 use Rattle.std.proofs.lemmas.Result.{err_from_is_err_and}
-use Rattle.arena_hash.specs.Contents.{kind}
+use Rattle.hash_ring.proofs.PolicyLemmas.{slots-ring}
+use Rattle.arena_table.specs.Contents.{kind}
 use Rattle.arena_hash.specs.declared.map.HashMap.{HashMap}
-use Rattle.arena_hash.proofs.PolicyLemmas.{slots-ring}
 use Rattle.arena_hash.proofs.WholeLemmas.{places-none, places-table, places-refused}
 use Rattle.arena_hash.proofs.map.HashMap.with_capacity_and_hasher_in.Goals as goal
 

@@ -1,6 +1,6 @@
 use Rattle.std.proofs.Common.{sym, ap, ◌∙◌, length, arith}
 use Rattle.std.proofs.lemmas.Option.{MatchOption-at_some, MatchOption-at_none}
-use Rattle.arena_hash.proofs.WalkLemmas.{walk-groups, walk-ended, walk-less, walk-read, walk-some}
+use Rattle.arena_table.proofs.WalkLemmas.{walk-groups, walk-ended, walk-less, walk-read, walk-some}
 use Rattle.arena_hash.proofs.walk.IterIterator.next.Goals as goal
 
 pub step-slot-requires-clause-groups : goal.step-slot-requires-clause-groups

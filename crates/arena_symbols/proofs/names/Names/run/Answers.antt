@@ -6,7 +6,7 @@ use Rattle.arena_symbols.proofs.names.Names.run.Goals as goal
 
 pub loop-call-preserved : goal.loop-call-preserved
 loop-call-preserved g c =
-    rw (c.push_within.ensures, c.reserve.ensures.items)
+    rw (c.push_reserved.ensures.items, c.reserve.ensures.items)
     (ran_next c.args.calls.now c.loop-call.call-index _ (omega arith) c.loop-call.invariant c.in_ok-reply.ensures)
 
 pub returns-in_err-reply-clause-err : goal.returns-in_err-reply-clause-err
@@ -20,8 +20,8 @@ returns-then-is_err-clause-err g c =
     rw c.reserve.ensures.items
     (stops_unheard c.args.calls.now c.loop-call.call-index Len (omega arith) c.loop-call.invariant)
 
-pub push_within-requires : goal.push_within-requires
-push_within-requires g c = grind (arith, c.reserve.ensures, c.is_err.ensures.value, c.if-is_err.false)
+pub push_reserved-requires : goal.push_reserved-requires
+push_reserved-requires g c = grind (arith, c.reserve.ensures, c.is_err.ensures.value, c.if-is_err.false)
 
 pub returns-then-is_err-clause-held : goal.returns-then-is_err-clause-held
 returns-then-is_err-clause-held g c = c.loop-call.invariant.moves.held

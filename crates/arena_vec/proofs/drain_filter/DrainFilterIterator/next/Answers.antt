@@ -7,7 +7,7 @@ use Rattle.arena_items.proofs.Layers.{elements-empty, wrote_same, same_then}
 use Rattle.arena_vec.specs.Calling.{CallableOnListMut}
 use Rattle.arena_vec.specs.Filtering.{untested, stayed}
 use Rattle.arena_vec.proofs.VecLemmas.{room_of}
-use Rattle.arena_vec.proofs.Windows.{left_first_at}
+use Rattle.raw_vec.proofs.Windows.{left_first_at}
 use Rattle.arena_vec.proofs.TurnLemmas.{turn_now, turn_on}
 use Rattle.arena_vec.proofs.Walks.{behind_put}
 use Rattle.arena_vec.proofs.FilterLemmas.{IsFiltering, filtering_more, filtering_picked, filtering_end}

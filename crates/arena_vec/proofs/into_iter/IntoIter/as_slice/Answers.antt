@@ -6,7 +6,7 @@ use Rattle.arena_items.specs.Values.{bytes_of}
 use Rattle.arena_items.proofs.Layers.{length-elements}
 use Rattle.arena_vec.specs.Vecs.{vec_list}
 use Rattle.arena_vec.proofs.VecLemmas.{room_of}
-use Rattle.arena_vec.proofs.Windows.{length-window, window_bytes}
+use Rattle.raw_vec.proofs.Windows.{length-window, window_bytes}
 use Rattle.arena_vec.proofs.into_iter.IntoIter.as_slice.Goals as goal
 
 pub slice_bounds-result-end : goal.slice_bounds-result-end

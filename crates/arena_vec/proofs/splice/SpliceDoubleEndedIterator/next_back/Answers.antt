@@ -1,6 +1,6 @@
 use Rattle.std.proofs.Common.{rules, arith, refl}
 use Rattle.arena_items.specs.Values.{bytes_of}
-use Rattle.arena_vec.proofs.Windows.{left_last_at}
+use Rattle.raw_vec.proofs.Windows.{left_last_at}
 use Rattle.arena_vec.proofs.splice.SpliceDoubleEndedIterator.next_back.Goals as goal
 
 pub returns-clause-steps : goal.returns-clause-steps

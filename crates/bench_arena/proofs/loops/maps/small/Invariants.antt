@@ -1,9 +1,8 @@
-use Rattle.arena_hash.specs.Contents.{kind}
+use Rattle.arena_hash.specs.Contents.{kind, whole_key}
 use Rattle.arena_hash.specs.Maps.{IsMapIn}
-use Rattle.arena_hash.specs.contracts.hasher.FxHasherKeyHasher.TheImpl as hasher
-use Rattle.arena_hash.specs.contracts.key.U32ArenaKey.TheImpl as key
+use Rattle.hash_ring.specs.contracts.hasher.FxHasherKeyHasher.TheImpl as hasher
 use Rattle.arena_items.specs.contracts.numbers.unsigned.U32Item.TheImpl as item
 use Rattle.bench_arena.proofs.loops.maps.small.Given as goal
 
 abbrev pub invariant-loop-k : goal.invariant-loop-k
-invariant-loop-k l = IsMapIn (kind item.ghosts key.ghosts.key item.ghosts hasher.ghosts.hash_of) l.a.memory l.map
+invariant-loop-k l = IsMapIn (kind item.ghosts (whole_key item.ghosts) item.ghosts hasher.ghosts.hash_of) l.a.memory l.map

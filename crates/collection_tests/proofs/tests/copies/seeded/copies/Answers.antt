@@ -1,5 +1,5 @@
 use Rattle.arena_clone.specs.FlatLaws.{plain_flat, both_flat, row_flat}
-use Rattle.arena_clone.specs.declared.ids.CloneInSemanticIds.TheVariants.{With}
+use Rattle.arena_exchange.specs.declared.ids.CloneInSemanticIds.TheVariants.{With}
 use Rattle.collection_tests.proofs.tests.copies.seeded.copies.Goals as goal
 
 pub clone_within-requires-clause-held : goal.clone_within-requires-clause-held

@@ -1,0 +1,5 @@
+mod ApartLemmas
+mod AsksLemmas
+mod MadeLemmas
+mod BoxLemmas
+pub mod Layers

@@ -1,5 +1,0 @@
-use Rattle.arena_hash.proofs.SlotLemmas.{slot-clear}
-use Rattle.arena_hash.proofs.pairs.free_slot.Goals as goal
-
-pub returns : goal.returns
-returns g c = slot-clear g.K.Item g.V.Item c.args.slots c.args.bytes.now c.requires.shape c.args.i c.requires.index

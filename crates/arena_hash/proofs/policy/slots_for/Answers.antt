@@ -1,5 +1,0 @@
-use Rattle.std.proofs.Common.{arith}
-use Rattle.arena_hash.proofs.policy.slots_for.Goals as goal
-
-pub returns : goal.returns
-returns c = (c.next_power_of_two.ensures.power, omega arith, omega arith)

@@ -1,0 +1,98 @@
+-- Tables in an arena.
+use Rattle.std.proofs.Common.{◌≡◌, ℕ, ◌+◌, List, [], ◌∷◌, sym, ap, subst, ◌^◌, ◌<◌, ◌≤◌, inl, inr, length, ◌∙◌, arith}
+use Rattle.arena_chunks.specs.Memory.{Memory, image, bytes_from}
+use Rattle.arena_chunks.specs.BlockCalls.{EditsBlock}
+use Rattle.arena_chunks.specs.Frame.{Frame, Stays}
+use Rattle.arena_store.specs.declared.block.Block.{Block}
+use Rattle.arena_chunks.proofs.Layers.{length-bytes, wrote_whole, frame_keeps}
+use Rattle.hash_ring.specs.Slots.{Has}
+use Rattle.hash_ring.specs.AgreeLaws.{ordered-agree, away-agree}
+use Rattle.arena_items.specs.declared.item.Item.{Ghosts}
+use Rattle.arena_items.specs.Values.{bytes_of}
+use Rattle.hash_ring.specs.Marks.{home_of, mark_of}
+use Rattle.hash_ring.proofs.Passing.{AreMarked}
+use Rattle.arena_table.specs.Tables.{pair_hash, slots_of, slots_in, IsShape, IsTable, IsTableHandle, IsTableIn, IsTextBeside}
+use Rattle.arena_table.specs.Contents.{Kind}
+use Rattle.arena_table.proofs.TableLemmas.{table-marked}
+use Rattle.std.specs.Prelude.{slice_index}
+use Rattle.arena_table.specs.declared.table.Table.{Table}
+
+-- the block of a table with slots has its marks and pairs
+pub handle-shape : {K V : Type 0} (keys : Ghosts K) (values : Ghosts V) (memory : Memory) (t : Table K V) → keys.SIZE ≤ 2 ^ 24
+    → values.SIZE ≤ 2 ^ 24
+    → IsTableHandle keys values memory t → 0 < t.slots → IsShape keys values t.slots (bytes_of memory t.block)
+handle-shape keys values memory t small few handle some = record {
+  keys_small = small;
+  values_small = few;
+  ring = elim handle.ring [ inl none ↦ absurd (omega (arith, none)) | inr r ↦ r ];
+  long = length-bytes (image memory) t.block.addr t.block.size ∙ handle.place.of_size;
+}
+
+-- the slots of a table in an arena have their marks
+pub in-marked : {K V S : Type 0} (k : Kind K V S) (memory : Memory) (hasher : S) (t : Table K V) → k.keys.SIZE ≤ 2 ^ 24
+    → k.values.SIZE ≤ 2 ^ 24
+    → (some : 0 < t.slots) → IsTableIn k memory hasher t
+    → AreMarked (pair_hash k memory hasher) t.slots some (slots_in k.keys k.values memory t) (λ i. slice_index (bytes_of memory t.block) i)
+in-marked k memory hasher t small few some held =
+    table-marked k.keys k.values (pair_hash k memory hasher) t.slots some (bytes_of memory t.block)
+    (handle-shape k.keys k.values memory t small few held.handle some) held.table
+
+-- ---- Blocks that are changed
+
+-- A change of a whole block's bytes that keeps their number.
+pub edited-whole : (old new : Memory) (b : Block) (R : List ℕ → List ℕ → Type 0) → ((xs ys : List ℕ) → R xs ys → length ys ≡ length xs)
+    → EditsBlock old new b 0 b.size R → R (bytes_of old b) (bytes_of new b)
+edited-whole old new b R keeps edits =
+    let first : b.addr + 0 ≡ b.addr = omega arith in
+    let related : R (bytes_of old b) edits.list = subst (λ p. R (bytes_from (image old) p b.size) edits.list) first edits.related in
+    let sized = keeps (bytes_of old b) edits.list related ∙ length-bytes (image old) b.addr b.size in
+    subst (R (bytes_of old b)) (sym (wrote_whole old new b edits.list edits.writes sized)) related
+
+-- the bytes that such a change is given
+pub given-whole : (memory : Memory) (b : Block) (P : List ℕ → Type 0) → P (bytes_of memory b)
+    → P (bytes_from (image memory) (b.addr + 0) b.size)
+given-whole memory b P h = let first : b.addr ≡ b.addr + 0 = omega arith in subst (λ p. P (bytes_from (image memory) p b.size)) first h
+
+-- a table is one by another hash that is the same for its pairs
+pub table-agree : {K V : Type 0} (keys : Ghosts K) (values : Ghosts V) (one other : K × V → ℕ) (n : ℕ) (bytes : List ℕ)
+    → ((x : K × V) → Has (slots_of keys values n bytes) x → other x ≡ one x) → IsTable keys values one n bytes
+    → IsTable keys values other n bytes
+table-agree keys values one other n bytes same table = record {
+  ordered = ordered-agree (λ p. home_of n (one p)) (λ p. home_of n (other p)) n (slots_of keys values n bytes)
+      (λ x h. ap (home_of n) (same x h)) table.ordered;
+  marks = λ i d x a.
+      let back = away-agree (λ p. home_of n (other p)) (λ p. home_of n (one p)) n (slots_of keys values n bytes)
+      (λ y h. ap (home_of n) (sym (same y h))) i x d a in
+      table.marks i d x back ∙ ap (λ h. mark_of h d) (sym (same x (i, a.there)));
+}
+
+-- a key whose text lies beside a block that was changed has the same hash
+pub hash-stays : {K V S : Type 0} (k : Kind K V S) (old new : Memory) (hasher : S) (block : Block)
+    → Frame old new (block ∷ []) (block ∷ []) → (x : K × V)
+    → IsTextBeside k.key old block x.0 → pair_hash k new hasher x ≡ pair_hash k old hasher x
+hash-stays k old new hasher block frame x text =
+    ap (λ bs. k.hash hasher (k.key.content x.0 bs)) (frame_keeps old new (block ∷ []) (block ∷ []) (k.key.text x.0) frame text.readable
+    (text.apart, tt)).bytes
+
+-- A table whose block was changed: its keys' texts are as they were.
+pub in-edited : {K V S : Type 0} (k : Kind K V S) (old new : Memory) (hasher : S) (t : Table K V) → IsTableIn k old hasher t
+    → Frame old new (t.block ∷ []) (t.block ∷ []) → new.state ≡ old.state
+    → IsTable k.keys k.values (pair_hash k old hasher) t.slots (bytes_of new t.block)
+    → ((x : K × V) → Has (slots_in k.keys k.values new t) x → IsTextBeside k.key old t.block x.0) → IsTableIn k new hasher t
+in-edited {K} {V} k old new hasher t held frame state table texts = record {
+  handle = record {
+    place = record {
+      readable = rw state held.handle.place.readable;
+      of_size = held.handle.place.of_size;
+      of_align =
+          held.handle.place.of_align;
+    };
+    ring = held.handle.ring;
+  };
+  table = table-agree k.keys k.values (pair_hash k old hasher) (pair_hash k new hasher) t.slots (bytes_of new t.block)
+      (λ x h. hash-stays k old new hasher t.block frame x (texts x h)) table;
+  texts = λ x h. record { readable = (stays x h).readable; apart = (stays x h).apart.0 };
+}
+  where
+    stays : (x : K × V) → Has (slots_in k.keys k.values new t) x → Stays old new (t.block ∷ []) (k.key.text x.0)
+    stays x h = frame_keeps old new (t.block ∷ []) (t.block ∷ []) (k.key.text x.0) frame (texts x h).readable ((texts x h).apart, tt)

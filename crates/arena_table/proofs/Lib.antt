@@ -1,0 +1,13 @@
+pub mod LayoutLemmas
+pub mod SlotLemmas
+pub mod TableLemmas
+pub mod PutLemmas
+pub mod GapLemmas
+pub mod SearchLemmas
+pub mod HandleLemmas
+pub mod WalkLemmas
+pub mod FreeLemmas
+pub mod EditedLemmas
+pub mod ChangedLemmas
+pub mod FarGapLemmas
+pub mod ReadLemmas

@@ -1,0 +1,4 @@
+pub mod Contents
+pub mod Tables
+pub mod Edits
+pub mod Walks

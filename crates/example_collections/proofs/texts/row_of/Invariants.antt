@@ -1,0 +1,5 @@
+use Rattle.example_collections.specs.Texts.{IsRow}
+use Rattle.example_collections.proofs.texts.row_of.Given as goal
+
+abbrev pub invariant-loop-i : goal.invariant-loop-i
+invariant-loop-i g l = IsRow l.fn.a l.a l.byte l._i l.text

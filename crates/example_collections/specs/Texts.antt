@@ -1,0 +1,27 @@
+-- Texts that are made byte by byte.
+use Rattle.std.specs.Prelude.{◌≡◌, ℕ, ◌<◌, [], ◌∷◌, ◌++◌, replicate, Result, Err}
+use Rattle.arena_chunks.specs.Source.{View}
+use Rattle.arena_chunks.specs.Frame.{Frame}
+use Rattle.arena_items.specs.declared.room.AllocError.{AllocError}
+use Rattle.arena_text.specs.Growth.{amortised_growth, IsRoomFor}
+use Rattle.arena_text.specs.Builders.{IsBuilderIn, builder_bytes}
+use Rattle.arena_text.specs.Changes.{Grows}
+use Rattle.arena_text.specs.declared.text.StringBuilder.{StringBuilder}
+
+-- A new text of one byte, so many times, in a block that was free.
+pub record IsRow (old new : View) (byte n : ℕ) (t : StringBuilder) : Type 0 where
+  pub held : IsBuilderIn new.memory t
+  pub bytes : builder_bytes new.memory t ≡ replicate n byte
+  pub len : t.len ≡ n
+  pub room : IsRoomFor t.len t.cap
+  pub frame : Frame old.memory new.memory [] (t.block ∷ [])
+
+-- Behind some of the bytes one more was refused.
+pub record IsRefusedRow (old new : View) (byte n : ℕ) (e : AllocError) : Type 0 where
+  pub i : ℕ
+  pub more : i < n
+  pub between : View
+  pub text : StringBuilder
+  pub row : IsRow old between byte i text
+  pub left : StringBuilder
+  pub refused : Grows between new text (amortised_growth text.cap text.len 1) (builder_bytes between.memory text ++ byte ∷ []) left (Err e)

@@ -1,0 +1,26 @@
+-- Slots under two homes or contents that are the same for what stands there.
+use Rattle.std.proofs.Common.{◌≡◌, ℕ, List, sym, ◌∙◌, Option}
+use Rattle.hash_ring.specs.AgreeLaws.{ordered-agree}
+use Rattle.hash_ring.specs.Slots.{Has, IsOnce}
+use Rattle.hash_ring.proofs.Close.{Closing}
+
+-- no content stands twice
+pub once-agree : {X : Type 0} (one other : X → List ℕ) (slots : List (Option X)) → ((x : X) → Has slots x → other x ≡ one x)
+    → IsOnce one slots → IsOnce other slots
+once-agree one other slots same once i j x y s t e = once i j x y s t (sym (same x (i, s)) ∙ (e ∙ same y (j, t)))
+
+-- a gap that is being closed
+pub closing-agree : {X : Type 0} (one other : X → ℕ) (n start : ℕ) (from : List (Option X)) (steps : ℕ) (slots : List (Option X)) (at : ℕ)
+    → ((x : X) → Has slots x → other x ≡ one x) → Closing one n start from steps slots at → Closing other n start from steps slots at
+closing-agree one other n start from steps slots at same c = record {
+  ordered = ordered-agree one other n slots same c.ordered;
+  place = c.place;
+  stale = c.stale;
+  there = c.there;
+  count = c.count;
+  passed = c.passed;
+  rest = c.rest;
+  only = c.only;
+  keeps = c.keeps;
+  once = c.once;
+}

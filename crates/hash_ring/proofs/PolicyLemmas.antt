@@ -1,0 +1,170 @@
+-- The clauses on bytes, as inequalities.
+use Rattle.std.proofs.Common.{◌≡◌, ℕ, zero, suc, ◌+◌, ◌-◌, ◌*◌, ◌/◌, ◌^◌, ◌<◌, ◌≤◌, ◌⊎◌, inl, inr, max, refl, ap, ◌∙◌, pow-add, arith}
+use Rattle.std.proofs.Math.Nat.{mul-le-mul_left, mul-le-mul_right, mul_comm, mul-suc, pow-suc, pow-le-pow_right, one-le-pow}
+use Rattle.std.proofs.lemmas.Bool.Decides.{nat_tests}
+use Rattle.std.specs.Int.{IsPowerOfTwo}
+use Rattle.hash_ring.specs.Policy.{most_pairs, slot_size, table_align, unit, limit, spare, credit, IsSlotsFor, next_slots}
+use Rattle.hash_ring.specs.Marks.{IsRing}
+
+-- ---- Powers of two
+
+-- a number is below another or not
+less_or_not : (a b : ℕ) → (a < b) ⊎ (b ≤ a)
+less_or_not zero zero = inr (omega arith)
+less_or_not zero (suc b) = inl (omega arith)
+less_or_not (suc a) zero = inr (omega arith)
+less_or_not (suc a) (suc b) = elim (less_or_not a b) [ inl h ↦ inl (omega arith) | inr h ↦ inr (omega arith) ]
+
+-- A power of two below another is at most its half.
+pub power-below : (n k : ℕ) → IsPowerOfTwo n → n < 2 ^ suc k → n ≤ 2 ^ k
+power-below n k is less = elim (less_or_not k is.0) [
+  | inl above ↦ (
+      let more : 2 ^ suc k ≤ 2 ^ is.0 = pow-le-pow_right (omega arith) above in
+      absurd (omega (arith, is.1)))
+  | inr within ↦ (
+      let most : 2 ^ is.0 ≤ 2 ^ k = pow-le-pow_right (omega arith) within in
+      omega (arith, is.1))
+]
+
+-- A power of two from eight on is a multiple of eight.
+pub power-eights : (n : ℕ) → IsPowerOfTwo n → 8 ≤ n → (m : ℕ) × (n ≡ 8 * m) × (1 ≤ m)
+power-eights n is least = elim (less_or_not is.0 3) [
+  | inl small ↦ (
+      let few : 2 ^ is.0 ≤ 2 ^ 2 = pow-le-pow_right (omega arith) (let le : is.0 ≤ 2 = omega arith in le) in
+      absurd (omega (arith, is.1)))
+  | inr more ↦ (
+      let split : 2 ^ is.0 ≡ 2 ^ 3 * 2 ^ (is.0 - 3) = ap (λ e. 2 ^ e) (let sum : is.0 ≡ 3 + (is.0 - 3) = omega arith in sum) ∙ pow-add 2 3
+      (is.0 - 3) in
+      (2 ^ (is.0 - 3), is.1 ∙ split, one-le-pow (is.0 - 3) 2 (omega arith)))
+]
+
+-- The table for so many pairs is a ring,
+pub slots-ring : (pairs slots : ℕ) → pairs < 2 ^ 32 → IsSlotsFor pairs slots → IsRing slots
+slots-ring pairs slots few is = (is.0, omega (arith, is.1), power-below slots 33 is.0 (omega (arith, is.1, is.2)))
+
+-- and has room for them;
+pub slots-room : (pairs slots : ℕ) → pairs < 2 ^ 32 → IsSlotsFor pairs slots → pairs ≤ limit slots
+slots-room pairs slots few is = omega (arith, is.1)
+
+-- so is the next table.
+next-zero : (slots : ℕ) → slots ≡ 0 → next_slots slots ≡ 16
+next-zero zero h = refl
+next-zero (suc n) h = absurd (omega arith)
+
+next-some : (slots : ℕ) → 0 < slots → next_slots slots ≡ 2 * slots
+next-some slots h = grind (arith, nat_tests)
+
+pub next-ring : (slots len : ℕ) → (slots ≡ 0) ⊎ IsRing slots → limit slots ≤ len → len < most_pairs → IsRing (next_slots slots)
+next-ring slots len ring full few = elim ring [
+  | inl none ↦ rw (next-zero slots none) ((4, refl), omega arith, omega arith)
+  | inr is ↦ (
+      let twice : 2 * slots ≡ 2 ^ suc is.0.0 = omega (arith, is.0.1, pow-suc 2 is.0.0) in
+      rw (next-some slots (omega (arith, is.1)))
+      ((suc is.0.0, twice), omega (arith, is.1), power-below (2 * slots) 33 (suc is.0.0, twice) (omega arith)))
+]
+
+-- A table without room is full to its limit, and the next one has room.
+pub next-room : (slots len : ℕ) → (slots ≡ 0) ⊎ IsRing slots → len ≤ limit slots → len < most_pairs → len + 1 ≤ limit (next_slots slots)
+next-room slots len ring within few = elim ring [
+  | inl none ↦ rw (next-zero slots none) (omega arith)
+  | inr is ↦ rw (next-some slots (omega (arith, is.1))) (omega (arith, is.1))
+]
+
+-- ---- Bytes
+
+-- Eight slots and the padding of a block cost at most a unit, also where the arena's least alignment is the greater.
+pub unit-covers : (k v ka va : ℕ) → 8 * slot_size k v + (max (table_align ka va) 16 - 1) ≤ unit k v ka va
+unit-covers k v ka va = omega arith
+
+-- the size of a table is below 2 ^ 62
+pub table-small : (k v slots : ℕ) → k ≤ 2 ^ 24 → v ≤ 2 ^ 24 → slots ≤ 2 ^ 33 → slots * slot_size k v ≤ 2 ^ 60
+table-small k v slots small small' few =
+    let a : slots * slot_size k v ≤ slots * 2 ^ 26 = mul-le-mul_left slots (let s : slot_size k v ≤ 2 ^ 26 = omega arith in s) in
+    omega (arith, a)
+
+pub table-fits : (k v slots : ℕ) → k ≤ 2 ^ 24 → v ≤ 2 ^ 24 → slots ≤ 2 ^ 33 → slots * slot_size k v ≤ 2 ^ 62
+table-fits k v slots small small' few = omega (arith, table-small k v slots small small' few)
+
+-- a block has at least the bytes of the pairs
+pub table-holds : (k v slots len : ℕ) → len ≤ limit slots → (k + v) * len ≤ slots * slot_size k v
+table-holds k v slots len within =
+    let a : (k + v) * len ≤ (k + v) * slots = mul-le-mul_left (k + v) (let few : len ≤ slots = omega arith in few) in
+    let b : slots * (k + v) ≤ slots * slot_size k v = mul-le-mul_left slots (let more : k + v ≤ slot_size k v = omega arith in more) in
+    omega (arith, a, b, mul_comm (k + v) slots)
+
+module _ (size pad u : ℕ) (covers : 8 * size + pad ≤ u) where
+  -- so many times eight slots, and the padding of a block
+  eights : (m : ℕ) → 8 * m * size + pad ≤ u * m + u
+  eights m =
+      let a : m * (8 * size) ≤ m * u = mul-le-mul_left m (let le : 8 * size ≤ u = omega arith in le) in
+      let b : m * (8 * size) ≡ 8 * m * size = omega arith in
+      omega (arith, a, b, mul_comm m u)
+
+  -- the table for so many pairs
+  pub capacity-bytes : (pairs slots : ℕ) → 0 < pairs → IsSlotsFor pairs slots → slots * size + pad ≤ u * pairs
+  capacity-bytes pairs slots some is = elim (less_or_not 4 pairs) [
+    | inl many ↦ (
+        let a : slots * size ≤ 4 * pairs * size = mul-le-mul_right size (let le : slots ≤ 4 * pairs = omega (arith, is.2) in le) in
+        let b : 2 * (4 * pairs * size) ≡ 8 * pairs * size = omega arith in
+        let c : u * 2 ≤ u * pairs = mul-le-mul_left u (let le : 2 ≤ pairs = omega arith in le) in
+        omega (arith, a, b, c, eights pairs))
+    | inr few ↦ (
+        let eight : slots ≤ 2 ^ 3 = power-below slots 3 is.0 (omega (arith, is.2)) in
+        let a : slots * size ≤ 8 * size = mul-le-mul_right size eight in
+        let c : u * 1 ≤ u * pairs = mul-le-mul_left u some in
+        omega (arith, a, c, covers))
+  ]
+
+  -- the next table: its bytes, its padding and what is saved up afterwards
+  pub growth-bytes : (slots len : ℕ) → (slots ≡ 0) ⊎ IsRing slots → len ≤ limit slots → spare slots len ≡ 0 → len < most_pairs
+      → next_slots slots * size + pad + credit u (next_slots slots) (len + 1) ≤ 2 * u + credit u slots len
+  growth-bytes slots len ring within full few = elim ring [
+    | inl none ↦ (
+        let after : len + 1 - (16 / 4 + 1) ≡ 0 = omega arith in
+        let nothing : u * 0 ≡ 0 = omega arith in
+        rw (next-zero slots none, after, nothing) (omega (arith, eights 2)))
+    | inr is ↦ (
+        let m = power-eights slots is.0 is.1 in
+        let half : len ≡ 4 * m.0 = omega (arith, m.1) in
+        let after : len + 1 - (2 * slots / 4 + 1) ≡ 0 = omega (arith, m.1, m.2) in
+        let before : len - (slots / 4 + 1) ≡ 2 * m.0 - 1 = omega (arith, m.1) in
+        let nothing : u * 0 ≡ 0 = omega arith in
+        let saved : u * (2 * m.0 - 1) + u ≡ u * (2 * m.0) = less_one (2 * m.0) (omega (arith, m.2)) in
+        let bytes : 2 * slots * size ≡ 8 * (2 * m.0) * size = ap (λ n. n * size)
+        (let twice : 2 * slots ≡ 8 * (2 * m.0) = omega (arith, m.1) in twice) in
+        rw (next-some slots (omega (arith, m.1, m.2)), after, before, nothing) (omega (arith, eights (2 * m.0), saved, bytes)))
+  ]
+    where
+      less_one : (n : ℕ) → 1 ≤ n → u * (n - 1) + u ≡ u * n
+      less_one zero h = absurd (omega arith)
+      less_one (suc n) h = let e : suc n - 1 ≡ n = omega arith in rw (e, mul-suc) refl
+
+-- ---- What is saved up
+
+-- a new key in a table with room
+pub credit-rises : (u slots len : ℕ) → credit u slots (len + 1) ≤ credit u slots len + u
+credit-rises u slots len =
+    let a : u * (len + 1 - (slots / 4 + 1)) ≤ u * (len - (slots / 4 + 1) + 1) = mul-le-mul_left u (one_more len (slots / 4 + 1)) in
+    omega (arith, a)
+  where
+    one_more : (a b : ℕ) → a + 1 - b ≤ a - b + 1
+    one_more a b = omega arith
+
+-- fewer pairs have no more saved up
+pub credit-falls : (u slots a b : ℕ) → a ≤ b → credit u slots a ≤ credit u slots b
+credit-falls u slots a b h = mul-le-mul_left u (fewer a b (slots / 4 + 1) h)
+  where
+    fewer : (a b c : ℕ) → a ≤ b → a - c ≤ b - c
+    fewer a b c h = omega arith
+
+-- an empty table has nothing saved up
+pub credit-none : (u slots : ℕ) → credit u slots 0 ≡ 0
+credit-none u slots = ap (λ n. u * n) (let none : 0 - (slots / 4 + 1) ≡ 0 = omega arith in none) ∙ omega arith
+
+-- a table for so many pairs, with them in it, has half as much saved up at most
+pub full-credit : (u pairs slots : ℕ) → IsSlotsFor pairs slots → 2 * credit u slots pairs ≤ u * pairs
+full-credit u pairs slots is =
+    let past : 2 * (pairs - (slots / 4 + 1)) ≤ pairs = omega (arith, is.1) in
+    let a : u * (2 * (pairs - (slots / 4 + 1))) ≤ u * pairs = mul-le-mul_left u past in
+    let b : 2 * (u * (pairs - (slots / 4 + 1))) ≡ u * (2 * (pairs - (slots / 4 + 1))) = omega arith in
+    omega (arith, a, b)

@@ -1,0 +1,226 @@
+-- What stands in slots under each content.
+use Rattle.std.proofs.Common.{◌≡◌, ℕ, suc, zero, ◌⊎◌, inl, inr, List, [], ◌∷◌, map, refl, sym, ap, subst, ◌∙◌, Some, None, Option, Bool}
+use Rattle.std.proofs.Common.{true, set}
+use Rattle.std.proofs.Math.Path.{fun_ext}
+use Rattle.std.proofs.lemmas.Option.{none-some, same_Some}
+use Rattle.std.proofs.lemmas.Bool.{both_ways, cases_Bool, cond-true, cond-false, cases_eq}
+use Rattle.std.proofs.lemmas.Slice.Eq.{bytes_eq-Decides}
+use Rattle.std.specs.Prelude.{slice_get, bytes_eq, if◌then◌else◌}
+use Rattle.std.specs.List.{find}
+use Rattle.hash_ring.specs.Finite.{AreOnce, first_of, with_pair, without, key_or}
+use Rattle.hash_ring.specs.Slots.{items, Has, IsOnce, Lacks, Settled, Closed, Moved}
+use Rattle.hash_ring.proofs.Once.{is_once}
+use Rattle.hash_ring.proofs.Places.{same_item, not_free, one-item, put-cases, get_set_same, get_set_other}
+
+-- ---- The first that a test finds
+
+-- it stands there, and passes
+pub find-has : {X : Type 0} (test : X → Bool) (slots : List (Option X)) (x : X) → find test (items slots) ≡ Some x
+    → Has slots x × (test x ≡ true)
+find-has test [] x e = absurd (none-some x e)
+find-has test (None ∷ xs) x e = let r = find-has test xs x e in ((suc r.0.0, r.0.1), r.1)
+find-has {X} test (Some z ∷ xs) x e = elim (cases_Bool (test z)) [
+  | inl t ↦
+      let same : z ≡ x = same_Some z x (sym (cond-true (test z) (Some z) (find test (items xs)) t) ∙ e) in
+      ((0, ap (λ w. Some (Some w)) same), ap test (sym same) ∙ t)
+  | inr t ↦
+      let r = find-has test xs x (sym (cond-false (test z) (Some z) (find test (items xs)) t) ∙ e) in
+      ((suc r.0.0, r.0.1), r.1)
+]
+
+-- where it finds none, none passes
+pub find-none : {X : Type 0} (test : X → Bool) (slots : List (Option X)) (i : ℕ) (x : X) → find test (items slots) ≡ None
+    → slice_get slots i ≡ Some (Some x)
+    → test x ≡ true → ⊥
+find-none test [] i x e s t = none-some (Some x) s
+find-none test (None ∷ xs) zero x e s t = not_free x (sym s)
+find-none test (None ∷ xs) (suc i) x e s t = find-none test xs i x e s t
+find-none test (Some z ∷ xs) zero x e s t =
+    none-some z (sym e ∙ cond-true (test z) (Some z) (find test (items xs)) (ap test (same_item z x s) ∙ t))
+find-none test (Some z ∷ xs) (suc i) x e s t = elim (cases_Bool (test z)) [
+  | inl u ↦ none-some z (sym e ∙ cond-true (test z) (Some z) (find test (items xs)) u)
+  | inr u ↦ find-none test xs i x (sym (cond-false (test z) (Some z) (find test (items xs)) u) ∙ e) s t
+]
+
+-- a map that has this under one content, and elsewhere is as another
+pub at-content : {A : Type 0} (f g : List ℕ → A) (q : List ℕ) (here : A) → f q ≡ here → ((r : List ℕ) → (r ≡ q → ⊥) → f r ≡ g r)
+    → f ≡ (λ r. if bytes_eq r q then here else g r)
+at-content f g q here e others = fun_ext (λ r. elim (cases_Bool (bytes_eq r q)) [
+  | inl t ↦ ap f ((bytes_eq-Decides r q).0 t) ∙ (e ∙ sym (cond-true (bytes_eq r q) here (g r) t))
+  | inr t ↦ others r (λ s. both_ways (bytes_eq r q) t ((bytes_eq-Decides r q).1 s)) ∙ sym (cond-false (bytes_eq r q) here (g r) t)
+])
+
+-- nothing, or something
+pub option-cases : {X : Type 0} (o : Option X) → (o ≡ None) ⊎ ((x : X) × (o ≡ Some x))
+option-cases None = inl refl
+option-cases (Some x) = inr (x, refl)
+
+module _ {K V : Type 0} (content : K → List ℕ) where
+  -- ---- By what the slots hold
+
+  -- what stands under a content is in a slot, and has it
+  pub under-has : (slots : List (Option (K × V))) (q : List ℕ) (p : K × V) → first_of content (items slots) q ≡ Some p
+      → Has slots p × (content p.0 ≡ q)
+  under-has slots q p e = let r = find-has (λ p. bytes_eq (content p.0) q) slots p e in (r.0, (bytes_eq-Decides (content p.0) q).0 r.1)
+
+  -- where nothing stands under it, no slot has it
+  pub under-lacks : (slots : List (Option (K × V))) (q : List ℕ) → first_of content (items slots) q ≡ None
+      → Lacks (λ p. content p.0) slots q
+  under-lacks slots q e j p s c = find-none (λ p. bytes_eq (content p.0) q) slots j p e s ((bytes_eq-Decides (content p.0) q).1 c)
+
+  -- and the other way round
+  pub lacks-under : (slots : List (Option (K × V))) (q : List ℕ) → Lacks (λ p. content p.0) slots q
+      → first_of content (items slots) q ≡ None
+  lacks-under slots q lacks = elim (option-cases (first_of content (items slots) q)) [
+    | inl e ↦ e
+    | inr r ↦ let h = under-has slots q r.0 r.1 in absurd (lacks h.0.0 r.0 h.0.1 h.1)
+  ]
+
+  -- what a slot holds stands under its content, where no content stands twice
+  pub has-under : (slots : List (Option (K × V))) (i : ℕ) (p : K × V) (q : List ℕ) → IsOnce (λ p. content p.0) slots
+      → slice_get slots i ≡ Some (Some p)
+      → content p.0 ≡ q → first_of content (items slots) q ≡ Some p
+  has-under slots i p q once s c = elim (option-cases (first_of content (items slots) q)) [
+    | inl e ↦ absurd (under-lacks slots q e i p s c)
+    | inr r ↦
+        let h = under-has slots q r.0 r.1 in
+        let place : h.0.0 ≡ i = once h.0.0 i r.0 p h.0.1 s (h.1 ∙ sym c) in
+        r.1 ∙ ap Some (one-item slots i r.0 p (ap (slice_get slots) (sym place) ∙ h.0.1) s)
+  ]
+
+  -- slots that hold the same of a content have the same under it
+  pub under-same : (old new : List (Option (K × V))) (q : List ℕ) → IsOnce (λ p. content p.0) new
+      → ((p : K × V) → content p.0 ≡ q → Has old p → Has new p) → ((p : K × V) → content p.0 ≡ q → Has new p → Has old p)
+      → first_of content (items new) q ≡ first_of content (items old) q
+  under-same old new q once keeps only = elim (option-cases (first_of content (items old) q)) [
+    | inl e ↦ lacks-under new q (λ j p s c. let h = only p c (j, s) in under-lacks old q e h.0 p h.1 c) ∙ sym e
+    | inr r ↦ let h = under-has old q r.0 r.1 in let k = keeps r.0 h.1 h.0 in has-under new k.0 r.0 q once k.1 h.1 ∙ sym r.1
+  ]
+
+  -- ---- What calls do
+
+  -- the same things stand in other slots
+  pub under-moved : (old new : List (Option (K × V))) → IsOnce (λ p. content p.0) old → Moved old new
+      → first_of content (items new) ≡ first_of content (items old)
+  under-moved old new once m =
+      fun_ext (λ q. under-same old new q (m.once (λ p. content p.0) once) (λ p c h. m.keeps p h) (λ p c h. m.only p h))
+
+  -- a pair was put
+  pub under-settled : (old new : List (Option (K × V))) (k : K) (v : V) → IsOnce (λ p. content p.0) old
+      → Lacks (λ p. content p.0) old (content k) → Settled old new (k, v)
+      → first_of content (items new) ≡ with_pair (first_of content (items old)) (content k) k v
+  under-settled old new k v once lacks s =
+      at-content (first_of content (items new)) (first_of content (items old)) (content k)
+      (Some (key_or (first_of content (items old) (content k)) k, v)) here others
+    where
+      now : IsOnce (λ p. content p.0) new
+      now = s.once (λ p. content p.0) once lacks
+
+      here : first_of content (items new) (content k) ≡ Some (key_or (first_of content (items old) (content k)) k, v)
+      here =
+          let none : key_or (first_of content (items old) (content k)) k ≡ k = ap (λ o. key_or o k) (lacks-under old (content k) lacks) in
+          has-under new s.put.0 (k, v) (content k) now s.put.1 refl ∙ ap (λ l. Some (l, v)) (sym none)
+
+      others : (r : List ℕ) → (r ≡ content k → ⊥) → first_of content (items new) r ≡ first_of content (items old) r
+      others r apart = under-same old new r now (λ p c h. s.keeps p h) (λ p c h. elim (s.only p h) [
+        | inl o ↦ o
+        | inr e ↦ absurd (apart (sym c ∙ ap (λ p. content p.0) e))
+      ])
+
+  -- a pair was taken out
+  pub under-closed : (old new : List (Option (K × V))) (at : ℕ) (p : K × V) → IsOnce (λ p. content p.0) old
+      → slice_get old at ≡ Some (Some p)
+      → Closed old new at → first_of content (items new) ≡ without (first_of content (items old)) (content p.0)
+  under-closed old new at p once there s =
+      at-content (first_of content (items new)) (first_of content (items old)) (content p.0) None here others
+    where
+      here : first_of content (items new) (content p.0) ≡ None
+      here = lacks-under new (content p.0) (λ j x h c. let o = s.only x (j, h) in o.1 (once o.0 at x p o.2 there c))
+
+      others : (r : List ℕ) → (r ≡ content p.0 → ⊥) → first_of content (items new) r ≡ first_of content (items old) r
+      others r apart = under-same old new r (s.once (λ p. content p.0) once)
+          (λ x c h. s.keeps x (h.0, (λ e. apart (sym c ∙ same x h e)), h.1)) (λ x c h. let o = s.only x h in (o.0, o.2))
+        where
+          same : (x : K × V) (h : Has old x) → h.0 ≡ at → content x.0 ≡ content p.0
+          same x h e = ap (λ p. content p.0) (one-item old at x p (ap (slice_get old) (sym e) ∙ h.1) there)
+
+  -- a value was put in place of another
+  module _ (old : List (Option (K × V))) (at : ℕ) (l : K) (u v : V) (once : IsOnce (λ p. content p.0) old)
+      (there : slice_get old at ≡ Some (Some (l, u))) where
+    pub once-value : IsOnce (λ p. content p.0) (set old at (Some (l, v)))
+    once-value i j x y s t e = elim (put-cases old at i (Some (l, u)) (l, v) x there s) [
+      | inl a ↦ elim (put-cases old at j (Some (l, u)) (l, v) y there t) [
+        | inl b ↦ a.0 ∙ sym b.0
+        | inr b ↦ a.0 ∙ once at j (l, u) y there b.1 (ap (λ p. content p.0) (sym a.1) ∙ e)
+      ]
+      | inr a ↦ elim (put-cases old at j (Some (l, u)) (l, v) y there t) [
+        | inl b ↦ once i at x (l, u) a.1 there (e ∙ ap (λ p. content p.0) b.1) ∙ sym b.0
+        | inr b ↦ once i j x y a.1 b.1 e
+      ]
+    ]
+
+    pub under-value : (k : K)
+        → first_of content (items (set old at (Some (l, v)))) ≡ with_pair (first_of content (items old)) (content l) k v
+    under-value k =
+        at-content (first_of content (items (set old at (Some (l, v))))) (first_of content (items old)) (content l)
+        (Some (key_or (first_of content (items old) (content l)) k, v)) here others
+      where
+        here : first_of content (items (set old at (Some (l, v)))) (content l) ≡ Some
+            (key_or (first_of content (items old) (content l)) k, v)
+        here =
+            let key : key_or (first_of content (items old) (content l)) k ≡ l =
+            ap (λ o. key_or o k) (has-under old at (l, u) (content l) once there refl) in
+            has-under (set old at (Some (l, v))) at (l, v) (content l) once-value (get_set_same old at (Some (l, u)) (Some (l, v)) there)
+            refl
+            ∙ ap (λ l. Some (l, v)) (sym key)
+
+        others : (r : List ℕ) → (r ≡ content l → ⊥) → first_of content (items (set old at (Some (l, v)))) r ≡ first_of content (items old) r
+        others r apart = under-same old (set old at (Some (l, v))) r once-value keeps only
+          where
+            keeps : (p : K × V) → content p.0 ≡ r → Has old p → Has (set old at (Some (l, v))) p
+            keeps p c h = elim (cases_eq h.0 at) [
+              | inl e ↦
+                  let same : p ≡ (l, u) = one-item old at p (l, u) (ap (slice_get old) (sym e) ∙ h.1) there in
+                  absurd (apart (sym c ∙ ap (λ p. content p.0) same))
+              | inr e ↦ (h.0, get_set_other old at h.0 (Some (l, v)) e ∙ h.1)
+            ]
+
+            only : (p : K × V) → content p.0 ≡ r → Has (set old at (Some (l, v))) p → Has old p
+            only p c h = elim (put-cases old at h.0 (Some (l, u)) (l, v) p there h.1) [
+              | inl a ↦ absurd (apart (sym c ∙ ap (λ p. content p.0) a.1))
+              | inr a ↦ (h.0, a.1)
+            ]
+
+-- ---- A list of pairs as slots that are all taken
+
+pub items-some : {X : Type 0} (xs : List X) → items (map (λ x. Some x) xs) ≡ xs
+items-some [] = refl
+items-some (x ∷ xs) = ap (λ ys. x ∷ ys) (items-some xs)
+
+-- what stands in such a slot
+pub get-some : {X : Type 0} (xs : List X) (i : ℕ) (x : X) → slice_get xs i ≡ Some x → slice_get (map (λ x. Some x) xs) i ≡ Some (Some x)
+get-some [] i x s = absurd (none-some x s)
+get-some (z ∷ xs) zero x s = ap Some s
+get-some (z ∷ xs) (suc i) x s = get-some xs i x s
+
+pub some-get : {X : Type 0} (xs : List X) (i : ℕ) (x : X) → slice_get (map (λ x. Some x) xs) i ≡ Some (Some x) → slice_get xs i ≡ Some x
+some-get [] i x s = absurd (none-some (Some x) s)
+some-get (z ∷ xs) zero x s = same_Some (Some z) (Some x) s
+some-get (z ∷ xs) (suc i) x s = some-get xs i x s
+
+module _ {K V : Type 0} (content : K → List ℕ) where
+  -- what stands under a content is in the list, and has it
+  pub under-in : (pairs : List (K × V)) (q : List ℕ) (p : K × V) → first_of content pairs q ≡ Some p
+      → (i : ℕ) × (slice_get pairs i ≡ Some p) × (content p.0 ≡ q)
+  under-in pairs q p e =
+      let r = under-has content (map (λ p. Some p) pairs) q p (ap (λ ps. first_of content ps q) (items-some pairs) ∙ e) in
+      (r.0.0, some-get pairs r.0.0 p r.0.1, r.1)
+
+  -- what is in the list stands under its content, where no content stands twice
+  pub in-under : (pairs : List (K × V)) (i : ℕ) (p : K × V) → AreOnce content pairs → slice_get pairs i ≡ Some p
+      → first_of content pairs (content p.0) ≡ Some p
+  in-under pairs i p once s =
+      ap (λ ps. first_of content ps (content p.0)) (sym (items-some pairs))
+      ∙ has-under content (map (λ p. Some p) pairs) i p (content p.0)
+      (is_once content (map (λ p. Some p) pairs) (subst (λ ps. AreOnce content ps) (sym (items-some pairs)) once)) (get-some pairs i p s)
+      refl

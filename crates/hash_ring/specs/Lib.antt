@@ -1,0 +1,9 @@
+pub mod Fx
+pub mod Hashes
+pub mod Finite
+pub mod Policy
+pub mod Slots
+pub mod Marks
+pub mod Searches
+pub mod Walks
+pub mod AgreeLaws

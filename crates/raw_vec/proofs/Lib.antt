@@ -1,0 +1,3 @@
+mod RoomLemmas
+mod ByteLemmas
+pub mod Windows

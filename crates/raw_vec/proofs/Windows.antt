@@ -1,0 +1,103 @@
+-- Lists that are walked from both ends.
+use Rattle.std.proofs.Common.{◌≡◌, ℕ, suc, zero, ◌+◌, ◌-◌, ◌*◌, ◌<◌, ◌≤◌, List, [], ◌∷◌, ◌++◌, length, take, drop, refl, sym, ap, ◌∙◌, arith, Some, None, add-one}
+use Rattle.std.proofs.lemmas.Grind.{common_steps}
+use Rattle.std.proofs.Math.Nat.{add-mul}
+use Rattle.std.specs.Prelude.{slice_get, Option}
+use Rattle.std.specs.Iterator.{YieldsFirst}
+use Rattle.std.proofs.lemmas.List.{length-take, length-drop}
+use Rattle.arena_items.specs.Values.{elements}
+use Rattle.raw_vec.specs.Rows.{window}
+use Rattle.arena_items.proofs.Layers.{length-elements, elements-empty, elements-cut, elements-drop, elements-front}
+
+pub length-window : {T : Type 0} (xs : List T) (f b : ℕ) → b ≤ length xs → length (window xs f b) ≡ b - f
+unfolding window
+length-window xs f b h = omega (arith, length-drop f (take b xs), length-take b xs)
+
+pub window-whole : {T : Type 0} (xs : List T) (b : ℕ) → b ≡ length xs → window xs 0 b ≡ xs
+unfolding window
+window-whole xs b h = grind (arith, common_steps)
+
+pub window-none : {T : Type 0} (xs : List T) (f b : ℕ) → f ≡ b → b ≤ length xs → window xs f b ≡ []
+unfolding window
+window-none xs f b e h = grind (arith, common_steps)
+
+some_same : {T : Type 0} (x y : T) → Some x ≡ Some y → x ≡ y
+some_same x y e = cc
+
+first : {T : Type 0} (xs : List T) (f b : ℕ) (x : T) → f < b → slice_get xs f ≡ Some x → drop f (take b xs) ≡ x ∷ drop (suc f) (take b xs)
+first [] f b x h e = cc
+first (y ∷ xs) f zero x h e = absurd (omega arith)
+first (y ∷ xs) zero (suc b) x h e = ap (λ z. z ∷ take b xs) (some_same y x e)
+first (y ∷ xs) (suc f) (suc b) x h e = first xs f b x (omega arith) e
+
+pub window-first : {T : Type 0} (xs : List T) (f b : ℕ) (x : T) → f < b → slice_get xs f ≡ Some x → window xs f b ≡ x ∷ window xs (f + 1) b
+unfolding window
+window-first xs f b x h e = rw add-one (first xs f b x h e)
+
+last : {T : Type 0} (xs : List T) (f b : ℕ) (x : T) → f ≤ b → slice_get xs b ≡ Some x → drop f (take (suc b) xs)
+    ≡ drop f (take b xs) ++ x ∷ []
+last [] f b x h e = cc
+last (y ∷ xs) zero zero x h e = ap (λ z. z ∷ []) (some_same y x e)
+last (y ∷ xs) (suc f) zero x h e = absurd (omega arith)
+last (y ∷ xs) zero (suc b) x h e = ap (λ zs. y ∷ zs) (last xs zero b x (omega arith) e)
+last (y ∷ xs) (suc f) (suc b) x h e = last xs f b x (omega arith) e
+
+pub window-last : {T : Type 0} (xs : List T) (f b : ℕ) (x : T) → f < b → slice_get xs (b - 1) ≡ Some x → window xs f b
+    ≡ window xs f (b - 1) ++ x ∷ []
+unfolding window
+window-last xs f zero x h e = absurd (omega arith)
+window-last xs f (suc b) x h e =
+    let k : suc b - 1 ≡ b = omega arith in
+    let at : slice_get xs b ≡ Some x = rw k at e in
+    rw k (last xs f b x (omega arith) at)
+
+-- What stands first in a window,
+pub window_start : {T : Type 0} (xs : List T) (f b : ℕ) → f < b → slice_get xs f ≡ slice_get (window xs f b) 0
+unfolding window
+window_start [] f zero h = absurd (omega arith)
+window_start [] zero (suc b) h = refl
+window_start [] (suc f) (suc b) h = refl
+window_start (y ∷ xs) f zero h = absurd (omega arith)
+window_start (y ∷ xs) zero (suc b) h = refl
+window_start (y ∷ xs) (suc f) (suc b) h = window_start xs f b (omega arith)
+
+-- and what a walk gives first.
+pub first_left : {T S : Type 0} (rest : S → List T) (s t : S) (r : Option T) → YieldsFirst rest s r t → slice_get (rest s) 0 ≡ r
+first_left rest s t None gives = ap (λ xs. slice_get xs 0) gives.0
+first_left rest s t (Some x) gives = ap (λ xs. slice_get xs 0) gives
+
+pub ruleset window_laws = (length-window, window-whole, window-none, window-first, window-last, length-elements)
+
+-- The same of values in a block, which have their length whatever stands there.
+module _ {T : Type 0} (size : ℕ) (dec : List ℕ → T) (n f b : ℕ) (bs : List ℕ) (order : f ≤ b) (within : b ≤ n) where
+  pub window_left : elements size dec (b - f) (drop (f * size) bs) ≡ window (elements size dec n bs) f b
+  unfolding window
+  window_left = let whole : f + (b - f) ≡ b = omega arith in elements-drop size dec f (b - f) bs
+      ∙ ap (λ k. drop f (elements size dec k bs)) whole ∙ ap (drop f) (elements-cut size dec b n bs within)
+
+-- The bytes of the values that are left.
+pub window_bytes : {T : Type 0} (size : ℕ) (dec : List ℕ → T) (n f b : ℕ) (bs : List ℕ) → f ≤ b → b ≤ n
+    → elements size dec (b - f) (take (b * size - f * size) (drop (f * size) bs)) ≡ window (elements size dec n bs) f b
+window_bytes size dec n f b bs order within =
+    let whole : f + (b - f) ≡ b = omega arith in
+    let sum : (f + (b - f)) * size ≡ f * size + (b - f) * size = add-mul f (b - f) size in
+    let all : b * size ≡ f * size + (b - f) * size = ap (λ k. k * size) (sym whole) ∙ sum in
+    let long : b * size - f * size ≡ (b - f) * size = omega (arith, all) in
+    ap (λ k. elements size dec (b - f) (take k (drop (f * size) bs))) long ∙ elements-front size dec (b - f) (drop (f * size) bs)
+    ∙ window_left size dec n f b bs order within
+
+pub left_first_at : {T : Type 0} (size : ℕ) (dec : List ℕ → T) (n f b : ℕ) (bs : List ℕ) (x : T) → f < b → b ≤ n
+    → slice_get (elements size dec n bs) f ≡ Some x
+    → elements size dec (b - f) (drop (f * size) bs) ≡ x ∷ elements size dec (b - (f + 1)) (drop ((f + 1) * size) bs)
+left_first_at size dec n f b bs x less within e =
+    window_left size dec n f b bs (omega arith) within ∙ window-first (elements size dec n bs) f b x less e
+    ∙ ap (λ xs. x ∷ xs) (sym (window_left size dec n (f + 1) b bs (omega arith) within))
+
+pub left_last_at : {T : Type 0} (size : ℕ) (dec : List ℕ → T) (n f b : ℕ) (bs : List ℕ) (x : T) → f < b → b ≤ n
+    → slice_get (elements size dec n bs) (b - 1) ≡ Some x
+    → elements size dec (b - f) (drop (f * size) bs) ≡ elements size dec (b - 1 - f) (drop (f * size) bs) ++ x ∷ []
+left_last_at size dec n f b bs x less within e =
+    window_left size dec n f b bs (omega arith) within ∙ window-last (elements size dec n bs) f b x less e
+    ∙ ap (λ xs. xs ++ x ∷ []) (sym (window_left size dec n f (b - 1) bs (omega arith) (omega arith)))
+
+pub ruleset drain_laws = (left_first_at, left_last_at, window_left, elements-empty, length-elements)
