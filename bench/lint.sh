@@ -1,6 +1,6 @@
 #!/bin/bash
 # Measures `arena_run lint`, beside the driver over the Rust crate whose program is in NATIVE, if set, as in
-#     NATIVE=/tmp/native-out/target/release/native bench/lint.sh [SEED] [BYTES..]
+#     NATIVE=bench/driver/target/release/native bench/lint.sh [SEED] [BYTES..]
 # For each size (16,000,000 if none is given), and each number of workers in WORKERS ("1 4" if not set), it prints the least wall time
 # of ROUNDS runs (5 if not set) by turns, with the start of the process, and the peak memory. Both programs must print the same text.
 # The input has sources of 700 lines: seeded definitions and uses of 400 names, in blocks one in another. It is cut after so many bytes.
