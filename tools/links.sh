@@ -1,9 +1,16 @@
 #!/bin/sh
-# Checks that each relative link in the pages leads to a file or a folder. Prints those that don't, and exits with 1 then.
+# Checks that each relative link in the pages leads to a file or a folder, and to a heading where it names one. Prints those that don't,
+# and exits with 1 then.
 set -eu
 cd "$(dirname "$(dirname "$(readlink -f "$0")")")"
 failed=0
-for page in *.md docs/*.md crates/*/*.md bench/*/*.md; do
+
+# has PAGE NAME: whether the page has a heading of this name, as a forge makes it: lower case, hyphens for spaces, no other signs.
+has() {
+    sed -n 's/^##* //p' "$1" | tr '[:upper:] ' '[:lower:]-' | sed 's/[^a-z0-9_-]//g' | grep -qx "$2"
+}
+
+for page in *.md docs/*.md docs/*/*.md crates/*/*.md bench/*/*.md; do
     links=$(awk '
         /^```/ { code = !code; next }
         !code {
@@ -16,7 +23,9 @@ for page in *.md docs/*.md crates/*/*.md bench/*/*.md; do
     for link in $links; do
         case $link in http*) continue ;; esac
         path=${link%%#*}
-        [ -z "$path" ] || [ -e "$(dirname "$page")/$path" ] || {
+        to=$(dirname "$page")/$path
+        [ -n "$path" ] || to=$page
+        [ -e "$to" ] && case $link in *.md#* | '#'*) has "$to" "${link#*#}" ;; esac || {
             echo "$page: $link leads nowhere"
             failed=1
         }
