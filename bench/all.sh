@@ -1,7 +1,7 @@
 #!/bin/bash
-# Times every loop, as loops.sh says, and then cost against size, as in
+# Times every loop (loops.sh), and then cost against size (sizes.sh), for example:
 #     NATIVE=bench/driver/target/release/native bench/all.sh > bench/measured.txt
-# from which page.py makes what docs/PERFORMANCE.md shows of it.
+# From this file page.py makes the tables and plots of docs/PERFORMANCE.md.
 set -euo pipefail
 here=$(dirname "$(readlink -f "$0")")
 "$here/loops.sh"

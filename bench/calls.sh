@@ -1,16 +1,16 @@
 #!/bin/bash
-# Measures `arena_run calls`, beside the driver over the Rust crate whose program is in NATIVE, if set, as in
+# Measures `arena_run calls`, and for comparison the driver over the Rust crate, if its program is in NATIVE:
 #     NATIVE=bench/driver/target/release/native bench/calls.sh [SEED] [LINES..]
-# For each number of lines (a million if none is given) it prints the least wall time of ROUNDS runs (5 if not set) by turns,
-# with the start of the process, and the peak memory. Both programs must print the same text.
-# The lines are a seeded mix of the calls that both have, with sizes to 511 and 256 names, and a reset in each 65,536th line. With
-# PROFILE=marks a third of the lines set marks, each inside the one before, a third place a block behind each, and a third go back
-# to them from the newest on; with PROFILE=stay these blocks are empty, so that they stay. The Rust crate has no such calls, so
-# NATIVE isn't run then.
+# For each number of lines (default a million) it prints the least wall time of ROUNDS runs (default 5), in which the
+# programs alternate, including the start of the process, and the peak memory. Both programs must print the same text.
+# The lines are a seeded mix of the calls that both have, with sizes up to 511, 256 names, and a reset every 65,536
+# lines. With PROFILE=marks a third of the lines set nested marks, a third place a block after each, and a third roll
+# back to them, the newest first. With PROFILE=stay these blocks are empty, so they stay. The Rust crate has no such
+# calls, so NATIVE isn't run then.
 . "$(dirname "$(readlink -f "$0")")/measure.sh"
 seeded 1000000 "$@"
 
-# mix LINES: prints so many lines.
+# mix LINES: prints this number of lines.
 mix() {
     awk -v x="$seed" -v lines="$1" '
         function draw(n) { x = (x * 16807) % 2147483647; return int(x / 7) % n }
@@ -30,7 +30,7 @@ mix() {
         }'
 }
 
-# tries LINES SIZE: prints so many lines, less the rest by 3.
+# tries LINES SIZE: prints this number of lines, rounded down to a multiple of 3.
 tries() {
     awk -v marks="$(($1 / 3))" -v size="$2" '
         BEGIN {
@@ -41,7 +41,7 @@ tries() {
 
 marks() { tries "$1" 24; }
 
-# Empty blocks stay over every way back.
+# Empty blocks stay after each rollback.
 stay() { tries "$1" 0; }
 
 profile=${PROFILE:-mix}

@@ -1,8 +1,9 @@
 #!/bin/bash
-# Measures `arena_run gen` beside the driver over the Rust crate whose program is in NATIVE, if set, as in
+# Measures `arena_run gen`, and for comparison the driver over the Rust crate, if its program is in NATIVE:
 #     NATIVE=bench/driver/target/release/native bench/gen.sh [COUNT..]
-# For each count (a million if none is given) it prints the least wall time of ROUNDS runs (5 if not set) by turns, with the
-# start of the process, and the peak memory. Then both programs make calls from fifty starts, and must print the same lines.
+# For each count (default a million) it prints the least wall time of ROUNDS runs (default 5), in which the programs
+# alternate, including the start of the process, and the peak memory. Then both programs make calls from fifty starts,
+# and must print the same lines.
 . "$(dirname "$(readlink -f "$0")")/measure.sh"
 [ $# -gt 0 ] || set -- 1000000
 input=/dev/null

@@ -1,13 +1,14 @@
 #!/bin/bash
-# Measures `arena_run lint`, beside the driver over the Rust crate whose program is in NATIVE, if set, as in
+# Measures `arena_run lint`, and for comparison the driver over the Rust crate, if its program is in NATIVE:
 #     NATIVE=bench/driver/target/release/native bench/lint.sh [SEED] [BYTES..]
-# For each size (16,000,000 if none is given), and each number of workers in WORKERS ("1 4" if not set), it prints the least wall time
-# of ROUNDS runs (5 if not set) by turns, with the start of the process, and the peak memory. Both programs must print the same text.
-# The input has sources of 700 lines: seeded definitions and uses of 400 names, in blocks one in another. It is cut after so many bytes.
+# For each size (default 16,000,000) and each number of workers in WORKERS (default "1 4") it prints the least wall
+# time of ROUNDS runs (default 5), in which the programs alternate, including the start of the process, and the peak
+# memory. Both programs must print the same text. The input has sources of 700 lines: seeded definitions and uses of
+# 400 names, in nested blocks. It is cut off at the given size.
 . "$(dirname "$(readlink -f "$0")")/measure.sh"
 seeded 16000000 "$@"
 
-# sources BYTES: prints sources, at least so many bytes.
+# sources BYTES: prints sources of at least this number of bytes.
 sources() {
     awk -v x="$seed" -v bytes="$1" '
         function draw(n) { x = (x * 16807) % 2147483647; return int(x / 7) % n }

@@ -1,16 +1,16 @@
 #!/bin/bash
-# Times loops, and prints a line for each: the least nanoseconds a call, and beside it those of the driver over the Rust crate
-# whose program is in NATIVE, if that has such a loop, with the ratio of the two, as in
+# Times loops, and prints a line for each: the least nanoseconds per call, and next to it those of the driver over the
+# Rust crate, if its program is in NATIVE and has such a loop, with the ratio of the two. For example:
 #     NATIVE=bench/driver/target/release/native bench/loops.sh vec_push "vec_push 1000"
 #     NATIVE=bench/driver/target/release/native bench/loops.sh hash pool
-# A word is a loop, behind whose name may stand how many calls it makes, and further words; or a section: arena, items, vec, text, bits,
-# hash, clone, symbols, trees, pool. Without words all sections are timed. ROUNDS rounds (5 if not set) run the two programs by turns,
-# each the best of its own five runs, so that a noisy minute hits both. A loop's number depends on the calls alone: both programs must
-# print the same.
+# A word is a loop, whose name may be followed by the number of calls and further words; or a section: arena, items,
+# vec, text, bits, hash, clone, symbols, trees, pool. Without words all sections are timed. In ROUNDS rounds (default
+# 5) the two programs alternate, each with the best of its own five runs, so that noise affects both. A loop's number
+# depends on the calls alone: both programs must print the same.
 set -euo pipefail
 here=$(dirname "$(readlink -f "$0")")
 
-# section WORD: sets `loops` to those of the section, or to this loop.
+# section WORD: sets `loops` to the loops of the section, or to this loop.
 section() {
     case $1 in
         arena) loops=(alloc_warm grow_at_cursor reset_empty reset_chunks read_older write_older) ;;
@@ -39,7 +39,7 @@ program=$("$here/../tools/program.sh" bench_arena check)
 lines=$(mktemp)
 trap 'rm -f "$lines"' EXIT
 
-# note WHO LOOP: notes the lines that are read behind these two.
+# note WHO LOOP: appends the lines from standard input to the notes, each after these two words.
 note() {
     sed "s/^/$1\t$2\t/" >> "$lines"
 }
@@ -49,15 +49,16 @@ for _ in $(seq "${ROUNDS:-5}"); do
         # shellcheck disable=SC2086
         "$program" $loop | note here "$loop"
         if [ -n "${NATIVE:-}" ]; then
-            # Of a loop that it doesn't have the driver says so, and fails.
+            # For a loop that it doesn't have, the driver prints so and fails.
             # shellcheck disable=SC2086
             { "$NATIVE" bench $loop 2> /dev/null || true; } | note rust "$loop"
         fi
     done
 done
 
-# The third field of a line is what a program printed: the loop's name, its nanoseconds, and a number behind the word `number`. The
-# driver tells nanoseconds to three places; from its milliseconds behind the word `total` they are known to more.
+# The third field of a line is what a program printed: the loop's name, its nanoseconds, and a number after the word
+# `number`. The driver prints nanoseconds with three decimals; its milliseconds after the word `total` are more
+# precise.
 awk -F '\t' '
     BEGIN { for (i = 1; i < ARGC - 1; i++) { names[i] = ARGV[i]; delete ARGV[i] } }
     {

@@ -1,5 +1,5 @@
-# What the scripts share that time `arena_run` beside the driver over the Rust crate whose program is in NATIVE, if set; they read it
-# by `.`. It sets `program`, a scratch `folder`, and `input`, the file that both read.
+# Functions for the scripts that time `arena_run`, and the driver over the Rust crate if its program is in NATIVE.
+# They read this file by `.`. It sets `program`, a scratch `folder`, and `input`, the file that both programs read.
 set -euo pipefail
 export LC_ALL=C
 [ -x /usr/bin/time ] || { echo "peak memory is measured with GNU time, /usr/bin/time" >&2; exit 1; }
@@ -8,27 +8,27 @@ folder=$(mktemp -d)
 trap 'rm -rf "$folder"' EXIT
 input=$folder/input
 
-# seeded SIZE [SEED] [SIZE..]: sets `seed`, 1 if none is given, and `sizes`, that first one if none is given.
+# seeded SIZE [SEED] [SIZE..]: sets `seed` (default 1) and `sizes` (default the first SIZE).
 seeded() {
     seed=${2:-1}
     sizes=("${@:3}")
     [ ${#sizes[@]} -gt 0 ] || sizes=("$1")
 }
 
-# must_fit: ends where the input is longer than `arena_run` may read.
+# must_fit: exits if the input is longer than `arena_run` may read.
 must_fit() {
     local size
     size=$(stat -c %s "$input")
     [ "$size" -le 16777216 ] || { echo "the input has $size bytes, past the limit" >&2; exit 1; }
 }
 
-# weigh WHO COMMAND..: notes the peak memory in KiB, and the sum of the text.
+# weigh WHO COMMAND..: records the peak memory in KiB, and the checksum of the output.
 weigh() {
     /usr/bin/time -f %M -o "$folder/$1.memory" "${@:2}" < "$input" 2> /dev/null | cksum > "$folder/$1.text"
     : > "$folder/$1.times"
 }
 
-# clock WHO COMMAND..: notes the wall time in microseconds.
+# clock WHO COMMAND..: records the wall time in microseconds.
 clock() {
     local began=$EPOCHREALTIME
     "${@:2}" < "$input" > /dev/null 2>&1
@@ -36,7 +36,7 @@ clock() {
     echo $((${ended/./} - ${began/./})) >> "$folder/$1.times"
 }
 
-# tell COUNT WHO..: prints a line of the table, of these programs.
+# tell COUNT WHO..: prints a line of the table, for these programs.
 tell() {
     {
         echo "$1"
@@ -58,8 +58,8 @@ head_of() {
     printf '%9s %10s %10s %10s %7s %10s %10s %7s\n' "${1}s" 'here, ms' "ns a $1" 'Rust, ms' ratio 'here, MiB' 'Rust, MiB' ratio
 }
 
-# measure COUNT WORD..: runs the programs with these words, ROUNDS times by turns (5 if not set), and prints their line. Both must
-# print the same text.
+# measure COUNT WORD..: runs the programs with these words, alternating, ROUNDS times (default 5), and prints their
+# line. Both must print the same text.
 measure() {
     weigh here "$program" "${@:2}"
     [ -z "${NATIVE:-}" ] || weigh Rust "$NATIVE" "${@:2}"
@@ -75,7 +75,7 @@ measure() {
     fi
 }
 
-# by_workers COUNT UNIT WORD: prints a table of this word with each number of workers in WORKERS ("1 4" if not set).
+# by_workers COUNT UNIT WORD: prints a table of this word for each number of workers in WORKERS (default "1 4").
 by_workers() {
     local workers
     for workers in ${WORKERS:-1 4}; do

@@ -1,10 +1,11 @@
 #!/bin/bash
-# Measures `arena_run scripts`, beside the driver over the Rust crate whose program is in NATIVE, if set, as in
+# Measures `arena_run scripts`, and for comparison the driver over the Rust crate, if its program is in NATIVE:
 #     NATIVE=bench/driver/target/release/native bench/scripts.sh [SEED] [COUNT..]
-# For each count (1,000 if none is given), and each number of workers in WORKERS ("1 4" if not set), it prints the least wall time of
-# ROUNDS runs (5 if not set) by turns, with the start of the process, and the peak memory. Both programs must print the same text.
-# The input has 1,200 scripts, each of so many commands: a seeded mix on four objects of each kind. With PROFILE=falling, rising or
-# random it has one script, of so many names (at most 400,000) that are made in this order, dropped and made again.
+# For each count (default 1,000) and each number of workers in WORKERS (default "1 4") it prints the least wall time
+# of ROUNDS runs (default 5), in which the programs alternate, including the start of the process, and the peak
+# memory. Both programs must print the same text. The input has 1,200 scripts of that many commands each: a seeded mix
+# on four objects of each kind. With PROFILE=falling, rising or random it has one script, with that many names (at
+# most 400,000), which are made in this order, dropped and made again.
 . "$(dirname "$(readlink -f "$0")")/measure.sh"
 seeded 1000 "$@"
 

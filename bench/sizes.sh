@@ -1,6 +1,6 @@
 #!/bin/bash
-# Measures cost against size, as loops.sh and calls.sh do: vectors and maps of ten thousand to ten million values, blocks of eight
-# bytes in one of up to forty chunks, and lines of calls.
+# Measures cost against size, with loops.sh and calls.sh: vectors and maps of ten thousand to ten million values,
+# blocks of eight bytes in one of up to forty chunks, and lines of calls.
 set -euo pipefail
 here=$(dirname "$(readlink -f "$0")")
 loops=()

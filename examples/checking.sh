@@ -1,7 +1,7 @@
-# What the checks of examples share; they read it by `.`. In the end `failed` is their status.
+# Functions for the checks of the examples, which read this file by `.`. At the end, `failed` is their status.
 failed=0
 
-# told NAME: says whether what was compared last held.
+# told NAME: prints whether the last comparison succeeded.
 told() {
     if [ "$?" = 0 ]; then
         echo "ok   $1"

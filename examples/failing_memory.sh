@@ -1,9 +1,10 @@
 #!/bin/bash
-# Makes each allocation of a run fail in turn, and says how many there are and how the program ended each time:
+# Makes each allocation of a run fail in turn, and prints how many there are and how the program ended each time:
 #     examples/failing_memory.sh [INPUT..]
-# A small library stands before malloc, calloc and realloc, counts these calls, and refuses the one of that number. Without an
-# INPUT the runs are three lists of calls, one of `gen`, one of scripts and one of sources. Each run must end out of memory
-# and nothing written, or well with all that it has to write: all the same, or with a refusal told; else the script ends with 1.
+# A small library replaces malloc, calloc and realloc, counts these calls, and refuses the one with that number.
+# Without an INPUT the runs are three lists of calls, one of `gen`, one of scripts and one of sources. Each run must
+# end out of memory with nothing written, or successfully with its whole output, which is unchanged or reports a
+# refusal. Otherwise the script exits with 1.
 set -euo pipefail
 here=$(dirname "$(readlink -f "$0")")
 work=$(mktemp -d)
@@ -38,7 +39,7 @@ void *calloc(size_t k, size_t n) { return refuses() ? NULL : __libc_calloc(k, n)
 C
 cc -O1 -shared -fPIC -o "$work/fail.so" "$work/fail.c" -ldl
 
-# runs NAME INPUT WORD..: each allocation of the program on these words and this input.
+# runs NAME INPUT WORD..: makes each allocation of the program fail, with these words and this input.
 runs() {
     local name=$1 input=$2 n what status all
     shift 2
@@ -55,7 +56,7 @@ runs() {
             what="0, all replies"
         else
             what="0, a chunk was refused: $(tr '\n' ';' < "$work/text")"
-            # A summary tells of it by what the arena has then, a script by its ending, a source by its report.
+            # A summary shows a refusal by the bytes of the arena, a script by its end, a source by its report.
             case $1 in
             gen) [ "$(wc -l < "$work/text")" = 8 ] || failed=1 ;;
             lint) grep -qx 'refused\|out of memory' "$work/text" || failed=1 ;;

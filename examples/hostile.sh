@@ -1,10 +1,10 @@
 #!/bin/bash
-# Runs the program on inputs, outputs and streams that mean it harm, and answers with status 0 and prints nothing where each run
-# ends as the rules say, and within its time:
+# Runs the program on hostile inputs, outputs and streams. If each run ends as the rules say, and in time, it prints
+# nothing and exits with 0:
 #     examples/hostile.sh [all]
-# With `all` also runs over names that are chosen to be slow to look up.
+# With `all`, it also runs over names that are chosen to be slow to look up.
 set -u
-# The last part of a pipe runs in this shell, so that it may note a failure.
+# The last part of a pipe runs in this shell, so that it can record a failure.
 shopt -s lastpipe
 here=$(dirname "$(readlink -f "$0")")
 work=$(mktemp -d)
@@ -12,8 +12,8 @@ trap 'rm -rf "$work"' EXIT
 program=$("$here/../tools/program.sh" arena_run --version) || exit 1
 failed=0
 
-# ends NAME STATUS TEXT LINE: compares the run that has just ended. Its status is in `status`, what it wrote in the files `out`
-# and `err`.
+# ends NAME STATUS TEXT LINE: checks the run that has just ended. Its status is in `status`, and its output in the
+# files `out` and `err`.
 ends() {
     if [ "$status" != "$2" ] || [ "$(head -c 1000 "$work/out")" != "$3" ] || [ "$(head -c 1000 "$work/err")" != "$4" ]; then
         echo "FAIL $1: status $status, wrote $(head -c 100 "$work/out"), said $(head -c 100 "$work/err")"
@@ -21,7 +21,8 @@ ends() {
     fi
 }
 
-# Runs `calls`, or other words, over this function's standard input, for at most so many seconds of processor time (default 10).
+# Runs `calls`, or other words, over this function's standard input, for a limited number of seconds of processor time
+# (default 10).
 calls() {
     status=0
     : > "$work/out"
@@ -29,13 +30,13 @@ calls() {
     (ulimit -t "${1:-10}"; exec "$program" ${words:-calls} > "$work/out" 2> "$work/err") || status=$?
 }
 
-# refuses NAME LINE: the calls from standard input have this line as the first that is none.
+# refuses NAME LINE: in the calls from standard input, this line is the first one that isn't a call.
 refuses() {
     calls
     ends "$1" 2 "" "line $2 is not understood"
 }
 
-# So many bytes, all of them this one.
+# Prints the same byte the given number of times.
 bytes() { head -c "$1" /dev/zero | tr '\0' "$2"; }
 
 # Lines of 16 MB.
@@ -45,7 +46,8 @@ bytes 16777216 a | refuses "a line of 16,777,216 bytes" 1
 bytes 16777216 ' ' | refuses "16,777,216 spaces" 1
 bytes 16777216 '\0' | refuses "16,777,216 bytes of 0" 1
 { bytes 16777214 '\n'; echo x; } | refuses "a bad line behind 16,777,214 empty ones" 16777215
-# The chunk of 8,000,000 bytes is the least of whole pages, less 64 bytes, that has room: 8,003,520, from 4096 on.
+# The chunk for 8,000,000 bytes is the smallest number of whole pages, less 64 bytes, that has room: 8,003,520, from
+# address 4096.
 { printf 'alloc 0 8000000 1 0\nwrite 0 0 '; bytes 16000000 5; printf '\nwrite 0 7999999 ab\nused\n'; } | calls
 ends "a line of 8,000,000 bytes" 0 $'placed 7616 refused 0\ndone\ndone\nnumber 8000000' ""
 { printf 'alloc 0 8000000 1 85\nread 0\n'; bytes 16777170 '\n'; printf 'used\n'; } | calls
@@ -62,7 +64,7 @@ printf 'alloc 0 1 1' | refuses "three numbers of four" 1
 printf 'alloc 0 1 1 ' | refuses "a space at the end" 1
 printf 'alloc 0 2 1 0\nwrite 0 0 abc' | refuses "one and a half bytes" 2
 
-# Bytes that are no part of a call.
+# Bytes that can't be part of a call.
 printf 'used\0\n' | refuses "a byte of 0 behind a word" 1
 printf 'used\n\0' | refuses "a byte of 0 alone" 2
 printf 'us\0ed\n' | refuses "a byte of 0 in a word" 1
@@ -80,7 +82,7 @@ printf 'read 0x1\n' | refuses "a number by 16" 1
 printf 'read 4294967296\n' | refuses "a name past its type" 1
 printf 'alloc 0 18446744073709551616 1 0\n' | refuses "a size past its type" 1
 
-# Streams that are closed, full, or of another kind. Where nothing is to be written a closed output is no fault.
+# Streams that are closed, full, or of another kind. If there is nothing to write, a closed output isn't an error.
 many() { yes used | head -100000; }
 status=0
 "$program" calls <&- > "$work/out" 2> "$work/err" || status=$?
@@ -120,7 +122,7 @@ ends "an output that can't be written" 5 "" "write fault"
 status=$?
 ends "an input that can't be read" 4 "" "read fault"
 
-# An input of 2 KB whose replies are 3.2 GB, of which 200 MB have room.
+# An input of 2 KB whose replies are 3.2 GB, with room for 200 MB.
 { echo "alloc 0 8000000 1 0"; yes "read 0" | head -200; } > "$work/input"
 status=0
 (ulimit -v 200000; exec "$program" calls < "$work/input" > "$work/out" 2> "$work/err") || status=$?
@@ -128,8 +130,9 @@ ends "replies that memory doesn't hold" 3 "" "out of memory"
 
 [ "${1:-}" = all ] || exit $failed
 
-# Names that hash alike where the hash is one that anyone knows: as many blocks, marks and objects as an input has room for. A
-# table by this hash would take a step for each pair of names: from nine minutes up. Here they have some seconds.
+# Names that collide under a publicly known hash: as many blocks, marks and objects as an input has room for. A table
+# with this hash would take a step for each pair of names, which is nine minutes or more. Here the limit is some
+# seconds.
 cat > "$work/names.c" <<'C'
 #include <stdint.h>
 #include <stdio.h>

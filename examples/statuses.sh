@@ -1,6 +1,6 @@
 #!/bin/bash
-# Runs the program to each of its exit statuses, over the real standard streams, and compares the status, what was
-# written, and the line on standard error with the table in docs/CLI.md.
+# Runs the program to each of its exit statuses, over the real standard streams, and compares the status, the output,
+# and the line on standard error with the table in docs/CLI.md.
 set -u
 here=$(dirname "$(readlink -f "$0")")
 work=$(mktemp -d)
@@ -8,12 +8,13 @@ trap 'rm -rf "$work"' EXIT
 program=$("$here/../tools/program.sh" arena_run --version) || exit 1
 failed=0
 
-# The line that docs/CLI.md has for this status, with a number in the place of N. A bar is behind a stroke in a table.
+# Prints the line that docs/CLI.md has for this status, with a number in place of N. In a table a bar follows a
+# backslash.
 line_for() {
     sed -n "s/^| $1 |.*| \`\([^\`]*\)\` |\$/\1/p" "$here/../docs/CLI.md" | sed "s/ N / ${2:-N} /; s/\\\\|/|/g"
 }
 
-# ends NAME STATUS TEXT [LINE NUMBER]: compares the run that has just ended. Its status is in `status`, and what it wrote
+# ends NAME STATUS TEXT [LINE NUMBER]: checks the run that has just ended. Its status is in `status`, and its output
 # in the files `out` and `err`; TEXT is a file.
 ends() {
     line_for "$2" "${4:-}" > "$work/line"
@@ -25,7 +26,7 @@ ends() {
     fi
 }
 
-# Runs the program on these words, over this function's standard input.
+# Runs the program with these words, over this function's standard input.
 run() {
     status=0
     "$program" "$@" > "$work/out" 2> "$work/err" || status=$?
@@ -111,7 +112,7 @@ sources: separated by lines %%, each gets a report
 T
 ends "0, --help" 0 "$work/text"
 
-# 1: the words are no command.
+# 1: the words aren't a command.
 for words in "" "call" "calls calls" "calls --help" "--help calls" "--helps" "gen" "gen 1" "gen 1 1 1" "gen 01 1" "gen 1 01" \
     "gen 1 1000001" "gen 18446744073709551616 1" "scripts" "scripts 0" "scripts 65" "scripts 01" "scripts 1 1" "scripts 1 fixed 48" \
     "scripts 1 fixed 32 1" "scripts 1 fixed 56 1" "scripts 1 fixed 16777232 1" "scripts 1 fixed 48 0" "scripts 1 fixed 48 65" \
@@ -129,7 +130,7 @@ status=0
 line_for 1 > "$work/err"
 ends "1, the line can't be written" 1 $none
 
-# 2: a line is no call, and nothing was run or written.
+# 2: a line isn't a call, and nothing was run or written.
 printf 'used\n\nread 1\nRead 1\nread\n' > "$work/input"
 run calls < "$work/input"
 ends "2, line 4" 2 $none 4
@@ -141,7 +142,7 @@ printf '\npop 1\nscript\n' > "$work/input"
 run scripts 2 < "$work/input"
 ends "2, a command before the first script, line 2" 2 $none 2
 
-# 3: memory runs out. With 16 MiB of memory in all, 16 MiB of input can't be kept.
+# 3: out of memory. With 16 MiB of memory in all, 16 MiB of input can't be stored.
 status=0
 (ulimit -v 16384; exec "$program" calls < "$work/longest" > "$work/out" 2> "$work/err") || status=$?
 ends "3, 16 MiB in all" 3 $none
@@ -182,7 +183,7 @@ status=0
 "$program" lint 2 < "$here/lint/first.txt" > /dev/full 2> "$work/err" || status=$?
 ends "5, the output for sources is full" 5 $none
 
-# 5: writing fails after a first part. The file may have 1,024 bytes.
+# 5: writing fails after a first part. The file may have at most 1,024 bytes.
 for _ in $(seq 1000); do echo used; done > "$work/input"
 for _ in $(seq 1000); do echo "number 0"; done | head -c 1024 > "$work/text"
 status=0

@@ -1,6 +1,7 @@
 #!/bin/bash
-# A chunk's memory isn't touched before it is used. Runs the program on a block of one byte whose alignment makes its arena take
-# a chunk of 512 MiB, and says how much memory the process had at its peak: less than 32 MiB, or the script ends with 1.
+# Checks that a chunk's memory isn't touched before it is used. Runs the program on a block of one byte whose
+# alignment makes its arena take a chunk of 512 MiB, and prints the peak memory of the process. If that isn't below 32
+# MiB, it exits with 1.
 set -euo pipefail
 here=$(dirname "$(readlink -f "$0")")
 work=$(mktemp -d)

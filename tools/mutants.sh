@@ -1,7 +1,7 @@
 #!/bin/sh
-# Tries the mutants in mutants/CRATE, of each crate that is named, or of all: changes of the code that the prover must
-# refuse, as those in crates/CRATE/must-fail, which `rt ci` tries. It works on a copy of the tree, says of each whether it was
-# refused, and exits with 1 where one wasn't, or can't be tried.
+# Tries the mutants in mutants/CRATE, of each named crate or of all: changes of the code that the prover must refuse.
+# (`rt ci` tries those in crates/CRATE/must-fail.) It works on a copy of the tree, reports for each mutant whether it
+# was refused, and exits with 1 if one wasn't or can't be tried.
 set -eu
 here=$(dirname "$(dirname "$(readlink -f "$0")")")
 cd "$here"

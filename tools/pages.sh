@@ -1,8 +1,9 @@
 #!/bin/bash
-# Runs the commands that the pages show. A block of the kind `console` has commands behind `$ `, each followed by what it prints on both
-# streams; a last line `..` means that more follows. They run at the top of the repository, and each text is compared. Prints what
-# differs, and exits with 1 then. With --slow the commands of blocks of the kind `sh` in README.md run too, in a fresh clone with a fresh
-# home, and each must end with status 0: that takes hours.
+# Runs the commands that the pages show. A block of the kind `console` has commands after `$ `, each followed by what
+# it prints on both streams; a last line `..` means that more follows. The commands run at the top of the repository,
+# and their output is compared. Prints what differs, and then exits with 1. With --slow the commands of blocks of the
+# kind `sh` in README.md run too, in a fresh clone with a fresh home, and each must end with status 0. That takes
+# hours.
 set -u
 top=$(dirname "$(dirname "$(readlink -f "$0")")")
 cd "$top" || exit 1

@@ -1,6 +1,6 @@
 #!/bin/sh
-# Prints the path of the proved program of a crate. Where it isn't built, or a source (no page) is newer, it is proved and built first,
-# which runs it with these words; with -n that is left undone, and the status is 1. As in
+# Prints the path of the proved program of a crate. If it isn't built, or a source (not a page) is newer, it is proved
+# and built first, which runs it with these words. With -n it isn't built, and the status is 1. For example:
 #     tools/program.sh arena_run --version
 set -eu
 only=
@@ -15,6 +15,6 @@ if [ ! -s "$program" ] ||
     (cd "$crates/$name" && rt run -- "$@") >&2 </dev/null
     touch -c "$program"
 fi
-# The gate may leave it as a plain file, where an earlier gate proved it.
+# The gate may leave it as a plain file, if an earlier gate proved it.
 [ -x "$program" ] || chmod +x "$program"
 echo "$program"

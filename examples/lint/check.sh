@@ -1,5 +1,5 @@
 #!/bin/bash
-# Lints each example on 1, 2, 7 and 64 workers, and compares the reports: they are the same however many workers there are.
+# Lints each example on 1, 2, 7 and 64 workers, and compares the reports, which don't depend on the number of workers.
 set -u
 here=$(dirname "$(readlink -f "$0")")
 program=$("$here/../../tools/program.sh" arena_run --version) || exit 1

@@ -1,7 +1,8 @@
 #!/bin/sh
-# Draws each example and compares the picture; and ends on a line that is no call, and where nothing can be written. Line 1 of blocks.txt
-# by hand: the first chunk is at 4096 and has 16320 bytes, so it ends at 20416; 3000 bytes down from there, to a multiple of 8, is 17416,
-# which is 13320 behind the base: x='13320' width='3000'. The chunk is the older of two, so its row is the second, which begins at 18em.
+# Draws each example and compares the picture; also checks an input with a line that isn't a call, and an output that
+# can't be written. Line 1 of blocks.txt by hand: the first chunk is at 4096 and has 16320 bytes, so it ends at 20416.
+# 3000 bytes below that, rounded down to a multiple of 8, is 17416, which is 13320 above the base: x='13320'
+# width='3000'. The chunk is the older of two, so its row is the second, which begins at 18em.
 set -u
 here=$(dirname "$(readlink -f "$0")")
 program=$("$here/../../tools/program.sh" arena_picture) || exit 1

@@ -1,12 +1,12 @@
 #!/bin/bash
-# Runs the program on each example, on 1, 2, 7 and 64 workers and over pools of each kind, and compares the replies: they are
-# the same however many workers there are, and whatever arenas are lent.
+# Runs the program on each example, on 1, 2, 7 and 64 workers and over pools of each kind, and compares the replies,
+# which don't depend on the number of workers or on the arenas.
 set -u
 here=$(dirname "$(readlink -f "$0")")
 program=$("$here/../../tools/program.sh" arena_run --version) || exit 1
 . "$here/../checking.sh"
 
-# replies NAME REPLIES WORD..: runs an example with these words.
+# replies NAME REPLIES WORD..: runs an example with these words, and compares its replies.
 replies() {
     "$program" "${@:3}" < "$here/$1.txt" | cmp -s - "$2"
     told "$1, ${*:3}"
@@ -17,7 +17,7 @@ for input in "$here"/*.txt; do
     for workers in 1 2 7 64; do
         replies "$name" "$here/$name.replies" scripts $workers
         replies "$name" "$here/$name.replies" scripts $workers keep 0
-        # A script that passes the budget of an arena that grows doesn't end refused over a fixed pool.
+        # A script that exceeds the budget of an arena that grows doesn't end `refused` over a fixed-size pool.
         [ "$name" = past_the_budget ] && continue
         for arenas in 1 4 64; do
             replies "$name" "$here/$name.replies" scripts $workers fixed 1048576 $arenas
@@ -25,12 +25,13 @@ for input in "$here"/*.txt; do
     done
 done
 
-# An arena of 96 bytes has room for what the first example costs, and one of no bytes for nothing.
+# An arena of 96 bytes has room for the cost of the first example, and one of 0 bytes for nothing.
 replies first "$here/first.replies" scripts 1 fixed 144 1
 replies first <(printf '%s\n' 'script 0' 'done' 'ended full') scripts 1 fixed 48 1
 
-# A fixed pool has just as many arenas as the words say: where the address space has a place for 16 regions more, 16 arenas more are made.
-# most_arenas KIB: of how many arenas of 16 MiB a pool can be made in so much address space.
+# A fixed-size pool has exactly as many arenas as the words say: with address space for 16 more regions, 16 more
+# arenas can be made.
+# most_arenas KIB: prints the largest number of arenas of 16 MiB for which a pool can be made in this address space.
 most_arenas() {
     local arenas
     for arenas in $(seq 1 64); do

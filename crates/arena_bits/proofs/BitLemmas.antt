@@ -14,7 +14,7 @@ unfolding bits_of
 bit_tested words n = ap (λ b. eqb b 1) (sym (shr_and_one (get_or words (n / 64) 0) (n % 64)))
 
 module _ (words : List ℕ) (n : ℕ) (within : n / 64 < length words) where
-  -- Where one word is replaced by one that differs in one bit, the set differs in one number.
+  -- If a word is replaced by one that differs in one bit, the set differs in one number.
   bits_replaced : (x : ℕ) (changed : Set) → eqb (bit_at x (n % 64)) 1 ≡ changed n
       → ((j : ℕ) → j < 64 → j ≢ n % 64 → bit_at x j ≡ bit_at (get_or words (n / 64) 0) j)
       → ((i : ℕ) → i ≢ n → bits_of words i ≡ changed i) → bits_of (set words (n / 64) x) ≡ changed

@@ -50,7 +50,7 @@ joins_over old others list i n long within each = record {
   behind = λ k least. grind (arith, common_steps);
 }
 
--- some words, and then those behind them
+-- some words, and then those after them
 joins_then : (from mid to : ℕ) (old now others new : List ℕ) → from ≤ mid → mid ≤ to → JoinsWords from mid old others now
     → JoinsWords mid to now others new → JoinsWords from to old others new
 joins_then from mid to old now others new order more one two = record {
@@ -79,7 +79,7 @@ joins_more n old now row word i small (long, joins) changes =
 
 -- ---- Bits
 
--- a bit of a word of a row, of one before it, and of one behind
+-- a bit of a word in a row, of one before it, and of one after it
 row_bit : (m from to a b : ℕ) → from ≤ m → m < to → a < 2 → b < 2
     → eqb (max a b) 1 ≡ (eqb a 1 || (nat_le from m && (nat_lt m to && eqb b 1)))
 row_bit m from to a b least small low low' = grind (arith, nat_tests)
@@ -90,7 +90,7 @@ before_bit m from to a b small = grind (arith, nat_tests)
 behind_bit : (m from to : ℕ) (a b : Bool) → to ≤ m → a ≡ (a || (nat_le from m && (nat_lt m to && b)))
 behind_bit m from to a b least = grind (arith, nat_tests)
 
--- The bits of words of which some were joined are joined there.
+-- The bits of words are joined where the words were.
 joins_bits : (from to : ℕ) (old others new : List ℕ) → JoinsWords from to old others new → (n : ℕ)
     → bits_of new n ≡ (bits_of old n || (nat_le from (n / 64) && (nat_lt (n / 64) to && bits_of others n)))
 unfolding bits_of
@@ -114,7 +114,7 @@ once false false false d = refl
 once false false true false = refl
 once false false true true = refl
 
--- Where the words below an index were joined, and then a row from there or before it, those below its end are.
+-- If the words below an index were joined, and then a row that starts there or before, those below its end are.
 more_bits : (i from to n : ℕ) (a b : Bool) → from ≤ i → i ≤ to
     → ((a || (nat_lt n (64 * i) && b)) || (nat_le from (n / 64) && (nat_lt (n / 64) to && b))) ≡ (a || (nat_lt n (64 * to) && b))
 more_bits i from to n a b order more = elim (cases_lt n (64 * i)) [
@@ -148,7 +148,7 @@ more_bits i from to n a b order more = elim (cases_lt n (64 * i)) [
 
 -- ---- Rows
 
--- Some words of a block are joined in their place.
+-- Some words of a block are joined in place.
 row_joined : (old new : Memory) (b : Block) (n i m : ℕ) (row others : List ℕ) → IsRow m row others i
     → EditsBlock old new b (i * 8) (m * 8) (JoinsRow m row) → i + m ≤ n → n * 8 ≤ b.size
     → JoinsWords i (i + m) (words n (bytes_of old b)) others (words n (bytes_of new b))
@@ -171,7 +171,7 @@ row_joined old new b n i m row others is edits within room =
         ∙ elements-over 8 (from_le_bytes w64) i (length edits.list / 8) n (bytes_of old b) edits.list (omega (arith, edits.related.length))
         (omega (arith, edits.related.length)) (omega (arith, length-bytes (image old) b.addr b.size))
 
-    -- the words that stood there
+    -- the words that were there
     own : (k : ℕ) → k < m → get_or (words_in part) k 0 ≡ get_or were (i + k) 0
     own k small =
         let sized = length-bytes (image old) (b.addr + i * 8) (m * 8) in
@@ -198,7 +198,7 @@ joining_none old s other held other_held = record {
     none_there : (n : ℕ) (a b : Bool) → a ≡ (a || (nat_lt n (64 * 0) && b))
     none_there n a b = grind (arith, nat_tests)
 
--- Nor is anything where both are one set: all of its numbers are there.
+-- Nor is anything if both are one set: all of its numbers are there.
 all_there : (is_in low : Bool) → is_in ≡ (is_in || (low && is_in))
 all_there true low = refl
 all_there false true = refl
@@ -221,7 +221,7 @@ joined_itself view s other limit held other_held one =
 
 module _ (old mid new : View) (s other : BitSet) (i : ℕ) (now : JoinsFirst old mid s other i)
     (apart : AreBlocksApart other.words.block s.words.block) (source : new.source ≡ mid.source) where
-  -- Words behind are joined, and some before once more,
+  -- Further words are joined, and some of those before once more,
   joining_more : (from to at : ℕ) (list : List ℕ) → WritesBlock mid.memory new.memory s.words.block at list → from ≤ i → i ≤ to
       → JoinsWords from to (words_of mid.memory s) (words_of old.memory other) (words_of new.memory s) → JoinsFirst old new s other to
   joining_more from to at list writes order more joins =

@@ -1,2 +1,2 @@
--- The lemma that a layer above cites where a walk is a chain of iterators: what it gives.
+-- The lemma that crates above cite if a walk is a chain of iterators: what it gives.
 pub use Rattle.arena_bits.proofs.ScanLemmas.{walk_gives_all}

@@ -8,7 +8,7 @@ use Rattle.std.specs.List.{All, Contains, range_with_len}
 use Rattle.std.specs.List.Sorted.{IsStrictlyIncreasing}
 use Rattle.arena_bits.specs.Bits.{Set, members}
 
--- numbers in a row are the first ones and those behind
+-- consecutive numbers are the first ones and those after them
 range_split : (from k m : ℕ) → range_with_len from (k + m) ≡ range_with_len from k ++ range_with_len (from + k) m
 range_split from zero m = let none : 0 + m ≡ m = omega arith in let at : from + 0 ≡ from = omega arith in rw (none, at) refl
 range_split from (suc k) m =
@@ -30,7 +30,7 @@ pub members_first : (set : Set) (from to : ℕ) → from < to → set from ≡ t
 unfolding members
 members_first set from to h is_in = let more : to - from ≡ suc (to - (from + 1)) = omega arith in rw (more, is_in) refl
 
--- There are no more of them than numbers between.
+-- There are no more of them than numbers in the range.
 pub length-members : (set : Set) (from to : ℕ) → length (members set from to) ≤ to - from
 unfolding members
 length-members set from to =
@@ -63,7 +63,7 @@ members_rise set from to = IsStrictlyIncreasing-filter set (range_with_len from 
     let next : k + 1 < to - from = omega (arith, length-range_with_len from (to - from)) in
     rw (get_or-range_with_len from (to - from) k 0 (omega arith), get_or-range_with_len from (to - from) (k + 1) 0 next) (omega arith))
 
--- There is none where the set has no number between.
+-- There is none if the set has no number in the range.
 pub members_none : (set : Set) (from to : ℕ) → ((n : ℕ) → from ≤ n → n < to → set n ≡ false) → members set from to ≡ []
 members_none set from to none = empty (members set from to) (members_given set from to)
   where
@@ -74,7 +74,7 @@ members_none set from to none = empty (members set from to) (members_given set f
         let not_in = none n first.0 first.1 in
         cc
 
--- Such numbers are passed over.
+-- Such numbers are skipped.
 pub members_skip : (set : Set) (from next to : ℕ) → from ≤ next → next ≤ to → ((n : ℕ) → from ≤ n → n < next → set n ≡ false)
     → members set from to ≡ members set next to
 members_skip set from next to low high none = rw (members_split set from next to low high, members_none set from next none) refl

@@ -18,7 +18,7 @@ use Rattle.arena_bits.proofs.WordLemmas.{word-is}
 
 -- ---- The bytes of a number
 
--- a byte has so many values as eight bits
+-- a byte has as many values as eight bits
 powers : (k : ℕ) → 256 ^ k ≡ 2 ^ (8 * k)
 powers zero = refl
 powers (suc k) = let e : 8 * suc k ≡ 8 * k + 8 = omega arith in rw (e, pow-add 2 (8 * k) 8) (omega (arith, pow-suc 256 k, powers k))
@@ -51,7 +51,7 @@ word_bits own m j long small inside low =
 
 -- ---- The bytes of a set
 
--- a byte isn't 0 where it has a bit
+-- a byte isn't 0 if and only if it has a bit
 any_bit : (b : ℕ) → b < 256 → list_any (bits_in b) (range_with_len 0 8) ≡ not (eqb b 0)
 any_bit zero small = refl
 any_bit (suc b) small =
@@ -98,7 +98,7 @@ module _ (bytes : List ℕ) (small : (i : ℕ) → get_or bytes i 0 < 256) (whol
       rw (word, bit, word-is (length bytes / 8) bytes (k / 8) (omega arith))
       (ap (λ b. eqb b 1) (word_bits own (k % 8) j long (own_small 8 (k / 8 * 8)) (omega arith) low ∙ ap (λ b. bit_at b j) there))
 
-  -- So it isn't 0 where one of them is in the set,
+  -- So it isn't 0 if and only if one of them is in the set,
   byte_tested : (k : ℕ) → k < length bytes → has_byte set k ≡ not (eqb (get_or bytes k 0) 0)
   byte_tested k within =
       any_same (λ j. set (8 * k + j)) (bits_in (get_or bytes k 0)) 0 8 (λ j low. byte_bit k j within low)
@@ -108,7 +108,7 @@ module _ (bytes : List ℕ) (small : (i : ℕ) → get_or bytes i 0 < 256) (whol
   pub byte_digits : (k : ℕ) → k < length bytes → digits (bits_in (get_or bytes k 0)) 0 8 ≡ digits set (8 * k) 8
   byte_digits k within = digits_same (bits_in (get_or bytes k 0)) set (8 * k) 8 (λ j low. sym (byte_bit k j within low))
 
-  -- The highest byte that isn't 0 is the last or lies below it.
+  -- The highest byte that isn't 0 is the last or below it.
   pub highest_is : (m : ℕ) → 0 < m → m ≤ length bytes
       → highest set m ≡ cond (not (eqb (get_or bytes (m - 1) 0) 0)) (m - 1) (highest set (m - 1))
   unfolding highest

@@ -16,7 +16,7 @@ use Rattle.arena_bits.specs.declared.ones.Scan.{Scan}
 use Rattle.arena_bits.proofs.MemberLemmas.{members_skip, members_first, members_none}
 
 module _ (words : List ℕ) (capacity : ℕ) where
-  -- a word as it stands
+  -- a whole word
   pub scan_word : (base word : ℕ) → word ≡ get_or words (base / 64) 0 → base % 64 ≡ 0 → base ≤ capacity
       → IsScan words capacity (record { base = base; rest = word; front = base })
   unfolding bits_of
@@ -64,7 +64,7 @@ module _ (words : List ℕ) (capacity : ℕ) where
             )
       ]
 
-      -- The lowest bit lies past the capacity, or there is none: no number is left.
+      -- The lowest bit is at the capacity or past it, or there is none: no number is left.
       module _ (late : capacity - s.base ≤ trailing_zeros w64 s.rest) where
         pub scan_ended : members (bits_of words) s.front capacity ≡ []
         scan_ended =
@@ -81,7 +81,7 @@ module _ (words : List ℕ) (capacity : ℕ) where
           rest = λ j small low. scan.rest j small (omega (arith, scan.bounded));
         }
 
-      -- The lowest bit lies below: it is the next number.
+      -- The lowest bit is below the capacity: it is the next number.
       module _ (below : trailing_zeros w64 s.rest < capacity - s.base) where
         pub place_fits : trailing_zeros w64 s.rest < 64
         place_fits = (lowest.1 below).0

@@ -10,7 +10,7 @@ use Rattle.arena_bits.specs.Sets.{IsSetIn, words_of, set_of, BecomesSet}
 use Rattle.arena_bits.specs.declared.set.BitSet.{BitSet}
 use Rattle.arena_bits.proofs.WordLemmas.{length-words, word_changed}
 
--- Where the words are this set after a write of the set's block, the call makes the bits this set.
+-- If the words are this set after a write in the set's block, the call turns the bits into this set.
 pub becomes_set : (old new : View) (s : BitSet) (set : Set) (at : ℕ) (list : List ℕ)
     → WritesBlock old.memory new.memory s.words.block at list → new.source ≡ old.source → IsSetIn old.memory s
     → set_of new.memory s ≡ set → BecomesSet old new s set
@@ -24,7 +24,7 @@ becomes_set old new s set at list writes source held is = record {
   frame = writes.frame;
 }
 
--- One word is changed in its place: the one that has a number's bit.
+-- One word is changed in place: the one with a number's bit.
 pub word_edited : (old new : View) (s : BitSet) (n : ℕ) (f : ℕ → ℕ) (changed : Set) → IsSetIn old.memory s → n < 64 * s.words.length
     → new.source ≡ old.source → EditsBlock old.memory new.memory s.words.block (n / 64 * 8) 8 (ChangesWord f)
     → (n / 64 < length (words_of old.memory s)

@@ -41,7 +41,7 @@ unfolding bits_of
 bits_past ws n past =
     ap (λ w. eqb (w / 2 ^ (n % 64) % 2) 1) (get_or_past ws (n / 64) 0 (omega arith)) ∙ ap (λ b. eqb b 1) (bit_at-zero (n % 64))
 
--- So all of a set lies below that.
+-- So all of a set is below the end of its words.
 pub all_below : (m : Memory) (s : BitSet) → below (64 * s.words.length) (set_of m s) ≡ set_of m s
 all_below m s = λ p n. each n (nat_lt n (64 * s.words.length)) refl p
   where
@@ -49,7 +49,7 @@ all_below m s = λ p n. each n (nat_lt n (64 * s.words.length)) refl p
     each n true is = refl
     each n false is = sym (bits_past (words_of m s) n (grind (arith, nat_tests, length-words s.words.length (bytes_of m s.words.block))))
 
--- Of no words the first is 0.
+-- Without words the first counts as 0.
 pub no_words : (bytes : List ℕ) → length bytes < 8 → 0 ≡ get_or (words_in bytes) 0 0
 no_words bytes few = sym (get_or_past (words_in bytes) 0 0 (omega (arith, length-words (length bytes / 8) bytes)))
 
@@ -62,7 +62,7 @@ some_bit ws i x is some fits =
     let bit : (64 * i + trailing_zeros w64 x) % 64 ≡ trailing_zeros w64 x = omega (arith, low.0) in
     (64 * i + trailing_zeros w64 x, rw (word, bit, ← is, low.1) refl)
 
--- Bytes that are 0 are words that are.
+-- Bytes that are 0 are words that are 0.
 zero_words : (n i : ℕ) → i < length (words n (replicate (n * 8) 0)) → get_or (words n (replicate (n * 8) 0)) i 0 ≡ 0
 zero_words n i within =
     let below : i < n = omega (arith, length-words n (replicate (n * 8) 0)) in
@@ -83,7 +83,7 @@ words_read m s held =
 
 -- ---- Blocks that are cleared
 
--- One has no bit.
+-- A cleared block has no bit.
 pub cleared : (old new : Memory) (b : Block) (n size : ℕ) → b.size ≡ n * 8 → size ≡ b.size
     → EditsBlock old new b 0 size (λ before after. after ≡ replicate (length before) 0) → bits_of (words n (bytes_of new b)) ≡ nothing
 cleared old new b n size sized all edits =
@@ -130,7 +130,7 @@ new_set old mid new bits n b enough places edits source =
       frame = written.1.outcome.frame;
     }
 
--- It lies as it did where it was made another set then: both calls are one.
+-- A block that was placed and then filled was placed as filled: both calls are one.
 placed_still : (old mid new : View) (size align : ℕ) (b : Block) → PlacesBlock old mid size align (Placed b) → SamePlaces mid new
     → Frame old.memory new.memory [] (b ∷ []) → PlacesBlock old new size align (Placed b)
 placed_still old mid new size align b places same frame =

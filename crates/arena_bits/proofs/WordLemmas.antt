@@ -42,7 +42,7 @@ word_there f addr size n i below room =
 pub or_word : (a b : ℕ) → a < 2 ^ 64 → b < 2 ^ 64 → bit_or a b < 2 ^ 64
 or_word a b h k = or_lt 64 a b h k
 
--- A word that is written over bytes by a function of theirs.
+-- A word is overwritten by a function of it.
 pub changes_word : (f : ℕ → ℕ) (old new : List ℕ) (word : ℕ) → word ≡ from_le_bytes w64 old
     → new ≡ to_le_bytes w64 (f word) → f word < 2 ^ 64 → ChangesWord f old new
 changes_word f old new word was is fits = record {
@@ -50,7 +50,7 @@ changes_word f old new word was is fits = record {
   word = ap (from_le_bytes w64) is ∙ from_le_bytes-to_le_bytes_8 (f word) fits ∙ ap f was;
 }
 
--- A word that is changed in its place is replaced by the function's value.
+-- A word that is changed in place is replaced by the function's value.
 pub word_put : (n : ℕ) (bytes : List ℕ) (i : ℕ) (f : ℕ → ℕ) (word : List ℕ) → i < n → n * 8 ≤ length bytes
     → ChangesWord f (take 8 (drop (i * 8) bytes)) word
     → words n (splice bytes (i * 8) word) ≡ set (words n bytes) i (f (get_or (words n bytes) i 0))

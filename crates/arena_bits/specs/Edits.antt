@@ -1,4 +1,4 @@
--- Changes of words in their place.
+-- Changes of words in place.
 use Rattle.std.specs.Prelude.{◌≡◌, ℕ, ◌+◌, ◌*◌, ◌<◌, ◌≤◌, List, length, slice_index, bit_or}
 use Rattle.std.specs.Int.{from_le_bytes, w64}
 use Rattle.arena_bits.specs.Walks.{words_in}

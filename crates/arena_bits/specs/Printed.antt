@@ -9,6 +9,6 @@ use Rattle.arena_bits.specs.Bits.{Set}
 abbrev pub bits_in : ℕ → Set
 bits_in x n = bit_at x n == 1
 
--- the same in quotes, inside `BitSet(` and `)`
+-- the printed form in quotes, inside `BitSet(` and `)`
 abbrev pub debugged : ℕ → Set → List ℕ
 debugged words set = codes "BitSet(\"" ++ printed words set ++ codes "\")"

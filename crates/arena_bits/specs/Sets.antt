@@ -12,7 +12,7 @@ use Rattle.arena_bits.specs.Bits.{Set, bits_of, words_for, joined, below}
 use Rattle.arena_bits.specs.declared.set.BitSet.{BitSet}
 use Rattle.arena_items.specs.declared.room.AllocError.{AllocError}
 
--- The handle is well formed and may be read: it has the words that its capacity needs.
+-- The handle is well formed and readable: it has the words that its capacity needs.
 pub record IsSetIn (m : Memory) (s : BitSet) : Type 0 where
   pub place : IsHeld (s.words.length * 8) 8 m.state s.words.block
   pub count : s.words.length ≡ words_for s.capacity
@@ -28,7 +28,7 @@ set_of m s = bits_of (words_of m s)
 abbrev pub AreOneOrApart : Block → Block → Type 0
 AreOneOrApart one other = (one ≡ other) ⊎ AreBlocksApart one other
 
--- A call that takes no memory makes the bits this set. No byte changes but the set's own.
+-- A call that takes no memory turns the bits into this set. No byte in use changes but the set's own.
 pub record BecomesSet (old new : View) (s : BitSet) (set : Set) : Type 0 where
   pub held : IsSetIn new.memory s
   pub set_is : set_of new.memory s ≡ set
@@ -41,7 +41,7 @@ pub record JoinsFirst (old new : View) (s other : BitSet) (words : ℕ) : Type 0
   pub same : words_of new.memory other ≡ words_of old.memory other
   pub becomes : BecomesSet old new s (joined (set_of old.memory s) (below (64 * words) (set_of old.memory other)))
 
--- A call that places a set for so many bits does so as the arena places a block of its words' layout. There is no overflow.
+-- A call that places a set for this many bits, as the arena places a block of its words' layout. It never overflows.
 pub record PlacesSet (old new : View) (bits : ℕ) (set : Set) (result : Result BitSet AllocError) : Type 0 where
   pub placed : RoomAnswer (λ s. s.words.block) result (PlacesBlock old new (words_for bits * 8) 8)
   pub held : IfOk result (IsSetIn new.memory)

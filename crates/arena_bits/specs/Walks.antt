@@ -13,7 +13,7 @@ pub record Walk : Type 0 where
   pub front : ℕ
   pub capacity : ℕ
 
--- After a number the walk stands behind it, and after none at the end.
+-- After a number the walk is at the next place, and after none at the end.
 pub record Moves (old : Walk) (given : Option ℕ) (new : Walk) : Type 0 where
   pub front : MatchOption given (new.front ≡ old.capacity) (λ n. new.front ≡ n + 1)
   pub capacity : new.capacity ≡ old.capacity
@@ -26,7 +26,8 @@ Goes old given new = YieldsFirst (λ (walk : Walk). walk.left) old given new × 
 abbrev pub words_in : List ℕ → List ℕ
 words_in bytes = elements 8 (from_le_bytes w64) (length bytes / 8) bytes
 
--- The numbers below `front` were passed. In the word that stands at `base` their bits were cleared; the others are as they were.
+-- All numbers below `front` were given or skipped. In the word at `base` their bits were cleared; its other bits are as
+-- they were.
 pub record IsScan (words : List ℕ) (capacity : ℕ) (s : Scan) : Type 0 where
   pub aligned : s.base % 64 ≡ 0
   pub order : s.base ≤ s.front

@@ -1,4 +1,4 @@
-// Changes of a set's bytes in their place, with one look-up of its block.
+// Changes of a set's bytes in place, with one lookup of its block.
 ghost use Rattle.std.specs.Prelude.{◌≡◌, ◌*◌, length, bit_and, bit_or};
 ghost use Rattle.std.specs.Int.{w64, bit_not};
 ghost use Rattle.arena_bits.specs.Edits.{ChangesWord, JoinsRow};
@@ -44,7 +44,7 @@ impl Edit for Lower {
     }
 }
 
-/// Sets the bits of some words in as many others.
+/// Sets the bits of a row of words in as many others.
 #[derive(Clone, Copy)]
 pub(crate) struct JoinRow<const N: usize> {
     pub(crate) row: [u64; N],

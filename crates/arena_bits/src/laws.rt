@@ -9,8 +9,7 @@ ghost use Rattle.arena_bits.specs.Bits.{Set, below, bits_of, members};
 ghost use Rattle.arena_bits.specs.Sets.{set_of, BecomesSet, PlacesSet};
 ghost use Rattle.arena_bits.specs.declared.set.BitSet.{BitSet};
 
-/// A walk gives numbers of the set within its bounds alone, every one of them, and they rise, so each comes
-/// once.
+/// A walk gives only numbers of the set within its bounds, and all of them, in ascending order, so each comes once.
 #[tactic(auto, using(crate::proofs::MemberLemmas::member_laws))]
 pub fn walk_law()
     ensures given { (set : Set) (from to : ℕ)
@@ -20,7 +19,7 @@ pub fn walk_law()
     ensures rises { (set : Set) (from to : ℕ) → IsStrictlyIncreasing (members set from to) }
 {}
 
-/// No number past the last word is in a set, so all of a set lies below that.
+/// No number past the last word is in a set, so all of a set is below that.
 #[tactic(auto, using(crate::proofs::WholeLemmas::bits_past, crate::proofs::WholeLemmas::all_below))]
 pub fn limit_law()
     ensures past { (words : List ℕ) (n : ℕ) → 64 * length words ≤ n → bits_of words n ≡ false }
@@ -28,7 +27,7 @@ pub fn limit_law()
         ≡ set_of memory s }
 {}
 
-/// A new set, and a call that makes it another set, are one call.
+/// Placing a set and then turning it into another is one call that places the other.
 #[tactic(auto, using(crate::proofs::WholeLemmas::filled))]
 pub fn filled_law()
     ensures { (old mid new : View) (bits : ℕ) (first set : Set) (s : BitSet)

@@ -27,7 +27,7 @@ pub struct Ones<'a, C: ChunkSource> {
     bytes: &'a [u8],
     capacity: u64,
     scan: Scan,
-    // The source of the arena's chunks, which isn't looked at.
+    // The source of the arena's chunks, which isn't used.
     of: PhantomData<C>,
 }
 
@@ -43,7 +43,7 @@ impl<'a, C: ChunkSource> Model for Ones<'a, C> {
         × (s.capacity ≤ 64 * (length s.bytes.now / 8)) };
 }
 
-// Goes on to the next word that has bits left, or to the last.
+// Goes on to the next word that has bits left, or to the last word.
 fn load(bytes: &[u8], capacity: u64, start: Scan) -> Scan
     requires words { capacity ≤ 64 * (length bytes.now / 8) }
     requires scan { IsScan (words_in bytes.now) capacity start }
@@ -64,7 +64,7 @@ fn load(bytes: &[u8], capacity: u64, start: Scan) -> Scan
     scan
 }
 
-// The next number, and the place behind it.
+// Returns the next number, and the place after it.
 #[tactic(auto, using(crate::proofs::ScanLemmas::step_laws))]
 fn step(bytes: &[u8], capacity: u64, start: Scan) -> (Option<u64>, Scan)
     requires words { capacity ≤ 64 * (length bytes.now / 8) }
@@ -76,7 +76,7 @@ fn step(bytes: &[u8], capacity: u64, start: Scan) -> (Option<u64>, Scan)
         MatchOption result.0 (left ≡ []) (λ bit. left ≡ bit ∷ members set (bit + 1) capacity) }
 {
     let scan = load(bytes, capacity, start);
-    // Where the word has no bit left this is 64, and so many numbers are left at most.
+    // 64 if the word has no bit left; at most 64 numbers are left then.
     let place = scan.rest.trailing_zeros() as u64;
     let left = capacity - scan.base;
     if place >= left {
@@ -95,7 +95,7 @@ fn step(bytes: &[u8], capacity: u64, start: Scan) -> (Option<u64>, Scan)
     (Some(bit), next)
 }
 
-// A walk from the first word on.
+// Returns a walk from the first word on.
 #[tactic(auto, using(crate::proofs::MemberLemmas::member_laws))]
 fn walk<C: ChunkSource>(bytes: &[u8], capacity: u64) -> Ones<'_, C>
     requires { capacity ≤ 64 * (length bytes.now / 8) }
@@ -117,7 +117,7 @@ fn walk<C: ChunkSource>(bytes: &[u8], capacity: u64) -> Ones<'_, C>
 }
 
 impl BitSet {
-    /// The numbers below the capacity, ascending, each once.
+    /// Returns an iterator over the numbers below the capacity, ascending, each once.
     pub fn ones<'a, C: ChunkSource>(&self, a: &'a Allocator<C>) -> Ones<'a, C>
         requires held { IsSetIn a.now.memory self.now }
         ensures walk { let bits = self.now.capacity in result
@@ -129,7 +129,7 @@ impl BitSet {
 }
 
 impl<'a, C: ChunkSource> Ones<'a, C> {
-    /// The next number. After the last there is none, however often it is asked for.
+    /// Returns the next number. After the last there is none, however often it is called.
     #[inline]
     pub fn next(&mut self) -> Option<u64>
         ensures gives { YieldsFirst (λ w. w.left) self.old result self.new }
@@ -153,8 +153,7 @@ impl<'a, C: ChunkSource> Iterator for Ones<'a, C> {
         Ones::next(self)
     }
 
-    // None at least, and at most as many as there are numbers from the place after the last one given to the
-    // capacity.
+    // At least none, and at most all numbers from the place after the last one given up to the capacity.
     #[tactic(auto, using(crate::proofs::MemberLemmas::member_laws))]
     #[inline]
     fn size_hint(&self) -> (usize, Option<usize>)

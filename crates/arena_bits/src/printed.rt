@@ -9,7 +9,7 @@ use crate::set::BitSet;
 use arena_chunks::{Allocator, Bytes, ChunkSource, OutOfMemory};
 use std::alloc::Global;
 
-// Puts the binary digits of a byte at the end, the highest first.
+// Appends the binary digits of a byte, the highest first.
 fn push_digits(text: &mut Bytes, byte: u8) -> Result<(), OutOfMemory>
     ensures { OnOk result (text.new ≡ text.old ++ digits (bits_in byte) 0 8) }
 {
@@ -19,7 +19,7 @@ fn push_digits(text: &mut Bytes, byte: u8) -> Result<(), OutOfMemory>
     Ok(())
 }
 
-// Puts each byte behind `_` at the end, the last first.
+// Appends `_` and the digits of each byte below `top`, the last byte first.
 fn push_lower(text: &mut Bytes, bytes: &[u8], top: usize) -> Result<(), OutOfMemory>
     requires words { length bytes.now % 8 ≡ 0 }
     requires within { top ≤ length bytes.now }
@@ -32,7 +32,7 @@ fn push_lower(text: &mut Bytes, bytes: &[u8], top: usize) -> Result<(), OutOfMem
     Ok(())
 }
 
-// The highest byte that isn't zero; the first where all are.
+// Returns the index of the highest byte that isn't zero, or 0 if all are zero.
 fn highest(bytes: &[u8]) -> usize
     requires { length bytes.now % 8 ≡ 0 }
     ensures value { result ≡ highest (bits_of (words_in bytes.now)) (length bytes.now) }
@@ -46,7 +46,7 @@ fn highest(bytes: &[u8]) -> usize
     0
 }
 
-// Puts the text of the words of some bytes at the end.
+// Appends the text of the words of some bytes.
 #[tactic(auto, unfolding(crate::specs::Printed::printed))]
 fn push_words(text: &mut Bytes, bytes: &[u8]) -> Result<(), OutOfMemory>
     requires { length bytes.now % 8 ≡ 0 }
@@ -62,7 +62,7 @@ fn push_words(text: &mut Bytes, bytes: &[u8]) -> Result<(), OutOfMemory>
     Ok(())
 }
 
-// Puts bytes at the end.
+// Appends bytes.
 fn push_all(text: &mut Bytes, bytes: &[u8]) -> Result<(), OutOfMemory>
     ensures { OnOk result (text.new ≡ text.old ++ bytes.now) }
 {
@@ -73,12 +73,12 @@ fn push_all(text: &mut Bytes, bytes: &[u8]) -> Result<(), OutOfMemory>
 }
 
 impl BitSet {
-    /// The bits as text: eight binary digits a byte, from the highest byte that isn't zero down to the lowest,
-    /// with `_` between. For no bit it is `00000000`, and empty for no words.
+    /// Returns the bits as text: eight binary digits for each byte, from the highest byte that isn't zero down to the
+    /// lowest, with `_` between. It is `00000000` if no bit is set, and empty if there are no words.
     ///
     /// # Errors
     ///
-    /// Memory for the text runs out.
+    /// There is no memory for the text.
     pub fn display<C: ChunkSource>(
         &self,
         alloc: Global,
@@ -93,11 +93,11 @@ impl BitSet {
         Ok(text)
     }
 
-    /// The same in quotes, inside `BitSet(` and `)`.
+    /// Returns the text of `display` in quotes, inside `BitSet(` and `)`.
     ///
     /// # Errors
     ///
-    /// Memory for the text runs out.
+    /// There is no memory for the text.
     pub fn debug<C: ChunkSource>(
         &self,
         alloc: Global,
@@ -114,7 +114,7 @@ impl BitSet {
         Ok(text)
     }
 
-    // Puts the bits as text at the end.
+    // Appends the bits as text.
     fn push_text<C: ChunkSource>(
         &self,
         text: &mut Bytes,

@@ -9,20 +9,19 @@ use crate::words::word_at;
 use arena_chunks::{Allocator, ChunkSource};
 use arena_items::BoxSlice;
 
-/// A set of numbers in an arena, kept as bits of words, with a capacity in bits.
-/// It is a name: two of them may name one set.
+/// A set of numbers in an arena, kept as bits of words, with a capacity in bits. It is a name: two of them may name the
+/// same set.
 #[derive(Clone, Copy)]
 pub struct BitSet {
-    /// The words: as many as the capacity needs. A word has the bits of 64 numbers, the lowest number in its
-    /// lowest bit.
+    /// The words, as many as the capacity needs. Each has the bits of 64 numbers, the lowest number in its lowest bit.
     pub words: BoxSlice<u64>,
-    /// How many bits were asked for. The last word may have bits past it, which can be set too.
+    /// The number of bits that were asked for. The last word may have bits past it, which can be set too.
     pub capacity: u64,
 }
 
 #[tactic(auto, using(arena_chunks::proofs::Layers::layer_laws, crate::proofs::BitLemmas::bit_tested))]
 impl BitSet {
-    /// How many bits the set was made for.
+    /// Returns how many bits the set was made for.
     #[inline]
     pub fn capacity(&self) -> u64
         ensures { result ≡ self.now.capacity }
@@ -30,7 +29,7 @@ impl BitSet {
         self.capacity
     }
 
-    /// Whether the handle is well formed and may be read here.
+    /// Returns whether the handle is well formed and readable in this arena.
     pub fn is_held<C: ChunkSource>(&self, a: &Allocator<C>) -> bool
         ensures { IsTrue result ↔ IsSetIn a.now.memory self.now }
     {
@@ -41,7 +40,7 @@ impl BitSet {
             && a.is_held_place(block)
     }
 
-    /// Whether a number is below the capacity and in the set. Any number may be asked for.
+    /// Returns whether a number is below the capacity and in the set, for any number.
     #[inline]
     pub fn contains<C: ChunkSource>(&self, a: &Allocator<C>, bit: u64) -> bool
         requires held { IsSetIn a.now.memory self.now }
@@ -50,7 +49,7 @@ impl BitSet {
         bit < self.capacity && self.has_bit(a, bit)
     }
 
-    /// Whether a number is in the set. One of the words has its bit.
+    /// Returns whether a number is in the set. Its bit must be in one of the words.
     #[inline]
     pub fn has_bit<C: ChunkSource>(&self, a: &Allocator<C>, bit: u64) -> bool
         requires held { IsSetIn a.now.memory self.now }
@@ -61,7 +60,7 @@ impl BitSet {
         word >> (bit % 64) & 1 == 1
     }
 
-    /// Puts a number into the set. One of the words has its bit.
+    /// Adds a number to the set. Its bit must be in one of the words.
     #[inline]
     pub fn set_bit<C: ChunkSource>(&mut self, a: &mut Allocator<C>, bit: u64)
         requires held { IsSetIn a.old.memory self.old }
@@ -73,7 +72,7 @@ impl BitSet {
         a.write_with(self.words.block, bit / 64 * 8, 8, &Raise { mask });
     }
 
-    /// Takes a number out of the set. One of the words has its bit.
+    /// Removes a number from the set. Its bit must be in one of the words.
     #[inline]
     pub fn unset_bit<C: ChunkSource>(&mut self, a: &mut Allocator<C>, bit: u64)
         requires held { IsSetIn a.old.memory self.old }
@@ -88,7 +87,7 @@ impl BitSet {
 
 #[tactic(auto, using(crate::proofs::WholeLemmas::read_words))]
 impl BitSet {
-    // The bytes of the words.
+    // Returns the bytes of the words.
     #[inline]
     pub(crate) fn bytes<'a, C: ChunkSource>(&self, a: &'a Allocator<C>) -> &'a [u8]
         requires { IsSetIn a.now.memory self.now }

@@ -14,7 +14,7 @@ use arena_items::{BoxSlice, Grown, Zeros, take_room};
 use arena_place::Layout;
 use std::marker::PhantomData;
 
-// A block for so many words.
+// Places a block for `count` words.
 #[tactic(auto, using(crate::proofs::WholeLemmas::words_placed))]
 fn place_words<C: ChunkSource>(a: &mut Allocator<C>, count: u64) -> Grown<Block>
     requires { count ≤ 2 ^ 58 }
@@ -39,8 +39,8 @@ fn join_words<C: ChunkSource>(a: &mut Allocator<C>, set: &BitSet, other: &BitSet
     }
 }
 
-// Joins them by rows, for each of which the two blocks are looked up once. The last row ends with the last word, so
-// that it may join some words once more, which changes nothing.
+// Joins the first words of a set with those of another by rows, each with one lookup of each block. The last row ends
+// with the last word, so it may join some words once more, which changes nothing.
 #[tactic(auto, using(arena_chunks::proofs::Layers::layer_laws, crate::proofs::JoinLemmas::joining_none))]
 fn join_rows<const N: usize, C: ChunkSource>(
     a: &mut Allocator<C>,
@@ -69,12 +69,11 @@ fn join_rows<const N: usize, C: ChunkSource>(
 
 #[tactic(auto, using(arena_chunks::proofs::Layers::layer_laws, crate::proofs::JoinLemmas::joined_itself))]
 impl BitSet {
-    /// An empty set for so many bits, in one block of whole words.
+    /// Returns an empty set for `max_bit_count` bits, in one block of whole words.
     ///
     /// # Errors
     ///
-    /// `AllocErr` and `OutOfMemory` as of the arena's `alloc_layout`, and never `CapacityOverflow`. Nothing
-    /// changes.
+    /// `AllocErr` and `OutOfMemory` as for the arena's `alloc_layout`, and never `CapacityOverflow`. Nothing changes.
     pub fn new_in<C: ChunkSource>(max_bit_count: u64, a: &mut Allocator<C>) -> Grown<BitSet>
         ensures { PlacesSet a.old a.new max_bit_count nothing result }
     {
@@ -92,7 +91,7 @@ impl BitSet {
         })
     }
 
-    /// Whether no bit is set, those past the capacity among them.
+    /// Returns whether no bit is set, not even one past the capacity.
     pub fn is_empty<C: ChunkSource>(&self, a: &Allocator<C>) -> bool
         requires held { IsSetIn a.now.memory self.now }
         ensures { TellsEmpty result (set_of a.now.memory self.now) }
@@ -100,7 +99,7 @@ impl BitSet {
         are_zero(self.bytes(a))
     }
 
-    /// Takes all numbers out, in one pass.
+    /// Removes all numbers, in one pass.
     pub fn clear<C: ChunkSource>(&mut self, a: &mut Allocator<C>)
         requires held { IsSetIn a.old.memory self.old }
         ensures becomes { BecomesSet a.old a.new self.old nothing }
@@ -110,7 +109,7 @@ impl BitSet {
         a.write_with(block, 0, block.size, &Zeros);
     }
 
-    /// Puts in the numbers of another set, as far as both have words. A set that is joined with itself stays as it is.
+    /// Adds the numbers of another set, as far as both have words. A set that is joined with itself stays as it is.
     pub fn union<C: ChunkSource>(&mut self, a: &mut Allocator<C>, other: &BitSet)
         requires held { IsSetIn a.old.memory self.old }
         requires other { IsSetIn a.old.memory other.now }

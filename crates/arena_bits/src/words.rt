@@ -1,4 +1,4 @@
-// How the words of a bit set are read.
+// Reading the words of a bit set.
 ghost use Rattle.std.specs.Prelude.{◌≡◌, ◌/◌, ◌+◌, ◌<◌, ◌≤◌, length, slice_index};
 ghost use Rattle.arena_bits.specs.Bits.{bits_of, TellsEmpty};
 ghost use Rattle.arena_bits.specs.Edits.{IsRow};
@@ -6,7 +6,7 @@ ghost use Rattle.arena_bits.specs.Walks.{words_in};
 
 use arena_items::Item;
 
-// The word at an index of words' bytes.
+// Returns the word at an index, from the words' bytes.
 #[tactic(auto, using(crate::proofs::WordLemmas::word_read))]
 #[inline]
 pub(crate) fn word_at(bytes: &[u8], i: u64) -> u64
@@ -17,7 +17,7 @@ pub(crate) fn word_at(bytes: &[u8], i: u64) -> u64
     u64::decode(&bytes[at..at + 8])
 }
 
-// So many words from an index on.
+// Returns `N` words from an index on.
 #[inline]
 pub(crate) fn row_at<const N: usize>(bytes: &[u8], i: u64) -> [u64; N]
     requires { i + N ≤ length bytes.now / 8 }
@@ -30,7 +30,7 @@ pub(crate) fn row_at<const N: usize>(bytes: &[u8], i: u64) -> [u64; N]
     row
 }
 
-// The first word, or 0 where there is none.
+// Returns the first word, or 0 if there is none.
 #[tactic(auto, using(crate::proofs::WholeLemmas::no_words))]
 pub(crate) fn first_word(bytes: &[u8]) -> u64
     ensures { result ≡ slice_index (words_in bytes.now) 0 }
@@ -41,7 +41,7 @@ pub(crate) fn first_word(bytes: &[u8]) -> u64
     word_at(bytes, 0)
 }
 
-// Whether all words of some bytes are 0.
+// Returns whether all words of some bytes are 0.
 pub(crate) fn are_zero(bytes: &[u8]) -> bool
     ensures { TellsEmpty result (bits_of (words_in bytes.now)) }
 {

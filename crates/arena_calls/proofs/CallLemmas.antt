@@ -15,12 +15,12 @@ record IsKind (Is : Call → Type 0) (word : List ℕ) (make : Placing → Call)
 
 module _ (Is : Call → Type 0) (word : List ℕ) (make : Placing → Call) (kind : IsKind Is word make) (bytes behind : List ℕ)
     (front : bytes ≡ word ++ behind) where
-  -- where a call stands at the front, its placing stands behind the word
+  -- if a call is at the front, its placing is after the word
   placed : (p : Placing) (rest : List ℕ) → FitsPlacing p → bytes ≡ call_line (make p) ++ rest → behind ≡ placing_fields p ++ rest
   placed p rest fits e = append_cancel_left word behind (placing_fields p ++ rest)
       (sym front ∙ e ∙ ap (λ xs. xs ++ rest) (kind.made p fits).1 ∙ append_assoc word (placing_fields p) rest)
 
-  -- the placing of a call that stands at the front
+  -- the placing of a call that is at the front
   placing_of : (call : Call) (rest : List ℕ) → Is call → bytes ≡ call_line call ++ rest → (p : Placing) × FitsPlacing p × (make p ≡ call)
       × (behind ≡ placing_fields p ++ rest)
   placing_of call rest is e =
@@ -74,7 +74,7 @@ grow_kind = record { made = λ p fits. ((fits, refl), refl); each = each }
     each (Grow name size align fill) is = ((name, size, align, fill), is.0, refl)
     each call is = cc
 
--- an allocation or a grow, by the word in front and what was read behind it
+-- an allocation or a grow, by the word at the front and what was read after it
 pub alloc_none : (bytes behind : List ℕ) → bytes ≡ codes "alloc" ++ behind → ReadsFront FitsPlacing placing_fields behind None
     → ReadsFront (BeginsWith (codes "alloc ")) call_line bytes None
 alloc_none = kind_none (BeginsWith (codes "alloc ")) (codes "alloc") (λ p. Alloc p.0 p.1 p.2 p.3) alloc_kind

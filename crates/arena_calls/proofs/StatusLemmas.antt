@@ -27,7 +27,7 @@ too_many (Some all) (Some left) bytes h e =
     let long = h.2 in
     omega arith
 
--- what a status that no fault brings says of the bytes
+-- what a status without a fault says of the bytes
 abbrev Says : Status → List ℕ → Type 0
 Says Done bytes = (length bytes ≤ limit) × (calls : List Call) × CallsOf bytes (Ok calls)
 Says (BadLine n) bytes = (length bytes ≤ limit) × CallsOf bytes (Err n)

@@ -38,7 +38,7 @@ too_long old mid new before buffer count p q within long = at old new (takes_mor
       omega (arith, length-append before (take count buffer), length-take count buffer),
     )
 
--- ---- One text behind another
+-- ---- One text after another
 
 pub writes_both : (old mid new : Option (List ℕ)) (xs ys : List ℕ) → Writes old mid xs → Writes mid new ys → Writes old new (xs ++ ys)
 writes_both None mid new xs ys p q = tt

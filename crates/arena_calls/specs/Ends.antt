@@ -16,8 +16,8 @@ use Rattle.arena_calls.specs.ReadAll.{limit, TakesFront, TakesWhole}
 use Rattle.arena_calls.specs.declared.status.Status.{Status}
 use Rattle.arena_calls.specs.declared.status.Status.TheVariants.{Done, Usage, BadLine, OutOfMemory, ReadFault, WriteFault, InputTooLong}
 
--- What is left of the input, what the output has taken, and how often either has failed, as far as 2 ^ 64 - 1; and the arena
--- with its source.
+-- What is left of the input, what the output has taken, and how often either has failed, at most 2 ^ 64 - 1; and the
+-- arena with its source.
 pub record Outside : Type 0 where
   pub left : Option (List ℕ)
   pub read_faults : ℕ
@@ -25,7 +25,7 @@ pub record Outside : Type 0 where
   pub write_faults : ℕ
   pub arena : View
 
--- all that is outside, from its parts in this order
+-- all of these, from the parts in this order
 abbrev pub outside : Option (List ℕ) → ℕ → Option (List ℕ) → ℕ → View → Outside
 outside left read_faults written write_faults arena = record {
   left = left;
@@ -55,7 +55,7 @@ pub record IsUntouched (old new : Outside) : Type 0 where
   pub arena : new.arena ≡ old.arena
   pub written : new.written ≡ old.written
 
--- the whole input was read, and it was these bytes if it is told
+-- the whole input was read, and it was these bytes if it reports them
 pub record ReadsWhole (old new : Outside) (bytes : List ℕ) : Type 0 where
   pub told : TakesWhole old.left new.left bytes
   pub small : length bytes ≤ limit
@@ -76,18 +76,18 @@ Prints text Done old before new after = Writes old new text × (after ≡ before
 Prints text WriteFault old before new after = WritesPart old new text × (after ≡ counted before 1)
 Prints text _ old before new after = ⊥
 
--- what is written of a run, by its replies and the state behind it
+-- what is written of a run, by its replies and the state after it
 abbrev pub Told : Type 0
 Told = List Reply → State → List ℕ
 
--- The calls were run, and the text that tells what they gave was written whole or in part, as this says.
+-- The calls were run, and the text of what they gave was written whole or in part, as this says.
 pub record RunsTo (old new : Outside) (calls : List Call) (text : Told) (Is : IsWritten) : Type 0 where
   pub replies : List Reply
   pub blocks : List (ℕ × Block)
   pub runs : Runs old.arena new.arena calls replies blocks
   pub written : Is old.written new.written (text replies new.arena.memory.state)
 
--- the first ones of these calls, so many, were run, and nothing was written
+-- the first `done` of these calls were run, and nothing was written
 pub record StopsIn (old new : Outside) (calls : List Call) : Type 0 where
   pub done : ℕ
   pub runs : RunsFirst old.arena new.arena calls done
@@ -113,7 +113,7 @@ pub record StopsBefore (old new : Outside) : Type 0 where
   pub untouched : IsUntouched old new
   pub front : TakesFront old.left new.left (λ n. n ≤ limit)
 
--- Nothing is written. Where memory runs out in the run or behind it, the first calls were run, however few.
+-- Nothing is written. Where memory runs out during the run or after it, the first calls were run, possibly none.
 abbrev pub EndsUnwritten : Status → Outside → Outside → Type 0
 EndsUnwritten Done old new = ⊥
 EndsUnwritten Usage old new = ⊥
@@ -129,14 +129,14 @@ EndsUnwritten WriteFault old new = ⊥
 EndsUnwritten InputTooLong old new =
     HasNoFault old new × IsUntouched old new × TakesFront old.left new.left (λ n. n ≡ limit + 1)
 
--- The run ends, where this is what is told of it: the calls were run, and that was written whole or in part.
+-- A run ends, where this is what is written of it: the calls were run, and that was written whole or in part.
 abbrev pub EndsWith : (Outside → Outside → List Call → IsWritten → Type 0) → Status → Outside → Outside → Type 0
 EndsWith Ran Done old new = HasNoFault old new × ((calls : List Call) × ReadsCalls old new calls × Ran old new calls Writes)
 EndsWith Ran WriteFault old new =
     HasWriteFault old new × ((calls : List Call) × ReadsCalls old new calls × Ran old new calls WritesPart)
 EndsWith Ran status old new = EndsUnwritten status old new
 
--- the text of the replies is told
+-- the text of the replies is written
 abbrev pub Ends : Status → Outside → Outside → Type 0
 Ends = EndsWith (λ old new calls. RunsTo old new calls reply_lines)
 
@@ -146,7 +146,7 @@ Ends = EndsWith (λ old new calls. RunsTo old new calls reply_lines)
 abbrev pub summary_lines : Told
 summary_lines replies state = summary_text (summary_of replies state)
 
--- The input isn't read, so no other status comes.
+-- The input isn't read, so there is no other status.
 abbrev pub GenEnds : ℕ → ℕ → Status → Outside → Outside → Type 0
 GenEnds start count Done old new =
     HasNoFault old new × (new.left ≡ old.left) × RunsTo old new (gen_calls start count) summary_lines Writes
@@ -163,13 +163,13 @@ GenEnds start count status old new = ⊥
 abbrev pub AsksCalls : List (List ℕ) → Type 0
 AsksCalls words = words ≡ codes "calls" ∷ []
 
--- so many calls, a million at most, from this start, each number in its digits
+-- `count` calls, a million at most, from this start, each number in its digits
 pub record AsksGen (words : List (List ℕ)) (start count : ℕ) : Type 0 where
   pub all : words ≡ codes "gen" ∷ number start ∷ number count ∷ []
   pub start_fits : start < 2 ^ 64
   pub most : count ≤ 1000000
 
--- The run ends as what the words ask for. Other words are none, and nothing is touched.
+-- The run ends as the words ask. Other words are no command, and nothing is touched.
 pub record EndsBy (words : List (List ℕ)) (status : Status) (old new : Outside) : Type 0 where
   pub calls : AsksCalls words → Ends status old new
   pub gen : (start count : ℕ) → AsksGen words start count → GenEnds start count status old new
@@ -178,7 +178,7 @@ pub record EndsBy (words : List (List ℕ)) (status : Status) (old new : Outside
 
 -- ---- Where nothing fails
 
--- no count is one fault up
+-- no count rose by one fault
 pub record IsFaultless (old new : Outside) : Type 0 where
   pub reads : new.read_faults ≢ counted old.read_faults 1
   pub writes : new.write_faults ≢ counted old.write_faults 1

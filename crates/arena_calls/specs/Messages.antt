@@ -1,4 +1,4 @@
--- What a program over calls says on standard error.
+-- What a program over calls writes to standard error.
 use Rattle.std.specs.Prelude.{◌≡◌, ℕ, List, [], ◌∷◌, ◌++◌, Option, ◌⊎◌, codes}
 use Rattle.arena_rules.specs.Causes.{counted}
 use Rattle.call_rules.specs.Grammar.{number}

@@ -9,7 +9,7 @@ use Rattle.arena_calls.specs.declared.streams.all.ReadErr.TheVariants.{Failed, T
 abbrev pub limit : ℕ
 limit = 16777216
 
--- a front of so many bytes was taken
+-- a front of such a length was taken
 abbrev pub TakesFront : Option (List ℕ) → Option (List ℕ) → (ℕ → Type 0) → Type 0
 TakesFront old new P =
     IfSome old (λ all. IsSomeAnd new (λ left. (taken : List ℕ) × (all ≡ taken ++ left) × P (length taken)))

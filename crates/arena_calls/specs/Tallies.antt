@@ -1,4 +1,4 @@
--- What a tally is to the replies that were counted.
+-- How a tally relates to the replies that were counted.
 use Rattle.std.specs.Prelude.{◌≡◌, List, length, sum}
 use Rattle.call_rules.specs.Counts.{is_placed}
 use Rattle.call_rules.specs.Summary.{Summary as Eight, is_failed, is_named_refusal, count_of, bytes_read}

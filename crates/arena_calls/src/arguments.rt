@@ -5,19 +5,19 @@ ghost use Rattle.arena_calls.specs.Arguments.{IsAskedFor};
 use arena_chunks::Bytes;
 use line_parts::whole_number;
 
-// How many calls a number may make.
+// The most calls of a run from a number.
 const MOST_CALLS: u64 = 1_000_000;
 
-/// What the program is asked for.
+/// What the program is asked to do.
 #[derive(Clone, Copy)]
 pub enum Command {
     /// To run the lines of the input.
     Calls,
-    /// To run so many calls from a number.
+    /// To run `count` calls from a number.
     Gen { start: u64, count: usize },
 }
 
-/// Whether there is one word, and it is this one.
+/// Returns whether there is one word, and it is this one.
 pub fn is_one_word(words: &[Bytes], word: &[u8]) -> bool
     ensures { IsTrue result ↔ (words.now ≡ word.now ∷ []) }
 {
@@ -33,7 +33,7 @@ fn is_word(word: &Bytes, text: &[u8]) -> bool
     word.as_slice() == text
 }
 
-/// What the words ask for, if they are a command.
+/// Returns what the words ask for, or `None` where they are no command.
 pub fn asked_for(words: &[Bytes]) -> Option<Command>
     ensures { IsAskedFor words.now result }
 {

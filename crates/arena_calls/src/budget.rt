@@ -12,7 +12,7 @@ pub trait Budgeted: ChunkSource {
     // How many bytes are left of the budget.
     ghost left: { Self → ℕ };
 
-    /// How many bytes are left of the budget.
+    /// Returns how many bytes are left of the budget.
     fn bytes_left(&self) -> u64
         ensures { result ≡ left self.now };
 }
@@ -25,7 +25,7 @@ impl Budgeted for MemoryChunks {
     }
 }
 
-/// The source of the program's chunks: memory, up to 1 GiB. It has refused nothing yet.
+/// Returns the source of the program's chunks: memory, up to 1 GiB. It has refused nothing yet.
 pub fn program_chunks(alloc: Global) -> MemoryChunks
     ensures left { result.left ≡ budget }
     ensures source { ⟦<MemoryChunks as ChunkSource>⟧.source result ≡ record { refusals = 0; asked = None } }

@@ -6,8 +6,8 @@ ghost use Rattle.arena_calls.specs.Ends.{Ends, GenEnds, Outside, IsFaultless, st
 ghost use Rattle.arena_calls.specs.ReadAll.{limit};
 ghost use Rattle.arena_calls.specs.declared.status.Status.{Status};
 
-/// Where nothing fails, the bytes of an input that tells them determine the status of a run of lines, unless memory
-/// runs out. A run of calls from a number is then done.
+/// Where nothing fails, the bytes of an input that reports them determine the status of a run of lines, unless memory
+/// runs out. A run of calls from a number is then done, unless memory runs out.
 pub fn one_status()
     ensures within { (status : Status) (old new : Outside) (bytes : List ℕ) (read : Result (List Call) ℕ)
         → Ends status old new → IsFaultless old new → old.left ≡ Some bytes
@@ -22,8 +22,8 @@ pub fn one_status()
         → (status ≡ Status.Done) ⊎ (status ≡ Status.OutOfMemory) }
 {}
 
-/// A read that failed is told as a read fault, and a write that failed as a write fault, whatever else ran out. A run of
-/// calls from a number doesn't read.
+/// A read that failed is reported as a read fault, and a write that failed as a write fault, whatever else ran out. A
+/// run of calls from a number doesn't read.
 pub fn told_faults()
     ensures reads { (status : Status) (old new : Outside) → Ends status old new
         → new.read_faults ≢ old.read_faults → status ≡ Status.ReadFault }

@@ -1,4 +1,4 @@
-// What a program over calls says beside its output.
+// What a program over calls writes to standard error.
 ghost use Rattle.std.specs.Prelude.{◌≡◌, OnOk, OnErr};
 ghost use Rattle.std.specs.Process.{exit_status};
 ghost use Rattle.arena_rules.specs.Causes.{counted};
@@ -11,8 +11,8 @@ use crate::streams::{Failed, Output, write_all};
 use itoa::Buffer;
 use std::process::ExitCode;
 
-/// Says on `messages` why a program with this status ends, in a line, and answers the exit status, which is the same where
-/// `messages` can't be written. `Done` has no line, and that of `Usage` is handed in.
+/// Writes a line to `messages` that says why a program with this status ends, and returns the exit status, which is the
+/// same if `messages` can't be written. `Done` has no line, and the line of `Usage` is a parameter.
 pub fn exit_with<E: Output>(messages: &mut E, status: &Status, usage: &[u8]) -> ExitCode
     ensures code { exit_status result ≡ code_of status.now }
     ensures said { Explains usage.now status.now
@@ -22,7 +22,7 @@ pub fn exit_with<E: Output>(messages: &mut E, status: &Status, usage: &[u8]) -> 
     ExitCode::from(status.code())
 }
 
-// Writes the line that explains the status, or a first part of it and then a fault.
+// Writes the line that explains the status, or a first part of it before a fault.
 fn explain<E: Output>(messages: &mut E, status: &Status, usage: &[u8]) -> Result<(), Failed>
     ensures ok { OnOk result (Writes (E.written messages.old) (E.written messages.new) (message_of usage.now status.now)) }
     ensures part { OnErr result (WritesPart (E.written messages.old) (E.written messages.new) (message_of usage.now status.now)) }

@@ -12,11 +12,11 @@ pub use line_parts::put;
 use line_parts::{make_room, put_field, put_hex};
 use std::alloc::Global;
 
-// The most bytes that a line has with its feed, where the reply holds none: `placed`, a number of 64 bits,
-// `refused` and a number of 32 bits.
+// The most bytes of a line with its line feed, where the reply holds no bytes: `placed`, a number of 64 bits, `refused`
+// and a number of 32 bits.
 const LONGEST: usize = 47;
 
-// How often a request was refused.
+// Appends how many requests were refused.
 fn put_refused(out: &mut Vec<u8>, refused: u32)
     requires { vec_len out.old + 19 ≤ vec_capacity out.old }
     ensures items { out.new.items ≡ out.old.items ++ codes " refused" ++ fields (refused ∷ []) }
@@ -28,7 +28,7 @@ fn put_refused(out: &mut Vec<u8>, refused: u32)
     put(out, buffer.format(refused).as_bytes());
 }
 
-// The line of a reply that holds no bytes, without its feed.
+// Appends the line of a reply that holds no bytes, without its line feed.
 fn put_reply(out: &mut Vec<u8>, reply: &Reply)
     requires fixed { has_bytes reply.now ≡ false }
     requires room { vec_len out.old + 46 ≤ vec_capacity out.old }
@@ -66,7 +66,7 @@ pub struct Text {
 }
 
 impl Text {
-    /// No text.
+    /// Returns an empty text.
     pub fn new(alloc: Global) -> Text
         ensures { result.bytes.items ≡ [] }
     {
@@ -75,7 +75,7 @@ impl Text {
         }
     }
 
-    // Makes room for so many lines of replies that hold no bytes, and for more bytes.
+    // Reserves room for `lines` lines of replies that hold no bytes, and for `more` bytes.
     fn make_room(&mut self, lines: usize, more: usize) -> Result<(), OutOfMemory>
         ensures same { self.new.bytes.items ≡ self.old.bytes.items }
         ensures room { OnOk result
@@ -103,7 +103,7 @@ impl Replies for Text {
     }
 
     fn take_bytes(&mut self, bytes: &[u8], left: usize) -> Result<(), OutOfMemory> {
-        // One line more has room for what stands beside the digits.
+        // The room of one more line is for what the line has besides the digits.
         self.make_room(left + 1, 2 * bytes.len())?;
         put(&mut self.bytes, b"bytes ");
         put_hex(&mut self.bytes, bytes);

@@ -7,19 +7,19 @@ ghost use Rattle.arena_calls.specs.Ends.{code_of};
 pub enum Status {
     /// All replies were written, or the summary of them.
     Done,
-    /// The words ask for nothing that there is.
+    /// The words are no command.
     Usage,
     /// The first line that is refused, by its number from 1.
     BadLine(u64),
     OutOfMemory,
     ReadFault,
     WriteFault,
-    /// The input has more bytes than it may.
+    /// The input has more bytes than the limit.
     InputTooLong,
 }
 
 impl Status {
-    /// The program's exit status.
+    /// Returns the program's exit status.
     pub fn code(&self) -> u8
         ensures { result ≡ code_of self.now }
     {

@@ -16,7 +16,7 @@ use arena_chunks::{Arena, Block, Bytes, ChunkSource, Replies, run_calls_into};
 use line_parts::LinesErr;
 use std::alloc::Global;
 
-/// Reads all of the input as calls, and runs them over the arena: the blocks that names hold then.
+/// Reads all of the input as calls, and runs them on the arena. Returns the blocks that names hold afterwards.
 ///
 /// # Errors
 ///
@@ -48,7 +48,7 @@ pub fn run_input<C: ChunkSource, I: Input, R: Replies>(
         Err(LinesErr::BadLine(n)) => return Err(Status::BadLine(n)),
         Err(LinesErr::OutOfMemory) => return Err(Status::OutOfMemory),
     };
-    // What has been read is let go before the run, since the text of the replies needs the most memory.
+    // The input is freed before the run, since the text of the replies needs the most memory.
     drop(bytes);
     match run_calls_into(alloc, arena, chunks, calls.as_slice(), replies) {
         Ok(held) => Ok(held),
@@ -56,7 +56,7 @@ pub fn run_input<C: ChunkSource, I: Input, R: Replies>(
     }
 }
 
-// Runs the input's calls over the arena, and writes the replies.
+// Runs the input's calls on the arena, and writes the replies.
 fn run_lines<C: ChunkSource, I: Input, O: Output>(
     alloc: Global,
     arena: &mut Arena<1>,
@@ -77,8 +77,8 @@ fn run_lines<C: ChunkSource, I: Input, O: Output>(
     }
 }
 
-/// Does what the words ask for: runs the lines of the input, or calls from a number, over the arena, and writes the replies,
-/// or what they come to. Nothing is written before the last call was run.
+/// Does what the words ask for: runs the lines of the input, or calls from a number, on the arena, and writes the
+/// replies, or a summary of them. Nothing is written before the last call was run.
 pub fn arena_calls<C: ChunkSource, I: Input, O: Output>(
     alloc: Global,
     words: &[Bytes],

@@ -1,4 +1,4 @@
--- Lists of blocks of which each lies apart from each of another list.
+-- Lists of blocks of which each is apart from each of another list.
 use Rattle.std.proofs.Common.{zero, suc, List, [], ◌∷◌, ◌++◌, refl, subst, arith, ◌↔◌}
 use Rattle.std.specs.List.{Contains}
 use Rattle.arena_core.specs.Frame.{IsApart, AreAllApart}
@@ -35,7 +35,7 @@ all_of_both xs ys others = (parts xs, λ both. joined xs both.0 both.1)
     joined [] one two = two
     joined (x ∷ xs) one two = (one.0, joined xs one.1 two)
 
--- Each block lies apart, and each that is in the list is one of them.
+-- Each block is apart, and each that is in the list is one of them.
 pub all_among : (bs others : List Block) (b : Block) → AreAllApart bs others → Contains bs b → IsApart b.addr b.size others
 all_among [] others b apart (k, less, is) = absurd (omega arith)
 all_among (c ∷ cs) others b apart (zero, less, is) = subst (λ (d : Block). IsApart d.addr d.size others) is apart.0

@@ -1,4 +1,4 @@
--- What a call on a block asks for, and where it is refused.
+-- What a call on a block asks for, and why it is refused.
 use Rattle.std.proofs.Common.{◌≡◌, ℕ, ◌+◌, ◌-◌, ◌*◌, ◌%◌, ◌^◌, ◌<◌, ◌≤◌, ap, sym, refl, subst, arith, IsTrue, Some, None, Option, List, [], ◌∷◌, length, inl, inr, true, false}
 use Rattle.std.specs.Prelude.{nat_le, nat_lt, ◌==◌, ◌&&◌, Bool, if◌then◌else◌}
 use Rattle.std.specs.List.{AllByRecursion}
@@ -60,7 +60,7 @@ asks_placed bytes old new size align (Refused k) layout small fits places =
     (all_requests old.memory.state size align places.0 bytes places.1.valid.entry small fits) (same_grown old.memory new.memory s.memory)
 asks_placed bytes old new size align Exhausted layout small fits places = same_asks bytes old new places.1.outcome.same
 
--- A block that is given another size.
+-- A block that is resized.
 module _ (bytes : ℕ) (old new : View) (block : Block) (size align : ℕ) (layout : IsTrue (is_layout size align)) (small : align ≤ 16)
     (fits : used_bytes old.memory.state + size + (unit_of old.memory.state align - 1) ≤ bytes) where
   way_requests : (way : Resizing) (k : ℕ) → IsValid old.memory.state
@@ -112,7 +112,7 @@ made_some : (state : State) (size align k : ℕ) → IsFailed state size align k
 unfolding requests
 made_some state size align k failed some = rw (failed.none, failed.all) (simp (length-map, length-take) (omega arith))
 
--- Where an arena that grows has no place for a block, and some chunk may be asked for, the source has refused.
+-- If a growing arena has no place for a block, and some chunk may be asked for, the source has refused.
 alloc_starved : (old new : View) (size align k : ℕ) → IsValid old.memory.state → IsTrue (is_layout size align)
     → 0 < length (asked old.memory.state size align) → (state : State)
     → alloc old.memory.state size align k ≡ Some (record { answer = None; state = state })
@@ -122,7 +122,7 @@ alloc_starved old new size align k valid layout some state step asked =
     refused_by k (alloc_requests old.memory.state size align k) old.source new.source asked (omega (arith, failed.all, some))
     (made_some old.memory.state size align k failed some)
 
--- Where an arena that doesn't grow has no place for a block, it has fewer bytes than are in use and are wanted.
+-- If an arena that doesn't grow has no place for a block, it has fewer bytes than are in use and requested.
 alloc_full : (old : View) (size align k : ℕ) (state : State) → IsValid old.memory.state → old.memory.state.is_growing ≡ false
     → IsTrue (is_layout size align) → alloc old.memory.state size align k ≡ Some (record { answer = None; state = state })
     → IsFull (used_bytes old.memory.state + size + (unit_of old.memory.state align - 1)) old
@@ -155,13 +155,13 @@ pub placed_full : (old new : View) (size align k : ℕ) → IsTrue (is_layout si
 placed_full old new size align k layout still places =
     alloc_full old size align places.0 old.memory.state places.1.valid.entry still layout places.1.outcome.1.step
 
--- ---- A block of another size
+-- ---- A block that is resized
 
--- a step that answers a place isn't one that fails
+-- a step that returns a place isn't one that fails
 answers_none : (p : ℕ) → Some p ≡ None → ⊥
 answers_none p same = cc
 
--- Where there is no place for a block, it was to be placed again, unless it is refused for its size.
+-- If there is no place for a block, it was to be allocated again, unless it is refused for its size.
 refused_anew : (way : Resizing) (old new : View) (block : Block) (size align k : ℕ) → (way ≡ NotGrown → ⊥)
     → ResizesBlock way old new block size align (Refused k)
     → (k : ℕ) × (alloc old.memory.state size align k ≡ Some (record { answer = None; state = old.memory.state }))
@@ -174,7 +174,7 @@ refused_anew Stays old new block size align k fits resizes = absurd (answers_non
 refused_anew (Moves q) old new block size align k fits resizes = absurd (answers_none q (ap (λ (o : Outcome). o.answer)
     (cond_some (resizes.0 == 0) (placed old.memory.state q) _ resizes.1.outcome.1.step).1))
 
--- A block of a power's alignment that grows to this size is never refused for its size.
+-- A block whose alignment is a power of two and that grows to this size is never refused for its size.
 never_refused : (state : State) (p old_size old_align size align : ℕ) → IsValid state → IsTrue (is_power old_align) → old_align ≤ 16
     → size + 31 ≤ 2 ^ 63
     → growing state p old_size old_align size align ≡ NotGrown → ⊥
@@ -266,7 +266,7 @@ shrunk_full old new block size align k layout still shrinks =
     let anew = shrunk_anew old new block size align k shrinks in
     alloc_full old size align anew.0 old.memory.state anew.3 still layout anew.1
 
--- A block that grows brings its new size into use at most, with the padding of its end and of its place.
+-- A block that grows brings at most its new size into use, with the padding of its end and of its place.
 pub grown_used : (old new : View) (block b : Block) (size align : ℕ) → IsTrue (is_layout size align)
     → block.align ≤ align → GrowsBlock old new block size align (Placed b)
     → used_bytes new.memory.state ≤ used_bytes old.memory.state + size + (old.memory.state.min_align - 1)

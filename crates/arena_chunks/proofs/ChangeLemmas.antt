@@ -1,4 +1,4 @@
--- What a call that changes one name's block leaves of the others.
+-- What a call that changes one name's block does to the others.
 use Rattle.std.proofs.Common.{◌≡◌, ◌≢◌, ℕ, ◌+◌, ◌-◌, ◌%◌, ◌<◌, ◌≤◌, ◌⊎◌, inl, inr, ap, sym, subst, ◌∙◌, arith, List, true, false, Some, IsTrue, length, eq-eqb}
 use Rattle.std.specs.Prelude.{◌==◌, ◌&&◌, nat_le, nat_lt}
 use Rattle.std.specs.FinMap as finite
@@ -26,26 +26,26 @@ use Rattle.arena_core.proofs.FrameLemmas.{apart_turned, beside_range}
 use Rattle.arena_store.proofs.BytesLemmas.{written_beside}
 use Rattle.arena_core.proofs.WrittenLemmas.{bytes_same}
 
--- ---- Beside a place
+-- ---- Apart from a place
 
--- a part of a range that lies beside a place does too
+-- a part of a range that is apart from a padded place is, too
 beside_part : (m : ℕ) (b : Place) (addr n i : ℕ) → i < n → IsBeside m b addr n → IsBeside m b (addr + i) 1
 beside_part m b addr n i below beside = λ filled one.
     elim (beside filled (omega arith)) [ inl above ↦ inl (omega arith) | inr under ↦ inr (omega arith) ]
 
--- an empty place at a multiple has no addresses, padded
+-- an empty padded place at a multiple has no addresses
 pub padded_empty : (m : ℕ) (b : Place) → 0 < m → b.addr % m ≡ 0 → b.size ≡ 0 → padded_size m b.addr b.size ≡ 0
 padded_empty m b positive aligned none =
     let here : b.addr + b.size ≡ b.addr = omega arith in
     omega (arith, ap (λ (x : ℕ). up x m) here ∙ up_same b.addr m positive aligned)
 
--- what lies beside a place lies apart from its block
+-- what is apart from a padded place is apart from its block
 pub beside_apart : (m : ℕ) (b : Place) (addr n : ℕ) → 0 < m → IsBeside m b addr n → AreApart addr n b.addr b.size
 beside_apart m b addr n positive beside = λ many some.
     let reach = up_ge (b.addr + b.size) m positive in
     elim (beside (omega arith) many) [ inl above ↦ inr (omega arith) | inr under ↦ inl (omega arith) ]
 
--- an address beside a place is none of n addresses in it
+-- an address apart from a padded place is none of n addresses in it
 outside : (m : ℕ) (b : Place) (addr from n : ℕ) → 0 < m → b.addr ≤ from → from + n ≤ b.addr + b.size → IsBeside m b addr 1
     → (nat_le from addr && nat_lt addr (from + n)) ≡ false
 outside m b addr from n positive low high beside = beside_range addr b.addr b.size from n (beside_apart m b addr 1 positive beside) low high
@@ -56,7 +56,7 @@ used_place state p used = elim (cases_lt 0 p.size) [
   | inr none ↦ or_left (p.size == 0) (is_range_used state.chunks p.addr p.size) (eq-eqb _ _ (omega arith))
 ]
 
--- other names' places lie beside a held one
+-- other names' places are apart from a held one
 others_beside : (state : State) (names : Held) (name : ℕ) (b : Place) → Holds state names → finite.get names name ≡ Some b
     → (q : ℕ) (p : Place) → q ≢ name → finite.get names q ≡ Some p → 0 < p.size → IsBeside state.min_align b p.addr p.size
 others_beside state names name b holds found q p other at some = λ padded many.
@@ -71,8 +71,9 @@ others_beside state names name b holds found q p other at some = λ padded many.
 
 -- ---- A change of one name's block
 
--- The name's block at a, where it isn't empty, goes, and one at b comes. What was in use beside the first stays so, with its
--- bytes, and lies beside the second. The names afterwards are the others as they were, and this one, if it holds b.
+-- The name's block at a is removed, if it isn't empty, and one at b is added. What was in use apart from the first
+-- stays in use, with its bytes, and is apart from the second. The names afterwards are the others as they were, and
+-- this one, if it holds b.
 pub record IsChange (old new : Memory) (names after : Held) (name : ℕ) (a b : Place) : Type 0 where
   pub valid : IsValid new.state
   pub min_align : new.state.min_align ≡ old.state.min_align
@@ -106,7 +107,7 @@ module _ (old new : Memory) (names after : Held) (name : ℕ) (a b : Place) (hol
   others : (q : ℕ) (p : Place) → q ≢ name → finite.get names q ≡ Some p → 0 < p.size → IsBeside old.state.min_align a p.addr p.size
   others q p other at some = λ padded. others_beside old.state names name a holds (change.gone padded) q p other at some padded
 
-  -- each address of another name's place is in use, beside the place that goes
+  -- each address of another name's place is in use, apart from the place that is removed
   others_part : (q : ℕ) (p : Place) → q ≢ name → finite.get names q ≡ Some p → (i : ℕ) → i < p.size
       → IsTrue (is_used old.state (p.addr + i)) × IsBeside old.state.min_align a (p.addr + i) 1
   others_part q p other at i below =
@@ -204,7 +205,7 @@ module _ (old new : Memory) (names after : Held) (name : ℕ) (a b : Place) (hol
     marks = change.marks;
   }
 
--- A change after which bytes were written in the block that came.
+-- A change after which bytes were written in the block that was added.
 pub change_written : (old mid new : Memory) (names after : Held) (name : ℕ) (a b : Place) (at : ℕ) (list : List ℕ) → IsValid old.state
     → IsChange old mid names after name a b
     → at + length list ≤ b.size → new.state ≡ mid.state → Writes mid new (b.addr + at) list → IsChange old new names after name a b

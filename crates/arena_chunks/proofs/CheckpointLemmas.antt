@@ -22,7 +22,7 @@ and_intro first second = rw (first, second) refl
 pub checkpoint_own : (state : State) → IsValid state → IsTrue (is_accepted (checkpoint_of state) state)
 checkpoint_own state valid = and_intro (eq-eqb state.generation state.generation refl) (own_accepted state valid)
 
--- a mark that was accepted, and that the call keeps
+-- an accepted mark that the call keeps
 by_mark : (c : Checkpoint) (old new : State) → IsTrue (is_accepted c old)
     → (IsTrue (accepts (mark_at c) old) → KeepsMark (mark_at c) old new) → KeepsCheckpoint c old new
 by_mark c old new holds keeps =

@@ -1,4 +1,5 @@
--- Blocks that names hold, where the places of the first names stand in a list: what a place that is put there, or elsewhere, changes.
+-- Blocks that names hold, where the places of the first names are in a list: what changes with a place in the list, or
+-- elsewhere.
 use Rattle.std.proofs.Common.{◌≡◌, ◌≢◌, ℕ, zero, suc, ◌+◌, ◌<◌, ◌≤◌, ◌⊎◌, inl, inr, ap, refl, sym, ◌∙◌, arith, List, [], ◌∷◌, ◌++◌, cond, Option, Some, None, length, get_or, drop}
 use Rattle.std.specs.Prelude.{slice_set}
 use Rattle.std.specs.Ordering.{nat_cmp, eq_by_cmp}
@@ -37,7 +38,7 @@ with_first i (Some p ∷ places) others q (suc k) d at within none =
     get-insert_other (held_with (i + 1) places others) i q p (λ same. absurd (omega arith))
     ∙ with_first (i + 1) places others q k d (omega arith) (omega arith) none
 
--- what others hold for a name decides
+-- what the others hold for a name decides
 with_same : (i : ℕ) (places : List (Option Place)) (others more : Held) (q : ℕ) → finite.get more q ≡ finite.get others q
     → finite.get (held_with i places more) q ≡ finite.get (held_with i places others) q
 with_same i [] others more q same = same

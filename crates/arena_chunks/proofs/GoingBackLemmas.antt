@@ -1,4 +1,4 @@
--- Going back to a mark: which names are left, and what is known of the marks that are.
+-- Going back to a mark: which names and marks remain, and what is true of them.
 use Rattle.std.proofs.Common.{◌≡◌, ℕ, ◌+◌, ◌-◌, ◌<◌, ◌≤◌, inl, inr, ap, refl, sym, subst, ◌∙◌, arith, List, [], ◌∷◌, Bool, cond, true, false, IsTrue, Option, Some, None, length, take, get_or, eq-eqb, leb-true}
 use Rattle.std.specs.Prelude.{◌==◌, ◌&&◌, nat_lt, if◌then◌else◌}
 use Rattle.std.specs.Option.{option_map_or}
@@ -73,11 +73,11 @@ module _ (old : State) (names held : Held) (log : List ℕ) (from : ℕ) (m : Ma
   abbrev now : State
   now = back (mark_at m.checkpoint) old
 
-  -- a name that is looked at and still holds its block holds no bytes
+  -- a name that was read in the log and still holds its block holds no bytes
   looked_at : {P : Type 0} (q : ℕ) (p : Place) → IsNoted log from q → finite.get held q ≡ Some p → 0 < p.size → P
   looked_at q p there at some = absurd (omega (arith, lets.ended q p there at))
 
-  -- the name at which that came to an end
+  -- the name at which the removal ended
   stays_last : 0 < from → Lies true old names m (get_or log (from - 1) 0)
   stays_last some = by (finite.get held (get_or log (from - 1) 0)) refl
     where
@@ -127,7 +127,7 @@ module _ (old : State) (names held : Held) (log : List ℕ) (from : ℕ) (m : Ma
           let same : lies.0 ≡ x = same_Some lies.0 x (sym lies.1 ∙ lets.less q x is) in
           looked_at q x there is (omega (arith, lies.2, ap (λ (y : Place). y.size) same))
 
-  -- The names that are left hold what they held.
+  -- The names that remain hold what they held.
   pub held_left : held ≡ finite.retain_keys names (is_left now names)
   held_left = same_map nat_cmp_total nat_cmp-IsAntisymmetric _ _ (λ q.
       by q (is_left now names q) refl ∙ sym (get-retain_keys names (is_left now names) q
@@ -145,7 +145,7 @@ module _ (old : State) (names held : Held) (log : List ℕ) (from : ℕ) (m : Ma
       by q true is = rw is (lets.left q is)
       by q false is = rw is (none q (finite.get names q) refl is)
 
-  -- a name that is held lay in the part that is left
+  -- the block of a name that is still held is in the part that remains
   pub held_used : (q : ℕ) (p : Place) → finite.get held q ≡ Some p → (finite.get names q ≡ Some p) × IsTrue (is_place_used now p)
       × IsTrue (is_left now names q)
   held_used q p at =
@@ -155,7 +155,7 @@ module _ (old : State) (names held : Held) (log : List ℕ) (from : ℕ) (m : Ma
         | inr unused ↦ absurd (none-some p (sym (gone q p before unused) ∙ at))
       ]
 
-  -- the mark, and each older one, is tracked by what is left of the log
+  -- the mark, and each older one, is tracked by what remains of the log
   mark_back : (o : Mark) → o.checkpoint.chunks ≤ m.checkpoint.chunks → TracksMark old names log o → TracksMark now held (take from log) o
   mark_back o under was = record {
     generation = was.generation;

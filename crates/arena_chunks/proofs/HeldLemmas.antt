@@ -1,4 +1,4 @@
--- Names in a finite map: what an entry that is made or removed leaves of the others.
+-- Names in a finite map: what adding or removing an entry does to the others.
 use Rattle.std.proofs.Common.{◌≡◌, ◌≢◌, ℕ, inl, inr, sym, subst, ◌∙◌, Some, None, true, false, eq-eqb, ne_eqb}
 use Rattle.std.specs.Ordering.{nat_cmp, eq_by_cmp}
 use Rattle.std.specs.Cmp.{unsigned_tied, nat_cmp_total}
@@ -26,7 +26,7 @@ module _ {X : Type 0} where
   pub get-remove_other : (m : finite.FinMap nat_cmp X) (k q : ℕ) → q ≢ k → finite.get (finite.remove m k) q ≡ finite.get m q
   get-remove_other m k q other = get-remove nat_cmp_total m k q ∙ rw (differs q k other)
 
-  -- maps that agree at a key and at all others are one
+  -- maps that agree at a key and at all others are the same
   pub agree : (m n : finite.FinMap nat_cmp X) (k : ℕ) → finite.get m k ≡ finite.get n k
       → ((q : ℕ) → q ≢ k → finite.get m q ≡ finite.get n q)
       → m ≡ n

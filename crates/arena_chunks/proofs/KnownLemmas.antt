@@ -24,7 +24,7 @@ knows_same s n marks same knows = record {
   names = λ q. ap (list_any (is_at (nat_cmp q))) same ∙ knows.names q;
 }
 
--- the set has what it had, but for the mark's name
+-- the set has what it had, except for the mark's name
 others : (s n : BTreeSet ℕ) (m : Mark) (is : Bool) → Updates nat_cmp s n m.name is → (q : ℕ)
     → contains nat_cmp n q ≡ cond (m.name == q) is (contains nat_cmp s q)
 others s n m is updates q = updates.0 q ∙ ap (λ (b : Bool). cond b is (contains nat_cmp s q)) (unsigned_tied m.name q)
@@ -62,7 +62,7 @@ knows_less s n m older updates knows = record {
 pub pushed_first : (items : List Mark) (m : Mark) → reverse (items ++ m ∷ []) ≡ m ∷ reverse items
 pushed_first items m = reverse-append items (m ∷ [])
 
--- the newest of so many is the last
+-- the newest of the first `count` marks is the last of them
 pub newest_first : (items : List Mark) (count : ℕ) (m : Mark) → 0 < count → count ≤ length items → m ≡ get_or items (count - 1) m
     → reverse (take count items) ≡ m ∷ reverse (take (count - 1) items)
 newest_first items count m some within is =
@@ -72,7 +72,7 @@ newest_first items count m some within is =
 
 -- ---- Marks that end
 
--- The newest marks, down to so many, aren't the name's.
+-- The newest marks, down to `count`, aren't the name's.
 pub record IsEnding (known : BTreeSet ℕ) (items : List Mark) (count name : ℕ) : Type 0 where
   pub some : 0 < count
   pub within : count ≤ length items

@@ -1,5 +1,5 @@
--- The lemmas that a layer above cites: how frames compose, which blocks lie apart, what stands in a block after a call, how
--- many bytes calls bring into use, and what they ask for.
+-- The lemmas that a layer above cites: how frames compose, which blocks are apart, the bytes of a block after a call,
+-- how many bytes calls bring into use, and what they ask for.
 pub use Rattle.arena_core.proofs.FrameRules.{blocks_turned, apart_within, apart_empty, apart_both, apart_each, all_apart, pairwise_both}
 pub use Rattle.arena_core.proofs.FrameRules.{
   frame_reflexive,

@@ -1,4 +1,4 @@
--- The log of names beside marks: what it has as it grows, and as names are let go that going back ends.
+-- The log of names and the marks: how it grows, and which names going back removes.
 use Rattle.std.proofs.Common.{◌≡◌, ◌≢◌, ℕ, ◌-◌, ◌<◌, ◌≤◌, ◌⊎◌, inl, inr, ap, refl, sym, subst, ◌∙◌, arith, List, [], ◌∷◌, ◌++◌, Bool, true, false, IsTrue, Option, Some, None, length, take, get_or, lt-ltb}
 use Rattle.std.specs.Prelude.{◌||◌, ◌&&◌, nat_lt, if◌then◌else◌}
 use Rattle.std.specs.Option.{option_map_or}
@@ -46,18 +46,18 @@ standing state names name p at left =
     both true = refl
     both false = refl
 
--- ---- A name more
+-- ---- One more name
 
 -- a call that places no block
 pub notes_still : (state : State) (names held : Held) (noted : Noted)
     → ((q : ℕ) (p : Place) → finite.get held q ≡ Some p → finite.get names q ≡ Some p) → Notes state names held noted noted
 notes_still state names held noted less = record { marks = refl; log = λ some. inl (refl, λ q p at. (p, less q p at, refl, omega arith)) }
 
--- the newest note taken back
+-- the newest note removed again
 pub taken_back : (log : List ℕ) (name : ℕ) → take (length (log ++ name ∷ []) - 1) (log ++ name ∷ []) ≡ log
 taken_back log name = take_at log (name ∷ []) _ (omega (arith, length-append log (name ∷ [])))
 
--- a name was noted, and the note was taken back if the block stayed
+-- a name was noted, and the note was removed again if the block stayed
 pub notes_settled : (state : State) (names held : Held) (old mid new : Noted) (name : ℕ) (stayed : Bool) → mid.marks ≡ old.marks
     → (0 < length old.marks → mid.log ≡ old.log ++ name ∷ []) → new.marks ≡ mid.marks
     → (0 < length mid.marks → new.log ≡ (if stayed then take (length mid.log - 1) mid.log else mid.log))
@@ -77,7 +77,7 @@ notes_settled state names held old mid new name stayed same noted still settled 
         ∙ ap (λ (b : Bool). if b then take (length mid.log - 1) mid.log else mid.log) is in
         inr (name, log ∙ noted some, there is)
 
--- it stays, or is taken back of a call that was refused
+-- the note stays, or is removed again if the call was refused
 pub notes_placed : (state : State) (names held : Held) (old new : Noted) (name : ℕ) → new.marks ≡ old.marks
     → (0 < length old.marks → new.log ≡ old.log ++ name ∷ [])
     → IsAtCursor state names held name → Notes state names held old new
@@ -123,13 +123,13 @@ inserted_within names name a b found same smaller q p at = elim (cases_eq q name
       )
 ]
 
--- a call that gives a block another size may want memory where there is a mark
+-- a call that resizes a block may take memory if there is a mark
 pub noting : (first : Bool) (marks : List Mark) → 0 < length marks → IsTrue (first || false || (nat_lt 0 (length (named marks)) && true))
 noting true marks some = refl
 noting false marks some = let there : nat_lt 0 (length (named marks)) ≡ true =
     lt-ltb _ _ (omega (arith, some, length-map {B = ℕ × Point} marks (λ (m : Mark). (m.name, mark_at m.checkpoint)))) in rw there refl
 
--- ---- Names that are let go
+-- ---- Names that are removed
 
 pub letting_first : (state : State) (names : Held) (log : List ℕ) (from : ℕ) → from ≡ length log → LetsGo state names names from log
 letting_first state names log from all = record {
@@ -139,7 +139,7 @@ letting_first state names log from all = record {
   ended = λ q p there at. absurd (omega (arith, all, there.1, there.2));
 }
 
--- one name more was looked at, and let go if its block isn't left
+-- one more name was read, and removed if its block isn't left
 pub letting_next : (state : State) (names held next : Held) (from name : ℕ) (log : List ℕ) → 0 < from → name ≡ get_or log (from - 1) 0
     → stands state held name ≡ false
     → (IsTrue (is_left state held name) → next ≡ held) → (is_left state held name ≡ false → next ≡ finite.remove held name)

@@ -1,4 +1,4 @@
--- Marks beside an arena and its names: what is known of them after each call.
+-- Marks, and what remains true of them after each call.
 use Rattle.std.proofs.Common.{◌≡◌, ◌≢◌, ℕ, ◌+◌, ◌≤◌, inl, inr, ap, refl, sym, subst, ◌∙◌, arith, List, [], ◌∷◌, ◌++◌, Bool, true, false, IsTrue, Option, Some, None, length, get_or}
 use Rattle.std.specs.Option.{is_some, is_none}
 use Rattle.std.specs.List.{AllByRecursion}
@@ -30,9 +30,9 @@ use Rattle.arena_store.proofs.AskedLemmas.{asked_none}
 use Rattle.arena_chunks.proofs.ServingLemmas.{holds_none, no_bytes_held}
 use Rattle.arena_chunks.proofs.LogLemmas.{not_both}
 
--- ---- A call on no mark
+-- ---- A call other than one on a mark
 
--- where a block lies of a mark's part is as it was, if the name's place begins where one did that it held
+-- whether a block is in a mark's part doesn't change, if the name's place begins where one did that it held
 pub lay : (inside : Bool) (old new : State) (names held : Held) (m : Mark) (q : ℕ) → KeepsMark (mark_at m.checkpoint) old new
     → ((p : Place) → finite.get held q ≡ Some p → (before : Place) × (finite.get names q ≡ Some before) × (before.addr ≡ p.addr)
     × (p.size ≤ before.size)) → Lies inside new held m q
@@ -162,7 +162,7 @@ run_served call reply old new names held noted later tracks serves notes = recor
       );
 }
 
--- ---- A mark more
+-- ---- One more mark
 
 under_own : (state : State) (names : Held) (log : List ℕ) (marks : List Mark) (m : Mark) → m.checkpoint ≡ checkpoint_of state
     → AreTracked state names log marks
@@ -213,7 +213,7 @@ marks_still call reply memory names noted source holds tracks none steps asks = 
   keeps = λ still entry keeps keep. (keeps, keep);
 }
 
--- a mark of a new name may want memory
+-- a mark of a new name may take memory
 pub none_named : (o : Option Point) → is_some o ≡ false → IsTrue (is_none o)
 none_named None is = refl
 none_named (Some mark) is = cc

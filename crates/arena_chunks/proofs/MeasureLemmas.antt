@@ -1,4 +1,4 @@
--- Blocks that lie apart have together no more bytes than are in use.
+-- Blocks that are apart together have at most as many bytes as are in use.
 use Rattle.std.proofs.Common.{◌≡◌, ℕ, ◌+◌, ◌-◌, ◌<◌, ◌≤◌, ◌⊎◌, List, [], ◌∷◌, map, sum, inl, inr, arith, IsTrue, true}
 use Rattle.std.specs.Prelude.{if◌then◌else◌}
 use Rattle.std.specs.List.{AllByRecursion}
@@ -11,14 +11,14 @@ use Rattle.arena_core.specs.Frame.{IsApart, ArePairwiseApart}
 use Rattle.arena_store.specs.declared.block.Block.{Block}
 use Rattle.arena_core.proofs.FrameRules.{is_filled}
 
--- what is used of a chunk below an address, and from one on
+-- what is used of a chunk below an address, and from it on
 abbrev below : Chunk → ℕ → Chunk
 below c addr = record { base = c.cursor; size = addr - c.cursor; cursor = c.cursor }
 
 abbrev above : Chunk → ℕ → Chunk
 above c addr = record { base = addr; size = data_end c - addr; cursor = addr }
 
--- the used parts without n addresses from this one on: of the first part that has them two are left
+-- the used parts without the n addresses from this one on: the first part that has them is split in two
 abbrev without : List Chunk → ℕ → ℕ → List Chunk
 without [] addr n = []
 without (c ∷ chunks) addr n =
@@ -32,7 +32,7 @@ all_lengths : (chunks : List Chunk) → lengths chunks ≡ sum (map used_length 
 all_lengths [] = omega arith
 all_lengths (c ∷ chunks) = omega (arith, all_lengths chunks, sum_by-cons (λ (n : ℕ). n) (used_length c) (map used_length chunks))
 
--- where a part that is used lies
+-- the bounds of a range that is used
 low_in : (c : Chunk) (addr n : ℕ) → is_used_by addr n c ≡ true → c.cursor ≤ addr
 low_in c addr n used = grind (arith, nat_tests)
 
@@ -54,7 +54,7 @@ without_fewer (c ∷ chunks) addr n used = elim (cases_Bool (is_used_by addr n c
   ]
 ]
 
--- What lies apart from them is used as before.
+-- A range apart from them is used as before.
 without_other : (chunks : List Chunk) (addr n p m : ℕ) → (addr + n ≤ p) ⊎ (p + m ≤ addr) → IsTrue (is_range_used chunks p m)
     → IsTrue (is_range_used (without chunks addr n) p m)
 without_other [] addr n p m apart used = used
@@ -73,7 +73,7 @@ without_other (c ∷ chunks) addr n p m apart used = elim (cases_Bool (is_used_b
   ])
 ]
 
--- Blocks are used in these chunks, as far as they have bytes.
+-- The blocks that aren't empty are used in these chunks.
 abbrev AreUsed : List Chunk → List Block → Type 0
 AreUsed chunks bs = AllByRecursion (λ (b : Block). 0 < b.size → IsTrue (is_range_used chunks b.addr b.size)) bs
 
@@ -104,7 +104,7 @@ all_used : (state : State) (bs : List Block) → AllByRecursion (λ (b : Block).
 all_used state [] readable = tt
 all_used state (b ∷ bs) readable = ((λ some. (is_filled state b some readable.0).used), all_used state bs readable.1)
 
--- Readable blocks that lie pairwise apart.
+-- Readable blocks that are pairwise apart.
 pub readable_together : (state : State) (bs : List Block) → AllByRecursion (λ (b : Block). IsTrue (is_readable state b)) bs
     → ArePairwiseApart bs
     → sum (map (λ (b : Block). b.size) bs) ≤ used_bytes state

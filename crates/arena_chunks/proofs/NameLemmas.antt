@@ -12,7 +12,7 @@ use Rattle.std.proofs.lemmas.Map.Keys.{IsDistinct-from_sorted}
 use Rattle.std.proofs.lemmas.Map.Made.{update_all_none}
 use Rattle.call_rules.proofs.MapLemmas.{tree_get}
 
--- a tree that takes another's entries in turn is the same finite map
+-- a tree that takes another's entries in order is the same finite map
 pub copied_tree : {X : Type 0} (m tree : BTreeMap ℕ X) → IsStrictlySortedBy nat_cmp (keys_of m.entries)
     → get nat_cmp tree ≡ update_all (eq_by_cmp nat_cmp) (λ q. None) m.entries
     → map.from_entries {R = nat_cmp} tree.entries ≡ map.from_entries m.entries

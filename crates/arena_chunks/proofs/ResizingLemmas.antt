@@ -1,4 +1,4 @@
--- What a call that gives a name's block another size does to an arena and its names.
+-- What a call that resizes a name's block does to an arena and its names.
 use Rattle.std.proofs.Common.{◌≡◌, ◌≢◌, ℕ, ◌+◌, ◌-◌, ◌<◌, ◌≤◌, ◌⊎◌, ◌++◌, min, length, take, inl, inr, ap, refl, sym, ◌∙◌, arith, List, [], ◌∷◌, true, false, Option, Some, None, IsTrue, replicate, eqb-true, eq-eqb}
 use Rattle.std.specs.Prelude.{◌==◌, ◌&&◌, nat_lt}
 use Rattle.std.specs.Option.{is_none, option_and_then}
@@ -127,7 +127,7 @@ serves_shrink old new names name size align k a block before later holds found g
 
 -- ---- Either call
 
--- the bytes of a block that is given another size
+-- the bytes of a block that is resized
 abbrev given : Option ℕ → ℕ → List ℕ → ℕ → List ℕ
 given (Some fill) had bytes size = bytes ++ replicate (size - had) fill
 given None had bytes size = take size bytes
@@ -152,7 +152,7 @@ pub resizing_counts : (fill : Option ℕ) (name size align : ℕ) (reply : Reply
 resizing_counts (Some fill) name size align reply m s none = rw none refl
 resizing_counts None name size align reply m s none = rw none refl
 
--- a call that is refused for what it was given
+-- a call that is refused because of its arguments
 pub resizing_still : (fill : Option ℕ) (reply : Reply) (memory : Memory) (names : Held) (noted : Noted) (name size align : ℕ)
     (source : Source) → Holds memory.state names
     → refused_of reply ≡ 0 → is_placed reply ≡ false
@@ -173,13 +173,13 @@ resizing_still fill reply memory names noted name size align source holds none p
   notes_still memory.state names names noted (λ q p at. at),
 )
 
--- memory runs out only where the block is placed again, which leaves all as it was
+-- memory runs out only if the block is allocated again, which leaves everything as it was
 pub resizing_wants : (fill : Option ℕ) (old new : View) (p : Place) (size align k : ℕ) → ResizesFilling fill old new p size align k Exhausted
     → (way_of fill old.memory.state p size align ≡ Anew) × (new ≡ old)
 resizing_wants fill old new p size align k filling =
     (filling.resizes.outcome.0, ap (λ (m : Memory). view m new.source) filling.fills ∙ filling.resizes.outcome.1.same)
 
--- memory may run out where the block is placed again, or where there is a mark
+-- memory may run out if the block is allocated again, or if there is a mark
 pub resizing_takes : (fill : Option ℕ) (memory : Memory) (names : Held) (marks : List Mark) (bytes : Contents) (name size align : ℕ)
     (a : Place)
     → finite.get names name ≡ Some a → true ≡ is_layout size align → is_wrong fill a.size size ≡ false

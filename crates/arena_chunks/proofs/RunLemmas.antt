@@ -1,4 +1,4 @@
--- A run of calls over an arena, as far as it has come.
+-- The state of a run of calls over an arena, call by call.
 use Rattle.std.proofs.Common.{◌≡◌, ℕ, ◌+◌, ◌<◌, ◌≤◌, ap, refl, sym, subst, ◌∙◌, arith, List, [], ◌∷◌, ◌++◌, Bool, true, false, IsTrue, Option, Some, None, length, take, take_all, sum, append_assoc, append-nil}
 use Rattle.std.specs.Prelude.{◌||◌, slice_get}
 use Rattle.std.specs.Option.{option_map}
@@ -29,7 +29,7 @@ mapped : {A B P : Type 0} (f : A → B) → (o : Option A) (y : B) → option_ma
 mapped f None y is go = absurd (none-some y is)
 mapped f (Some x) y is go = go x refl (same_Some (f x) y is)
 
--- A run goes on by one step, and asks for what that call asks for.
+-- A run continues by one step, and asks for what that call asks for.
 run_more : (m mid next : Machine) (calls : List Call) (call : Call) (ks : List ℕ) (k : ℕ) (replies : List Reply) (reply : Reply)
     → run_from m calls ks ≡ Some (replies, mid) → step call k mid ≡ Some (reply, next)
     → (run_from m (calls ++ call ∷ []) (ks ++ k ∷ []) ≡ Some (replies ++ reply ∷ [], next))
@@ -101,7 +101,7 @@ running_more entry old new names others noted later calls call replies reply run
     neither false true none = cc
     neither true b none = cc
 
--- the machine that the arena and its names are, and what the calls leave beside it
+-- the machine of the arena and its names, and what else is true of the run
 stands : (entry now : View) (names : Held) (noted : Noted) (calls : List Call) (replies : List Reply)
     → (running : IsRunning entry now names noted calls replies)
     → StandsFor now.memory (machine_of now.memory names (named noted.marks) running.bytes)
@@ -137,7 +137,8 @@ running_over entry now names noted calls replies blocks running held = record {
   leaves = leaves entry now names noted calls replies running;
 }
 
--- Where the next call, or what is made of the replies, finds no memory: before the first call, at one that takes memory, or after the last.
+-- The next call, or what is made of the replies, finds no memory: before the first call, at one that takes memory, or
+-- after the last.
 pub running_stopped : (entry now : View) (names : Held) (noted : Noted) (calls : List Call) (done : ℕ) (replies : List Reply)
     → done ≤ length calls
     → (running : IsRunning entry now names noted (take done calls) replies)

@@ -43,7 +43,7 @@ use Rattle.arena_store.proofs.BytesLemmas.{no_bytes}
 use Rattle.arena_core.proofs.WrittenLemmas.{bytes_spliced, bytes_filled}
 use Rattle.arena_chunks.proofs.ChangeLemmas.{padded_empty, IsChange, change_written, change_placed, serves_changed}
 
--- ---- Calls that change nothing, or give all blocks back
+-- ---- Calls that change nothing, and resets
 
 -- a call that places nothing, and gives nothing back at once
 pub asks_none : (call : Call) (reply : Reply) (old new : Memory) (names : Held) (source : Source) → refused_of reply ≡ 0
@@ -170,7 +170,7 @@ serves_dealloc old new names name b source holds found gives =
 
 -- ---- Calls that place a block for a name
 
--- The name holds a place, with what stands there.
+-- The name holds a place, with the bytes there.
 pub serves_placed : (call : Call) (k : ℕ) (old new : Memory) (names : Held) (name : ℕ) (a b : Place) (before later : Source)
     → Holds old.state names
     → IsChange old new names (finite.insert names name b) name a b

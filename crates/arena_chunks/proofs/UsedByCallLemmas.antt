@@ -37,7 +37,7 @@ placed_most old new size align b layout places =
     alloc_most old.memory.state new.memory.state size align places.0 b.addr places.1.valid.entry
     (layout_power size align layout) places.1.outcome.step
 
--- Whole units below a cursor at a multiple of the unit bring no more, up to alignment 16.
+-- Whole units below a cursor at a multiple of the unit bring exactly their size, up to alignment 16.
 pub placed_exact : (old new : View) (size align : ℕ) (b : Block) → IsTrue (is_layout size align) → align ≤ 16
     → size % unit_of old.memory.state align ≡ 0
     → cursor_of old.memory.state.chunks % unit_of old.memory.state align ≡ 0 → PlacesBlock old new size align (Placed b)
@@ -52,9 +52,9 @@ placed_exact old new size align b layout small by below places = go (place old.m
         alloc_exact_in_new old.memory.state new.memory.state size align places.0 b.addr places.1.valid.entry
         (layout_power size align layout) none small by places.1.outcome.step
 
--- ---- A block of another size
+-- ---- A block that is resized
 
--- A block that moves down as it grows brings into use how far it moves.
+-- A block that moves down as it grows brings as many bytes into use as it moves.
 moved_used : (old new : View) (block b : Block) (size align q : ℕ) → GrowsBlock old new block size align (Placed b)
     → growing_of old.memory block size align ≡ Moves q
     → used_bytes new.memory.state ≡ used_bytes old.memory.state + (block.addr - q)
@@ -63,7 +63,7 @@ moved_used old new block b size align q grows is =
     grow_used old.memory.state block.addr block.size block.align size align grows.0 q
     (record { answer = Some b.addr; state = new.memory.state }) grows.1.valid.entry is grows.1.outcome.step
 
--- It brings what it grows by.
+-- It brings at least what it grows by.
 pub grown_least : (old new : View) (block b : Block) (size align q : ℕ) → GrowsBlock old new block size align (Placed b)
     → growing_of old.memory block size align ≡ Moves q
     → used_bytes old.memory.state + (size - block.size) ≤ used_bytes new.memory.state
@@ -86,7 +86,7 @@ grown_most old new block b size align q grows is =
       growth_most old.memory.state block.addr block.size block.align size align q grows.1.valid.entry is,
     )
 
--- By whole units, to a multiple of the least alignment, it brings no more.
+-- By whole units, to a multiple of the least alignment, it brings exactly what it grows by.
 pub grown_exact : (old new : View) (block b : Block) (size align q : ℕ) → GrowsBlock old new block size align (Placed b)
     → growing_of old.memory block size align ≡ Moves q
     → block.addr % block.align ≡ 0 → size % old.memory.state.min_align ≡ 0 → (size - block.size) % unit_of old.memory.state block.align ≡ 0
@@ -96,7 +96,7 @@ grown_exact old new block b size align q grows is aligned whole by =
     ∙ ap (λ (n : ℕ). used_bytes old.memory.state + n)
     (growth_exact old.memory.state block.addr block.size block.align size align q grows.1.valid.entry is aligned whole by)
 
--- A block that moves up as it shrinks takes out of use how far it moves.
+-- A block that moves up as it shrinks frees as many bytes as it moves.
 pub shrunk_used : (old new : View) (block b : Block) (size align q : ℕ) → IsTrue (is_readable old.memory.state block)
     → ShrinksBlock old new block size align (Placed b)
     → shrinking_of old.memory block size align ≡ Moves q → used_bytes new.memory.state + (q - block.addr) ≡ used_bytes old.memory.state
@@ -106,7 +106,7 @@ shrunk_used old new block b size align q readable shrinks is =
     (record { answer = Some b.addr; state = new.memory.state }) shrinks.1.valid.entry
     (readable_used old.memory.state block readable) is shrinks.1.outcome.step
 
--- A block that stays brings nothing into use.
+-- A block that stays changes nothing.
 pub stays_used : (old new : View) (block b : Block) (size align : ℕ) → ResizesBlock Stays old new block size align (Placed b)
     → used_bytes new.memory.state ≡ used_bytes old.memory.state
 stays_used old new block b size align is =
@@ -133,7 +133,7 @@ anew_most old new block b size align layout is =
 given_state : (old new : Memory) (b : Block) → GivesBack old new b → used_bytes new.state ≡ used_bytes (dealloc old.state b.addr b.size)
 given_state old new b gives = ap (λ (w : Memory). used_bytes w.state) gives.memory
 
--- At the cursor it takes its bytes out of use, up to the next multiple of the least alignment.
+-- At the cursor it frees its bytes, up to the next multiple of the least alignment.
 pub returned_used : (old new : Memory) (b : Block) → IsTrue (is_readable old.state b) → GivesBack old new b
     → b.addr ≡ cursor_of old.state.chunks
     → used_bytes new.state + padded_size old.state.min_align b.addr b.size ≡ used_bytes old.state
@@ -141,7 +141,7 @@ returned_used old new b readable gives at =
     ap (λ (n : ℕ). n + padded_size old.state.min_align b.addr b.size) (given_state old new b gives)
     ∙ dealloc_used old.state (place_of b) gives.valid.entry (readable_used old.state b readable) at
 
--- At least alignment 1 these are its size.
+-- With least alignment 1 these are its size.
 pub returned_size : (old new : Memory) (b : Block) → IsTrue (is_readable old.state b) → GivesBack old new b
     → b.addr ≡ cursor_of old.state.chunks → old.state.min_align ≡ 1
     → used_bytes new.state + b.size ≡ used_bytes old.state
@@ -150,26 +150,26 @@ returned_size old new b readable gives at one =
     rw one (padded_exact 1 b.addr b.size (omega arith) (omega arith) (omega arith)) in
     ap (λ (n : ℕ). used_bytes new.state + n) (sym unpadded) ∙ returned_used old new b readable gives at
 
--- Elsewhere it takes none.
+-- Elsewhere it frees none.
 pub returned_elsewhere : (old new : Memory) (b : Block) → GivesBack old new b → b.addr ≢ cursor_of old.state.chunks
     → used_bytes new.state ≡ used_bytes old.state
 returned_elsewhere old new b gives other = given_state old new b gives ∙ dealloc_used_elsewhere old.state b.addr b.size other
 
--- A write changes no number.
+-- A write doesn't change the number of used bytes.
 pub wrote_used : (old new : Memory) (b : Block) (at : ℕ) (list : List ℕ) → WritesBlock old new b at list
     → used_bytes new.state ≡ used_bytes old.state
 wrote_used old new b at list writes = ap (λ (s : State). used_bytes s) writes.state
 
 -- ---- Chunks that double
 
--- They still do after a new block, where its chunk is made first or none is.
+-- They still do after a new block, if its chunk is made first or none is made.
 pub placed_doubling : (z : ℕ) (old new : View) (size align k : ℕ) (b : Block) → z ≤ 16320 → PlacesAfter old new size align k (Placed b)
     → IsTrue (is_made_first old.memory.state size align k) → IsDoubling z old.memory.state.chunks → IsDoubling z new.memory.state.chunks
 placed_doubling z old new size align k b small places first double =
     alloc_doubling z old.memory.state size align k (record { answer = Some b.addr; state = new.memory.state }) small double first
     places.outcome.step
 
--- So they do after a block was given another size.
+-- So they do after a block was resized.
 pub resized_doubling : (z : ℕ) (way : Resizing) (old new : View) (block b : Block) (size align k : ℕ) → z ≤ 16320
     → ResizesAfter way old new block size align k (Placed b)
     → IsTrue (is_resize_made_first way old.memory.state size align k) → IsDoubling z old.memory.state.chunks

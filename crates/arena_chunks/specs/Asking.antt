@@ -1,4 +1,5 @@
--- What calls on an arena ask its source for, and why they are refused: the rules on states and sources, at an arena with its source.
+-- What calls on an arena ask its source for, and why they are refused: the rules on states and sources, for an arena
+-- with its source.
 use Rattle.std.specs.Prelude.{ℕ}
 use Rattle.arena_rules.specs.Asking.{HasGrown as HasStateGrown, AsksWithin as SourceIsAskedWithin, IsRefusedBySource as HasSourceRefused, IsCounted as IsSourceCounted, IsStarved as IsStateStarved, IsFull as IsStateFull}
 use Rattle.arena_store.specs.Source.{View}

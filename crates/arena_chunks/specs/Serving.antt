@@ -1,4 +1,4 @@
--- What one call after another does to an arena and its names.
+-- What a call does to an arena and its names.
 use Rattle.std.specs.Prelude.{◌≡◌, ◌≢◌, ℕ, ◌-◌, nat_lt, Bool, false, Option, Some, None, replicate, IsTrue}
 use Rattle.std.specs.FinMap as finite
 use Rattle.arena_rules.specs.State.{State, IsValid, is_used, AreApart}
@@ -20,38 +20,38 @@ use Rattle.arena_chunks.specs.Runs.{HoldsBytes}
 use Rattle.arena_store.specs.declared.block.Block.{Block}
 use Rattle.arena_chunks.specs.Marks.{Noted, named, Tracks, KeepEntry, Notes}
 
--- the machine that an arena, its names, their bytes and some marks are
+-- the machine of an arena, its names, their bytes and some marks
 abbrev pub machine_of : Memory → Held → Marks → Contents → Machine
 machine_of memory names marks bytes = record { state = memory.state; held = names; bytes = bytes; marks = marks }
 
--- The names' blocks are aligned and in use, and no two have an address in common. That they lie at multiples of the least
--- alignment, too, keeps a cursor that moves up from passing one.
+-- The names' blocks are aligned and in use, and no two have an address in common. They are also at multiples of the
+-- least alignment, so that a cursor that moves up passes none.
 pub record Holds (state : State) (names : Held) : Type 0 where
   pub valid : IsValid state
   pub each : (name : ℕ) (p : Place) → finite.get names name ≡ Some p → IsBlock state p
   pub apart : (m n : ℕ) (p q : Place) → m ≢ n → finite.get names m ≡ Some p → finite.get names n ≡ Some q
       → AreApart p.addr p.size q.addr q.size
 
--- n addresses from this one on lie apart from a place, padded
+-- the n addresses from this one on are apart from a padded place
 abbrev pub IsBeside : ℕ → Place → ℕ → ℕ → Type 0
 IsBeside min_align p addr n = AreApart p.addr (padded_size min_align p.addr p.size) addr n
 
--- Since entry no used byte was lost, and all of them lie beside the names' blocks.
+-- Since entry no used byte was lost, and all of them are apart from the names' blocks.
 pub record Keeps (entry memory : Memory) (names : Held) : Type 0 where
   pub kept : KeepsUsed entry memory
   pub beside : (name : ℕ) (p : Place) → finite.get names name ≡ Some p → (addr : ℕ) → IsTrue (is_used entry.state addr)
       → IsBeside memory.state.min_align p addr 1
 
--- In a call the source refused k requests, and was asked for what the rules ask for; and the arena counted what they count:
--- whichever bytes the names have, and whichever marks there are.
+-- In a call the source refused k requests, and was asked for what the rules ask for, and the arena counted what they
+-- count, whatever the names' bytes and the marks are.
 pub record Asks (call : Call) (reply : Reply) (old new : View) (names : Held) : Type 0 where
   pub asked : (marks : Marks) (bytes : Contents)
       → IsAsked old.source new.source (refused_of reply) (call_requests call (refused_of reply) (machine_of old.memory names marks bytes))
   pub statistics : (marks : Marks) (bytes : Contents)
       → new.memory.statistics ≡ call_statistics call reply (machine_of old.memory names marks bytes) old.memory.statistics
 
--- The call, on no mark, is the machine's step, whichever bytes the arena holds for its names and whichever marks there are; the
--- blocks stay sound, what was kept since any entry is kept, and marks are.
+-- A call other than one on a mark is the machine's step, whatever the names' bytes and the marks are. The blocks stay
+-- sound, what was kept since any entry is kept, and so are marks.
 pub record Serves (call : Call) (reply : Reply) (old new : View) (names held : Held) : Type 0 where
   pub steps : (marks : Marks) (bytes : Contents) → HoldsBytes old.memory names bytes
       → (next : Contents)
@@ -62,13 +62,13 @@ pub record Serves (call : Call) (reply : Reply) (old new : View) (names held : H
   pub keeps : (entry : Memory) → Keeps entry old.memory names → Keeps entry new.memory held
   pub marks : (mark : Point) → IsTrue (accepts mark old.memory.state) → KeepsMark mark old.memory.state new.memory.state
 
--- a call that may place a block, and what the log then has
+-- a call that may place a block, and the log afterwards
 abbrev pub ServesNoting : Call → Reply → View → View → Held → Held → Noted → Noted → Type 0
 ServesNoting call reply old new names held noted later =
     Serves call reply old new names held × Notes new.memory.state names held noted later
 
--- The call of a run is the machine's step, with the marks that there are; and what going back to these needs stays known. What
--- was kept since any entry is kept, and lies in each mark's part, unless all blocks are given back.
+-- The call of a run is the machine's step, with the marks that there are, and going back to these stays possible. What
+-- was kept since any entry is kept, and is in each mark's part, except after a reset.
 pub record ServesRun (call : Call) (reply : Reply) (old new : View) (names held : Held) (noted later : Noted) : Type 0 where
   pub steps : (bytes : Contents) → HoldsBytes old.memory names bytes
       → (next : Contents)
@@ -86,13 +86,13 @@ pub record Wants (call : Call) (old new : View) (names : Held) (marks : Marks) :
   pub takes : (bytes : Contents) → IsTrue (takes_memory call (machine_of old.memory names marks bytes))
   pub same : new ≡ old
 
--- ---- A block of another size: a greater one, where a byte is given that fills what is new, or a smaller one
+-- ---- A block that is resized: with a fill byte for its new bytes it grows, without one it shrinks
 
 abbrev pub resizing : Option ℕ → ℕ → ℕ → ℕ → Call
 resizing (Some fill) name size align = Grow name size align fill
 resizing None name size align = Shrink name size align
 
--- the size is on the wrong side of the block's
+-- the size is smaller than the block's for a grow, or larger for a shrink
 abbrev pub is_wrong : Option ℕ → ℕ → ℕ → Bool
 is_wrong (Some fill) had size = nat_lt size had
 is_wrong None had size = nat_lt had size
@@ -102,12 +102,12 @@ abbrev pub way_of : Option ℕ → State → Place → ℕ → ℕ → Resizing
 way_of (Some fill) state p size align = growing state p.addr p.size p.align size align
 way_of None state p size align = shrinking state p.addr p.size p.align size align
 
--- what is new of a block that had so many bytes has the byte
+-- the new bytes of a block that had this many bytes are the fill byte
 abbrev pub Fills : Option ℕ → Memory → Memory → ℕ → Block → Type 0
 Fills (Some fill) mid new had b = WritesBlock mid new b had (replicate (b.size - had) fill)
 Fills None mid new had b = new ≡ mid
 
--- The block at a place is given the layout, where k requests are refused, and then what is new of it is filled.
+-- The block at a place is given the layout, where k requests are refused, and then its new bytes are filled.
 pub record ResizesFilling (fill : Option ℕ) (old new : View) (p : Place) (size align k : ℕ) (answer : Answer) : Type 0 where
   pub mid : Memory
   pub resizes : ResizesAfter (way_of fill old.memory.state p size align) old (view mid new.source)

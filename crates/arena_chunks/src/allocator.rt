@@ -30,8 +30,8 @@ use std::marker::Model;
 use std::sync::ledger::Ledger;
 pub use text::Str;
 
-/// An arena of least alignment 1 together with the source of its chunks. Contracts see the arena's memory and what the source
-/// shows.
+/// An arena of least alignment 1 together with the source of its chunks. Contracts see the arena's memory, and the
+/// source's refusals and requests.
 #[derive(Drop)]
 pub struct Allocator<C: ChunkSource> {
     pub(crate) arena: Arena<1>,
@@ -52,25 +52,25 @@ impl<C: ChunkSource> Allocator<C> {
     ghost use Rattle.arena_core.specs.Checkpoints.{checkpoint_of, is_accepted, sent_back, GoesBack};
     ghost use Rattle.arena_core.specs.Finding.{chunk_number};
 
-    /// An allocator over an empty arena that grows. Takes no memory.
+    /// Creates an allocator over an empty growing arena. Doesn't allocate.
     pub fn new(alloc: Global, chunks: C) -> Allocator<C>
         ensures { result ≡ view (uncounted_memory (empty_state 1) []) (C.source chunks) }
     {
         Allocator::of(Arena::new(alloc), chunks)
     }
 
-    /// Joins an arena and a source.
+    /// Joins an arena and a source to an allocator.
     pub fn of(arena: Arena<1>, chunks: C) -> Allocator<C>
         ensures { result ≡ view arena (C.source chunks) }
     {
         Allocator { arena, chunks }
     }
 
-    /// An allocator whose arena grows and has one chunk of at least `capacity` bytes; none for 0.
+    /// Creates an allocator whose arena grows and has one chunk of at least `capacity` bytes, or no chunk for 0.
     ///
     /// # Errors
     ///
-    /// As of the arena's `with_capacity`, with the source as it is then.
+    /// Those of the arena's `with_capacity`. The source is returned with the error.
     pub fn with_capacity(
         alloc: Global,
         chunks: C,
@@ -86,7 +86,8 @@ impl<C: ChunkSource> Allocator<C> {
         }
     }
 
-    /// An allocator whose arena doesn't grow, with one chunk: the region but for its last 48 bytes. It is always made.
+    /// Creates an allocator whose arena is fixed, with one chunk: the region but its last 48 bytes. Always returns
+    /// `Ok`.
     pub fn from_raw_parts(
         alloc: Global,
         region: Vec<u8>,
@@ -105,7 +106,8 @@ impl<C: ChunkSource> Allocator<C> {
         }
     }
 
-    /// The same over a region, whose memory may be untouched yet.
+    /// Creates an allocator whose arena is fixed over a region, as `from_raw_parts` does. The region's memory may not
+    /// be touched yet.
     pub fn from_region(alloc: Global, region: Region, chunks: C) -> Allocator<C>
         requires units { length region.items % 16 ≡ 0 }
         requires room { 48 ≤ length region.items }
@@ -116,7 +118,7 @@ impl<C: ChunkSource> Allocator<C> {
         Allocator::of(Arena::from_region(alloc, region), chunks)
     }
 
-    /// Both parts. `of` joins them again.
+    /// Splits the allocator into its two parts, which `of` joins again.
     pub fn into_parts(self) -> (Arena<1>, C)
         ensures memory { result.0 ≡ self.memory }
         ensures source { C.source result.1 ≡ self.source }
@@ -129,7 +131,7 @@ impl<C: ChunkSource> Allocator<C> {
     ///
     /// # Errors
     ///
-    /// As of the arena's call.
+    /// Those of the arena's `try_alloc_layout`.
     #[inline]
     pub fn alloc_layout(&mut self, layout: Layout) -> Result<Block, ArenaErr>
         ensures { PlacesBlock self.old self.new layout.size layout.align (answer_of result) }
@@ -137,7 +139,7 @@ impl<C: ChunkSource> Allocator<C> {
         self.arena.try_alloc_layout(&mut self.chunks, layout)
     }
 
-    /// Gives all blocks back, and all chunks but the newest, as the arena's `reset` does.
+    /// Gives all blocks back, and frees all chunks but the newest, as the arena's `reset` does.
     pub fn reset(&mut self)
         ensures memory { self.new.memory ≡ record {
           state = reset self.old.memory.state;
@@ -151,14 +153,14 @@ impl<C: ChunkSource> Allocator<C> {
         self.arena.reset();
     }
 
-    /// A mark of the present state, as the arena's `checkpoint` makes it. Takes no memory.
+    /// Returns a mark of the present state, as the arena's `checkpoint` does. Doesn't allocate.
     pub fn checkpoint(&self) -> Checkpoint
         ensures { result ≡ checkpoint_of self.now.memory.state }
     {
         self.arena.checkpoint()
     }
 
-    /// Whether the arena can go back to a mark, as its `accepts` tells.
+    /// Returns whether the arena can go back to a mark, as its `accepts` does.
     pub fn accepts(&self, c: Checkpoint) -> bool
         ensures { result ≡ is_accepted c self.now.memory.state }
     {
@@ -175,7 +177,7 @@ impl<C: ChunkSource> Allocator<C> {
         self.arena.rewind(c);
     }
 
-    /// The number of the chunk that has an address, as the arena's `find_chunk` tells.
+    /// Returns the number of the chunk that has an address, as the arena's `find_chunk` does.
     pub fn find_chunk<L: Ledger>(&self, addr: u64, steps: &mut Steps<L>) -> Option<u64>
         ensures number { result ≡ chunk_number addr self.now.memory.state.chunks }
         ensures rises { steps.old ≤ steps.new }
@@ -184,35 +186,36 @@ impl<C: ChunkSource> Allocator<C> {
         self.arena.find_chunk(addr, steps)
     }
 
-    /// How many bytes the chunks have.
+    /// Returns how many bytes the chunks have.
     pub fn capacity(&self) -> u64
         ensures { result ≡ allocated_bytes self.now.memory.state }
     {
         self.arena.allocated_bytes()
     }
 
-    /// How many bytes of the chunks are used.
+    /// Returns how many bytes of the chunks are used.
     pub fn used_bytes(&self) -> u64
         ensures { result ≡ used_bytes self.now.memory.state }
     {
         self.arena.used_bytes()
     }
 
-    /// How many blocks were placed, and how many were grown or shrunk, since the arena began or was reset.
+    /// Returns how many blocks were placed and how many were reallocated, as the arena's `get_allocation_stats` does. A
+    /// shrink that leaves the block where it is isn't counted.
     pub fn get_allocation_stats(&self) -> (u64, u64)
         ensures { let s = self.now.memory.statistics in result ≡ (s.allocations, s.reallocations) }
     {
         self.arena.get_allocation_stats()
     }
 
-    /// The data end of the newest chunk; 16 without a chunk.
+    /// Returns the data end of the newest chunk; 16 without a chunk.
     pub fn data_end(&self) -> u64
         ensures { result ≡ top_of self.now.memory.state.chunks }
     {
         self.arena.data_end()
     }
 
-    /// Does nothing. A function that calls it knows what its contract says, which holds of every allocator.
+    /// Does nothing. A call makes the facts of its contract known, which hold for every allocator.
     #[inline(always)]
     pub fn known(&self)
         ensures state { self.now.memory.state.min_align ≡ 1 }
@@ -221,7 +224,7 @@ impl<C: ChunkSource> Allocator<C> {
         self.arena.known();
     }
 
-    /// 1, the least alignment of the arena's blocks. By this call a caller knows that the arena's state is valid.
+    /// Returns 1, the least alignment of the arena's blocks. A call makes it known that the arena's state is valid.
     pub fn min_align(&self) -> u64
         ensures value { result ≡ 1 }
         ensures state { self.now.memory.state.min_align ≡ 1 }
@@ -230,21 +233,21 @@ impl<C: ChunkSource> Allocator<C> {
         self.arena.min_align()
     }
 
-    /// Whether the arena grows.
+    /// Returns whether the arena grows.
     pub fn is_growing(&self) -> bool
         ensures { result ≡ self.now.memory.state.is_growing }
     {
         self.arena.is_growing()
     }
 
-    /// Whether a block is readable, as the arena's `is_held_place` tells.
+    /// Returns whether a block is readable, as the arena's `is_held_place` does.
     pub fn is_held_place(&self, block: Block) -> bool
         ensures { result ≡ is_readable self.now.memory.state block }
     {
         self.arena.is_held_place(block)
     }
 
-    /// The bytes of a block.
+    /// Returns the bytes of a block.
     pub fn read(&self, block: Block) -> &[u8]
         requires { IsTrue (is_readable self.now.memory.state block) }
         ensures { result.now ≡ bytes_from (image self.now.memory) block.addr block.size }
@@ -252,7 +255,7 @@ impl<C: ChunkSource> Allocator<C> {
         self.arena.read(block)
     }
 
-    /// The bytes of a block, to be written, as the arena's `read_mut` lends them.
+    /// Returns the bytes of a block for writing, as the arena's `read_mut` does.
     pub fn read_mut(&mut self, block: Block) -> &mut [u8]
         requires { IsTrue (is_readable self.old.memory.state block) }
         ensures* writes_back { sem 𝓛 (LendsBlockOf C.row C.ChunkSource self.entry block result) }
@@ -263,7 +266,7 @@ impl<C: ChunkSource> Allocator<C> {
         self.arena.read_mut(block)
     }
 
-    /// Replaces a range of a block's bytes.
+    /// Replaces bytes of a block, from the index `at` on.
     pub fn write(&mut self, block: Block, at: u64, bytes: &[u8])
         requires readable { IsTrue (is_readable self.old.memory.state block) }
         requires range { at + length bytes.now ≤ block.size }
@@ -273,7 +276,7 @@ impl<C: ChunkSource> Allocator<C> {
         self.arena.write(block, at, bytes);
     }
 
-    /// Changes a range of a block's bytes in their place, as the arena's `write_with` does.
+    /// Changes a range of a block's bytes in place, as the arena's `write_with` does.
     #[inline(always)]
     pub fn write_with<E: Edit>(&mut self, block: Block, at: u64, size: u64, e: &E)
         requires readable { IsTrue (is_readable self.old.memory.state block) }
@@ -285,7 +288,7 @@ impl<C: ChunkSource> Allocator<C> {
         self.arena.write_with(block, at, size, e);
     }
 
-    /// Moves a range of a block's bytes to another place in the block, in one move of memory. The two may overlap.
+    /// Moves a range of a block's bytes to another index of the block, in one memory move. The two ranges may overlap.
     #[inline(always)]
     pub fn move_within(&mut self, block: Block, from: u64, to: u64, size: u64)
         requires readable { IsTrue (is_readable self.old.memory.state block) }
@@ -299,7 +302,7 @@ impl<C: ChunkSource> Allocator<C> {
     }
 
     /// Copies `size` bytes of a block, from the index `from` on, to the index `to` of another block of this arena or of
-    /// the same, in one move of memory. The two ranges may overlap.
+    /// the same block, in one memory move. The two ranges may overlap.
     pub fn copy_between(&mut self, source: Block, from: u64, target: Block, to: u64, size: u64)
         requires source { IsTrue (is_readable self.old.memory.state source) }
         requires target { IsTrue (is_readable self.old.memory.state target) }

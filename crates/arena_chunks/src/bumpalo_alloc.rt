@@ -14,12 +14,12 @@ use std::fmt;
 #[derive(Drop, Debug)]
 pub struct Excess(pub Block, pub u64);
 
-/// A block can't have the wanted size where it lies.
+/// A block can't be given the requested size in place.
 #[derive(Clone, Copy, PartialEq, Eq, Debug)]
 pub struct CannotReallocInPlace;
 
 impl CannotReallocInPlace {
-    /// The error in words.
+    /// Returns the message of the error.
     pub fn description(&self) -> &'static str
         ensures { result.now ≡ codes "cannot reallocate allocator's memory in place" }
     {
@@ -37,7 +37,7 @@ impl fmt::Display for CannotReallocInPlace {
 
 impl Error for CannotReallocInPlace {}
 
-// The layout of `n` elements in a row, where it has some bytes.
+// Returns the layout of `n` elements in a row, if it is valid and not empty.
 fn array_of(element: Layout, n: u64) -> Option<Layout>
     ensures answer { is_some result ≡ is_array element.size element.align n }
     ensures value { IfSome result (λ layout. (layout.size ≡ n * element.size)
@@ -56,8 +56,8 @@ pub trait Alloc: OverArena {
     ///
     /// # Errors
     ///
-    /// `AllocErr` where all requests for a chunk were refused, `OutOfMemory` where memory for the table of chunks
-    /// runs out. Nothing changes.
+    /// `AllocErr` if there is no place and all requests for a chunk were refused, `OutOfMemory` if there is no memory
+    /// for the table of chunks. Nothing changes.
     fn alloc(&mut self, layout: Layout) -> Result<Block, ArenaErr>
         ensures { PlacesBlock (Self.view self.old) (Self.view self.new) layout.size layout.align
             (answer_of result) };
@@ -68,39 +68,39 @@ pub trait Alloc: OverArena {
         ensures given { GivesBack (Self.view self.old).memory (Self.view self.new).memory block }
         ensures source { (Self.view self.new).source ≡ (Self.view self.old).source };
 
-    /// Gives a block another size at its alignment. An empty block is placed again.
+    /// Resizes a block and keeps its alignment. An empty block is allocated again.
     ///
     /// # Errors
     ///
-    /// `AllocErr` with no request where the new size and the alignment are no layout, and otherwise as of `alloc`. The
-    /// block stays as it was.
+    /// `AllocErr` without a request if the new size and the alignment aren't a valid layout, and otherwise those of
+    /// `alloc`. The block is unchanged.
     fn realloc(&mut self, block: Block, new_size: u64) -> Result<Block, ArenaErr>
         requires { IsTrue (is_readable (Self.view self.old).memory.state block) }
         ensures { Reallocates (Self.view self.old) (Self.view self.new) block new_size (answer_of result) };
 
-    /// Places a block, as `alloc` does; each byte of it is 0.
+    /// Places a block as `alloc` does, and sets each byte to 0.
     ///
     /// # Errors
     ///
-    /// As of `alloc`.
+    /// See `alloc`.
     fn alloc_zeroed(&mut self, layout: Layout) -> Result<Block, ArenaErr>
         ensures placed { PlacesBlock (Self.view self.old) (Self.view self.new) layout.size layout.align
             (answer_of result) }
         ensures zeros { IfOk result (λ b.
             bytes_from (image (Self.view self.new).memory) b.addr layout.size ≡ replicate layout.size 0) };
 
-    /// The least and the greatest size that a block of this layout may be given back with: both are its own.
+    /// Returns the least and the greatest size that a block of this layout may be given back with: both are its own.
     fn usable_size(&self, layout: Layout) -> (u64, u64)
         ensures { result ≡ (layout.size, layout.size) }
     {
         (layout.size, layout.size)
     }
 
-    /// Places a block, as `alloc` does, and answers it with its size.
+    /// Places a block as `alloc` does, and returns it with its size.
     ///
     /// # Errors
     ///
-    /// As of `alloc`.
+    /// See `alloc`.
     fn alloc_excess(&mut self, layout: Layout) -> Result<Excess, ArenaErr>
         ensures placed { PlacesBlock (Self.view self.old) (Self.view self.new) layout.size layout.align
             (answer_by (λ e. e.0) result) }
@@ -110,11 +110,11 @@ pub trait Alloc: OverArena {
         Ok(Excess(block, layout.size))
     }
 
-    /// Gives a block another size, as `realloc` does, and answers it with that size.
+    /// Resizes a block as `realloc` does, and returns it with its new size.
     ///
     /// # Errors
     ///
-    /// As of `realloc`.
+    /// See `realloc`.
     fn realloc_excess(&mut self, block: Block, new_size: u64) -> Result<Excess, ArenaErr>
         requires { IsTrue (is_readable (Self.view self.old).memory.state block) }
         ensures moved { Reallocates (Self.view self.old) (Self.view self.new) block new_size
@@ -125,11 +125,11 @@ pub trait Alloc: OverArena {
         Ok(Excess(moved, new_size))
     }
 
-    /// Lets a block have a greater size where it lies, which only its own size is.
+    /// Grows a block in place. This succeeds only for the block's own size.
     ///
     /// # Errors
     ///
-    /// `CannotReallocInPlace` where the size is greater.
+    /// `CannotReallocInPlace` if the new size is greater.
     fn grow_in_place(&mut self, block: Block, new_size: u64) -> Result<(), CannotReallocInPlace>
         requires { block.size ≤ new_size }
         ensures refused { IsErr result ↔ (block.size < new_size) }
@@ -141,11 +141,11 @@ pub trait Alloc: OverArena {
         Ok(())
     }
 
-    /// Lets a block have a smaller size where it lies, which only its own size is.
+    /// Shrinks a block in place. This succeeds only for the block's own size.
     ///
     /// # Errors
     ///
-    /// `CannotReallocInPlace` where the size is less.
+    /// `CannotReallocInPlace` if the new size is smaller.
     fn shrink_in_place(&mut self, block: Block, new_size: u64) -> Result<(), CannotReallocInPlace>
         requires { new_size ≤ block.size }
         ensures refused { IsErr result ↔ (new_size < block.size) }
@@ -161,7 +161,7 @@ pub trait Alloc: OverArena {
     ///
     /// # Errors
     ///
-    /// `AllocErr` with no request for an element of no bytes, and otherwise as of `alloc`.
+    /// `AllocErr` without a request for an element of no bytes, and otherwise those of `alloc`.
     fn alloc_one(&mut self, element: Layout) -> Result<Block, ArenaErr>
         ensures empty { element.size ≡ 0 → Refuses (Self.view self.old) (Self.view self.new)
             (answer_of result) }
@@ -175,7 +175,7 @@ pub trait Alloc: OverArena {
         self.alloc(element)
     }
 
-    /// Gives the block of one element back; one of no bytes is left alone.
+    /// Gives the block of one element back. A block of no bytes isn't given back.
     fn dealloc_one(&mut self, block: Block)
         requires { IsTrue (is_readable (Self.view self.old).memory.state block) }
         ensures empty { block.size ≡ 0 → self.new ≡ self.old }
@@ -192,7 +192,7 @@ pub trait Alloc: OverArena {
     ///
     /// # Errors
     ///
-    /// `AllocErr` with no request where the array is no layout or has no bytes, and otherwise as of `alloc`.
+    /// `AllocErr` without a request if the array is no valid layout or has no bytes, and otherwise those of `alloc`.
     fn alloc_array(&mut self, element: Layout, n: u64) -> Result<Block, ArenaErr>
         ensures refused { is_array element.size element.align n ≡ false
             → Refuses (Self.view self.old) (Self.view self.new) (answer_of result) }
@@ -205,11 +205,12 @@ pub trait Alloc: OverArena {
         }
     }
 
-    /// Gives the block of `n_old` elements the size of `n_new`.
+    /// Resizes the block of `n_old` elements for `n_new`.
     ///
     /// # Errors
     ///
-    /// `AllocErr` with no request where one of the arrays is no layout or has no bytes, and otherwise as of `realloc`.
+    /// `AllocErr` without a request if one of the arrays is no valid layout or has no bytes, and otherwise those of
+    /// `realloc`.
     fn realloc_array(
         &mut self,
         block: Block,
@@ -236,7 +237,7 @@ pub trait Alloc: OverArena {
     ///
     /// # Errors
     ///
-    /// `AllocErr` where the array is no layout or has no bytes. Nothing changes.
+    /// `AllocErr` if the array is no valid layout or has no bytes. Nothing changes.
     fn dealloc_array(&mut self, block: Block, element: Layout, n: u64) -> Result<(), ArenaErr>
         requires { IsTrue (is_readable (Self.view self.old).memory.state block) }
         ensures refused { is_array element.size element.align n ≡ false

@@ -1,5 +1,6 @@
-//! What the records of calls on blocks mean for a layer above, as facts. A layer that has a value in an arena needs these
-//! alone, and opens neither chunks nor cursors. Each is a call that does nothing: made in a body, it gives its facts there.
+//! What the records of calls on blocks mean for a layer above, as facts. A layer that stores a value in an arena needs
+//! only these, and opens neither chunks nor cursors. Each is a function that does nothing: a call in a body makes its
+//! facts known there.
 mod asking;
 mod blocks;
 mod calls;

@@ -19,14 +19,14 @@ cons_same : {A : Type 0} (x y : A) (xs ys : List A) → x ∷ xs ≡ y ∷ ys �
 cons_same x y xs ys same = (cc, cc)
 
 module _ {T : Type 0} (kind : Kind T) (ids : CloneInSemanticIds) (a c : Memory) where
-  -- Two options mean what copies mean where both are none, or their values do.
+  -- Two options are alike if and only if both are `None`, or their values are alike.
   pub options_alike : (v w : Option T) → AreAlike (option_of kind) ids a v c w ↔ AreOptionsAlike kind ids a v c w
   options_alike None None = ((λ same. tt), (λ alike. refl))
   options_alike None (Some w) = ((λ same. cc), (λ alike. absurd alike))
   options_alike (Some v) None = ((λ same. cc), (λ alike. absurd alike))
   options_alike (Some v) (Some w) = (some_same _ _, (λ alike. ap Some alike))
 
-  -- Two lists do where their values do, position by position.
+  -- Two lists are alike if and only if their values are, position by position.
   lists_apart : (vs ws : List T) → AreAlike (row_of kind) ids a vs c ws → AreListsAlike kind ids a vs c ws
   lists_apart [] [] same = record { lengths = refl; each = λ i v w at there. cc }
   lists_apart [] (w ∷ ws) same = absurd cc
@@ -55,13 +55,13 @@ module _ {T : Type 0} (kind : Kind T) (ids : CloneInSemanticIds) (a c : Memory) 
 
 module _ {K V S : Type 0} (k : MapTypes K V S) (is_default : S → Type 0) (keys : Kind K) (values : Kind V) (ids : CloneInSemanticIds)
     (a c : Memory) where
-  -- what is found under a content means what its value means
+  -- the meaning of what is found under a content is that of its value
   found_means : (m : Memory) (o : Option (K × V))
       → of_some (λ (p : K × V). values.whole m p.1) o ≡ of_some (values.whole m) (value_of o)
   found_means m None = refl
   found_means m (Some p) = refl
 
-  -- Two maps mean what copies mean where what is found under each content does.
+  -- Two maps are alike if and only if what is found under each content is.
   pub maps_alike : (v w : HashMap K V S) → AreAlike (map_of k is_default keys values) ids a v c w ↔ AreMapsAlike k values ids a v c w
   maps_alike v w = (
     (λ same q. (found q).0 (sym (found_means c (map_in k c w q)) ∙ ap (λ (is : List ℕ → Option values.Whole). is q) same

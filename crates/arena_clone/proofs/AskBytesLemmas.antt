@@ -1,4 +1,4 @@
--- The bytes that calls which ask for one block after another bring into use.
+-- The bytes that calls bring into use which ask for one block after another.
 use Rattle.std.proofs.Common.{◌≡◌, ℕ, ◌+◌, ◌-◌, ◌*◌, ◌≤◌, max, ap, refl, ◌∙◌, arith, Option, Some, None, List, [], ◌∷◌, IsTrue}
 use Rattle.std.proofs.Math.Nat.{mul-le-mul_right}
 use Rattle.std.proofs.lemmas.Bool.Decides.{nat_tests}
@@ -21,7 +21,7 @@ module _ {size align : ℕ} {old new : View} {bs : List Block} {end : Option All
   begun : used takes.start ≡ used old
   begun = ap used_bytes takes.written.state
 
-  -- One block brings its size and its padding into use at most, and what follows the rest.
+  -- One block brings at most its size and its padding into use, and what follows the rest.
   takes_most : (more : ℕ) → ((between : View) (rest : List Block) → goes between rest → used new ≤ used between + more)
       → used new ≤ used old + (size + (max align 16 - 1) + more)
   takes_most more on = go takes.answer takes.places takes.then
@@ -36,7 +36,7 @@ module _ {size align : ℕ} {old new : View} {bs : List Block} {end : Option All
           omega (arith, begun, ap used then.2, ap (λ m. used_bytes m.state) places.1.outcome.1.memory)
       go Exhausted places then = omega (arith, begun, ap used then.2, ap used places.1.outcome.same)
 
-  -- It brings at least its size, where nothing is refused.
+  -- It brings at least its size, if nothing is refused.
   takes_least : (more : ℕ) → end ≡ None → ((between : View) (rest : List Block) → goes between rest → used between + more ≤ used new)
       → used old + (size + more) ≤ used new
   takes_least more none on = go takes.answer takes.places takes.then
@@ -48,7 +48,7 @@ module _ {size align : ℕ} {old new : View} {bs : List Block} {end : Option All
       go (Refused k) places then = absurd (let no = then.0 in cc (no, none))
       go Exhausted places then = absurd (let no = then.0 in cc (no, none))
 
-  -- Where it is refused the state is as it was.
+  -- If it is refused the state is as it was.
   takes_none : (e : AllocError) → end ≡ Some e → ((between : View) (rest : List Block) → goes between rest → end ≡ None)
       → new.memory.state ≡ old.memory.state
   takes_none e some on = go takes.answer takes.places takes.then
@@ -60,7 +60,7 @@ module _ {size align : ℕ} {old new : View} {bs : List Block} {end : Option All
           ap (λ v. v.memory.state) then.2 ∙ ap (λ m. m.state) places.1.outcome.1.memory ∙ takes.written.state
       go Exhausted places then = ap (λ v. v.memory.state) then.2 ∙ ap (λ v. v.memory.state) places.1.outcome.same ∙ takes.written.state
 
--- the slots of a table for so many pairs, by their bytes
+-- the slots of a table for this many pairs, by their bytes
 slots_most : (pairs slots slot : ℕ) → IsSlotsFor pairs slots → slots * slot ≤ 2 * max (2 * pairs) 8 * slot
 slots_most pairs slots slot is = mul-le-mul_right slot (let few : slots ≤ 2 * max (2 * pairs) 8 = omega (arith, is.2) in few)
 

@@ -32,7 +32,7 @@ module _ {T A B : Type 0} (first : Kind A) (second : Kind B) (a : T → A) (b : 
         };
       }
 
-  -- Where the second part is refused, so is the value.
+  -- If the second part is refused, so is the value.
   pub second_refused : {e : AllocError} → MakesNew second meant ys mid new (Err e)
       → MakesNew (both_of first second a b) (meaning, meant) (xs ++ ys) old new (Err e)
   second_refused then = record {

@@ -1,4 +1,4 @@
--- Copies of texts that are put together: the room that is made for just as many bytes, and then the bytes.
+-- Copies of text builders: room is made for exactly the bytes, and then they are copied.
 use Rattle.std.proofs.Common.{◌≡◌, ap, sym, refl, ◌∙◌, arith, List, [], ◌∷◌, take, Ok, Err, IsTrue}
 use Rattle.std.specs.Prelude.{Result}
 use Rattle.std.proofs.lemmas.List.{take_all}

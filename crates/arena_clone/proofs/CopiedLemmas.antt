@@ -12,7 +12,7 @@ use Rattle.arena_clone.specs.Origins.{IsOrigin}
 
 module _ (old mid new : View) (size align : ℕ) (b : Block) (list : List ℕ) (places : PlacesBlock old mid size align (Placed b))
     (writes : WritesBlock mid.memory new.memory b 0 list) where
-  -- A block that was placed is so after a write.
+  -- Placing a block and then writing it is placing it.
   pub copied_placed : new.source ≡ mid.source → PlacesBlock old new size align (Placed b)
   copied_placed source = subst (λ (s : Source). PlacesBlock old (view new.memory s) size align (Placed b)) (sym source)
       (places_written old.memory mid.memory new.memory old.source mid.source size align b 0 list places writes)

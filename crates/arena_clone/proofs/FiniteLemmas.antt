@@ -34,7 +34,7 @@ module _ {K V : Type 0} (content : K → List ℕ) where
   none_found q [] others = refl
   none_found q (p ∷ ps) others = rw others.0 (none_found q ps others.1)
 
-  -- One more pair whose content is new is put there.
+  -- One more pair whose content is new is found there.
   pub found_more : (ps : List (K × V)) (k : K) (v : V) → AreOthers (content k) ps
       → with_pair (first_of content ps) (content k) k v ≡ first_of content (ps ++ (k, v) ∷ [])
   found_more ps k v others = fun_ext (λ q. elim (cases_Bool (bytes_eq q (content k))) [
@@ -61,7 +61,7 @@ module _ {K V : Type 0} (content : K → List ℕ) where
       or_none None = refl
       or_none (Some p) = refl
 
--- where a content stands once in a list, those before it are others
+-- if a content is once in a list, those before it are others
 pub once_others : (cs ds : List (List ℕ)) (q : List ℕ) → IsDistinct bytes_eq (cs ++ q ∷ ds) → AllByRecursion (λ (c : List ℕ). bytes_eq c
     q ≡ false) cs
 unfolding IsDistinct
@@ -78,7 +78,7 @@ module _ {K V : Type 0} (content : K → List ℕ) where
   abbrev contents : List (K × V) → List (List ℕ)
   contents ps = map (λ (p : K × V). content p.0) ps
 
-  -- what is found under a content stands in the list
+  -- what is found under a content is in the list
   found_split : (q : List ℕ) (ys : List (K × V)) (x : K × V) → first_of content ys q ≡ Some x
       → (ls rs : List (K × V)) × (ys ≡ ls ++ x ∷ rs)
   found_split q [] x found = absurd (cc found)
@@ -91,13 +91,13 @@ module _ {K V : Type 0} (content : K → List ℕ) where
         (y ∷ rest.0, rest.1, ap (λ zs. y ∷ zs) rest.2))
   ]
 
-  -- a pair is passed over where its content is another
+  -- a pair with another content is skipped
   found_without : (q : List ℕ) (ls rs : List (K × V)) (x : K × V) → bytes_eq (content x.0) q ≡ false
       → first_of content (ls ++ x ∷ rs) q ≡ first_of content (ls ++ rs) q
   found_without q [] rs x other = cond-false (bytes_eq (content x.0) q) (Some x) (first_of content rs q) other
   found_without q (l ∷ ls) rs x other = ap (cond (bytes_eq (content l.0) q) (Some l)) (found_without q ls rs x other)
 
-  -- Without a pair, the others are once still, and have other contents.
+  -- Without a pair, the others are still once, and have other contents.
   once_front : (ls rs : List (K × V)) (x : K × V) → AreOnce content (ls ++ x ∷ rs) → AreOnce content (ls ++ rs)
   unfolding IsDistinct
   once_front [] rs x once = once.1
@@ -131,7 +131,7 @@ module _ {K V : Type 0} (content : K → List ℕ) where
   ])
 
   module _ {B : Type 0} (f : K × V → List B) where
-    -- what is made of one among others is made of it first
+    -- what is made of one among others may be moved to the front
     moved_front : (a l r : List B) → IsPermutation (a ++ (l ++ r)) (l ++ (a ++ r))
     moved_front a l r =
         let swapped = IsPermutation-append_left r (a ++ l) (l ++ a) (IsPermutation-append_comm a l) in

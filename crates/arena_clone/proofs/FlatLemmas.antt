@@ -16,7 +16,7 @@ use Rattle.arena_clone.specs.Rows.{CopiesRow}
 use Rattle.arena_exchange.specs.declared.ids.CloneInSemanticIds.{CloneInSemanticIds}
 
 module _ {T : Type 0} (kind : Kind T) (ids : CloneInSemanticIds) (flat : IsFlat kind ids) where
-  -- A row of flat values elsewhere is a copy of the row.
+  -- The same row of flat values elsewhere is a copy of the row.
   pub row_made : (a c : Memory) (xs : List T)
       → IsMade (row_of kind) ((row_of kind).by_ids ids ((row_of kind).whole a xs)) c [] xs
   row_made a c xs =
@@ -41,7 +41,7 @@ module _ {T : Type 0} (kind : Kind T) (ids : CloneInSemanticIds) (flat : IsFlat 
     made = row_made source new.memory xs;
   })
 
--- The first values of a block whose front was written with the front of another.
+-- The first values of a block whose front was overwritten with the front of another.
 pub front_written : {T : Type 0} (dec : List ℕ → T) (source old new : Memory) (from target : Block) (size n : ℕ)
     → n * size ≤ from.size → n * size ≤ target.size → WritesBlock old new target 0 (bytes_from (image source) from.addr (n * size))
     → elements size dec n (bytes_of new target) ≡ elements size dec n (bytes_of source from)

@@ -1,4 +1,4 @@
--- The lemmas that a crate above cites: what calls leave of values at every depth, and values that are made of parts.
+-- The lemmas that crates above cite: what calls leave of values at every depth, and values that are made of parts.
 pub use Rattle.arena_exchange.proofs.Layers.{same_places, same_asked, asked_then, asked_refused, asked_same}
 pub use Rattle.arena_exchange.proofs.Layers.{
   deep_agree,

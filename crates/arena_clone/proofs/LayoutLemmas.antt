@@ -1,4 +1,4 @@
--- A block that may be read has a layout, so that one of its size may be placed.
+-- A block that is readable has a layout, so one of its size may be placed.
 use Rattle.std.proofs.Common.{◌≡◌, ℕ, ◌+◌, ◌-◌, ◌^◌, ◌≤◌, refl, arith, true, IsTrue}
 use Rattle.std.specs.Prelude.{nat_le}
 use Rattle.std.proofs.lemmas.Bool.Decides.{nat_tests}
@@ -19,7 +19,7 @@ power _ four = refl
 power _ eight = refl
 power _ sixteen = refl
 
--- A size has a layout of an item's alignment if it is as much below 2 ^ 63.
+-- A size has a layout of an item's alignment if their sum is at most 2 ^ 63.
 pub fits_layout : (size align : ℕ) → IsAlign align → size + align ≤ 2 ^ 63 → IsTrue (is_layout size align)
 fits_layout size align is few =
     let near = up-is size align is in

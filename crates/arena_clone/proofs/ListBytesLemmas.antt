@@ -21,7 +21,7 @@ use Rattle.arena_clone.specs.AskBytes.{have_layouts, least_of, most_of, BringsBy
 use Rattle.arena_clone.proofs.AskBytesLemmas.{asks_least, asks_most, one_none}
 use Rattle.arena_clone.proofs.LayoutLemmas.{fits_layout}
 
--- a growth that takes room for just so many bytes, if it takes any
+-- a growth that takes room for exactly this many bytes, if it takes any
 abbrev pub IsRoomOf : ℕ → ℕ → ℕ → Growth → Type 0
 IsRoomOf bytes size align Stays = bytes ≡ 0
 IsRoomOf bytes size align (GrowsTo more) = (more * size ≡ bytes) × IsTrue (is_layout (more * size) align)
@@ -34,7 +34,7 @@ room_of true can bytes size align n none some = none refl
 room_of false true bytes size align n none some = some refl
 room_of false false bytes size align n none some = tt
 
--- A new vector takes room for its values alone,
+-- A new vector takes room for exactly its values,
 vector_room : (size align n : ℕ) → IsAlign align → IsRoomOf (n * size) size align (new_growth size n)
 unfolding fits growth_to
 vector_room size align n is =
@@ -53,7 +53,7 @@ text_room n = room_of (nat_le n 0) (nat_le n (2 ^ 63 - 1)) n 1 1 n (λ below. gr
     (λ can. (omega arith, fits_layout (n * 1) 1 one (grind (arith, nat_tests))))
 
 module _ (old new : View) (bs : List Block) (end : Option AllocError) where
-  -- One thing that is asked for, by its bytes.
+  -- One block that is asked for, by its bytes.
   one_brings : (x : Ask) (bytes : ℕ) → have_layouts (x ∷ []) → (end ≡ None → least_of x ≡ bytes) → most_of x ≤ bytes + 15
       → AsksFor (x ∷ []) old new bs end → BringsBytes bytes old new end
   one_brings x bytes fit least most asked = record {

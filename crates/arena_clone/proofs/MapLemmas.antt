@@ -1,4 +1,4 @@
--- Copies of maps: the table that is placed, and what stands in it when all pairs were put.
+-- Copies of maps: the table that is placed, and what it has once all pairs were put.
 use Rattle.std.proofs.Common.{◌≡◌, ℕ, zero, suc, ◌+◌, ◌*◌, ◌/◌, ◌^◌, ◌<◌, refl, sym, ap, subst, ◌∙◌, arith, mul-div_cancel, zero-mul, length, List, [], ◌∷◌, Option, Some, Ok, Err, Bool, true, false}
 use Rattle.std.proofs.Math.Path.{fun_ext}
 use Rattle.std.specs.Prelude.{Result, IsPermutation, cond, map, bytes_eq}
@@ -29,7 +29,7 @@ use Rattle.arena_clone.proofs.FiniteLemmas.{pairs_turned}
 -- ---- The table
 
 module _ {K V S : Type 0} (k : MapTypes K V S) (old new : View) where
-  -- An empty map for pairs is placed, or refused, as one thing that is asked for.
+  -- An empty map for pairs is placed, or refused, as one block that is asked for.
   pub table_placed : (n : ℕ) (result : Result (HashMap K V S) AllocError) → n < 2 ^ 32
       → PlacesMap {X = HashMap K V S} k (λ m. m) old new n result
       → PlacesAll (table_ask k n ∷ []) old new (block_of (λ (m : HashMap K V S). m.table.block) result) (refusal result)
@@ -58,7 +58,7 @@ module _ {K V S : Type 0} (k : MapTypes K V S) (old new : View) where
       frame (Ok e) places = places.frame
       frame (Err err) places = rw places.err (frame_reflexive old.memory [])
 
--- An empty map holds copies of no pairs.
+-- An empty map has copies of no pairs.
 pub table_empty : {K V S : Type 0} {k : MapTypes K V S} {old new : View} {n : ℕ} {e : HashMap K V S} {source : Memory}
     → PlacesMap {X = HashMap K V S} k (λ m. m) old new n (Ok e) → HoldsCopies k source new.memory e [] [] e
 table_empty places = record {
@@ -73,7 +73,7 @@ table_empty places = record {
 
 -- ---- A map of copies
 
--- as many slots, where they have as many bytes
+-- tables with as many bytes have as many slots
 same_slots : (slots other size : ℕ) → slots * (size + 1) ≡ other * (size + 1) → slots ≡ other
 same_slots slots other size same =
     sym (mul-div_cancel slots (omega arith)) ∙ ap (λ n. n / (size + 1)) same ∙ mul-div_cancel other (omega arith)

@@ -1,4 +1,4 @@
--- What stands where values are copied from is what it was while their copies are made.
+-- The sources of copies stay as they were while the copies are made.
 use Rattle.std.proofs.Common.{◌≡◌, ℕ, zero, suc, ◌+◌, subst, sym, List, [], ◌∷◌, ◌++◌, Some, Ok, Err, IsTrue}
 use Rattle.std.specs.Prelude.{Result, slice_get}
 use Rattle.std.specs.List.{AllByRecursion, flat_map}
@@ -19,14 +19,14 @@ use Rattle.arena_clone.specs.Rows.{CopiesRow}
 use Rattle.arena_exchange.specs.declared.ids.CloneInSemanticIds.{CloneInSemanticIds}
 use Rattle.arena_clone.proofs.RowLemmas.{all_at, first_more, first_refused, CopiesFirst}
 
--- What holds of the elements of all of a list holds of those of one of them.
+-- What holds of the elements of all members of a list holds of those of one,
 pub all_of_one : {A B : Type 0} (P : B → Type 0) (f : A → List B) (xs : List A) (i : ℕ) (x : A) → AllByRecursion P (flat_map f xs)
     → slice_get xs i ≡ Some x → AllByRecursion P (f x)
 all_of_one P f [] i x all at = absurd (cc at)
 all_of_one P f (y ∷ ys) zero x all at = subst (λ z. AllByRecursion P (f z)) (cc at) (all_each P (f y) (flat_map f ys) all).0
 all_of_one P f (y ∷ ys) (suc i) x all at = all_of_one P f ys i x (all_each P (f y) (flat_map f ys) all).1 at
 
--- So do those of each.
+-- and of those of each.
 pub all_of_all : {A B : Type 0} (P : B → Type 0) (f : A → List B) (xs : List A) → AllByRecursion P (flat_map f xs)
     → AllByRecursion (λ (x : A). AllByRecursion P (f x)) xs
 all_of_all P f [] all = tt
@@ -38,7 +38,8 @@ module _ {there : Memory → Memory} {is_beside : Block → List Block → Type 
   beside_none (b ∷ bs) = (origin.none b, beside_none bs)
 
   module _ {old new : Memory} {before after : List Block} (frame : Frame old new before after) where
-    -- Blocks that stand beside a call's may be read after it, with their bytes, and stand beside its blocks then.
+    -- Blocks that are unaffected by a call's are readable after it, with their bytes, and unaffected by its blocks
+    -- then.
     blocks_kept : (bs : List Block) → AreReadable (there old).state bs → AreBeside is_beside bs before
         → AreReadable (there new).state bs × Agree (there old) (there new) bs × AreBeside is_beside bs after
     blocks_kept [] readable beside = (tt, tt, tt)
@@ -52,7 +53,7 @@ module _ {there : Memory → Memory} {is_beside : Block → List Block → Type 
       pub value_agrees : Agree (there old) (there new) (kind.deep (there old) v)
       value_agrees = (blocks_kept (kind.deep (there old) v) (is.readable (there old) v held) beside).1
 
-      -- So do the values of such blocks, which are what they were.
+      -- So are the values of such blocks, which are what they were.
       pub value_held : kind.is_held (there new) v
       value_held = is.held (there old) (there new) v held value_agrees
           (blocks_kept (kind.deep (there old) v) (is.readable (there old) v held) beside).0
@@ -67,7 +68,7 @@ module _ {there : Memory → Memory} {is_beside : Block → List Block → Type 
       value_copied copies =
           rw (sym (is.whole (there old) (there new) v value_agrees), sym (is.asks (there old) (there new) v value_agrees)) copies
 
-  -- ---- Beside a block that was placed
+  -- ---- While a block is placed
 
   module _ {old mid : Memory} {blocks : List Block} (frame : Frame old mid [] blocks) {T : Type 0} {kind : Kind T}
       (is : IsLawful kind) (v : T) (held : kind.is_held (there old) v) where

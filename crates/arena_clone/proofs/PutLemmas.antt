@@ -39,7 +39,7 @@ use Rattle.arena_clone.proofs.FiniteLemmas.{AreOthers, none_found, found_more, o
 
 module _ {K V S : Type 0} (k : MapTypes K V S) {keys : Kind K} {values : Kind V} (keeps : KeepsContent k.key keys) (one : IsLawful keys)
     (two : IsLawful values) where
-  -- ---- Contents beside a call
+  -- ---- Contents that a call leaves alone
 
   content_agree : (a c : Memory) (key : K) → Agree a c (keys.deep a key) → content_in k.key c key ≡ content_in k.key a key
   content_agree a c key agree = ap (k.key.content key) (sym (text_agree k keys values keeps one two a c key agree))
@@ -61,9 +61,9 @@ module _ {K V S : Type 0} (k : MapTypes K V S) {keys : Kind K} {values : Kind V}
       let here = content_agree a c p.0 (agree_each a c (keys.deep a p.0) (values.deep a p.1) same.0).0 in
       λ i q. cond (bytes_eq (here i) q) (Some p) (first_agree a c ps same.1 i q)
 
-  -- ---- Beside a call that places blocks
+  -- ---- While blocks are placed
 
-  -- A key's text lies apart where the key does.
+  -- A key's text is apart if the key is.
   pub text_apart : (memory : Memory) (key : K) (target : Block) → AreAllApart (keys.deep memory key) (target ∷ [])
       → AreBlocksApart (k.key.text key) target
   text_apart memory key target apart = elim (keeps.text memory key) [
@@ -158,7 +158,7 @@ module _ {K V S : Type 0} {k : MapTypes K V S} {keys : Kind K} {values : Kind V}
       holds : HoldsCopies k source between.memory m front puts.ys w
       holds = holds_beside k keeps one two copy.placed.frame puts.row.made.held puts.holds
 
-      -- The table lies apart from the blocks of the copies.
+      -- The table is apart from the blocks of the copies.
       deep_apart : AreAllApart ((row_of (pair_of keys values)).deep between.memory (puts.ys ++ copied ∷ [])) (m.table.block ∷ [])
       deep_apart =
           let deep = (row_of (pair_of keys values)).deep between.memory (puts.ys ++ copied ∷ []) in
@@ -193,7 +193,7 @@ module _ {K V S : Type 0} {k : MapTypes K V S} {keys : Kind K} {values : Kind V}
           below : nat_lt w.len (limit w.table.slots) ≡ true
           below = grind (arith, nat_tests, there_is_room)
 
-      -- it is held, as is the text of the next key, which lies apart from its table.
+      -- it is held, as is the text of the next key, which is apart from its table.
       pub put_map : IsMapIn k between.memory w
       put_map = holds.held
 

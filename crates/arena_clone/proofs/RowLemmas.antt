@@ -1,4 +1,4 @@
--- Copies of values that stand one after another: of none, of one more, and of all.
+-- Copies of sequences of values: of none, of one more, and of all.
 use Rattle.std.proofs.Common.{◌≡◌, ℕ, zero, suc, ◌+◌, ◌≤◌, refl, sym, ap, subst, List, [], ◌∷◌, ◌++◌, Some, None, Ok, Err, take, drop, length, add-one, IsTrue}
 use Rattle.std.specs.Prelude.{Result, IsPermutation, slice_get}
 use Rattle.std.proofs.lemmas.List.Sorted.{IsPermutation-refl, IsPermutation-append}
@@ -26,7 +26,7 @@ use Rattle.arena_exchange.proofs.Layers.{same_places, asked_then, asked_refused,
 -- ---- Lists
 
 module _ {A : Type 0} where
-  -- the first i + 1 are the first i, and the one behind them
+  -- the first i + 1 are the first i, and the one after them
   pub take_more : (xs : List A) (i : ℕ) (x : A) → slice_get xs i ≡ Some x → take (i + 1) xs ≡ take i xs ++ x ∷ []
   take_more [] i x at = absurd (cc at)
   take_more (y ∷ ys) zero x at = cc
@@ -44,7 +44,7 @@ module _ {A : Type 0} where
   all_at P (y ∷ ys) zero x all at = subst P (cc at) all.0
   all_at P (y ∷ ys) (suc i) x all at = all_at P ys i x all.1 at
 
-  -- and of one more behind all
+  -- and of one more after all
   pub all_more : (P : A → Type 0) (xs : List A) (x : A) → AllByRecursion P xs → P x → AllByRecursion P (xs ++ x ∷ [])
   all_more P [] x all one = (one, tt)
   all_more P (y ∷ ys) x all one = (all.0, all_more P ys x all.1 one)
@@ -66,7 +66,8 @@ row_none {old} {target} readable = record {
 module _ {T X : Type 0} {kind : Kind T} (is : IsLawful kind) {ids : CloneInSemanticIds} {source : Memory} {old mid : View} {target : Block}
     {xs ys : List T} {u : X} (row : CopiesRow kind ids source old mid target xs ys (Ok u)) (x : T) where
   module _ {between : View} {r : Result T AllocError} (copy : Copies kind ids source mid between x r) where
-    -- The block of the copies so far, and their blocks, stay beside the next copy, and lie apart from its blocks.
+    -- The block of the copies so far, and their blocks, stay while the next copy is made, and are apart from its
+    -- blocks.
     pub row_stays : AllByRecursion (Stays mid.memory between.memory copy.blocks) (target ∷ row.blocks)
     row_stays = frame_keeps_all mid.memory between.memory [] copy.blocks (target ∷ row.blocks) copy.placed.frame
         (row.readable, made_readable (row_lawful kind is) row.made) (apart_of_none (target ∷ row.blocks))
@@ -82,7 +83,7 @@ module _ {T X : Type 0} {kind : Kind T} (is : IsLawful kind) {ids : CloneInSeman
         (λ addr n some apart. tt) (λ addr n some apart rest. apart_both addr n (target ∷ row.blocks) copy.blocks apart rest)
         copy.placed.frame)
 
-  -- Where one is refused the call is, whatever it was to copy behind it.
+  -- If one is refused the call is, whatever it was to copy after it.
   pub row_refused : (rest : List T) {Y : Type 0} {zs : List T} {new : View} {e : AllocError} → Copies kind ids source mid new x (Err e)
       → CopiesRow {X = Y} kind ids source old new target (xs ++ x ∷ rest) zs (Err e)
   row_refused rest {new} {e} copy = record {
@@ -97,7 +98,7 @@ module _ {T X : Type 0} {kind : Kind T} (is : IsLawful kind) {ids : CloneInSeman
   }
 
   module _ {between : View} {w : T} (copy : Copies kind ids source mid between x (Ok w)) where
-    -- A copy of one more stands behind the others before it is put into the block,
+    -- A copy of one more comes after the others before it is put into the block,
     pub made_between : IsMade (row_of kind) ((row_of kind).by_ids ids ((row_of kind).whole source (xs ++ x ∷ []))) between.memory
         (row.blocks ++ copy.blocks) (ys ++ w ∷ [])
     made_between =
@@ -112,11 +113,11 @@ module _ {T X : Type 0} {kind : Kind T} (is : IsLawful kind) {ids : CloneInSeman
               one.deep);
         }
 
-    -- apart from that.
+    -- and is apart from the block.
     pub apart_between : AreAllApart (row.blocks ++ copy.blocks) (target ∷ [])
     apart_between = all_apart target (row.blocks ++ copy.blocks) (both_apart copy).0
 
-    -- Of one more there is one more, behind the others in the block.
+    -- Of one more there is one more, after the others in the block.
     pub row_added : {Y : Type 0} {y : Y} {new : View} → Frame between.memory new.memory (target ∷ []) (target ∷ [])
         → SamePlaces between new → IsTrue (is_readable new.memory.state target)
         → CopiesRow kind ids source old new target (xs ++ x ∷ []) (ys ++ w ∷ []) (Ok y)

@@ -1,5 +1,5 @@
--- Copies of maps whose keys and values hold nothing, under hashers that are all alike: the bytes of a table, copied elsewhere, are
--- the table of a copy.
+-- Copies of maps whose keys and values name no block, with hashers that all hash alike: the bytes of a table, copied
+-- elsewhere, are the table of a copy.
 use Rattle.std.proofs.Common.{◌≡◌, ℕ, zero, suc, inl, inr, ◌*◌, ◌<◌, ◌≤◌, ◌⊎◌, refl, sym, ap, subst, ◌∙◌, arith, List, [], ◌∷◌, Option, Some, None, Ok, Err, length}
 use Rattle.std.proofs.Math.Path.{fun_ext}
 use Rattle.std.proofs.lemmas.Bool.{eq-eqb, or_left}
@@ -40,7 +40,7 @@ use Rattle.arena_clone.proofs.FlatLemmas.{row_made}
 pub table_is_align : (k v ka va : ℕ) → IsItemLayout k ka → IsItemLayout v va → IsAlign (table_align ka va)
 table_is_align k v ka va keys values = (pair_layout 8 8 _ _ plain_8 (pair_layout k ka v va keys values)).is_align
 
--- A table of which more than a quarter is taken is that of a new map for so many pairs.
+-- A table of which more than a quarter is taken is that of a new map for its pairs.
 full_fits : (slots len : ℕ) → (slots ≡ 0) ⊎ IsRing slots → len ≤ limit slots → slots < 4 * len → IsTableFor len slots
 full_fits slots len ring within full = (
   (λ none. absurd (omega (arith, none, full))),
@@ -51,7 +51,7 @@ full_fits slots len ring within full = (
 )
 
 module _ {K V S : Type 0} (k : MapTypes K V S) (old new : View) where
-  -- Such a table's block is what a copy for so many pairs asks for.
+  -- Such a table's block is what a copy of its pairs asks for.
   table_asked : {X : Type 0} (f : X → Block) (result : Result X AllocError) (slots len : ℕ) → 0 < len → IsSlotsFor len slots
       → RoomAnswer f result (PlacesBlock old new (slots * slot_size k.keys.SIZE k.values.SIZE) (table_align k.keys.ALIGN k.values.ALIGN))
       → PlacesAll (table_ask k len ∷ []) old new (block_of f result) (refusal result)
@@ -62,7 +62,7 @@ module _ {K V S : Type 0} (k : MapTypes K V S) (old new : View) where
       places_one f result placed in
       record { asked = (slots, are, one.asked); apart = one.apart; frame = one.frame }
 
--- ---- What stands in it
+-- ---- What is in it
 
 -- the map with another block for its table, and another hasher
 abbrev pub in_block : {K V S : Type 0} → HashMap K V S → Block → S → HashMap K V S

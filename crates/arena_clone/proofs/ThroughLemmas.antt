@@ -1,4 +1,4 @@
--- Copies of what stands in a block of its own: the block is placed, and then the values are copied into it.
+-- Copies of what is in a block of its own: the block is placed, and then the values are copied into it.
 use Rattle.std.proofs.Common.{◌≡◌, ℕ, List, [], ◌∷◌, Some, None, Ok, Err, IsTrue, subst, sym}
 use Rattle.std.specs.Prelude.{Result, IsPermutation}
 use Rattle.std.proofs.lemmas.List.Sorted.{IsPermutation-cons}
@@ -61,7 +61,7 @@ module _ {V T : Type 0} (item : Ghosts T) (kind : Kind T) (block : V → Block) 
       };
     }
 
--- ---- Beside the block that is placed for them
+-- ---- While the block for them is placed
 
 module _ {there : Memory → Memory} {is_beside : Block → List Block → Type 0} (origin : IsOrigin there is_beside) {T : Type 0}
     (item : Ghosts T) {kind : Kind T} (is : IsLawful kind) {old now : Memory} {target : Block} (from : Block) (n : ℕ)
@@ -77,7 +77,7 @@ module _ {there : Memory → Memory} {is_beside : Block → List Block → Type 
   pub row_held : (row_of kind).is_held (there now) (values_in now)
   row_held = rw (sym from_kept.bytes) (placed_held origin frame (row_lawful kind is) (values_in old) held)
 
-  -- and stand beside it.
+  -- and are unaffected by it.
   pub row_beside : AreBeside is_beside (from ∷ (row_of kind).deep (there now) (values_in now)) (target ∷ [])
   row_beside =
       (from_kept.beside, rw (sym from_kept.bytes) (placed_beside origin frame (row_lawful kind is) (values_in old) held))

@@ -1,4 +1,4 @@
--- Copies of vectors: the storage that is made for just as many values, and then the values.
+-- Copies of vectors: storage is made for exactly their values, and then they are copied.
 use Rattle.std.proofs.Common.{◌≡◌, ℕ, ◌*◌, ◌-◌, ◌^◌, ◌<◌, ◌≤◌, ap, sym, refl, subst, ◌∙◌, arith, inl, inr, Some, None, List, [], ◌∷◌, Ok, Err, Bool, true, false}
 use Rattle.std.specs.Prelude.{Result, OnErr, nat_le, ◌&&◌, if◌then◌else◌}
 use Rattle.std.proofs.lemmas.Bool.{cases_eq}
@@ -27,7 +27,7 @@ use Rattle.arena_exchange.specs.declared.ids.CloneInSemanticIds.{CloneInSemantic
 use Rattle.arena_exchange.proofs.Layers.{same_places, block_of, took_asked}
 use Rattle.arena_clone.proofs.ThroughLemmas.{own_refused, value_refused, values_made}
 
--- ---- Growth of nothing
+-- ---- Growth without a block
 
 -- what a growth is made of
 grows_by : (is_there can : Bool) (n more : ℕ) → (if is_there then Stays else (if can then GrowsTo n else Overflows)) ≡ GrowsTo more
@@ -36,7 +36,7 @@ grows_by true can n more is = absurd (cc is)
 grows_by false true n more is = (refl, refl, cc is)
 grows_by false false n more is = absurd (cc is)
 
--- A new vector that grows had no room, and grows to just what is required.
+-- A new vector that grows had no room, and grows to exactly what is required.
 new_grows : (size n more : ℕ) → new_growth size n ≡ GrowsTo more → (empty_capacity size ≡ 0) × (more ≡ n)
 unfolding fits growth_to
 new_grows size n more is =
@@ -48,7 +48,7 @@ new_grows size n more is =
       by.2,
     )
 
--- so where its values have bytes it has room for just those
+-- so if its values have bytes it has room for exactly those
 new_trim : (growth : Growth) (cap n c : ℕ) → cap ≡ 0 → ((more : ℕ) → growth ≡ GrowsTo more → more ≡ n)
     → c ≡ capacity_after growth cap → n ≤ c → c ≡ n
 new_trim Stays cap n c none to is enough = omega arith
@@ -58,7 +58,7 @@ new_trim Overflows cap n c none to is enough = omega arith
 -- ---- Storage that is made
 
 module _ {X : Type 0} (f : X → Block) (size align cap : ℕ) (old new : View) where
-  -- Room that is made where there was none is one thing that is asked for.
+  -- Room that is made where there was none is one block that is asked for.
   pub made_asked : (growth : Growth) → ((more : ℕ) → growth ≡ GrowsTo more → cap ≡ 0) → (result : Result X AllocError)
       → MakesRoom size align old new (empty_block align) cap growth f result → OnErr result (new.memory ≡ old.memory)
       → AsksFor (ask_by size align growth ∷ []) old new (block_of f result) (refusal result)

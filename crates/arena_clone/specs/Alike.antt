@@ -8,13 +8,13 @@ use Rattle.arena_hash.specs.declared.map.HashMap.{HashMap}
 use Rattle.arena_clone.specs.Kinds.{Kind, AreAlike}
 use Rattle.arena_exchange.specs.declared.ids.CloneInSemanticIds.{CloneInSemanticIds}
 
--- both are none, or their values are alike
+-- both are `None`, or their values are alike
 abbrev pub AreOptionsAlike : {T : Type 0} → Kind T → CloneInSemanticIds → Memory → Option T → Memory → Option T → Type 0
 AreOptionsAlike kind ids a None c None = Unit {0}
 AreOptionsAlike kind ids a (Some v) c (Some w) = AreAlike kind ids a v c w
 AreOptionsAlike kind ids a v c w = ⊥
 
--- there are as many of both, and those at each position are alike
+-- they have the same length, and the values at each position are alike
 pub record AreListsAlike {T : Type 0} (kind : Kind T) (ids : CloneInSemanticIds) (a : Memory) (vs : List T) (c : Memory) (ws : List T)
     : Type 0 where
   pub lengths : length vs ≡ length ws

@@ -1,4 +1,4 @@
--- How many bytes what a call asks of its arena brings into use.
+-- How many bytes come into use by what a call asks of its arena.
 use Rattle.std.specs.Prelude.{◌≡◌, ℕ, ◌+◌, ◌-◌, ◌*◌, ◌≤◌, max, Option, Some, None, List, [], ◌∷◌, IsTrue}
 use Rattle.std.specs.List.{AllByRecursion}
 use Rattle.arena_rules.specs.Rounding.{is_layout}
@@ -20,8 +20,8 @@ has_layout TooMuch = Unit {0}
 abbrev pub have_layouts : List Ask → Type 0
 have_layouts asks = AllByRecursion has_layout asks
 
--- The bytes of a block, and those with the most padding before it. A table has at least two slots for each pair, and less than twice
--- the slots that are needed.
+-- The bytes of a block, and those with the most padding before it. A table has at least two slots for each pair, but at
+-- least 8, and less than twice that many.
 abbrev pub least_of : Ask → ℕ
 least_of (Room size align) = size
 least_of (Table pairs slot align) = max (2 * pairs) 8 * slot
@@ -36,7 +36,7 @@ most_of NoBytes = 0
 most_of (Empty align) = 0
 most_of TooMuch = 0
 
--- those of all together
+-- the bytes of all blocks together
 abbrev pub least_bytes : List Ask → ℕ
 least_bytes [] = 0
 least_bytes (ask ∷ asks) = least_of ask + least_bytes asks
@@ -48,7 +48,7 @@ most_bytes (ask ∷ asks) = most_of ask + most_bytes asks
 abbrev pub used : View → ℕ
 used a = used_bytes a.memory.state
 
--- A call brings so many bytes into use, and at most 15 before them. Refused, it leaves the arena's state as it was.
+-- A call brings this many bytes into use, and at most 15 of padding. If it is refused, the arena's state is as it was.
 pub record BringsBytes (bytes : ℕ) (old new : View) (end : Option AllocError) : Type 0 where
   pub least : end ≡ None → used old + bytes ≤ used new
   pub most : used new ≤ used old + (bytes + 15)

@@ -1,9 +1,9 @@
--- Values of one of several sorts, at every depth: enums of one's own.
+-- Values of one of several sorts, at every depth: user-defined enums.
 use Rattle.std.proofs.Common.{◌⊎◌, inl, inr}
 use Rattle.std.specs.Prelude.{◌&&◌}
 use Rattle.arena_clone.specs.Kinds.{Kind}
 
--- something of a value of either sort, which is of that sort; something of one; and what is true of one
+-- a function of a value of either sort, which keeps the sort; a function of either; and a claim about either
 abbrev pub of_either : {A B C D : Type 0} → (A → C) → (B → D) → A ⊎ B → C ⊎ D
 of_either f g (inl x) = inl (f x)
 of_either f g (inr y) = inr (g y)
@@ -31,7 +31,7 @@ module _ {A B : Type 0} (first : Kind A) (second : Kind B) where
     is_flat = λ ids. first.is_flat ids && second.is_flat ids;
   }
 
-  -- So is a value of an enum of one's own, by the sort of each variant. More than two variants are sorts of sorts.
+  -- So is a value of a user-defined enum, by the sort of each variant. More than two variants are nested sorts.
   abbrev pub either_of : {T : Type 0} → (T → A ⊎ B) → Kind T
   either_of sort = record {
     Whole = sum_of.Whole;

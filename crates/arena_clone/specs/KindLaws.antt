@@ -1,4 +1,4 @@
--- The blocks of a value determine what it is: of ids, texts that are put together, and bit sets.
+-- The blocks of a value determine what it is: of ids, text builders and bit sets.
 use Rattle.std.proofs.Common.{ap, sym, refl, ◌*◌, take, IsTrue}
 use Rattle.std.specs.Int.{from_le_bytes, w64}
 use Rattle.std.proofs.lemmas.Bool.{false≢true}

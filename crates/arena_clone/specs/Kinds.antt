@@ -1,4 +1,4 @@
--- What values are at every depth, and those that stand for ids, texts that are put together, and bit sets.
+-- What values are at every depth, and the kinds of ids, text builders and bit sets.
 use Rattle.std.specs.Prelude.{◌≡◌, ℕ, ◌*◌, Bool, true, false, List, [], ◌∷◌}
 use Rattle.arena_text.specs.Builders.{IsBuilderIn, builder_bytes}
 use Rattle.arena_text.specs.Growth.{new_growth}
@@ -35,11 +35,11 @@ semantic_id = record {
   is_flat = keeps_ids;
 }
 
--- what a text that is put together needs for n bytes
+-- what a text builder needs for n bytes
 abbrev pub text_ask : ℕ → Ask
 text_ask n = ask_by 1 1 (new_growth n)
 
--- a text that is put together is its bytes, for which alone a copy has room
+-- a text builder is its bytes, and a copy has room for exactly those
 abbrev pub builder : Kind StringBuilder
 builder = record {
   Whole = List ℕ;

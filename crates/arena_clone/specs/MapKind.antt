@@ -12,8 +12,8 @@ use Rattle.arena_clone.specs.Asks.Ask.{Table, NoBytes}
 use Rattle.arena_clone.specs.Kinds.{Kind, AreAlike, of_some, both_of, row_of}
 use Rattle.arena_exchange.specs.declared.ids.CloneInSemanticIds.{CloneInSemanticIds}
 
--- What a key's content is made of: the block of its text, which is empty or one that the key names. A copy of a key has the same
--- content.
+-- What a key's content depends on: the block of its text, which is empty or one that the key names. A copy of a key has
+-- the same content.
 pub record KeepsContent {K : Type 0} (key : Key K) (kind : Kind K) : Type 0 where
   pub text : (m : Memory) (k : K) → ((key.text k).size ≡ 0) ⊎ Contains (kind.deep m k) (key.text k)
   pub same : (ids : CloneInSemanticIds) (a c : Memory) (k copy : K) → AreAlike kind ids a k c copy
@@ -23,16 +23,17 @@ pub record KeepsContent {K : Type 0} (key : Key K) (kind : Kind K) : Type 0 wher
 abbrev pub pair_of : {K V : Type 0} → Kind K → Kind V → Kind (K × V)
 pair_of keys values = both_of keys values (λ p. p.0) (λ p. p.1)
 
--- A table for so many pairs is that of a new map for them. For none there are no bytes.
+-- The table for n pairs is that of a new map for them. For none there are no bytes.
 abbrev pub table_ask : {K V S : Type 0} → MapTypes K V S → ℕ → Ask
 table_ask k zero = NoBytes
 table_ask k (suc n) = Table (suc n) (slot_size k.keys.SIZE k.values.SIZE) (table_align k.keys.ALIGN k.values.ALIGN)
 
--- the slots of a new map for so many pairs: none for none
+-- the slots of a new map for `len` pairs: none if there are none
 abbrev pub IsTableFor : ℕ → ℕ → Type 0
 IsTableFor len slots = (len ≡ 0 → slots ≡ 0) × (0 < len → IsSlotsFor len slots)
 
--- A map is what stands under each content, whatever its hasher. A copy has the table and the hasher of a new map for its pairs.
+-- A map is what is stored under each content, whatever its hasher. A copy has the table and the hasher of a new map for
+-- its pairs.
 abbrev pub map_of : {K V S : Type 0} → MapTypes K V S → (S → Type 0) → Kind K → Kind V → Kind (HashMap K V S)
 map_of {K} {V} {S} k is_default keys values = record {
   Whole = List ℕ → Option values.Whole;

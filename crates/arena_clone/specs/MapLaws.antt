@@ -63,7 +63,7 @@ module _ {K V S : Type 0} (k : MapTypes K V S) (keys : Kind K) (values : Kind V)
       let both = readable_each c (keys.deep a p.0 ++ values.deep a p.1) ((row_of (pair_of keys values)).deep a ps) read in
       (text_readable a c p.0 (readable_each c (keys.deep a p.0) (values.deep a p.1) both.0).0, texts_readable a c ps both.1)
 
-  -- what the value of a pair means, if there is one
+  -- the meaning of the value of a pair, if there is one
   abbrev meant : Memory → Option (K × V) → Option values.Whole
   meant m = of_some (λ (p : K × V). values.whole m p.1)
 

@@ -10,12 +10,12 @@ use Rattle.arena_items.specs.Room.{RoomAnswer}
 use Rattle.arena_items.specs.Values.{IsTextIn, text_bytes}
 pub use Rattle.arena_exchange.specs.Dummies.{Boxes}
 
--- the same answer for something of the value
+-- the same result for a function of the value
 abbrev pub answer_of : {A B : Type 0} → (A → B) → Result A AllocError → Result B AllocError
 answer_of f (Ok x) = Ok (f x)
 answer_of f (Err e) = Err e
 
--- A value is placed, if there is one. Nothing is done for none.
+-- A value is placed, if there is one. For `None` nothing is done.
 abbrev pub MayBox : {T : Type 0} → Ghosts T → View → View → Option T → Result (Option (Box T)) AllocError → Type 0
 MayBox item old new None result = (result ≡ Ok None) × (new ≡ old)
 MayBox {T} item old new (Some v) result =

@@ -1,4 +1,4 @@
--- Copies of values that stand one after another, in a block that is there.
+-- Copies of sequences of values, into a block that is there.
 use Rattle.std.specs.Prelude.{List, [], ◌∷◌, Result, OnOk, IsTrue}
 use Rattle.arena_chunks.specs.Memory.{Memory, is_readable}
 use Rattle.arena_chunks.specs.Source.{View}
@@ -10,7 +10,8 @@ use Rattle.arena_clone.specs.Kinds.{Kind, row_of}
 use Rattle.arena_clone.specs.Copies.{IsMade}
 use Rattle.arena_exchange.specs.declared.ids.CloneInSemanticIds.{CloneInSemanticIds}
 
--- A call that copies these values into a block, where others stand then, asks the arena for just the blocks that the copies name.
+-- A call that copies these values into a block, which holds `ys` then, asks the arena for exactly the blocks that the
+-- copies name.
 pub record CopiesRow {T X : Type 0} (kind : Kind T) (ids : CloneInSemanticIds) (source : Memory) (old new : View) (target : Block)
     (xs ys : List T) (result : Result X AllocError) : Type 0 where
   pub blocks : List Block

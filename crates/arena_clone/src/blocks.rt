@@ -11,7 +11,7 @@ use arena_chunks::{Allocator, Block, ChunkSource};
 use arena_items::{Grown, grown};
 use arena_place::Layout;
 
-// A new block.
+// Places a new block.
 #[inline]
 pub(crate) fn place<C: ChunkSource>(a: &mut Allocator<C>, size: u64, align: u64) -> Grown<Block>
     requires { IsTrue (is_layout size align) }
@@ -20,7 +20,7 @@ pub(crate) fn place<C: ChunkSource>(a: &mut Allocator<C>, size: u64, align: u64)
     grown(a.alloc_layout(Layout::of(size, align)))
 }
 
-// A new block with the first bytes of another block.
+// Places a new block with the first bytes of another block.
 pub(crate) fn place_copy<O: Origin<D>, D: ChunkSource>(
     from: &O,
     source: Block,

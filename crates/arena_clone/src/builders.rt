@@ -1,4 +1,4 @@
-// Copies of texts that are put together.
+// Copies of text builders.
 ghost use Rattle.arena_clone.specs.Kinds.{builder};
 ghost use Rattle.arena_clone.specs.KindLaws.{builder_lawful};
 

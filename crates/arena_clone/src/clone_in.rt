@@ -9,24 +9,24 @@ use arena_chunks::{Allocator, ChunkSource};
 use arena_exchange::CloneInSemanticIds;
 use arena_items::Grown;
 
-/// A value that can be copied at every depth, into another arena or within its own. The copy's blocks are all its own, and
-/// from then on neither knows of the other.
+/// A value that can be copied at every depth, into another arena or within its own. The copy has only blocks of its
+/// own, and from then on source and copy are independent.
 pub trait CloneIn: Sized {
-    // What its values are at every depth.
+    // What the type's values are at every depth.
     ghost kind: { Kind Self };
 
-    /// Whether a value's bytes, copied elsewhere, are a copy of it, exactly as its kind says. So a row of
-    /// them is copied in one move of memory.
+    /// Returns whether a value's bytes, copied elsewhere, are a copy of it, exactly as its kind says. If they are, a
+    /// row of values is copied in one move of memory.
     fn is_flat(ids: CloneInSemanticIds) -> bool
         ensures { result ≡ kind.is_flat ids };
 
-    /// A copy of a value that stands there, which keeps semantic ids where that is asked for.
+    /// Copies a value from an origin into an arena. The copy keeps semantic ids if `ids` says so.
     ///
     /// # Errors
     ///
-    /// `AllocErr` and `OutOfMemory` as of the arena's `alloc_layout`, at the first block that it refuses, and
-    /// `CapacityOverflow` where a vector's values have more than 4,294,967,295 bytes. Blocks that were placed for the copy
-    /// stay then, and nobody names them.
+    /// `AllocErr` and `OutOfMemory` as for the arena's `alloc_layout`, at the first block that it refuses, and
+    /// `CapacityOverflow` if a vector's values have more than 4,294,967,295 bytes. Blocks that were placed for the copy
+    /// stay, unused.
     fn copy_of<O: Origin<D>, D: ChunkSource>(
         &self,
         ids: CloneInSemanticIds,
@@ -37,11 +37,11 @@ pub trait CloneIn: Sized {
         requires held { kind.is_held (O.there from.now to.old.memory) self.now }
         ensures { Copies kind ids (O.there from.now to.old.memory) to.old to.new self.now result };
 
-    /// A copy in another arena, which keeps semantic ids where that is asked for.
+    /// Copies a value into another arena. The copy keeps semantic ids if `ids` says so.
     ///
     /// # Errors
     ///
-    /// As of `copy_of`.
+    /// As for `copy_of`.
     final fn clone_in_impl<C: ChunkSource, D: ChunkSource>(
         &self,
         ids: CloneInSemanticIds,
@@ -55,11 +55,11 @@ pub trait CloneIn: Sized {
         self.copy_of(ids, from, to)
     }
 
-    /// A copy in the same arena, which keeps semantic ids where that is asked for. The source stays as it is.
+    /// Copies a value within its arena. The copy keeps semantic ids if `ids` says so. The source stays as it is.
     ///
     /// # Errors
     ///
-    /// As of `clone_in_impl`.
+    /// As for `clone_in_impl`.
     final fn clone_within<C: ChunkSource>(
         &self,
         ids: CloneInSemanticIds,
@@ -72,11 +72,11 @@ pub trait CloneIn: Sized {
         self.copy_of(ids, &Here, a)
     }
 
-    /// A copy in another arena, with 0 for each semantic id.
+    /// Copies a value into another arena, with 0 for each semantic id.
     ///
     /// # Errors
     ///
-    /// As of `clone_in_impl`.
+    /// As for `clone_in_impl`.
     final fn clone_in<C: ChunkSource, D: ChunkSource>(
         &self,
         from: &Allocator<C>,
@@ -89,11 +89,11 @@ pub trait CloneIn: Sized {
         self.clone_in_impl(CloneInSemanticIds::Without, from, to)
     }
 
-    /// A copy in another arena, with its semantic ids.
+    /// Copies a value into another arena, with its semantic ids.
     ///
     /// # Errors
     ///
-    /// As of `clone_in_impl`.
+    /// As for `clone_in_impl`.
     final fn clone_in_with_semantic_ids<C: ChunkSource, D: ChunkSource>(
         &self,
         from: &Allocator<C>,

@@ -11,36 +11,36 @@ use arena_exchange::place_box;
 use arena_items::{Box, Grown, Item};
 use arena_vec::Vec;
 
-/// A type that is made of another in an arena.
+/// A type that is made from another in an arena.
 pub trait FromIn<T>: Sized {
-    // What is asked of the types.
+    // What is required of the types.
     ghost is_small: { Type 0 };
 
     ghost converts: { View → View → T → Result Self Refusal → Type 0 };
 
-    /// The value of the type that another value stands for.
+    /// Makes a value of this type from one of another.
     ///
     /// # Errors
     ///
-    /// As of the arena's `alloc_layout`, and `CapacityOverflow` for an array whose values have more than
-    /// 4,294,967,295 bytes. Nothing changes.
+    /// As for the arena's `alloc_layout`, and `CapacityOverflow` for an array of more than 4,294,967,295 values or
+    /// bytes. Nothing changes.
     fn from_in<C: ChunkSource>(value: T, a: &mut Allocator<C>) -> Grown<Self>
         requires { is_small }
         ensures { converts a.old a.new value result };
 }
 
-/// A value of which one of another type is made in an arena. Each `FromIn` gives one.
+/// A value from which one of another type is made in an arena. Each `FromIn` implements it.
 pub trait IntoIn<T>: Sized {
-    // What is asked of the types.
+    // What is required of the types.
     ghost is_small: { Type 0 };
 
     ghost converts: { View → View → Self → Result T Refusal → Type 0 };
 
-    /// The value of the other type.
+    /// Makes the value of the other type.
     ///
     /// # Errors
     ///
-    /// As of `from_in`.
+    /// As for `from_in`.
     fn into_in<C: ChunkSource>(self, a: &mut Allocator<C>) -> Grown<T>
         requires { is_small }
         ensures { converts a.old a.new self result };

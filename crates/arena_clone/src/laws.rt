@@ -29,9 +29,9 @@ use crate::keys::CloneKey;
 use arena_hash::{KeyHasher, lengths_law};
 use arena_items::Item;
 
-/// When values that are made of others are alike by the rule for ids, whichever memory each stands in: options where both are
-/// none or their values are alike, boxes where their values are, and slices and vectors where there are as many values and
-/// those at each position are alike.
+/// When values that are made of others are alike by the rule for ids, whatever memory each is in: options if both are
+/// `None` or their values are alike, boxes if their values are, and slices and vectors if they have the same length and
+/// the values at each position are alike.
 pub fn alike_law<T: CloneIn + Item>()
     ensures options { (ids : CloneInSemanticIds) (a c : Memory) (v w : Option T)
         → AreAlike (option_of T.kind) ids a v c w ↔ AreOptionsAlike T.kind ids a v c w }
@@ -46,8 +46,8 @@ pub fn alike_law<T: CloneIn + Item>()
         ↔ AreListsAlike T.kind ids a (vec_list T.Item a v) c (vec_list T.Item c w) }
 {}
 
-/// When two maps are alike by the rule for ids, whatever hashers they have: the same contents are keys of both, and the values
-/// of each are alike. Then they have one length.
+/// When two maps are alike by the rule for ids, whatever hashers they have: if the same contents are keys of both, and
+/// the values of each are alike. Then they have the same length.
 pub fn maps_alike_law<K: CloneKey, V: CloneIn + Item, S: KeyHasher>()
     ensures alike { (ids : CloneInSemanticIds) (a c : Memory) (v w : HashMap K V S)
         → AreAlike (map_of (kind K.Item K.key V.Item S.hash_of) S.is_default K.kind V.kind) ids a v c w
@@ -59,18 +59,18 @@ pub fn maps_alike_law<K: CloneKey, V: CloneIn + Item, S: KeyHasher>()
     lengths_law::<K, V, S>();
 }
 
-/// The frame law at every depth. A call on some blocks leaves every value whose blocks lie apart from them: it is held, names
-/// the same blocks, means the same, and its blocks lie apart from those that the call has then.
+/// The frame law at every depth. A call on some blocks keeps every value whose blocks are apart from them: it is held,
+/// names the same blocks, means the same, and its blocks are apart from those that the call has afterwards.
 pub fn deep_frame_law<T: CloneIn>()
     ensures { (old new : Memory) (before after : List Block) (v : T) → Frame old new before after
         → T.kind.is_held old v → AreAllApart (T.kind.deep old v) before
         → StaysWhole T.kind old new after v }
 {}
 
-/// A value and its copy. Whatever arena the source is in, a call on blocks that lie apart from the copy's leaves the copy as it
-/// was made. A source in the arena of its copy is as it was before the copy was made, and the blocks of each lie apart from
-/// those of the other: so a call on the blocks of one alone leaves the other. What is said of the source is
-/// `deep_frame_law` for calls that have no blocks before. A copy that keeps ids means just what its source means.
+/// A value and its copy. Whatever arena the source is in, a call on blocks that are apart from the copy's leaves the
+/// copy as it was made. A source in the arena of its copy is as it was before the copy was made, and the blocks of each
+/// are apart from those of the other: so a call on the blocks of only one leaves the other. What is said of the source
+/// is `deep_frame_law` for calls that have no blocks before. A copy that keeps ids means exactly what its source means.
 pub fn copy_law<T: CloneIn>()
     ensures copy { (new later : Memory) (blocks before after : List Block) (meaning : T.kind.Whole) (w : T)
         → IsMade T.kind meaning new blocks w → Frame new later before after → AreAllApart blocks before
@@ -82,8 +82,8 @@ pub fn copy_law<T: CloneIn>()
     ensures ids { (w : T.kind.Whole) → T.kind.by_ids With w ≡ w }
 {}
 
-/// Values that place nothing ask for nothing, so that a copy of a list of them asks for its one block alone, and
-/// for none where that is a vector's and has no bytes.
+/// If values ask for nothing, a copy of a list of them asks for its one block alone, and for none if that is a vector's
+/// and has no bytes.
 pub fn one_block_law<T: CloneIn + Item>()
     ensures vector { ((m : Memory) (v : T) → T.kind.asks m v ≡ []) → (m : Memory) (v : Vec T)
         → (vec_of T.Item T.kind).asks m v ≡ vector_ask T.SIZE T.ALIGN v.raw.len ∷ [] }
@@ -91,8 +91,8 @@ pub fn one_block_law<T: CloneIn + Item>()
         → (slice_of T.Item T.kind).asks m s ≡ Room (s.length * T.SIZE) T.ALIGN ∷ [] }
 {}
 
-/// Keys and values that place nothing ask for nothing, so that a copy of a map of them asks for its table alone,
-/// and for none where the map is empty.
+/// If keys and values ask for nothing, a copy of a map of them asks for its table alone, and for none if the map is
+/// empty.
 pub fn one_table_law<K: CloneKey, V: CloneIn + Item, S: KeyHasher>()
     ensures { ((m : Memory) (key : K) → K.kind.asks m key ≡ []) → ((m : Memory) (v : V) → V.kind.asks m v ≡ [])
         → (m : Memory) (h : HashMap K V S)
@@ -100,8 +100,9 @@ pub fn one_table_law<K: CloneKey, V: CloneIn + Item, S: KeyHasher>()
         ≡ table_ask (kind K.Item K.key V.Item S.hash_of) h.len ∷ [] }
 {}
 
-/// What a copy brings into use, by what it asks of its arena: at least the bytes of its blocks, and with the padding before
-/// them at most so many. Refused, a copy that asks for one block alone leaves the arena's state as it was.
+/// What a copy brings into use, by what it asks of its arena: at least `least_bytes` if nothing is refused, and at most
+/// `most_bytes`, which has the padding. A copy that asks for one block alone and is refused leaves the arena's state as
+/// it was.
 pub fn asks_law()
     ensures least { (asks : List Ask) (old new : View) (blocks : List Block) → have_layouts asks
         → AsksFor asks old new blocks None → used old + least_bytes asks ≤ used new }
@@ -112,8 +113,8 @@ pub fn asks_law()
         → new.memory.state ≡ old.memory.state }
 {}
 
-/// What a copy of a list of values that place nothing brings into use, and a copy of a text that is put together, by what it
-/// asks of its arena: its bytes, and at most 15 before them. Refused, it leaves the arena's state as it was.
+/// What a copy of a vector of values that ask for nothing brings into use, and a copy of a text builder, by what it
+/// asks of its arena: its bytes, and at most 15 of padding. If it is refused, the arena's state is as it was.
 pub fn list_bytes_law<T: Item>()
     ensures vector { (n : ℕ) (old new : View) (blocks : List Block) (end : Option AllocError)
         → AsksFor (vector_ask T.SIZE T.ALIGN n ∷ []) old new blocks end → BringsBytes (n * T.SIZE) old new end }

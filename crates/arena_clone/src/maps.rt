@@ -18,7 +18,7 @@ use arena_exchange::CloneInSemanticIds;
 use arena_hash::{HashMap, KeyHasher};
 use arena_items::{Grown, Item};
 
-// A copy of a pair: of its key, and then of its value.
+// Copies a pair: first its key, and then its value.
 fn clone_pair<K: CloneIn + Item, V: CloneIn + Item, O: Origin<D>, D: ChunkSource>(
     pair: &(K, V),
     ids: CloneInSemanticIds,

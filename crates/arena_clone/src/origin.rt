@@ -1,4 +1,4 @@
-// Where values stand that are copied: in another arena, or in that of their copies.
+// The sources of copies: in another arena, or in that of the copies.
 ghost use Rattle.std.specs.Prelude.{◌≡◌, ◌≤◌, List, IsTrue};
 ghost use Rattle.arena_chunks.specs.Memory.{Memory, is_readable, image, bytes_from};
 ghost use Rattle.arena_chunks.specs.BlockCalls.{WritesBlock};
@@ -8,22 +8,22 @@ ghost use Rattle.arena_clone.specs.Origins.{IsOrigin, elsewhere, in_place};
 
 use arena_chunks::{Allocator, Block, ChunkSource};
 
-/// Where values stand that are copied into an arena.
+/// Where values that are copied into an arena are: in another arena, or in the same one.
 pub trait Origin<D: ChunkSource> {
-    /// The source of chunks of that arena.
+    /// The source of chunks of the values' arena.
     type Chunks: ChunkSource;
 
-    // The memory that they stand in, by that of their copies' arena.
+    // The memory of the values, as a function of that of the copies' arena.
     ghost there: { Self → Memory → Memory };
 
-    // What keeps a block there while a call works on blocks of the copies' arena.
+    // Whether a block of the values is unaffected by calls on some blocks of the copies' arena.
     ghost is_beside: { Place → List Place → Type 0 };
 
-    /// The arena that they stand in.
+    /// Returns the arena of the values.
     fn arena<'x>(&'x self, to: &'x Allocator<D>) -> &'x Allocator<Self::Chunks>
         ensures { result.now.memory ≡ there self.now to.now.memory };
 
-    /// Puts the first `size` bytes of a block there to the front of a block of the copies' arena.
+    /// Copies the first `size` bytes of a block of the values' arena to the front of a block of the copies' arena.
     fn copy_front(&self, source: Block, to: &mut Allocator<D>, target: Block, size: u64)
         requires source { IsTrue (is_readable (there self.now to.old.memory).state source) }
         requires target { IsTrue (is_readable to.old.memory.state target) }
@@ -54,7 +54,7 @@ impl<C: ChunkSource, D: ChunkSource> Origin<D> for Allocator<C> {
     }
 }
 
-/// The origin that is the arena of the copies itself.
+/// The origin of copies within one arena.
 pub struct Here;
 
 impl<D: ChunkSource> Origin<D> for Here {

@@ -1,4 +1,4 @@
-// Copies of values that stand one after another.
+// Copies of sequences of values.
 ghost use Rattle.std.specs.Prelude.{◌*◌, ◌^◌, ◌≤◌, [], ◌∷◌, IsTrue};
 ghost use Rattle.arena_chunks.specs.Memory.{is_readable};
 ghost use Rattle.arena_items.specs.Values.{bytes_of, elements};
@@ -12,7 +12,7 @@ use arena_chunks::{Allocator, Block, ChunkSource};
 use arena_exchange::CloneInSemanticIds;
 use arena_items::{Grown, Item, item_at, put_item};
 
-// The values of a row in its block, and where their copies are put.
+// A row of values in its block, and the block for their copies.
 #[derive(Clone, Copy)]
 pub(crate) struct Row {
     pub(crate) source: Block,
@@ -20,7 +20,7 @@ pub(crate) struct Row {
     pub(crate) target: Block,
 }
 
-// Copies the values of a row: in one move of memory where they are flat, and else one after another.
+// Copies the values of a row: in one move of memory if they are flat, and otherwise one after another.
 pub(crate) fn copy_row<T: CloneIn + Item, O: Origin<D>, D: ChunkSource>(
     row: Row,
     ids: CloneInSemanticIds,

@@ -12,12 +12,12 @@ use arena_chunks::{Allocator, ChunkSource};
 use arena_exchange::CloneInSemanticIds;
 use arena_items::{Grown, Item};
 
-/// A number by which an analysis knows a node of a tree. A copy has it only where that is asked for.
+/// A number by which an analysis identifies a node of a tree. A copy keeps it only if asked to.
 #[derive(Clone, Copy, PartialEq, Eq, Debug)]
 pub struct SemanticId(pub u32);
 
 impl SemanticId {
-    // The id that a copy has.
+    // Returns the id that a copy has.
     #[inline]
     fn copied(self, ids: CloneInSemanticIds) -> SemanticId
         ensures { result.0 ≡ id_by ids self.0 }

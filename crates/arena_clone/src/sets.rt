@@ -25,7 +25,7 @@ impl CloneIn for BitSet {
         from: &O,
         to: &mut Allocator<D>,
     ) -> Grown<Self> {
-        // So the arena's state is known to be valid, and the words few enough for a layout.
+        // For the proof: the arena's state is valid, and the words have a layout.
         let _ = from.arena(to).min_align();
         let words = self.words.block;
         let block = place_copy(from, words, to, words.size, 8)?;

@@ -28,7 +28,7 @@ impl<T: CloneIn + Item> CloneIn for BoxSlice<T> {
         from: &O,
         to: &mut Allocator<D>,
     ) -> Grown<Self> {
-        // So the arena'self state is known to be valid, and the slice short enough for a layout.
+        // For the proof: the arena's state is valid, and the slice has a layout.
         let _ = from.arena(to).min_align();
         let target = place(to, self.length * T::SIZE, T::ALIGN)?;
         let row = Row {

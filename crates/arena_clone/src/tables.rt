@@ -1,5 +1,5 @@
-// Copies of maps whose keys and values hold nothing, under hashers that are all alike: a table's bytes, copied elsewhere,
-// are the table of a copy.
+// Copies of maps whose keys and values name no block, with hashers that all hash alike: a table's bytes, copied
+// elsewhere, are the table of a copy.
 ghost use Rattle.std.specs.Prelude.{◌*◌, ◌<◌, IsTrue};
 ghost use Rattle.arena_hash.specs.Contents.{kind, IsFixed};
 ghost use Rattle.arena_clone.specs.Copies.{Copies};
@@ -15,9 +15,10 @@ use arena_exchange::CloneInSemanticIds;
 use arena_hash::{HashMap, KeyHasher, Table};
 use arena_items::{Grown, Item};
 
-// Whether the bytes of a map's table are that of a copy: keys and values hold nothing, a new hasher makes the same of each
-// content, and more than a quarter of the slots are taken, so that a new table for as many pairs has as many slots. One or
-// two pairs are put one by one: a new table for them has 8 slots, of which they take a quarter at most.
+// Returns whether the bytes of a map's table are the table of a copy: keys and values name no block, a new hasher
+// hashes each content alike, and more than a quarter of the slots are taken, so that a new table for as many pairs has
+// as many slots. One or two pairs are inserted one by one: a new table for them has 8 slots, of which they take at most
+// a quarter.
 #[inline]
 pub(crate) fn is_copied_whole<K: CloneKey, V: CloneIn + Item, S: KeyHasher>(
     map: &HashMap<K, V, S>,
@@ -31,7 +32,7 @@ pub(crate) fn is_copied_whole<K: CloneKey, V: CloneIn + Item, S: KeyHasher>(
     K::is_flat(ids) && V::is_flat(ids) && S::is_fixed() && map.table.slots < 4 * map.len as u64
 }
 
-// A copy of a map with the bytes of its table.
+// Copies a map with the bytes of its table.
 pub(crate) fn copy_table<
     K: CloneKey,
     V: CloneIn + Item,
@@ -47,7 +48,7 @@ pub(crate) fn copy_table<
         → Copies (map_of (kind K.Item K.key V.Item S.hash_of) S.is_default K.kind V.kind) ids
         (O.there from.now to.old.memory) to.old to.new map.now result }
 {
-    // So the arena's state is known to be valid, and the table small enough for a layout.
+    // For the proof: the arena's state is valid, and the table has a layout.
     let _ = from.arena(to).min_align();
     let table = map.table.block;
     let block = place_copy(from, table, to, table.size, table.align)?;

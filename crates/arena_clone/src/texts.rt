@@ -24,7 +24,7 @@ impl CloneIn for Str {
         from: &O,
         to: &mut Allocator<D>,
     ) -> Grown<Self> {
-        // So the arena'self state is known to be valid, and the text short enough for a layout.
+        // For the proof: the arena's state is valid, and the text has a layout.
         let _ = from.arena(to).min_align();
         let block = place_copy(from, self.block, to, self.block.size, 1)?;
         Ok(Str { block })

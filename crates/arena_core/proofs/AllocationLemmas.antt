@@ -1,4 +1,4 @@
--- What an arena shows of a block that was placed.
+-- What is true of an arena after a block was placed.
 use Rattle.std.proofs.Common.{◌≡◌, ℕ, ◌+◌, ◌-◌, ◌≤◌, max, inl, inr, ap, sym, refl, subst, ◌∙◌, arith, true, false, IsTrue, Some, None, Err, eq-eqb}
 use Rattle.std.specs.Prelude.{nat_le, ◌==◌, ◌&&◌}
 use Rattle.std.proofs.lemmas.Bool.{cases_lt, or_left, or_right}
@@ -40,7 +40,7 @@ place_cursor state size align p valid layout found =
       valid = valid_moved state p valid at.low (omega (arith, at.high)) at.min_aligned;
     }
 
--- it is so with the cursor there, whatever is ready below it, and one more counted
+-- the view of an arena with the cursor there, whatever is ready below it, and one more allocation counted
 pub placed_view : (m : ℕ) (a : Inside m) (memory : Memory) (p low n : ℕ) → view_of m a ≡ memory → n ≡ counted a.allocations 1
     → memory_of m a.is_growing a.generation n a.reallocations (moved_chunk m a p low) a.older.items ≡ placed_at memory p
 placed_view m a memory p low n is one =
@@ -94,7 +94,7 @@ placing_in_new old mid size align k p layout none added =
           rw test refl;
     })
 
--- A block that was placed by the rule, as a call's answer.
+-- A block that was placed by the rule, as the result of a call.
 pub block_placed : (old new : Memory) (before after : Source) (size align k p : ℕ) (b : Block) → IsValid old.state
     → IsTrue (is_layout size align) → IsPlacing old new size align k p
     → IsAsked before after k (alloc_requests old.state size align k)
@@ -131,7 +131,7 @@ block_placed old new before after size align k p b valid layout placing asked is
       };
     })
 
--- The same of a block that lies at the cursor, where an allocation leaves it.
+-- The same for a block at the cursor, where an allocation leaves it.
 pub placed_at_cursor : (old new : Memory) (before after : Source) (size align k p : ℕ) → IsValid old.state → IsTrue (is_layout size align)
     → IsPlacing old new size align k p
     → IsAsked before after k (alloc_requests old.state size align k)
@@ -143,7 +143,7 @@ placed_at_cursor old new before after size align k p valid layout placing asked 
     block_placed old new before after size align k p _ valid layout placing asked
     (rw (at, fresh.generation) refl)
 
--- All that was asked for was refused, or memory ran out for the table of chunks.
+-- All requests were refused, or there was no memory for the table of chunks.
 pub all_refused : (old new : Memory) (before after : Source) (size align : ℕ) (e : ArenaErr) → IsValid old.state
     → place old.state size align ≡ None → new ≡ old
     → OnFound (Err e) (AddsChunk (view old before) (view new after) size align) ((old.state.is_growing ≡ true) × (after ≡ before))

@@ -1,26 +1,26 @@
--- Answers of calls that place a block.
+-- Results of calls that place a block.
 use Rattle.std.proofs.Common.{ℕ, Result, Ok, Err}
 use Rattle.std.specs.Prelude.{OnOk, OnErr, IfOk}
 use Rattle.arena_core.specs.Answers.{Answer, answer_of, OnCounted}
 use Rattle.arena_store.specs.declared.block.ArenaErr.{ArenaErr}
 use Rattle.arena_store.specs.declared.block.ArenaErr.TheVariants.{AllocErr, OutOfMemory}
 
--- An error that tells the number of refusals does so where the number isn't told beside it.
+-- An error has the number of refusals, also for a call that doesn't return the number on success.
 pub uncounted_err : (P : ℕ → Answer → Type 0) (e : ArenaErr) → OnCounted (Err e) P → (k : ℕ) × P k (answer_of (Err e))
 uncounted_err P (AllocErr k) holds = (k, holds)
 uncounted_err P OutOfMemory holds = (0, holds)
 
--- What holds, holds on an error.
+-- A fact that holds, holds on an error too.
 pub on_err : {X E P : Type 0} → (r : Result X E) → P → OnErr r P
 on_err (Ok x) holds = tt
 on_err (Err e) holds = holds
 
--- What holds on an error may be less.
+-- A fact on an error may be replaced by one that follows from it.
 pub on_err_less : {X E P Q : Type 0} → (r : Result X E) → (P → Q) → OnErr r P → OnErr r Q
 on_err_less (Ok x) less holds = tt
 on_err_less (Err e) less holds = less holds
 
--- What holds where there is a value may be less.
+-- A fact on success may be replaced by one that follows from it.
 pub on_ok_less : {X E P Q : Type 0} → (r : Result X E) → (P → Q) → OnOk r P → OnOk r Q
 on_ok_less (Ok x) less holds = less holds
 on_ok_less (Err e) less holds = tt

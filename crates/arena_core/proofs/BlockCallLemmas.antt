@@ -28,18 +28,18 @@ writes_block old new b at list valid same statistics writes fits = record {
   frame = frame_written old new b at list same writes fits;
 }
 
--- A change that leaves one list writes that list.
+-- A change with one possible result writes that list.
 pub edits_to : (old new : Memory) (b : Block) (at size : ℕ) (list : List ℕ) → EditsBlock old new b at size (λ before after. after ≡ list)
     → WritesBlock old new b at list
 edits_to old new b at size list edits = subst (WritesBlock old new b at) edits.related edits.writes
 
--- so does one whose list is a function of the bytes that stood there
+-- so does one whose list is a function of the old bytes
 pub edits_by : (old new : Memory) (b : Block) (at size : ℕ) (f : List ℕ → List ℕ)
     → EditsBlock old new b at size (λ before after. after ≡ f before)
     → WritesBlock old new b at (f (bytes_from (image old) (b.addr + at) size))
 edits_by old new b at size f edits = subst (WritesBlock old new b at) edits.related edits.writes
 
--- A whole block is written with a part of it moved: that part alone is written.
+-- Writing a whole block with a part of it moved writes that part alone.
 pub writes_moved : (old new : Memory) (b : Block) (from to n : ℕ) → from + n ≤ b.size → to + n ≤ b.size
     → WritesBlock old new b 0 (splice (bytes_from (image old) (b.addr + 0) b.size) to
     (take n (drop from (bytes_from (image old) (b.addr + 0) b.size))))
@@ -51,7 +51,7 @@ writes_moved old new b from to n source target writes =
     writes_block old new b to (bytes_from (image old) (b.addr + from) n) writes.valid.entry writes.state writes.statistics
     (λ p. moved p ∙ written_within (image old) b.addr b.size to p (bytes_from (image old) (b.addr + from) n) (omega arith)) (omega arith)
 
--- What is written stands there.
+-- What was written is there afterwards.
 pub wrote : (old new : Memory) (b : Block) (at : ℕ) (list : List ℕ) → WritesBlock old new b at list
     → bytes_from (image new) (b.addr + at) (length list) ≡ list
 wrote old new b at list writes = bytes_written (image old) (image new) (b.addr + at) list writes.bytes
@@ -68,7 +68,7 @@ pub wrote_fill : (old new : Memory) (b : Block) (at n value : ℕ) → WritesBlo
     → bytes_from (image new) (b.addr + at) n ≡ replicate n value
 wrote_fill old new b at n value writes = rw (length-replicate n value) at (wrote old new b at (replicate n value) writes)
 
--- What stands before a written range stays.
+-- The bytes before a written range stay.
 pub wrote_after : (old new : Memory) (b : Block) (at n : ℕ) (list : List ℕ) → WritesBlock old new b at list → n ≤ at
     → bytes_from (image new) b.addr n ≡ bytes_from (image old) b.addr n
 wrote_after old new b at n list writes later = bytes_same (image new) (image old) b.addr n (λ i below.
@@ -76,7 +76,7 @@ wrote_after old new b at n list writes later = bytes_same (image new) (image old
     in
     writes.bytes (b.addr + i) ∙ written_beside (image old) (b.addr + at) (b.addr + i) list beside)
 
--- A block that was placed is still as it was placed when it has been written.
+-- A block that was placed and then written was placed, with those bytes.
 pub placed_written : (old mid new : Memory) (before after : Source) (size align k : ℕ) (b : Block) (at : ℕ) (list : List ℕ)
     → PlacesAfter (view old before) (view mid after) size align k (Placed b)
     → WritesBlock mid new b at list → PlacesAfter (view old before) (view new after) size align k (Placed b)
@@ -94,14 +94,14 @@ placed_written old mid new before after size align k b at list places writes =
       };
     }
 
--- the same where the number of refusals isn't told
+-- the same if the number of refusals isn't returned
 pub places_written : (old mid new : Memory) (before after : Source) (size align : ℕ) (b : Block) (at : ℕ) (list : List ℕ)
     → PlacesBlock (view old before) (view mid after) size align (Placed b)
     → WritesBlock mid new b at list → PlacesBlock (view old before) (view new after) size align (Placed b)
 places_written old mid new before after size align b at list places writes =
     (places.0, placed_written old mid new before after size align places.0 b at list places.1 writes)
 
--- A block that was given another size is still as it was when it has been written behind the bytes that it kept.
+-- A block that was resized and then written after the bytes that it kept was resized, with those bytes.
 pub resized_written : (way : Resizing) (old mid new : Memory) (before after : Source) (block : Block) (size align k : ℕ) (b : Block)
     (at : ℕ) (list : List ℕ)
     → ResizesAfter way (view old before) (view mid after) block size align k (Placed b) → WritesBlock mid new b at list
@@ -122,7 +122,7 @@ resized_written way old mid new before after block size align k b at list resize
       };
     }
 
--- the same where the number of refusals isn't told
+-- the same if the number of refusals isn't returned
 pub resizes_written : (way : Resizing) (old mid new : Memory) (before after : Source) (block : Block) (size align : ℕ) (b : Block) (at : ℕ)
     (list : List ℕ)
     → ResizesBlock way (view old before) (view mid after) block size align (Placed b) → WritesBlock mid new b at list

@@ -64,7 +64,7 @@ module _ (m : ℕ) (a : Inside m) (memory : Memory) where
       (λ more. placed_used memory size align addr n valid is.layout is.place more is.fits)
       (omega (arith, at.low, start_set addr memory.state.chunks)) is.some
 
-  -- as many bytes lie behind the block's address in its chunk
+  -- the chunk has as many bytes from the block's address on
   pub placed_fits : (size align addr from n : ℕ) → IsCopying size align addr from n → addr - a.newest.base + n ≤ length a.newest.bytes.items
   placed_fits size align addr from n is =
       let valid = subst (λ (w : Memory). IsValid w.state) is.view is.stands.valid in
@@ -80,7 +80,7 @@ module _ (m : ℕ) (a : Inside m) (memory : Memory) where
         (newest_ordered m a is.stands).high,
       )
 
-  -- the newest chunk with its cursor at an address, and a list that was put from there on
+  -- the newest chunk with its cursor at an address, and a list written from there on
   abbrev pub put_chunk : ℕ → List ℕ → StoredChunk
   put_chunk addr list = record {
     base = a.newest.base;

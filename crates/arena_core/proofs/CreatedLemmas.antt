@@ -1,4 +1,4 @@
--- How an arena begins.
+-- How an arena is created.
 use Rattle.std.proofs.Common.{◌≡◌, ℕ, ◌+◌, ◌^◌, ◌<◌, max, sym, ap, refl, subst, ◌∙◌, arith, IsTrue, true, false, Option, Some, None, [], ◌∷◌, length}
 use Rattle.std.specs.Prelude.{◌==◌, replicate}
 use Rattle.std.specs.Option.{option_map}
@@ -31,7 +31,7 @@ first_base : (m : ℕ) → IsTrue (is_min_align m) → next_base 4096 m ≡ 4096
 unfolding up
 first_base m is = rw (unit m is) refl
 
--- the chunk that is asked for, where the capacity is a layout, and none where it isn't
+-- the chunk that is asked for, if the capacity is a valid layout
 pub first_chunk : (m capacity : ℕ) → IsTrue (is_min_align m) → IsTrue (is_layout capacity m)
     → possible 4096 capacity m capacity ≡ capacity_chunk capacity m
 unfolding capacity_chunk
@@ -41,7 +41,7 @@ pub no_chunk : (m capacity : ℕ) → is_layout capacity m ≡ false → None �
 unfolding capacity_chunk
 no_chunk m capacity none = rw none refl
 
--- ---- What a constructor with a capacity answers
+-- ---- What a constructor with a capacity returns
 
 -- a capacity of no bytes asks for nothing
 pub created_empty : (m capacity : ℕ) (source : Source) → capacity ≡ 0
@@ -49,7 +49,7 @@ pub created_empty : (m capacity : ℕ) (source : Source) → capacity ≡ 0
 unfolding create create_requests
 created_empty m capacity source none = rw none (record { step = refl; asked = asked_none source })
 
--- any other is by the chunk that is asked for
+-- any other is decided by the chunk that is asked for
 created_at : (m capacity k : ℕ) (answer : Option Memory) (before after : Source) (chunk : Option (ℕ × ℕ)) → (capacity ≡ 0 → ⊥)
     → chunk ≡ capacity_chunk capacity m
     → option_map (option_map zeroed_memory) (create_at chunk m k) ≡ Some answer → IsAsked before after k (requests_for m chunk)
@@ -59,16 +59,16 @@ created_at m capacity k answer before after chunk some is step asked =
     let test : (capacity == 0) ≡ false = grind (arith, nat_tests) in
     record { step = rw (test, ← is) step; asked = rw (test, ← is) asked }
 
--- with no chunk to ask for there is no arena
+-- without a chunk to ask for there is no arena
 pub created_unasked : (m capacity : ℕ) (source : Source) → (capacity ≡ 0 → ⊥) → None ≡ capacity_chunk capacity m
     → IsCreation m capacity 0 None source source
 created_unasked m capacity source some none =
     created_at m capacity 0 None source source None some none refl (asked_none source)
 
--- the source's answer to the one request
+-- the source's reply to the one request
 module _ (m capacity size : ℕ) (before after : Source) (min_align : IsTrue (is_min_align m)) (some : capacity ≡ 0 → ⊥)
     (chunk : Some (4096, size) ≡ capacity_chunk capacity m) where
-  -- the request, as the rule tells it
+  -- the request, as the rule has it
   told : TellsRequests before.asked after.asked ((size, 16) ∷ [])
       → TellsRequests before.asked after.asked (requests_for m (Some (4096, size)))
   unfolding requests

@@ -1,4 +1,4 @@
--- Blocks at the cursor that are given another size where they lie.
+-- Blocks at the cursor that are resized in place.
 use Rattle.std.proofs.Common.{◌≡◌, ℕ, ◌+◌, ◌-◌, ◌%◌, ◌<◌, ◌≤◌, max, min, ap, refl, subst, ◌∙◌, arith, IsTrue, Some}
 use Rattle.arena_rules.specs.Rounding.{down, up, is_layout}
 use Rattle.arena_rules.specs.State.{IsValid, is_range_used, start_of, cursor_of, top_of, with_cursor}
@@ -94,7 +94,7 @@ is_grown memory block size q valid readable at layout found =
       aligned = spot.min_aligned;
     }
 
--- with the cursor there all is in use up to the block's end
+-- with the cursor there everything is in use up to the block's end
 pub grown_used : (memory : Memory) (block : Block) (size q p n : ℕ) → IsGrown memory block size q → q ≤ p → p + n ≤ block.addr + block.size
     → 0 < n
     → IsTrue (is_range_used (with_cursor q memory.state).chunks p n)
@@ -120,9 +120,9 @@ grown old mid new block size q is longer moved same bytes = record {
       (ap image moved ∙ bytes_moved q old.state.chunks old.bytes) bytes;
 }
 
--- ---- Shrinking with no request
+-- ---- Shrinking without a request
 
--- where it is
+-- the block stays
 pub shrunk_still : (memory : Memory) (block : Block) (size align : ℕ) → IsValid memory.state → IsTrue (is_readable memory.state block)
     → size ≤ block.size
     → shrinking memory.state block.addr block.size block.align size align ≡ Stays
@@ -138,7 +138,7 @@ shrunk_still memory block size align valid readable smaller way =
       resizes = rw all (resized_still memory block size align size valid readable smaller);
     })
 
--- down, with the cursor
+-- the block moves down together with the cursor
 pub grown_down : (old mid new : Memory) (block : Block) (size align q : ℕ) → IsGrown old block size q → block.size ≤ size
     → mid ≡ record { state = with_cursor q old.state; statistics = old.statistics; bytes = old.bytes }
     → new.state ≡ mid.state → new.statistics ≡ one_reallocation mid.statistics
@@ -155,7 +155,7 @@ grown_down old mid new block size align q is longer moved same statistics bytes 
       resizes = rw all (resized_at_cursor old new block q size align block.size moves);
     }
 
--- that is what the rule has of a block that grows there
+-- that is the rule's result for a block that grows there
 pub grown_answer : (old mid new : Memory) (source : Source) (block b : Block) (size align q : ℕ) → IsGrown old block size q
     → block.size ≤ size → IsTrue (is_layout size align)
     → growing old.state block.addr block.size block.align size align ≡ Moves q
@@ -171,7 +171,7 @@ grown_answer old mid new source block b size align q down longer layout way move
     resized_unasked (growing old.state block.addr block.size block.align size align) old new source block size align b
     (grown_aligned old.state new.state block size align b is.entry layout is.resizes.of_layout.of_align is.step) is
 
--- up, with the cursor
+-- the block moves up together with the cursor
 pub shrunk_up : (old new : Memory) (block : Block) (size align q : ℕ) → MovesCursor old new block q size size → size ≤ block.size
     → new.statistics ≡ one_reallocation old.statistics
     → IsResizedUnasked (Moves q) old new block size align (block_in old.state q size align)

@@ -110,7 +110,7 @@ module _ (m : ℕ) (a : Inside m) (memory : Memory) where
       append-nil_of [] = refl
       append-nil_of (x ∷ l) = ap (λ (k : List StoredChunk). x ∷ k) (append-nil_of l)
 
-  -- the newest has what lies in it, and no other what lies behind it
+  -- the newest chunk has what is within its bounds, and no chunk has what is above them
   pub newest_number : (addr : ℕ) (b : Bool) → Stands m a → view_of m a ≡ memory → a.newest.base ≤ addr → (a.newest.base == 16) ≡ false
       → nat_le (addr - a.newest.base) (length a.newest.bytes.items) ≡ b
       → (if b then Some (length a.older.items) else None) ≡ chunk_number addr memory.state.chunks
@@ -127,7 +127,7 @@ module _ (m : ℕ) (a : Inside m) (memory : Memory) where
   no_number addr stands view none = subst (λ (w : Memory). None ≡ chunk_number addr w.state.chunks) view
       (elim (kind m a stands) [ inl empty ↦ rw empty.0 refl | inr some ↦ absurd (differs a.newest.base some none) ])
 
-  -- with as many chunks as in the table, or one more
+  -- there are as many chunks as in the table, or one more
   pub table_below : Stands m a → view_of m a ≡ memory → length a.older.items ≤ length memory.state.chunks
   table_below stands view = subst (λ (w : Memory). length a.older.items ≤ length w.state.chunks) view
       (elim (kind m a stands) [

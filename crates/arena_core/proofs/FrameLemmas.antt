@@ -1,4 +1,4 @@
--- What calls leave of the rest of an arena.
+-- What calls do to the rest of an arena.
 use Rattle.std.proofs.Common.{◌≡◌, ℕ, ◌+◌, ◌<◌, ◌≤◌, inl, inr, ap, sym, refl, subst, ◌∙◌, arith, List, [], ◌∷◌, false, IsTrue, length}
 use Rattle.std.specs.Prelude.{nat_le, nat_lt, ◌&&◌}
 use Rattle.std.proofs.lemmas.Bool.{cases_lt}
@@ -24,31 +24,31 @@ pub byte_moved : (p : ℕ) → (chunks : List Chunk) (bytes : List (List ℕ)) (
     → byte_in (with_newest_cursor p chunks) bytes a ≡ byte_in chunks bytes a
 byte_moved p chunks bytes a = ap (λ (f : ℕ → ℕ). f a) (bytes_moved p chunks bytes)
 
--- ---- Ranges that lie apart
+-- ---- Ranges that are apart
 
 -- Apart is symmetric.
 pub apart_turned : (p m q n : ℕ) → AreApart p m q n → AreApart q n p m
 apart_turned p m q n apart = λ some many. elim (apart many some) [ inl above ↦ inr above | inr below ↦ inl below ]
 
--- What lies apart from a padded block lies apart from the block.
+-- What is apart from a padded block is apart from the block.
 pub apart_unpadded : (state : State) (p size addr n : ℕ) → IsValid state → LieBeside state p size addr n → AreApart addr n p size
 apart_unpadded state p size addr n valid beside = λ many some.
     let reach = up_ge (p + size) state.min_align (min_align_positive state.min_align valid.min_align) in
     elim (beside (omega arith) many) [ inl above ↦ inr (omega arith) | inr below ↦ inl (omega arith) ]
 
--- What lies apart from a range lies apart from a part of it.
+-- What is apart from a range is apart from a part of it.
 pub apart_part : (addr n p m q k : ℕ) → AreApart addr n p m → p ≤ q → q + k ≤ p + m → AreApart addr n q k
 apart_part addr n p m q k apart low high = λ many some.
     elim (apart many (omega arith)) [ inl below ↦ inl (omega arith) | inr above ↦ inr (omega arith) ]
 
--- Of a range that begins at or above a block and lies apart from it all lies behind the block.
+-- A range that begins at or above a block and is apart from it is above all of the block.
 pub behind : (addr n p m : ℕ) → 0 < n → p ≤ addr → AreApart addr n p m → p + m ≤ addr
 behind addr n p m some low apart = elim (cases_lt 0 m) [
   | inl filled ↦ elim (apart some filled) [ inl below ↦ absurd (omega arith) | inr above ↦ above ]
   | inr none ↦ omega arith
 ]
 
--- An address apart from a block isn't one of a range in the block.
+-- An address apart from a block isn't in a range within the block.
 pub beside_range : (p addr m from n : ℕ) → AreApart p 1 addr m → addr ≤ from → from + n ≤ addr + m
     → (nat_le from p && nat_lt p (from + n)) ≡ false
 beside_range p addr m from n apart low high = elim (cases_lt 0 n) [

@@ -1,4 +1,4 @@
--- Blocks apart; frames one after another, of more and fewer blocks, and for a block beside; and where a readable block lies.
+-- Blocks apart; frames one after another, of more and fewer blocks, with one more block; where a readable block is.
 use Rattle.std.proofs.Common.{◌≡◌, ℕ, ◌+◌, ◌<◌, ◌≤◌, inl, inr, ◌↔◌, ap, sym, refl, ◌∙◌, arith, List, [], ◌∷◌, ◌++◌, true, IsTrue, eq-eqb}
 use Rattle.std.specs.Prelude.{◌&&◌, ◌==◌}
 use Rattle.std.specs.List.{Contains, AllByRecursion}
@@ -14,13 +14,13 @@ use Rattle.arena_core.proofs.FrameLemmas.{apart_part, apart_turned}
 use Rattle.arena_core.proofs.WrittenLemmas.{bytes_same}
 use Rattle.arena_core.proofs.StoredListLemmas.{readable_part}
 
--- ---- Blocks that lie apart
+-- ---- Blocks that are apart
 
--- Two blocks lie apart in either order.
+-- Two blocks are apart in either order.
 pub blocks_turned : (b c : Block) → AreBlocksApart b c → AreBlocksApart c b
 blocks_turned b c = apart_turned b.addr b.size c.addr c.size
 
--- A part of a range that lies apart from blocks does too.
+-- A part of a range that is apart from blocks is, too.
 pub apart_within : (addr n from k : ℕ) (bs : List Block) → addr ≤ from → from + k ≤ addr + n → IsApart addr n bs → IsApart from k bs
 apart_within addr n from k [] low high apart = tt
 apart_within addr n from k (b ∷ bs) low high apart = (
@@ -28,12 +28,12 @@ apart_within addr n from k (b ∷ bs) low high apart = (
   apart_within addr n from k bs low high apart.1,
 )
 
--- A range of no addresses lies apart from all blocks.
+-- A range of no addresses is apart from all blocks.
 pub apart_empty : (addr n : ℕ) (bs : List Block) → n ≡ 0 → IsApart addr n bs
 apart_empty addr n [] none = tt
 apart_empty addr n (b ∷ bs) none = ((λ some filled. absurd (omega arith)), apart_empty addr n bs none)
 
--- What lies apart from two lists of blocks lies apart from both together.
+-- What is apart from two lists of blocks is apart from both together.
 pub apart_both : (addr n : ℕ) (xs ys : List Block) → IsApart addr n xs → IsApart addr n ys → IsApart addr n (xs ++ ys)
 apart_both addr n [] ys first second = second
 apart_both addr n (x ∷ xs) ys first second = (first.0, apart_both addr n xs ys first.1 second)
@@ -43,19 +43,19 @@ pub apart_each : (addr n : ℕ) (xs ys : List Block) → IsApart addr n (xs ++ y
 apart_each addr n [] ys apart = (tt, apart)
 apart_each addr n (x ∷ xs) ys apart = let rest = apart_each addr n xs ys apart.1 in ((apart.0, rest.0), rest.1)
 
--- Blocks that lie apart from a block, and it from them.
+-- Blocks that are apart from a block, and it from them.
 pub all_apart : (b : Block) (bs : List Block) → IsApart b.addr b.size bs → AreAllApart bs (b ∷ [])
 all_apart b [] apart = tt
 all_apart b (c ∷ bs) apart = ((blocks_turned b c apart.0, tt), all_apart b bs apart.1)
 
--- Two lists of blocks that lie pairwise apart, and each of one from each of the other, do so together.
+-- Two lists of blocks, each pairwise apart, are so together, if each block of one is apart from each of the other.
 pub pairwise_both : (xs ys : List Block) → ArePairwiseApart xs → ArePairwiseApart ys → AreAllApart xs ys → ArePairwiseApart (xs ++ ys)
 pairwise_both [] ys first second all = second
 pairwise_both (x ∷ xs) ys first second all = (apart_both x.addr x.size xs ys first.0 all.0, pairwise_both xs ys first.1 second all.1)
 
 -- ---- Frames
 
--- where nothing happened
+-- nothing happened
 pub frame_reflexive : (memory : Memory) (blocks : List Block) → Frame memory memory blocks blocks
 frame_reflexive memory blocks = record {
   generation = refl;
@@ -100,7 +100,7 @@ frame_weaken old new before more after fewer larger smaller frame = record {
 pub frame_forget : (old new : Memory) (before after : List Block) → Frame old new before after → Frame old new before []
 frame_forget old new before after = frame_weaken old new before before after [] (λ addr n some apart. apart) (λ addr n some apart rest. tt)
 
--- blocks of the caller's beside
+-- with other blocks of the caller's
 pub frame_beside : (old new : Memory) (before after others : List Block) → Frame old new before after
     → Frame old new (before ++ others) (after ++ others)
 frame_beside old new before after others =
@@ -120,7 +120,7 @@ frame_both old mid new first last first' last' one two =
     frame_then old mid new (first ++ last) (first ++ last') (first' ++ last') (frame_behind old mid last last' first one)
     (frame_beside mid new first first' last' two)
 
--- a block of no bytes among others doesn't matter
+-- an empty block among others doesn't matter
 apart_but : (addr n : ℕ) (first last : List Block) (b : Block) → b.size ≡ 0 → IsApart addr n (first ++ b ∷ last)
     ↔ IsApart addr n (first ++ last)
 apart_but addr n first last b none = (
@@ -129,7 +129,7 @@ apart_but addr n first last b none = (
       apart_both addr n first (b ∷ last) parts.0 ((λ some filled. absurd (omega arith)), parts.1),
 )
 
--- so it doesn't before a call, or after it
+-- the same for the blocks before a call, or after it
 pub empty_before : (old new : Memory) (first last after : List Block) (b : Block) → b.size ≡ 0 → Frame old new (first ++ b ∷ last) after
     ↔ Frame old new (first ++ last) after
 empty_before old new first last after b none = (
@@ -164,7 +164,7 @@ filled_readable state b is =
     or_right (b.size == 0) (b.generation == state.generation && is_range_used state.chunks b.addr b.size)
     (rw (eq-eqb _ _ is.generation) is.used)
 
--- a readable block that lies apart from those before stays
+-- a readable block that is apart from those before stays
 pub frame_keeps : (old new : Memory) (before after : List Block) (b : Block) → Frame old new before after → IsTrue (is_readable old.state b)
     → IsApart b.addr b.size before → Stays old new after b
 frame_keeps old new before after b frame readable apart = elim (cases_lt 0 b.size) [
@@ -199,7 +199,7 @@ frame_keeps_all old new before after [] frame readable apart = tt
 frame_keeps_all old new before after (b ∷ bs) frame readable apart =
     (frame_keeps old new before after b frame readable.0 apart.0, frame_keeps_all old new before after bs frame readable.1 apart.1)
 
--- a range in use lies in a chunk's used part
+-- a range in use is in a chunk's used part
 chunk_of : (addr n : ℕ) (chunks : List Chunk) → IsTrue (is_range_used chunks addr n) → (c : Chunk) × Contains chunks c
     × IsTrue (is_used_by addr n c)
 chunk_of addr n [] used = cc
@@ -208,7 +208,7 @@ chunk_of addr n (newest ∷ older) used = elim (or_cases (is_used_by addr n newe
   | inr there ↦ let rest = chunk_of addr n older there in (rest.0, Contains-append_right (newest ∷ []) older rest.0 rest.1, rest.2)
 ]
 
--- A block of some bytes is readable exactly where it lies in a chunk's used part.
+-- A block of some bytes is readable exactly if it is in a chunk's used part.
 pub in_use : (state : State) (b : Block) → 0 < b.size → IsTrue (is_readable state b) ↔ IsInUse state b
 in_use state b some = (
   λ readable.

@@ -58,7 +58,7 @@ floor_large m [] valid = omega arith
 floor_large m (newest ∷ older) valid = omega (arith, floor_large m older valid.2, valid.1)
 
 module _ (m : ℕ) (a : Inside m) where
-  -- what is asked for, by the fields
+  -- what is asked for, in terms of the fields
   pub asked_stored : (memory : Memory) (size align n : ℕ) (end : Option ℕ) → Stands m a → view_of m a ≡ memory → a.is_growing ≡ true
       → n ≡ length a.newest.bytes.items
       → end ≡ (if a.newest.base == 16 then None else Some (a.newest.base + length a.newest.bytes.items))
@@ -83,7 +83,7 @@ module _ (m : ℕ) (a : Inside m) where
       (ap (λ (w : Memory). w.state.is_growing) (sym view) ∙ growing) layout
       (rw (asked_stored memory size align n end stands view growing sized ends) at at)
 
-  -- the table, once it holds what was the newest chunk, has all chunks
+  -- the table, once it has what was the newest chunk, has all chunks
   table_all : (older : List StoredChunk) → Stands m a
       → older ≡ (if a.newest.base == 16 then a.older.items else a.older.items ++ a.newest ∷ [])
       → reverse older ≡ all_chunks a.newest a.older.items

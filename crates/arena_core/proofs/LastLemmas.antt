@@ -1,4 +1,4 @@
--- The last block placed, and its return.
+-- The block at the cursor, and its return.
 use Rattle.std.proofs.Common.{◌≡◌, ℕ, ◌+◌, ◌-◌, ◌<◌, ◌≤◌, ◌^◌, ◌∙◌, ap, sym, subst, arith, refl, inl, inr, IsTrue, Bool, true, false}
 use Rattle.std.specs.Prelude.{◌||◌, ◌&&◌, ◌==◌}
 use Rattle.std.proofs.lemmas.Bool.{cases_eq}
@@ -49,13 +49,13 @@ is_last m a memory block stands view readable here =
       unit = ap (λ (w : Memory). w.state.min_align) view;
     }
 
--- the cursor moves to where it goes if the block is given back
+-- the cursor moves to where it is after the block was given back
 pub last_returned : (m : ℕ) (memory : Memory) (block : Block) (q : ℕ) → IsLast m memory block → q ≡ up (block.addr + block.size) m
     → IsReturn memory.state block.addr block.size q
 last_returned m memory block q last is = is_return memory.state block.addr block.size q last.valid last.at last.ends
     (is ∙ ap (up (block.addr + block.size)) last.unit)
 
--- A block is given back by the rule: what that leaves.
+-- The effects of giving a block back by the rule.
 pub gives_back : (old new : Memory) (block : Block) → IsValid old.state → IsTrue (is_readable old.state block)
     → new ≡ record old { state = dealloc old.state block.addr block.size }
     → GivesBack old new block

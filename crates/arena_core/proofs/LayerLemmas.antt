@@ -31,7 +31,7 @@ use Rattle.arena_core.proofs.FrameLemmas.{apart_turned, byte_moved}
 use Rattle.arena_core.proofs.FrameRules.{frame_then, frame_weaken, frame_keeps, is_filled}
 use Rattle.arena_core.proofs.BlockCallLemmas.{wrote, wrote_first, wrote_after, writes_block}
 
--- ---- Where a readable block lies
+-- ---- Where a readable block is
 
 -- Its addresses are 4096 and above.
 pub readable_low : (state : State) (b : Block) → IsValid state → 0 < b.size → IsTrue (is_readable state b) → 4096 ≤ b.addr
@@ -56,7 +56,7 @@ readable_size state b valid readable = elim (cases_lt 0 b.size) [
   | inr none ↦ omega arith
 ]
 
--- Where no byte of chunks is used, no range of some bytes is.
+-- If no byte of the chunks is used, no range of some bytes is.
 unused_chunks : (chunks : List Chunk) (addr n : ℕ) → sum (map used_length chunks) ≡ 0 → 0 < n → is_range_used chunks addr n ≡ false
 unused_chunks [] addr n used some = refl
 unused_chunks (newest ∷ older) addr n used some =
@@ -65,7 +65,7 @@ unused_chunks (newest ∷ older) addr n used some =
     let none : used_length newest ≡ 0 = omega (arith, all, used) in
     grind (arith, nat_tests)
 
--- Where no byte is in use, no block of some bytes is readable.
+-- If no byte is in use, no block of some bytes is readable.
 pub unused_unreadable : (state : State) → used_bytes state ≡ 0 → NoneReadable state
 unused_unreadable state used b some = let none = unused_chunks state.chunks b.addr b.size used some in grind (arith, nat_tests)
 
@@ -80,12 +80,12 @@ readable_used state b = go (b.size == 0) (b.generation == state.generation) (is_
 
 -- ---- What stays
 
--- beside a call that had no block
+-- in a call that had no block
 pub frame_keeps_new : (old new : Memory) (after : List Block) (b : Block) → Frame old new [] after → IsTrue (is_readable old.state b)
     → Stays old new after b
 frame_keeps_new old new after b frame readable = frame_keeps old new [] after b frame readable tt
 
--- beside a call that had one block
+-- in a call that had one block
 pub frame_keeps_beside : (old new : Memory) (one : Block) (after : List Block) (b : Block) → Frame old new (one ∷ []) after
     → IsTrue (is_readable old.state b)
     → AreBlocksApart b one → Stays old new after b
@@ -105,7 +105,7 @@ placed_is_block old new size align b layout places =
       used = readable_used new.memory.state b is.of_layout.readable;
     }
 
--- It lies apart from all readable ones.
+-- It is apart from all readable blocks.
 pub placed_apart : (old new : View) (size align : ℕ) (b : Block) (bs : List Block) → PlacesBlock old new size align (Placed b)
     → AllByRecursion (λ (c : Block). IsTrue (is_readable old.memory.state c)) bs → IsApart b.addr b.size bs
 placed_apart old new size align b [] places readable = tt
@@ -116,14 +116,14 @@ placed_apart old new size align b (c ∷ bs) places readable = (beside, placed_a
         apart_turned c.addr c.size b.addr b.size
         (places.1.outcome.frame.apart c.addr c.size filled (is_filled old.memory.state c filled readable.0).used tt).0 some filled
 
--- So it joins blocks that lie pairwise apart.
+-- So it joins blocks that are pairwise apart.
 pub placed_pairwise : (old new : View) (size align : ℕ) (b : Block) (bs : List Block) → PlacesBlock old new size align (Placed b)
     → AllByRecursion (λ (c : Block). IsTrue (is_readable old.memory.state c)) bs → ArePairwiseApart bs → ArePairwiseApart (b ∷ bs)
 placed_pairwise old new size align b bs places readable apart = (placed_apart old new size align b bs places readable, apart)
 
--- ---- A block of another size
+-- ---- A block that is resized
 
--- From one of the arena's comes one.
+-- If the old block is one of the arena's, so is the new one.
 pub resized_is_block : (way : Resizing) (old new : View) (block b : Block) (size align : ℕ) → IsTrue (is_layout size align)
     → ResizesBlock way old new block size align (Placed b)
     → IsBlock old.memory.state (place_of block) → IsBlock new.memory.state (place_of b)
@@ -136,9 +136,9 @@ resized_is_block way old new block b size align layout resizes before =
       used = readable_used new.memory.state b is.of_layout.readable;
     }
 
--- ---- A block that shrinks to no greater alignment
+-- ---- A block that shrinks without a greater alignment
 
--- One that stays is answered.
+-- A block that stays is returned.
 stays_placed : (old new : View) (block : Block) (size align k : ℕ) (answer : Answer)
     → ResizesAfter StaysThere old new block size align k answer → (b : Block) × (answer ≡ Placed b)
 stays_placed old new block size align k (Placed b) is = (b, refl)
@@ -158,7 +158,7 @@ moves_placed q old new block size align k (AnswerRefused n) is =
     cc
 moves_placed q old new block size align k Exhausted is = let way = is.outcome.0 in cc
 
--- To shrink to no greater alignment is never refused, and never wants memory.
+-- Shrinking without a greater alignment is never refused, and never runs out of memory.
 pub shrunk_placed : (old new : View) (block : Block) (size align : ℕ) (answer : Answer) → align ≤ block.align
     → ShrinksBlock old new block size align answer → (b : Block) × (answer ≡ Placed b)
 shrunk_placed old new block size align answer lower shrinks =
@@ -182,7 +182,7 @@ returned_bytes old new b addr gives = ap (λ (w : Memory). image w addr) gives.m
   | inr other ↦ rw (dealloc_elsewhere old.state b.addr b.size other) refl
 ]
 
--- At least alignment 1 nothing changes but what is in use of the block alone.
+-- With least alignment 1, only the use of the block's own bytes changes.
 pub returned_plain : (old new : Memory) (b : Block) → GivesBack old new b → old.state.min_align ≡ 1 → Frame old new (b ∷ []) []
 returned_plain old new b gives one =
     frame_weaken old new (padded old.state.min_align b ∷ []) (b ∷ []) [] [] (λ addr n some apart. (rw unpadded apart.0, tt))
@@ -193,17 +193,17 @@ returned_plain old new b gives one =
 
 -- ---- A block that is written
 
--- Its bytes are the old ones with the list in the place of the range.
+-- Its bytes are the old ones with the list in place of the range.
 pub wrote_part : (old new : Memory) (b : Block) (at : ℕ) (list : List ℕ) → WritesBlock old new b at list → at + length list ≤ b.size
     → bytes_from (image new) b.addr b.size ≡ splice (bytes_from (image old) b.addr b.size) at list
 wrote_part old new b at list writes within = bytes_spliced (image old) (image new) b.addr b.size at list within writes.bytes
 
--- A list as long as the block stands there alone.
+-- A list as long as the block is all of its bytes.
 pub wrote_whole : (old new : Memory) (b : Block) (list : List ℕ) → WritesBlock old new b 0 list → length list ≡ b.size
     → bytes_from (image new) b.addr b.size ≡ list
 wrote_whole old new b list writes sized = ap (λ (n : ℕ). bytes_from (image new) b.addr n) (sym sized) ∙ wrote_first old new b list writes
 
--- bytes that stand one after another
+-- consecutive bytes
 bytes_joined : (f : ℕ → ℕ) (addr m n : ℕ) → bytes_from f addr (m + n) ≡ bytes_from f addr m ++ bytes_from f (addr + m) n
 unfolding bytes_from
 bytes_joined f addr zero n =
@@ -215,7 +215,7 @@ bytes_joined f addr (suc m) n =
     let from : addr + suc m ≡ addr + 1 + m = omega arith in
     rw (all, from) (ap (λ (rest : List ℕ). f addr ∷ rest) (bytes_joined f (addr + 1) m n))
 
--- The list stands behind the bytes before the range.
+-- The list follows the bytes before the range.
 pub wrote_behind : (old new : Memory) (b : Block) (at : ℕ) (list : List ℕ) → WritesBlock old new b at list
     → bytes_from (image new) b.addr (at + length list) ≡ bytes_from (image old) b.addr at ++ list
 wrote_behind old new b at list writes =
@@ -227,7 +227,7 @@ pub wrote_readable : (old new : Memory) (b c : Block) (at : ℕ) (list : List �
     → is_readable new.state c ≡ is_readable old.state c
 wrote_readable old new b c at list writes = ap (λ (s : State). is_readable s c) writes.state
 
--- An image with two lists that were written one after another.
+-- An image with two lists written one after another.
 written_more : (f g : ℕ → ℕ) (addr p : ℕ) (xs ys : List ℕ) → g p ≡ written f addr xs p
     → written g (addr + length xs) ys p ≡ written f addr (xs ++ ys) p
 written_more f g addr p xs ys first = elim (cases_lt p addr) [
@@ -238,7 +238,7 @@ written_more f g addr p xs ys first = elim (cases_lt p addr) [
   ]
 ]
 
--- Two writes one behind the other are one.
+-- Two adjacent writes are one.
 pub writes_more : (old mid new : Memory) (b : Block) (at : ℕ) (first second : List ℕ) → WritesBlock old mid b at first
     → WritesBlock mid new b (at + length first) second
     → WritesBlock old new b at (first ++ second)

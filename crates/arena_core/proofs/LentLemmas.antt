@@ -1,4 +1,4 @@
--- What an arena is once a `&mut` into the bytes of a block has ended.
+-- The final value of an arena, once a `&mut` into the bytes of a block has ended.
 use Rattle.std.proofs.Common.{◌≡◌, ℕ, zero, suc, get_or, ◌+◌, ◌-◌, ◌<◌, ◌≤◌, ap, sym, refl, subst, ◌∙◌, arith, IsTrue}
 use Rattle.std.proofs.Common.{List, [], ◌∷◌, ◌++◌, true, false, length, map, reverse, take, drop, append-nil}
 use Rattle.std.specs.Prelude.{nat_le, ◌==◌, slice_set}
@@ -25,7 +25,7 @@ use Rattle.arena_core.proofs.PartLemmas.{IsRange, IsPart, IsOlder, IsWritten, bl
 
 -- ---- Lists written from an index on
 
--- One that has room replaces the bytes there.
+-- A list that has room replaces the bytes there.
 pub written_spliced : (xs list : List ℕ) (at : ℕ) → at + length list ≤ length xs → written_from xs at list ≡ splice xs at list
 written_spliced xs list at fits = grind (arith, common_steps)
 
@@ -37,7 +37,7 @@ written_rest xs list at within =
     let none : drop (at + length (drop at new)) xs ≡ [] = drop_all (at + length (drop at new)) xs long in
     rw none (sym (take-append-drop at new) ∙ ap (λ (l : List ℕ). l ++ drop at new) front ∙ sym (append-nil (take at xs ++ drop at new)))
 
--- Behind the last byte there is no room.
+-- After the last byte there is no room.
 pub written_behind : (xs list : List ℕ) (at : ℕ) → at ≡ length xs → written_from xs at list ≡ xs
 written_behind xs list at end = grind (arith, common_steps)
 
@@ -53,7 +53,7 @@ bytes_lent addr (x ∷ xs) chunk rest list above low =
     let below : nat_le x.base addr ≡ false = grind (arith, nat_tests) in
     rw below (ap (λ (l : List (List ℕ)). x.bytes.items ∷ l) (bytes_lent addr xs chunk rest list above.1 low))
 
--- A list that has room is an edit of the chunk; any is one of all its bytes from the address on.
+-- A list that has room is an edit of the chunk; any list is one of all its bytes from the address on.
 part_edited : (c : StoredChunk) (addr : ℕ) (list : List ℕ) → addr - c.base + length list ≤ length c.bytes.items
     → IsEdited c (with_part c addr list) addr (length list) list
 part_edited c addr list fits =
@@ -83,7 +83,7 @@ with_part_at (c ∷ chunks) (suc i) addr list chunk at below =
     ap (λ (l : List StoredChunk). c ∷ l) (with_part_at chunks i addr list chunk at (omega arith))
 
 module _ (m : ℕ) (a : Inside m) (memory : Memory) where
-  -- with this newest chunk and this table the arena has a list in the place of a block's bytes
+  -- with this newest chunk and this table the arena has a list in place of a block's bytes
   pub record IsLent (block : Block) (list : List ℕ) (newest : StoredChunk) (older : List StoredChunk) : Type 0 where
     pub stored : IsStored (view_with m a newest older) newest older
     pub view : view_with m a newest older ≡ with_block memory block list
@@ -95,7 +95,7 @@ module _ (m : ℕ) (a : Inside m) (memory : Memory) where
   whole_range block stands view readable some =
       block_range m a memory block block.addr block.size stands view readable (omega arith) (omega arith) some
 
-  -- the chunk that has the block is replaced by one with the list in the block's place
+  -- the chunk that has the block is replaced by one with the list in place of the block's bytes
   module _ (block : Block) (list : List ℕ) (newer : List StoredChunk) (chunk : StoredChunk) (rest : List StoredChunk)
       (newest : StoredChunk) (older : List StoredChunk) (part : IsPart m a memory block.addr block.size newer chunk rest)
       (split : newest ∷ reverse older ≡ newer ++ with_part chunk block.addr list ∷ rest) (base : newest.base ≡ a.newest.base) where
@@ -140,14 +140,14 @@ module _ (m : ℕ) (a : Inside m) (memory : Memory) where
       writes = λ sized. subst (λ (w : Memory). WritesBlock memory w block 0 list) lent_view (lent_writes sized);
     }
 
-  -- the block lies in the newest chunk
+  -- the block is in the newest chunk
   pub newest_lent : (block : Block) (list : List ℕ) → IsRange m a memory block.addr block.size → a.newest.base ≤ block.addr
       → IsLent block list (with_part a.newest block.addr list) a.older.items
   newest_lent block list range above =
       lent block list [] a.newest (reverse a.older.items) (with_part a.newest block.addr list) a.older.items
       (newest_part m a memory block.addr block.size range above) refl refl
 
-  -- it lies in an older one
+  -- it is in an older one
   pub older_lent : (block : Block) (list : List ℕ) (i : ℕ) (chunk : StoredChunk)
       → (old : IsOlder m a memory block.addr block.size i chunk)
       → IsLent block list a.newest (slice_set a.older.items i (with_part chunk block.addr list))

@@ -122,7 +122,7 @@ module _ (m : ℕ) (a : Inside m) (memory : Memory) where
       )
       last.low
 
-  -- what the binary search asks of the table
+  -- the precondition of the binary search in the table
   table_sorted : (addr n : ℕ) → IsRange addr n → IsNonDecreasingBy (λ c. c.base) a.older.items
   table_sorted addr n range = subst (IsNonDecreasingBy (λ (c : StoredChunk). c.base)) (reverse-reverse a.older.items)
       (table_rises m (reverse a.older.items) range.valid.2)
@@ -154,7 +154,7 @@ module _ (m : ℕ) (a : Inside m) (memory : Memory) where
       subst (IsOlder addr n i) (last_is a.older.items addr i r last is)
       (record { before = last.before; after = last.after; table = last.split; at = last.at; part = older_part addr n i range below last })
 
-  -- the chunk that a search of the table gave
+  -- the chunk that a search of the table returned
   pub record IsFound (addr n i : ℕ) : Type 0 where
     pub chunk : StoredChunk
     pub at : chunk ≡ get_or a.older.items i chunk
@@ -190,7 +190,7 @@ module _ (m : ℕ) (a : Inside m) (memory : Memory) where
       found_of addr n i last.chunk at (last_within a.older.items addr i last)
       (is_older addr n i a.older.items last.chunk range below refl last at)
 
-  -- a part of the range lies in the same chunk
+  -- a part of the range is in the same chunk
   pub older_within : (addr n p k i : ℕ) (chunk : StoredChunk) → IsOlder addr n i chunk → IsRange p k → addr ≤ p → p ≤ addr + n
       → IsOlder p k i chunk
   older_within addr n p k i chunk is range low high =
@@ -209,7 +209,7 @@ module _ (m : ℕ) (a : Inside m) (memory : Memory) where
   found_within addr n p k i is range low high =
       found_of p k i is.chunk is.at is.has.within (older_within addr n p k i is.chunk is.older range low high)
 
-  -- ---- A range of it written
+  -- ---- Writing in a range
 
   pub record IsWritten (addr n : ℕ) (list : List ℕ) (newest : StoredChunk) (older : List StoredChunk) : Type 0 where
     pub stored : IsStored (view_with m a newest older) newest older
@@ -276,7 +276,7 @@ module _ (m : ℕ) (a : Inside m) (memory : Memory) where
       let part = newest_part addr n range above in
       part_written addr n n [] a.newest (reverse a.older.items) list new new a.older.items part part.high refl edited.base edited
 
-  -- all chunks with another one in the place of an older one
+  -- all chunks with another one in place of an older one
   pub older_split : (addr n i : ℕ) (chunk new : StoredChunk) → (old : IsOlder addr n i chunk)
       → a.newest ∷ reverse (slice_set a.older.items i new) ≡ (a.newest ∷ reverse old.after) ++ new ∷ reverse old.before
   older_split addr n i chunk new old =
@@ -332,7 +332,7 @@ module _ (m : ℕ) (a : Inside m) (memory : Memory) where
     below = omega (arith, below, start_stored m a memory stands view);
   }
 
-  -- the chunk that the search gave has the range
+  -- the chunk that the search returned has the range
   pub has_part : (addr n i : ℕ) (searched lent : List StoredChunk) → IsRange addr n → addr < a.newest.base → searched ≡ a.older.items
       → lent ≡ a.older.items
       → IsLastBelow searched addr i → HasPart lent i addr n

@@ -1,4 +1,4 @@
--- What becomes of a block that is given another size, case by case.
+-- What becomes of a block that is resized, case by case.
 use Rattle.std.proofs.Common.{◌≡◌, ℕ, ◌+◌, ◌*◌, ◌%◌, ◌<◌, ◌≤◌, ◌⊎◌, inl, inr, refl, arith, true, false, Bool, Some, None, eq-eqb, ne_eqb}
 use Rattle.std.specs.Prelude.{nat_le, nat_lt, ◌==◌, ◌&&◌}
 use Rattle.std.proofs.lemmas.Bool.Decides.{nat_tests}
@@ -11,7 +11,7 @@ use Rattle.arena_rules.specs.Moves.Resizing.{Stays, Moves, Anew, Refused}
 module _ (state : State) (p size align new_size new_align : ℕ) where
   -- ---- Shrinking
 
-  -- to no greater alignment, away from the cursor or by little, it stays
+  -- if the alignment doesn't rise, away from the cursor or if little is freed, it stays
   pub shrinks_still : new_align ≤ align → ((p ≡ cursor_of state.chunks → ⊥) ⊎ (2 * shrink_step state size new_size new_align < size))
       → shrinking state p size align new_size new_align ≡ Stays
   shrinks_still low still =
@@ -22,7 +22,7 @@ module _ (state : State) (p size align new_size new_align : ℕ) where
       ] in
       rw (lower, here) refl
 
-  -- at the cursor it moves up, if that gives half of it back
+  -- at the cursor it moves up, if that frees at least half of it
   pub shrinks_up : new_align ≤ align → p ≡ cursor_of state.chunks → size ≤ 2 * shrink_step state size new_size new_align
       → shrinking state p size align new_size new_align ≡ Moves (p + shrink_step state size new_size new_align)
   shrinks_up low at half =
@@ -30,7 +30,7 @@ module _ (state : State) (p size align new_size new_align : ℕ) where
       let much : nat_le size (2 * shrink_step state size new_size new_align) ≡ true = grind (arith, nat_tests) in
       rw (lower, eq-eqb _ _ at, much) refl
 
-  -- to a greater alignment it stays where its address suits that, and else is placed again
+  -- to a greater alignment it stays if its address is a multiple of that, and otherwise is allocated again
   pub shrinks_aligned : align < new_align → p % new_align ≡ 0 → shrinking state p size align new_size new_align ≡ Stays
   shrinks_aligned high aligned =
       let higher : nat_lt align new_align ≡ true = grind (arith, nat_tests) in
@@ -43,7 +43,7 @@ module _ (state : State) (p size align new_size new_align : ℕ) where
 
   -- ---- Growing
 
-  -- away from the cursor, or to a greater alignment, it is placed again
+  -- away from the cursor, or to a greater alignment, it is allocated again
   pub grows_anew : (align < new_align) ⊎ (p ≡ cursor_of state.chunks → ⊥) → growing state p size align new_size new_align ≡ Anew
   grows_anew away =
       let not_here : (nat_le new_align align && p == cursor_of state.chunks) ≡ false = elim away [
@@ -56,7 +56,7 @@ module _ (state : State) (p size align new_size new_align : ℕ) where
       and_false true = refl
       and_false false = refl
 
-  -- the block lies at the cursor, and its alignment doesn't rise
+  -- the block is at the cursor, and its alignment doesn't rise
   pub record IsHere : Type 0 where
     pub low : new_align ≤ align
     pub at : p ≡ cursor_of state.chunks
@@ -67,7 +67,7 @@ module _ (state : State) (p size align new_size new_align : ℕ) where
       let lower : nat_le new_align align ≡ true = grind (arith, nat_tests) in
       rw (lower, eq-eqb _ _ is.at) refl
 
-  -- there it is placed again where there is no room below it, moves down where there is, and is refused what is no layout
+  -- there it is allocated again without room below it, moves down with room, or is refused if its growth is no layout
   pub grows_full : IsHere → is_layout (growth state size new_size) align ≡ true → place state (growth state size new_size) align ≡ None
       → growing state p size align new_size new_align ≡ Anew
   grows_full is fine none = let here = here_test is in rw (here, fine, none) refl

@@ -1,4 +1,4 @@
--- A block in place of another: what it shows, and what is left of the rest of an arena.
+-- A block in place of another: what is true of it, and of the rest of an arena.
 use Rattle.std.proofs.Common.{◌≡◌, ℕ, ◌+◌, ◌-◌, ◌%◌, ◌^◌, ◌<◌, ◌≤◌, min, inl, inr, ap, sym, refl, subst, ◌∙◌, arith, [], ◌∷◌, IsTrue, Some, Err, true, false, length, eq-eqb}
 use Rattle.std.specs.Prelude.{◌==◌, ◌&&◌, nat_lt}
 use Rattle.std.proofs.lemmas.Bool.{cases_lt, or_left, or_right}
@@ -55,7 +55,7 @@ bytes_copied : (f g : ℕ → ℕ) (from to n : ℕ) → ((a : ℕ) → g a ≡ 
 bytes_copied f g from to n writes =
     subst (λ (k : ℕ). bytes_from g to k ≡ bytes_from f from n) (length-bytes f from n) (bytes_written f g to (bytes_from f from n) writes)
 
--- a block shrinks where it is
+-- a block shrinks and stays where it is
 pub resized_still : (memory : Memory) (block : Block) (size align n : ℕ) → IsValid memory.state → IsTrue (is_readable memory.state block)
     → size ≤ block.size
     → Resizes memory memory block (block_in memory.state block.addr size align) size align n
@@ -70,7 +70,7 @@ resized_still memory block size align n valid readable smaller = record {
   valid = valid;
 }
 
--- a block at the cursor moves with it, and takes its first n bytes along
+-- a block at the cursor moves together with it, with its first n bytes
 pub record MovesCursor (old new : Memory) (block : Block) (q size n : ℕ) : Type 0 where
   pub valid : IsValid old.state
   pub at : block.addr ≡ cursor_of old.state.chunks
@@ -109,7 +109,7 @@ resized_at_cursor old new block q size align n is = record {
   valid = subst IsValid (sym is.state) (valid_set old.state q is.valid is.low (omega (arith, is.fits, is.ends)) is.aligned);
 }
   where
-    -- what is used apart from the block lies behind it, or below the newest chunk
+    -- what is used apart from the block is above it, or below the newest chunk
     beside : (addr k : ℕ) → 0 < k → IsTrue (is_range_used old.state.chunks addr k) → AreApart addr k block.addr block.size
         → AreApart addr k q size
     beside addr k some used apart = λ many filled.
@@ -154,9 +154,9 @@ resized_copied old mid new block b size align n is = record {
   valid = subst IsValid (sym is.state) is.valid;
 }
 
--- ---- What the calls answer
+-- ---- What the calls return
 
--- a block from one of the arena's is aligned, after it grew and after it shrank
+-- a block from one of the arena's is aligned after it grew or shrank
 aligned_of : (old new : State) (block : Block) (size align : ℕ) (b : Block) → b.align ≡ align
     → IsMovedBlock old (place_of block) size align b.addr new → IsAligned new b
 aligned_of old new block size align b of_align moved =
@@ -184,7 +184,7 @@ shrunk_aligned old new block size align b valid layout of_align smaller step is 
     (shrink_moved old (place_of block) size align 0 (record { answer = Some b.addr; state = new }) valid is smaller
     (layout_power size align layout) step)
 
--- a move that asks for nothing
+-- a move without a request
 pub resized_unasked : (way : Resizing) (old new : Memory) (source : Source) (block : Block) (size align : ℕ) (b : Block)
     → (IsBlock old.state (place_of block) → IsAligned new.state b)
     → IsResizedUnasked way old new block size align b → ResizesAfter way (view old source) (view new source) block size align 0 (Placed b)
@@ -201,7 +201,7 @@ resized_unasked way old new source block size align b aligned is = record {
   };
 }
 
--- what is wanted more is no layout
+-- the growth isn't a valid layout
 pub resized_not : (memory : Memory) (source : Source) (block : Block) (size align : ℕ) → IsValid memory.state
     → ResizesAfter Refused (view memory source) (view memory source) block size align 0 (AnswerRefused 0)
 resized_not memory source block size align valid = record {
@@ -209,7 +209,7 @@ resized_not memory source block size align valid = record {
   outcome = (refl, record { step = refl; asked = asked_none source; memory = refl });
 }
 
--- an allocation in a block's stead was refused
+-- an allocation in place of a block was refused
 pub resized_none : (old new : View) (block : Block) (size align : ℕ) (e : ArenaErr) → OnCounted (Err e) (PlacesAfter old new size align)
     → OnCounted (Err e) (ResizesAfter Anew old new block size align)
 resized_none old new block size align (AllocErr k) places = record { valid = places.valid; outcome = places.outcome }
@@ -225,7 +225,7 @@ replaced_move s = elim (cases_lt (counted s.allocations 1) (2 ^ 64 - 1)) [
   | inr last ↦ let test : nat_lt (counted s.allocations 1) (2 ^ 64 - 1) ≡ false = grind (arith, nat_tests) in rw test refl
 ]
 
--- a block was placed again, and its first bytes were copied: it lies at the cursor
+-- a block was allocated again, and its first bytes were copied: it is at the cursor
 pub resized_anew : (old mid new : Memory) (before after : Source) (block b : Block) (size align k : ℕ)
     → PlacesAfter (view old before) (view mid after) size align k (Placed b)
     → IsTrue (is_readable old.state block) → new.state ≡ mid.state → new.statistics ≡ replaced mid.statistics

@@ -38,7 +38,7 @@ drop_front : {X : Type 0} (xs ys : List X) → drop (length xs) (xs ++ ys) ≡ y
 drop_front [] ys = refl
 drop_front (x ∷ xs) ys = drop_front xs ys
 
--- the last of a list in the other order are its first
+-- the last items of a reversed list are its first ones
 last_reversed : (xs : List StoredChunk) (n : ℕ) → n ≤ length xs → drop (length xs - n) (reverse xs) ≡ reverse (take n xs)
 last_reversed xs n within =
     let rest : length (reverse (drop n xs)) ≡ length xs - n = length-reverse (drop n xs) ∙ length_drop n xs in
@@ -120,7 +120,7 @@ module _ (m : ℕ) (a : Inside m) (memory : Memory) where
     pub start : start_of (first_chunks n memory.state.chunks) ≡ chunk.base
     pub top : top_of (first_chunks n memory.state.chunks) ≡ chunk.base + length chunk.bytes.items
 
-  -- where the last of the first chunks lies, if it is in the table
+  -- the bounds of the last of the first chunks, if it is in the table
   pub ends_in : (n : ℕ) → Stands m a → view_of m a ≡ memory → 0 < n → n ≤ length a.older.items → n ≤ length memory.state.chunks
       → AreEnds n (get_or a.older.items (n - 1) a.newest)
   ends_in n stands view some fits within =
@@ -142,7 +142,7 @@ module _ (m : ℕ) (a : Inside m) (memory : Memory) where
       empty : (a.newest.base == 16) ≡ true → length (view_of m a).state.chunks ≡ 0
       empty none = rw none refl
 
-  -- and where it is the newest
+  -- the same if it is the newest
   pub ends_newest : (n : ℕ) → Stands m a → view_of m a ≡ memory → 0 < n → length a.older.items < n → n ≤ length memory.state.chunks
       → AreEnds n a.newest
   ends_newest n stands view some far within =
@@ -189,7 +189,7 @@ byte_raised c p [] bytes = refl
 byte_raised c p (newest ∷ older) [] = refl
 byte_raised c p (newest ∷ older) (list ∷ bytes) = refl
 
--- an accepted mark is one of its state
+-- a checkpoint that is accepted has a mark that the state accepts
 pub accepted : (c : Checkpoint) (state : State) → IsTrue (is_accepted c state) → IsTrue (accepts (mark_at c) state)
 accepted c state holds = (and_parts (c.generation == state.generation) (accepts (mark_at c) state) holds).1
 
@@ -214,7 +214,7 @@ goes_back old c valid holds paired = record {
       ∙ byte_after old.state.min_align k p old.state.chunks old.bytes valid.chunks under;
 }
 
--- A block that may still be read has its bytes.
+-- A block that is still readable has its bytes.
 pub went_back : (old new : Memory) (b : Block) → GoesBack old new → IsTrue (is_readable new.state b)
     → bytes_from (image new) b.addr b.size ≡ bytes_from (image old) b.addr b.size
 went_back old new b back readable =

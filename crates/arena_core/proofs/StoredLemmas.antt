@@ -1,4 +1,4 @@
--- What the fields of an arena stand for.
+-- What the fields of an arena represent.
 use Rattle.std.proofs.Common.{◌≡◌, ℕ, ◌+◌, ◌-◌, ◌<◌, ◌≤◌, ◌^◌, min, max, ap, sym, refl, subst, ◌∙◌, arith, List, [], ◌∷◌, false, Bool, length, eqb-true, map, reverse, inl, inr, ◌⊎◌, sum, sum_by, Option, Some, true, leb-true}
 use Rattle.std.specs.Prelude.{◌==◌, ◌||◌, nat_le}
 use Rattle.std.specs.List.{All, list_any}
@@ -30,7 +30,7 @@ view_of m a = view_with m a a.newest a.older.items
 abbrev pub Stands : (m : ℕ) → Inside m → Type 0
 Stands m a = IsStored (view_of m a) a.newest a.older.items
 
--- what holds of all holds of all in the other order
+-- what holds for all holds for all in reverse
 pub all_reversed : {X : Type 0} (P : X → Type 0) → (xs : List X) → All P xs → All P (reverse xs)
 all_reversed P [] all = All-nil P
 all_reversed P (x ∷ xs) all = subst (All P) (sym (reverse-append (x ∷ []) xs))
@@ -52,7 +52,7 @@ sum_mapped f (x ∷ xs) =
     sum_by-cons f (stored_chunk x) (chunks_in xs) ∙ ap (λ (n : ℕ). f (stored_chunk x) + n) (sum_mapped f xs)
     ∙ sym (sum_by-cons (λ (c : StoredChunk). f (stored_chunk c)) x xs)
 
--- a sum of what is at most the sizes has 64 bits
+-- a sum of numbers that are at most the sizes fits in 64 bits
 sum_fits : (f : Chunk → ℕ) (memory : Memory) → IsValid memory.state → ((c : Chunk) → IsChunk memory.state.min_align c → f c ≤ c.size)
     → sum (map f memory.state.chunks) < 2 ^ 64
 sum_fits f memory valid small = omega (arith, sum-map f memory.state.chunks, go memory.state.chunks valid.chunks, valid.top)
@@ -65,7 +65,7 @@ any_mapped : (p : Chunk → Bool) (chunks : List StoredChunk) → list_any p (ch
 any_mapped p [] = refl
 any_mapped p (x ∷ xs) = ap (λ (b : Bool). p (stored_chunk x) || b) (any_mapped p xs)
 
--- where the newest cursor may be
+-- where the newest cursor may be moved
 pub record IsCursor (state : State) (q : ℕ) : Type 0 where
   pub low : start_of state.chunks ≤ q
   pub high : q ≤ top_of state.chunks
@@ -128,7 +128,7 @@ module _ (m : ℕ) (a : Inside m) where
             ∙ ap (λ (n : ℕ). f (stored_chunk a.newest) + n) same))
       ])
 
-  -- a sum over the newest and the table has 64 bits, where it is at most the sizes
+  -- a sum over the newest and the table fits in 64 bits, if its terms are at most the sizes
   pub sum_has : (f : Chunk → ℕ) → Stands m a → (a.newest.base ≡ 16 → f (stored_chunk a.newest) ≡ 0)
       → ((c : Chunk) → IsChunk m c → f c ≤ c.size)
       → f (stored_chunk a.newest) + sum_by (λ c. f (stored_chunk c)) a.older.items < 2 ^ 64
@@ -161,7 +161,7 @@ module _ (m : ℕ) (a : Inside m) where
 
   -- ---- Moves
 
-  -- the place by the fields is the state's
+  -- the place in terms of the fields is the state's
   pub place_stored : (memory : Memory) (size align : ℕ) (found : Option ℕ) → Stands m a → view_of m a ≡ memory
       → found ≡ place_below a.newest.base a.newest.cursor size align m → place memory.state size align ≡ found
   place_stored memory size align found stands view is = subst (λ (w : Memory). place w.state size align ≡ found) view
@@ -234,7 +234,7 @@ module _ (m : ℕ) (a : Inside m) where
       ≡ record { state = with_cursor q w.state; statistics = w.statistics; bytes = w.bytes }) view
       (elim (cases_Bool (a.newest.base == 16)) [ inl none ↦ rw none refl | inr some ↦ rw some refl ])
 
-  -- ---- All blocks given back
+  -- ---- A reset
 
   -- the newest chunk alone, with nothing used
   pub emptied_stored : (generation size : ℕ) (older : List StoredChunk) → Stands m a → generation ≡ min (a.generation + 1) (2 ^ 64 - 1)

@@ -27,7 +27,7 @@ readable_part state block p n readable low high some =
 
 -- ---- Lists, and the element that was looked up
 
--- what holds of all holds of one of them, and of all with another in its place
+-- what holds for all holds for one of them, and for all with another in its place
 pub all_among : {X : Type 0} (P : X → Type 0) → (xs : List X) (x : X) (ys : List X) → All P (xs ++ x ∷ ys) → P x
 all_among P [] x ys all = All-head P x ys all
 all_among P (y ∷ xs) x ys all = all_among P xs x ys (All-tail P y (xs ++ x ∷ ys) all)
@@ -53,7 +53,7 @@ last_is older addr i r last is =
     ∙ ap (λ (k : ℕ). get_or (last.before ++ last.chunk ∷ last.after) k r) (sym last.at)
     ∙ get_or-append_seam last.before last.chunk last.after r)
 
--- newer chunks begin behind the end of a chunk
+-- newer chunks begin above the end of a chunk
 floor_above : (m p : ℕ) (newer : List StoredChunk) (chunk : StoredChunk) (rest : List StoredChunk)
     → AreChunks m (chunks_in (newer ++ chunk ∷ rest)) → p ≤ chunk.base + length chunk.bytes.items
     → p < floor_of (chunks_in (newer ++ chunk ∷ rest))
@@ -67,7 +67,7 @@ above_end m p [] chunk rest valid high = tt
 above_end m p (newest ∷ newer) chunk rest valid high =
     (omega (arith, floor_above m p newer chunk rest valid.2 high, valid.1), above_end m p newer chunk rest valid.2 high)
 
--- whatever stands in for an item that is none
+-- an item doesn't depend on the default
 pub get_or-same : {X : Type 0} (xs : List X) (i : ℕ) (d e : X) → i < length xs → get_or xs i d ≡ get_or xs i e
 get_or-same [] i d e below = absurd (omega arith)
 get_or-same (x ∷ xs) zero d e below = refl

@@ -18,14 +18,14 @@ use Rattle.arena_core.specs.declared.arena.Arena.TheInside.{Inside}
 use Rattle.arena_store.proofs.TableLemmas.{chunks_in, bytes_in, range_bytes}
 use Rattle.arena_core.proofs.StoredLemmas.{kind, view_of, Stands, all_reversed, all_straight, newest_ordered, older_ordered}
 
--- ---- Each chunk that is left is in order
+-- ---- Each chunk that remains is in order
 
 -- where there is a chunk, all are the newest and the table from its end
 pub all_ordered : (newest : StoredChunk) (older : List StoredChunk) → (newest.base ≡ 16 → ⊥) → All IsOrdered (all_chunks newest older)
     → All IsOrdered (newest ∷ reverse older)
 all_ordered newest older some all = let test : (newest.base == 16) ≡ false = grind (arith, nat_tests) in rw test at all
 
--- the first and the others, where it is the newest, and where it is the last of the table
+-- the first and the others, if it is the newest, and if it is the last of the table
 pub newest_first : (o : Option (Bor StoredChunk)) (newest : Bor StoredChunk) (older : List StoredChunk) → Some newest ≡ o
     → All IsOrdered (chunks_left o older)
     → IsOrdered newest.now × All IsOrdered (chunks_left None older)
@@ -33,12 +33,12 @@ newest_first o newest older is all =
     let both : All IsOrdered (newest.now ∷ reverse older) = rw (← is) at all in
     (All-head IsOrdered newest.now (reverse older) both, All-tail IsOrdered newest.now (reverse older) both)
 
--- all of the table, where the newest is not to come
+-- all of the table, if the newest isn't to come
 pub table_ordered : (o : Option (Bor StoredChunk)) (older : List StoredChunk) → None ≡ o → All IsOrdered (chunks_left o older)
     → All IsOrdered older
 table_ordered o older is all = all_straight IsOrdered older (rw (← is) at all)
 
--- the first that is left is the newest, or the last of those of the table that are left
+-- the first that remains is the newest, or the last of those of the table that remain
 pub left_newest : (o : Option (Bor StoredChunk)) (newest : Bor StoredChunk) (older : List StoredChunk) → Some newest ≡ o
     → chunks_left o older ≡ newest.now ∷ chunks_left None older
 left_newest o newest older is = rw (← is) refl
@@ -82,7 +82,7 @@ module _ (m : ℕ) (a : Inside m) where
         (all_reversed IsOrdered a.older.items (older_ordered m a stands)))
   ]
 
-  -- their used parts, where these lie, and where the chunks do
+  -- the used parts, their ranges, and the chunks
   pub parts_stored : (memory : Memory) (chunks : List StoredChunk) → Stands m a → view_of m a ≡ memory
       → chunks ≡ all_chunks a.newest a.older.items → map used_part chunks ≡ used_parts memory
   parts_stored memory chunks stands view is =

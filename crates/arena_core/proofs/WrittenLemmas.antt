@@ -16,7 +16,7 @@ bytes_same f g addr n same =
     let inside : i < n = omega arith in
     byte-bytes f addr n i inside ∙ same i inside ∙ sym (byte-bytes g addr n i inside))
 
--- A list that is written stands there.
+-- A list that is written is there afterwards.
 pub bytes_written : (f g : ℕ → ℕ) (addr : ℕ) (list : List ℕ) → ((a : ℕ) → g a ≡ written f addr list a)
     → bytes_from g addr (length list) ≡ list
 bytes_written f g addr list writes =
@@ -27,7 +27,7 @@ bytes_written f g addr list writes =
     let index : addr + i - addr ≡ i = omega arith in
     byte-bytes g addr (length list) i (omega arith) ∙ writes (addr + i) ∙ rw (low, high, index) refl)
 
--- What stands in a range that has a written one.
+-- The bytes of a range that has a written one within.
 pub bytes_spliced : (f g : ℕ → ℕ) (addr n at : ℕ) (list : List ℕ) → at + length list ≤ n → ((a : ℕ) → g a ≡ written f (addr + at) list a)
     → bytes_from g addr n ≡ splice (bytes_from f addr n) at list
 bytes_spliced f g addr n at list within writes =
@@ -48,7 +48,7 @@ take_bytes f addr n zero within = refl
 take_bytes f addr zero (suc k) within = absurd (omega arith)
 take_bytes f addr (suc n) (suc k) within = ap (λ (rest : List ℕ). f addr ∷ rest) (take_bytes f (addr + 1) n k (omega arith))
 
--- What stands in a range whose last bytes were set.
+-- The bytes of a range whose last bytes were set.
 pub bytes_filled : (f g : ℕ → ℕ) (addr n at value : ℕ) → at ≤ n → ((a : ℕ) → g a ≡ written f (addr + at) (replicate (n - at) value) a)
     → bytes_from g addr n ≡ bytes_from f addr at ++ replicate (n - at) value
 bytes_filled f g addr n at value within writes =
@@ -66,7 +66,7 @@ bytes_within f addr n from k within =
     let at : addr + from + i ≡ addr + (from + i) = omega arith in
     ap f at ∙ sym (byte-bytes f addr n (from + i) (omega arith)))
 
--- What stands in a range, written there again with another list in its midst: that list alone is written.
+-- The bytes of a range, written there again with another list in their midst: that list alone is written.
 pub written_within : (f : ℕ → ℕ) (addr n at p : ℕ) (list : List ℕ) → at + length list ≤ n
     → written f addr (splice (bytes_from f addr n) at list) p ≡ written f (addr + at) list p
 written_within f addr n at p list within =

@@ -10,7 +10,8 @@ use Rattle.arena_store.specs.Source.{View, IsAsked}
 use Rattle.arena_store.specs.declared.block.ArenaErr.{ArenaErr}
 use Rattle.arena_store.specs.declared.block.ArenaErr.TheVariants.{AllocErr, OutOfMemory}
 
--- A granted chunk of a valid arena that grows is the newest now, with nothing used and zeros in it, and has a place for the block.
+-- A granted chunk of a valid growing arena is now the newest, with nothing used and zeros in it, and has a place for
+-- the block.
 pub record IsAdded (old new : Memory) (size align k p : ℕ) : Type 0 where
   pub entry : ℕ × ℕ
   pub asked : slice_get (asked old.state size align) k ≡ Some entry
@@ -28,20 +29,20 @@ pub record AddsChunk (old new : View) (size align k : ℕ) (answer : Option ℕ)
 abbrev pub placed_at : Memory → ℕ → Memory
 placed_at memory p = record { state = with_cursor p memory.state; statistics = one_allocation memory.statistics; bytes = memory.bytes }
 
--- an allocation with its step, which changed no byte in use
+-- an allocation step that changed no byte in use
 pub record IsPlacing (old new : Memory) (size align k p : ℕ) : Type 0 where
   pub step : alloc old.state size align k ≡ Some (record { answer = Some p; state = new.state })
   pub statistics : new.statistics ≡ one_allocation old.statistics
   pub bytes : (a : ℕ) → IsTrue (is_used old.state a) → image new a ≡ image old a
 
--- The block has a place in the newest chunk: after k refusals, which are the source's, it is where the rule has it.
+-- The block has a place in the newest chunk: after k refusals, which are the source's, it is where the rule puts it.
 pub record FindsPlace (old new : View) (size align k p : ℕ) : Type 0 where
   pub valid : IsValid old.memory.state
   pub place : place new.memory.state size align ≡ Some p
   pub placing : IsPlacing old.memory (placed_at new.memory p) size align k p
   pub asked : IsAsked old.source new.source k (alloc_requests old.memory.state size align k)
 
--- A fact of the refusals and the place that are told, and one of lack of memory.
+-- a property of the number of refusals and of the place, and one for a lack of memory
 abbrev pub OnFound : Result (ℕ × ℕ) ArenaErr → (ℕ → Option ℕ → Type 0) → Type 0 → Type 0
 OnFound (Ok found) told exhausted = told found.1 (Some found.0)
 OnFound (Err (AllocErr refused)) told exhausted = told refused None

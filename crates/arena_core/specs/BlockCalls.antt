@@ -1,4 +1,4 @@
--- What the calls on blocks do to an arena and its source, whoever makes them.
+-- What the calls on blocks do to an arena and its source.
 use Rattle.std.specs.Prelude.{◌≡◌, ℕ, ◌+◌, ◌<◌, ◌≤◌, ◌%◌, ◌*◌, ◌&&◌, min, nat_lt, true, false, Bool, Option, Some, None, List, [], ◌∷◌, length, IsTrue}
 use Rattle.arena_rules.specs.Rounding.{is_layout}
 use Rattle.arena_rules.specs.State.{State, IsValid}
@@ -17,11 +17,11 @@ use Rattle.arena_store.specs.declared.block.Block.{Block}
 
 -- ---- Blocks
 
--- where a block lies
+-- the place of a block
 abbrev pub place_of : Block → Place
 place_of b = record { addr = b.addr; size = b.size; align = b.align }
 
--- a block of this state and this layout, which may be read
+-- a readable block of this state and this layout
 pub record IsBlockOf (state : State) (size align : ℕ) (b : Block) : Type 0 where
   pub generation : b.generation ≡ state.generation
   pub of_size : b.size ≡ size
@@ -33,16 +33,16 @@ pub record IsAligned (state : State) (b : Block) : Type 0 where
   pub own : b.addr % b.align ≡ 0
   pub least : b.addr % state.min_align ≡ 0
 
--- ---- What calls that place share
+-- ---- What calls that place a block share
 
--- The call is refused by its rule, for k refusals, which are the source's. The arena is as it was.
+-- The call is refused by its rule, after k refusals, which are the source's. The arena is as it was.
 pub record IsRefused (move : ℕ → Option Outcome) (asks : ℕ → List (ℕ × ℕ)) (old new : View) (k : ℕ) : Type 0 where
   pub step : move k ≡ Some (record { answer = None; state = old.memory.state })
   pub asked : IsAsked old.source new.source k (asks k)
   pub memory : new.memory ≡ old.memory
 
--- Memory runs out for the table of chunks, before the source is asked: there is no place for the layout in the newest
--- chunk of an arena that grows. Nothing changed.
+-- There is no memory for the table of chunks, before the source is asked: there is no place for the layout in the
+-- newest chunk of a growing arena. Nothing changed.
 pub record IsExhausted (old new : View) (size align : ℕ) : Type 0 where
   pub place : place old.memory.state size align ≡ None
   pub growing : old.memory.state.is_growing ≡ true
@@ -55,7 +55,7 @@ pub record AreValid (old new : Memory) : Type 0 where
 
 -- ---- A new block
 
--- A block is placed by the rule for k refusals, which are the source's. No byte in use changes.
+-- A block is placed by the rule after k refusals, which are the source's. No byte in use changes.
 pub record IsPlaced (old new : View) (size align k : ℕ) (b : Block) : Type 0 where
   pub step : alloc old.memory.state size align k ≡ Some (record { answer = Some b.addr; state = new.memory.state })
   pub asked : IsAsked old.source new.source k (alloc_requests old.memory.state size align k)
@@ -71,14 +71,15 @@ pub record PlacesAfter (old new : View) (size align k : ℕ) (answer : Answer) :
       (λ refused. (refused ≡ k) × IsRefused (alloc old.memory.state size align) (alloc_requests old.memory.state size align) old new k)
       (IsExhausted old new size align)
 
--- A call that places a block does so for some number of refusals; where it is refused it tells that number.
+-- A call that places a block does so for some number of refusals; if it is refused, it returns that number.
 abbrev pub PlacesBlock : View → View → ℕ → ℕ → Answer → Type 0
 PlacesBlock old new size align answer = (k : ℕ) × PlacesAfter old new size align k answer
 
--- ---- A block of another size
+-- ---- A block that is resized
 
--- A block is given another size as the rule has it, for k refusals, which are the source's. What is answered begins with the
--- bytes that it had, as many as both sizes have. All else that was in use is as it was. From a block of the arena's comes one.
+-- A block is resized by the rule after k refusals, which are the source's. The new block begins with the bytes of the
+-- old one, as many as both sizes have. Everything else that was in use is as it was. If the old block is one of the
+-- arena's, so is the new one.
 pub record IsResized (way : Resizing) (old new : View) (block : Block) (size align k : ℕ) (b : Block) : Type 0 where
   pub step : resize way old.memory.state block.addr size align k ≡ Some (record { answer = Some b.addr; state = new.memory.state })
   pub asked : IsAsked old.source new.source k (resize_requests way old.memory.state size align k)
@@ -88,7 +89,7 @@ pub record IsResized (way : Resizing) (old new : View) (block : Block) (size ali
   pub bytes : bytes_from (image new.memory) b.addr (min block.size size) ≡ bytes_from (image old.memory) block.addr (min block.size size)
   pub frame : Frame old.memory new.memory (block ∷ []) (b ∷ [])
 
--- a call that gives a block another size, where k requests are refused
+-- a call that resizes a block, where k requests are refused
 pub record ResizesAfter (way : Resizing) (old new : View) (block : Block) (size align k : ℕ) (answer : Answer) : Type 0 where
   pub valid : AreValid old.memory new.memory
   pub outcome : OnAnswer answer (IsResized way old new block size align k)
@@ -112,12 +113,12 @@ GrowsBlock old new block size align answer = ResizesBlock (growing_of old.memory
 abbrev pub ShrinksBlock : View → View → Block → ℕ → ℕ → Answer → Type 0
 ShrinksBlock old new block size align answer = ResizesBlock (shrinking_of old.memory block size align) old new block size align answer
 
--- A call is refused for what it was given: nothing was asked for and nothing changed.
+-- A call is refused because of its arguments: nothing was asked for and nothing changed.
 pub record Refuses (old new : View) (answer : Answer) : Type 0 where
   pub told : answer ≡ Refused 0
   pub same : new ≡ old
 
--- A block is given another size: an empty one is placed again, and any other shrinks or grows.
+-- A block is resized at its alignment: an empty one is allocated again, and any other shrinks or grows.
 pub record Reallocates (old new : View) (block : Block) (size : ℕ) (answer : Answer) : Type 0 where
   pub refused : is_layout size block.align ≡ false → Refuses old new answer
   pub anew : IsTrue (is_layout size block.align) → block.size ≡ 0 → PlacesBlock old new size block.align answer
@@ -126,13 +127,13 @@ pub record Reallocates (old new : View) (block : Block) (size : ℕ) (answer : A
   pub grown : IsTrue (is_layout size block.align) → 0 < block.size → block.size < size
       → GrowsBlock old new block size block.align answer
 
--- elements of this size and alignment, so many, in a row: a layout of some bytes
+-- n elements of this size and alignment in a row: a valid layout of some bytes
 abbrev pub is_array : ℕ → ℕ → ℕ → Bool
 is_array size align n = is_layout (n * size) align && nat_lt 0 (n * size)
 
 -- ---- Blocks given back, and written
 
--- A block is given back: only where it is the last one placed does the cursor move. No byte changes at all.
+-- A block is given back: the cursor moves only if the block is at it. No byte changes at all.
 pub record GivesBack (old new : Memory) (block : Block) : Type 0 where
   pub valid : AreValid old new
   pub memory : new ≡ record old { state = dealloc old.state block.addr block.size }
@@ -146,7 +147,7 @@ pub record WritesBlock (old new : Memory) (block : Block) (at : ℕ) (list : Lis
   pub bytes : Writes old new (block.addr + at) list
   pub frame : Frame old new (block ∷ []) (block ∷ [])
 
--- the same by a change of the range's bytes, of which these may stand there afterwards: as many
+-- the same by a change of the range's bytes that keeps their number, of which this list is a possible result
 pub record EditsBlock (old new : Memory) (block : Block) (at size : ℕ) (relates : List ℕ → List ℕ → Type 0) : Type 0 where
   pub list : List ℕ
   pub sized : length list ≡ size

@@ -16,11 +16,12 @@ mark_at c = record { chunks = c.chunks; cursor = c.addr }
 abbrev pub is_accepted : Checkpoint → State → Bool
 is_accepted c state = c.generation == state.generation && accepts (mark_at c) state
 
--- The arena accepts the mark still, with its part, and what a call leaves in use lies in it, if it did before.
+-- The arena still accepts the mark, with the same part, and what is in use before and after a call stays in it, if it
+-- was there.
 abbrev pub KeepsCheckpoint : Checkpoint → State → State → Type 0
 KeepsCheckpoint c old new = IsTrue (is_accepted c new) × KeepsMark (mark_at c) old new
 
--- the bytes of the oldest chunks, so many; the chunks stand newest first
+-- the bytes of the n oldest chunks, as lists in order, newest first
 abbrev pub first_bytes : ℕ → List (List ℕ) → List (List ℕ)
 first_bytes n bytes = drop (length bytes - n) bytes
 
@@ -47,7 +48,7 @@ sent_back c memory = record {
   bytes = first_bytes c.chunks memory.bytes;
 }
 
--- What going back leaves of the rest: the arena's kind stays, nothing comes into use, and what is in use still has its bytes.
+-- What going back does to the rest: the arena's kind stays, nothing comes into use, and what is in use keeps its bytes.
 pub record GoesBack (old new : Memory) : Type 0 where
   pub valid : AreValid old new
   pub generation : new.state.generation ≡ old.state.generation

@@ -1,4 +1,4 @@
--- What a call that works on some blocks leaves of the rest of an arena.
+-- What a call that works on some blocks does to the rest of an arena.
 use Rattle.std.specs.Prelude.{◌≡◌, ℕ, ◌+◌, ◌<◌, ◌≤◌, false, List, [], ◌∷◌, IsTrue}
 use Rattle.std.specs.List.{Contains}
 use Rattle.arena_rules.specs.State.{State, Chunk, data_end, allocated_bytes, is_used, is_range_used, AreApart}
@@ -6,7 +6,7 @@ use Rattle.arena_rules.specs.Blocks.{padded_size}
 use Rattle.arena_store.specs.Memory.{Memory, image, is_readable, bytes_from}
 use Rattle.arena_store.specs.declared.block.Block.{Block}
 
--- n addresses from this one on lie apart from each of the blocks
+-- the n addresses from this one on are apart from each of the blocks
 abbrev pub IsApart : ℕ → ℕ → List Block → Type 0
 IsApart addr n [] = Unit {0}
 IsApart addr n (b ∷ bs) = AreApart addr n b.addr b.size × IsApart addr n bs
@@ -20,13 +20,13 @@ abbrev pub ArePairwiseApart : List Block → Type 0
 ArePairwiseApart [] = Unit {0}
 ArePairwiseApart (b ∷ bs) = IsApart b.addr b.size bs × ArePairwiseApart bs
 
--- each of some blocks lies apart from each of others
+-- each block of one list is apart from each of the other
 abbrev pub AreAllApart : List Block → List Block → Type 0
 AreAllApart [] others = Unit {0}
 AreAllApart (b ∷ bs) others = IsApart b.addr b.size others × AreAllApart bs others
 
--- A call that had the blocks before and has the blocks after leaves the rest as it was: what was in use apart from the blocks
--- before is in use still, with its bytes, and lies apart from the blocks after. The arena's kind stays.
+-- A call that had the blocks before and has the blocks after leaves the rest as it was: what was in use apart from the
+-- blocks before stays in use, with its bytes, and is apart from the blocks after. The arena's kind stays.
 pub record Frame (old new : Memory) (before after : List Block) : Type 0 where
   pub generation : new.state.generation ≡ old.state.generation
   pub min_align : new.state.min_align ≡ old.state.min_align
@@ -37,13 +37,13 @@ pub record Frame (old new : Memory) (before after : List Block) : Type 0 where
   pub apart : (addr n : ℕ) → 0 < n → IsTrue (is_range_used old.state.chunks addr n) → IsApart addr n before → IsApart addr n after
   pub bytes : (p : ℕ) → IsTrue (is_used old.state p) → IsApart p 1 before → image new p ≡ image old p
 
--- A block that lies apart from those before is readable afterwards, with its bytes, and lies apart from those after.
+-- A block that is apart from those before is readable afterwards, with its bytes, and apart from those after.
 pub record Stays (old new : Memory) (after : List Block) (b : Block) : Type 0 where
   pub readable : IsTrue (is_readable new.state b)
   pub bytes : bytes_from (image new) b.addr b.size ≡ bytes_from (image old) b.addr b.size
   pub apart : IsApart b.addr b.size after
 
--- The block is of the arena's generation, and its bytes lie in one chunk's used part.
+-- The block is of the arena's generation, and its bytes are in one chunk's used part.
 pub record IsInUse (state : State) (b : Block) : Type 0 where
   pub generation : b.generation ≡ state.generation
   pub chunk : Chunk

@@ -1,4 +1,4 @@
--- A block in place of another, whatever was asked for it; and what no reset leaves.
+-- A block in place of another, whatever is requested for it; and what a reset ends.
 use Rattle.std.specs.Prelude.{◌≡◌, ℕ, ◌-◌, ◌^◌, ◌<◌, nat_lt, min, if◌then◌else◌, Some, None, [], ◌∷◌, false}
 use Rattle.arena_rules.specs.State.{State, IsValid}
 use Rattle.arena_rules.specs.Moves.{Resizing, resize, anew}
@@ -9,14 +9,14 @@ use Rattle.arena_core.specs.Frame.{Frame}
 use Rattle.arena_core.specs.BlockCalls.{IsBlockOf}
 use Rattle.arena_store.specs.declared.block.Block.{Block}
 
--- It has the first n bytes of the old one, and the rest of the arena is as it was.
+-- The new block has the first n bytes of the old one, and the rest of the arena is as it was.
 pub record Resizes (old new : Memory) (block b : Block) (size align n : ℕ) : Type 0 where
   pub of_layout : IsBlockOf new.state size align b
   pub bytes : bytes_from (image new) b.addr n ≡ bytes_from (image old) block.addr n
   pub frame : Frame old new (block ∷ []) (b ∷ [])
   pub valid : IsValid new.state
 
--- the same by a move that asks for nothing
+-- the same by a move without a request
 pub record IsResizedUnasked (way : Resizing) (old new : Memory) (block : Block) (size align : ℕ) (b : Block) : Type 0 where
   pub entry : IsValid old.state
   pub step : resize way old.state block.addr size align 0 ≡ Some (record { answer = Some b.addr; state = new.state })
@@ -24,7 +24,7 @@ pub record IsResizedUnasked (way : Resizing) (old new : Memory) (block : Block) 
   pub statistics : new.statistics ≡ resized way old.statistics
   pub resizes : Resizes old new block b size align (min block.size size)
 
--- of a count that has the new block already: a block that was placed again in another's stead
+-- a block was allocated again in place of another, where the count already has the new block
 abbrev pub replaced : Statistics → Statistics
 replaced statistics = record {
   allocations = if nat_lt statistics.allocations (2 ^ 64 - 1) then statistics.allocations - 1 else statistics.allocations;

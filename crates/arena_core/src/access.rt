@@ -14,8 +14,8 @@ impl<const MIN_ALIGN: usize> Arena<MIN_ALIGN> {
     ghost use Rattle.arena_store.specs.Lends.{with_block};
     ghost use Rattle.arena_core.specs.BlockLends.{LendsBlock};
 
-    /// Whether a block is readable: it is empty, or of the arena's generation with its bytes in one chunk's used part.
-    /// One of some bytes that a reset ended isn't, as long as generations rise.
+    /// Returns whether a block is readable: it is empty, or of the arena's generation with its bytes in one chunk's
+    /// used part. A non-empty block from before a reset isn't, unless the generation was already at its maximum.
     pub fn is_held_place(&self, block: Block) -> bool
         ensures { result ≡ is_readable self.now.state block }
     {
@@ -24,7 +24,7 @@ impl<const MIN_ALIGN: usize> Arena<MIN_ALIGN> {
                 && (self.newest.has(block) || self.older.has(block))
     }
 
-    /// The bytes of a block.
+    /// Returns the bytes of a block.
     pub fn read(&self, block: Block) -> &[u8]
         requires { IsTrue (is_readable self.now.state block) }
         ensures { result.now ≡ bytes_from (image self.now) block.addr block.size }
@@ -39,7 +39,7 @@ impl<const MIN_ALIGN: usize> Arena<MIN_ALIGN> {
         self.older.part(i, block.addr, block.size)
     }
 
-    /// The bytes of a block, to be written. The block then has what was written there.
+    /// Returns the bytes of a block, for writing. What is written there is in the block afterwards.
     pub fn read_mut(&mut self, block: Block) -> &mut [u8]
         requires { IsTrue (is_readable self.old.state block) }
         ensures* writes_back { sem 𝓛 (LendsBlock MIN_ALIGN.row self.entry block result) }
@@ -48,7 +48,7 @@ impl<const MIN_ALIGN: usize> Arena<MIN_ALIGN> {
             → WritesBlock self.old (with_block self.old block list) block 0 list }
     {
         if block.size == 0 {
-            // Its address may lie anywhere.
+            // Its address may be anywhere.
             let end = self.newest.base + self.newest.size();
             return part_at_mut(&mut self.newest, end, 0);
         }
@@ -68,7 +68,7 @@ impl<const MIN_ALIGN: usize> Arena<MIN_ALIGN> {
         self.edit(block, at, bytes.len() as u64, &Put { bytes });
     }
 
-    /// Changes `size` bytes of a block, from the index `at` on, in their place with no buffer in between.
+    /// Changes `size` bytes of a block in place, from the index `at` on, without a buffer.
     #[inline(always)]
     pub fn write_with<E: Edit>(&mut self, block: Block, at: u64, size: u64, e: &E)
         requires readable { IsTrue (is_readable self.old.state block) }
@@ -79,7 +79,7 @@ impl<const MIN_ALIGN: usize> Arena<MIN_ALIGN> {
         self.edit(block, at, size, e);
     }
 
-    /// Moves `size` bytes of a block from the index `from` to the index `to`, in one move of memory. The two ranges may
+    /// Moves `size` bytes of a block from the index `from` to the index `to`, in one memory move. The two ranges may
     /// overlap.
     #[inline(always)]
     pub fn move_within(&mut self, block: Block, from: u64, to: u64, size: u64)
@@ -93,7 +93,7 @@ impl<const MIN_ALIGN: usize> Arena<MIN_ALIGN> {
     }
 
     /// Copies `size` bytes of a block, from the index `from` on, to the index `to` of another block of this arena or of
-    /// the same, in one move of memory. The two ranges may overlap.
+    /// the same block, in one memory move. The two ranges may overlap.
     pub fn copy_between(&mut self, source: Block, from: u64, target: Block, to: u64, size: u64)
         requires source { IsTrue (is_readable self.old.state source) }
         requires target { IsTrue (is_readable self.old.state target) }
@@ -146,7 +146,7 @@ impl<const MIN_ALIGN: usize> Arena<MIN_ALIGN> {
         }
     }
 
-    // Moves n bytes to a place in an older chunk, in one move of memory. The two may overlap.
+    // Moves n bytes to an address in an older chunk, in one memory move. The two ranges may overlap.
     fn move_to_older(&mut self, from: u64, to: u64, n: u64)
         requires some { 0 < n }
         requires source { IsTrue (is_range_used self.old.state.chunks from n) }

@@ -8,17 +8,17 @@ use arena_store::chunk::{NOWHERE, StoredChunk};
 use arena_store::table::Table;
 use std::marker::Model;
 
-/// A bump arena, which places blocks downwards in its newest chunk. The least alignment of its blocks is MIN_ALIGN:
-/// 1, 2, 4, 8 or 16. Its type keeps that its state is valid.
+/// A bump arena, which places blocks downwards in its newest chunk. The least alignment of its blocks is MIN_ALIGN: 1,
+/// 2, 4, 8 or 16. By its invariant its state is valid.
 #[derive(Drop)]
 pub struct Arena<const MIN_ALIGN: usize> {
-    // The newest chunk, in which blocks are placed. A base of 16 stands for none: then there are no older ones either.
+    // The newest chunk, in which blocks are placed. A base of 16 means that there is none, and no older ones either.
     pub(crate) newest: StoredChunk,
-    // The other chunks, oldest first, so that their bases rise.
+    // The other chunks, oldest first, so that their bases increase.
     pub(crate) older: Table,
-    // Whether further chunks are asked for.
+    // Whether more chunks are asked for.
     pub(crate) is_growing: bool,
-    // How often all blocks were given back, as far as 2^64 - 1.
+    // How often the arena was reset or its cursor was set, up to 2^64 - 1.
     pub(crate) generation: u64,
     // The statistics.
     pub(crate) allocations: u64,
@@ -45,7 +45,7 @@ impl<const MIN_ALIGN: usize> Arena<MIN_ALIGN> {
     ghost use Rattle.arena_store.specs.Memory.{Memory, end_of};
     ghost use Rattle.arena_store.specs.Memory.{block_at};
 
-    /// How many bytes of the chunks are used.
+    /// Returns how many bytes of the chunks are used.
     pub fn used_bytes(&self) -> u64
         ensures value { result ≡ used_bytes self.now.state }
         ensures valid { IsValid self.now.state }
@@ -53,7 +53,7 @@ impl<const MIN_ALIGN: usize> Arena<MIN_ALIGN> {
         self.newest.used() + self.older.used()
     }
 
-    /// How many bytes the chunks have.
+    /// Returns how many bytes the chunks have.
     pub fn allocated_bytes(&self) -> u64
         ensures value { result ≡ allocated_bytes self.now.state }
         ensures valid { IsValid self.now.state }
@@ -61,21 +61,21 @@ impl<const MIN_ALIGN: usize> Arena<MIN_ALIGN> {
         self.newest.size() + self.older.size()
     }
 
-    /// How many bytes of the newest chunk are not used: all that can still be placed in it.
+    /// Returns how many bytes of the newest chunk are unused: all that can still be placed in it.
     pub fn chunk_capacity(&self) -> u64
         ensures { result ≡ cursor_of self.now.state.chunks - start_of self.now.state.chunks }
     {
         self.newest.cursor - self.newest.base
     }
 
-    /// The data end of the newest chunk, past its last byte; 16 without a chunk.
+    /// Returns the data end of the newest chunk, one past its last byte; 16 without a chunk.
     pub fn data_end(&self) -> u64
         ensures { result ≡ top_of self.now.state.chunks }
     {
         self.newest.base + self.newest.size()
     }
 
-    /// Where a further chunk may begin, 48 addresses past the newest data end; 16 without a chunk.
+    /// Returns the address 48 past the newest data end, at or above which the next chunk begins; 16 without a chunk.
     pub fn end(&self) -> u64
         ensures { result ≡ end_of self.now.state.chunks }
     {
@@ -85,33 +85,35 @@ impl<const MIN_ALIGN: usize> Arena<MIN_ALIGN> {
         }
     }
 
-    /// MIN_ALIGN, in bytes.
+    /// Returns MIN_ALIGN, in bytes.
     pub fn min_align(&self) -> u64
         ensures value { result ≡ MIN_ALIGN }
         ensures state { result ≡ self.now.state.min_align }
         ensures valid { IsValid self.now.state }
     {
-        // The state is known to have it only once a field is used.
+        // The invariant is known only once a field is used.
         let _ = &self.newest;
         MIN_ALIGN as u64
     }
 
-    /// Whether the arena asks its source for further chunks.
+    /// Returns whether the arena asks its source for more chunks.
     pub fn is_growing(&self) -> bool
         ensures { result ≡ self.now.state.is_growing }
     {
         self.is_growing
     }
 
-    /// How many blocks were placed, and how many were grown or shrunk, since the arena began or was reset.
+    /// Returns how many blocks were placed, and how many were reallocated, since the arena was created or reset, each
+    /// up to 2^64 - 1. A reallocation is a resize that grows a block in place, moves it up as it shrinks, or allocates
+    /// it again, which isn't counted as a placed block too. A shrink that leaves the block where it is isn't counted.
     pub fn get_allocation_stats(&self) -> (u64, u64)
         ensures { result ≡ (self.now.statistics.allocations, self.now.statistics.reallocations) }
     {
         (self.allocations, self.reallocations)
     }
 
-    /// Moves the cursor of the newest chunk, whatever blocks lie there. Of blocks placed before nothing is known
-    /// afterwards: the generation rises, up to 2^64 - 1.
+    /// Moves the cursor of the newest chunk, whatever blocks are there. Blocks placed before aren't known to be
+    /// readable afterwards: the generation rises, up to 2^64 - 1.
     pub fn set_cursor(&mut self, addr: u64)
         requires chunk { self.old.state.chunks ≢ [] }
         requires low { start_of self.old.state.chunks ≤ addr }
@@ -129,7 +131,7 @@ impl<const MIN_ALIGN: usize> Arena<MIN_ALIGN> {
         self.generation = self.generation.saturating_add(1);
     }
 
-    /// Does nothing. A function that calls it knows what its contract says, which holds of every arena.
+    /// Does nothing. A call makes the facts of its contract known, which hold for every arena.
     #[inline(always)]
     pub fn known(&self)
         ensures valid { IsValid self.now.state }
@@ -138,7 +140,7 @@ impl<const MIN_ALIGN: usize> Arena<MIN_ALIGN> {
         let _ = &self.newest;
     }
 
-    /// The newest cursor, and what the type keeps.
+    /// Returns the newest cursor. A call makes the invariant known.
     pub fn cursor(&self) -> u64
         ensures value { result ≡ cursor_of self.now.state.chunks }
         ensures valid { IsValid self.now.state }
@@ -147,14 +149,14 @@ impl<const MIN_ALIGN: usize> Arena<MIN_ALIGN> {
         self.newest.cursor
     }
 
-    /// The generation that blocks are placed in.
+    /// Returns the generation that blocks are placed in.
     pub fn generation(&self) -> u64
         ensures { result ≡ self.now.state.generation }
     {
         self.generation
     }
 
-    /// The block at a place.
+    /// Returns the block at a place, of the arena's generation.
     pub fn block_at(&self, place: Place) -> Block
         ensures { result ≡ block_at self.now.state.generation place }
     {

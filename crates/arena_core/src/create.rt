@@ -1,4 +1,4 @@
-// How an arena begins.
+// How an arena is created.
 ghost use Rattle.std.specs.Prelude.{◌≡◌, ◌+◌, ◌-◌, ◌%◌, ◌≤◌, [], ◌∷◌, Ok, IsTrue, IfSome, length, take};
 ghost use Rattle.std.specs.Option.{option_map};
 ghost use Rattle.arena_rules.specs.Rounding.{is_layout};
@@ -18,10 +18,10 @@ use arena_store::{ArenaErr, ChunkSource};
 use std::alloc::Global;
 use std::fmt;
 
-/// Why no arena was made over a region.
+/// Why no arena was created over a region.
 #[derive(Drop)]
 pub enum RawErr {
-    /// Out of memory. The region is handed back.
+    /// Out of memory. The region is returned.
     OutOfMemory { region: Vec<u8> },
 }
 
@@ -35,18 +35,18 @@ impl fmt::Debug for RawErr {
 }
 
 impl Arena<1> {
-    /// An empty arena that grows, of least alignment 1. Takes no memory.
+    /// Creates an empty growing arena of least alignment 1. Doesn't allocate.
     pub fn new(alloc: Global) -> Arena<1>
         ensures { result ≡ uncounted_memory (empty_state 1) [] }
     {
         Arena::with_min_align(alloc)
     }
 
-    /// An arena that grows, of least alignment 1, with one chunk of at least `capacity` bytes; with none for 0.
+    /// Creates a growing arena of least alignment 1, with one chunk of at least `capacity` bytes, or none for 0.
     ///
     /// # Errors
     ///
-    /// `AllocErr` where no chunk is that large, with no request, or where the source refused the one request.
+    /// `AllocErr` if no chunk can be that large (then nothing was requested), or if the source refused the one request.
     pub fn with_capacity<C: ChunkSource>(
         alloc: Global,
         chunks: &mut C,
@@ -57,11 +57,11 @@ impl Arena<1> {
         Arena::with_min_align_and_capacity(alloc, chunks, capacity)
     }
 
-    /// The same as `with_capacity`.
+    /// Creates an arena as `with_capacity` does: both return errors.
     ///
     /// # Errors
     ///
-    /// As of `with_capacity`.
+    /// See `with_capacity`.
     pub fn try_with_capacity<C: ChunkSource>(
         alloc: Global,
         chunks: &mut C,
@@ -74,7 +74,7 @@ impl Arena<1> {
 }
 
 impl<const MIN_ALIGN: usize> Arena<MIN_ALIGN> {
-    /// An empty arena that grows. Takes no memory.
+    /// Creates an empty growing arena. Doesn't allocate.
     pub fn with_min_align(alloc: Global) -> Arena<MIN_ALIGN>
         requires { IsTrue (is_min_align MIN_ALIGN) }
         ensures { result ≡ uncounted_memory (empty_state MIN_ALIGN) [] }
@@ -82,11 +82,11 @@ impl<const MIN_ALIGN: usize> Arena<MIN_ALIGN> {
         Arena::over(alloc, StoredChunk::none(alloc), true)
     }
 
-    /// An arena that grows, with one chunk of at least `capacity` bytes; with none for 0.
+    /// Creates a growing arena with one chunk of at least `capacity` bytes, or with no chunk for 0.
     ///
     /// # Errors
     ///
-    /// `AllocErr` where no chunk is that large, with no request, or where the source refused the one request.
+    /// `AllocErr` if no chunk can be that large (then nothing was requested), or if the source refused the one request.
     pub fn with_min_align_and_capacity<C: ChunkSource>(
         alloc: Global,
         chunks: &mut C,
@@ -110,11 +110,11 @@ impl<const MIN_ALIGN: usize> Arena<MIN_ALIGN> {
         }
     }
 
-    /// The same as `with_min_align_and_capacity`.
+    /// Creates an arena as `with_min_align_and_capacity` does: both return errors.
     ///
     /// # Errors
     ///
-    /// As of `with_min_align_and_capacity`.
+    /// See `with_min_align_and_capacity`.
     pub fn try_with_min_align_and_capacity<C: ChunkSource>(
         alloc: Global,
         chunks: &mut C,
@@ -126,8 +126,8 @@ impl<const MIN_ALIGN: usize> Arena<MIN_ALIGN> {
         Arena::with_min_align_and_capacity(alloc, chunks, capacity)
     }
 
-    /// An arena that doesn't grow, with one chunk: the region but for its last 48 bytes. It never asks a source, and
-    /// takes no memory, so that it is always made.
+    /// Creates a fixed arena with one chunk: the region except its last 48 bytes. The arena never asks a source. This
+    /// allocates nothing and always returns `Ok`.
     pub fn from_raw_parts(alloc: Global, region: Vec<u8>) -> Result<Arena<MIN_ALIGN>, RawErr>
         requires min_align { IsTrue (is_min_align MIN_ALIGN) }
         requires units { length region.items % 16 ≡ 0 }
@@ -138,7 +138,7 @@ impl<const MIN_ALIGN: usize> Arena<MIN_ALIGN> {
         Ok(Arena::from_region(alloc, Region::from_vec(region)))
     }
 
-    /// The same over a region, whose memory may be untouched yet.
+    /// Creates a fixed arena over a region, as `from_raw_parts` does. The region's memory may not be touched yet.
     pub fn from_region(alloc: Global, region: Region) -> Arena<MIN_ALIGN>
         requires min_align { IsTrue (is_min_align MIN_ALIGN) }
         requires units { length region.items % 16 ≡ 0 }
@@ -152,7 +152,7 @@ impl<const MIN_ALIGN: usize> Arena<MIN_ALIGN> {
         Arena::over(alloc, only, false)
     }
 
-    // An arena with this chunk alone, with nothing counted.
+    // Returns an arena with this chunk alone, whose counts are 0.
     fn over(alloc: Global, newest: StoredChunk, is_growing: bool) -> Arena<MIN_ALIGN>
         requires { IsStored (memory_of MIN_ALIGN is_growing 0 0 0 newest []) newest [] }
         ensures { result ≡ memory_of MIN_ALIGN is_growing 0 0 0 newest [] }
@@ -168,7 +168,7 @@ impl<const MIN_ALIGN: usize> Arena<MIN_ALIGN> {
     }
 }
 
-// The data size of the one chunk that an arena of this capacity begins with.
+// Returns the data size of the one chunk that an arena of this capacity begins with.
 fn first_size(capacity: u64, min_align: u64) -> Option<u64>
     requires { IsTrue (is_min_align min_align) }
     ensures value { option_map (λ size. (4096, size)) result ≡ capacity_chunk capacity min_align }

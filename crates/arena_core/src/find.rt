@@ -9,8 +9,8 @@ use std::sync::ledger::Ledger;
 impl<const MIN_ALIGN: usize> Arena<MIN_ALIGN> {
     ghost use Rattle.arena_core.specs.Finding.{chunk_number};
 
-    /// The number of the chunk that has an address, from its base to its data end: from 0, oldest first. Each look at a
-    /// base takes a step.
+    /// Returns the number of the chunk that has an address, from its base to its data end: from 0, oldest first. Each
+    /// read of an older chunk's base counts one step.
     pub fn find_chunk<L: Ledger>(&self, addr: u64, steps: &mut Steps<L>) -> Option<u64>
         ensures number { result ≡ chunk_number addr self.now.state.chunks }
         ensures rises { steps.old ≤ steps.new }

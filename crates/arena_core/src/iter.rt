@@ -12,12 +12,12 @@ use arena_store::table::{Table, Used};
 use std::iter::FusedIterator;
 use std::marker::Model;
 
-// The chunks that are left of a walk, newest first.
+// The chunks that remain of a walk, newest first.
 #[derive(Drop)]
 struct ChunksLeft<'a> {
     newest: Option<&'a StoredChunk>,
     older: &'a Table,
-    // How many of the older ones are left.
+    // How many of the older ones remain.
     left: usize,
     ghost within: { left ≤ length older.now.items },
     ghost bound: { left < 2 ^ 63 },
@@ -76,8 +76,8 @@ impl<'a> ChunksLeft<'a> {
     }
 }
 
-/// The used parts of an arena's chunks that are left, as bytes, newest first: `parts_left` in contracts.
-// It has no model: through one the arena's end would not be known.
+/// An iterator over the bytes of the chunks' used parts, newest first. Contracts see what remains as `parts_left`.
+// It has no model: with one, the arena's final value wouldn't be known.
 #[derive(Drop)]
 pub struct ChunkIter<'a, const MIN_ALIGN: usize> {
     left: ChunksLeft<'a>,
@@ -115,7 +115,7 @@ impl<'a, const MIN_ALIGN: usize> ExactSizeIterator for ChunkIter<'a, MIN_ALIGN> 
 
 impl<'a, const MIN_ALIGN: usize> FusedIterator for ChunkIter<'a, MIN_ALIGN> {}
 
-/// The used parts of an arena's chunks that are left, as cursor and length, newest first. Contracts see it as the list.
+/// An iterator over the chunks' used parts, as cursor and length, newest first. Contracts see the list of what remains.
 #[derive(Drop)]
 pub struct ChunkRawIter<'a, const MIN_ALIGN: usize> {
     left: ChunksLeft<'a>,
@@ -161,7 +161,7 @@ impl<'a, const MIN_ALIGN: usize> ExactSizeIterator for ChunkRawIter<'a, MIN_ALIG
 
 impl<'a, const MIN_ALIGN: usize> FusedIterator for ChunkRawIter<'a, MIN_ALIGN> {}
 
-/// A chunk: where it begins, how many bytes it has, and its cursor, from which on they are used.
+/// A chunk: its base, its size in bytes, and its cursor, from which on bytes are used.
 #[derive(Clone, Copy, PartialEq, Eq, Debug)]
 pub struct Chunk {
     pub base: u64,
@@ -169,7 +169,7 @@ pub struct Chunk {
     pub cursor: u64,
 }
 
-/// The chunks that are left of an arena, newest first. Contracts see it as the list.
+/// An iterator over an arena's chunks, newest first. Contracts see the list of what remains.
 #[derive(Drop)]
 pub struct Chunks<'a, const MIN_ALIGN: usize> {
     left: ChunksLeft<'a>,
@@ -210,7 +210,7 @@ impl<const MIN_ALIGN: usize> Arena<MIN_ALIGN> {
     ghost use Rattle.arena_core.specs.Walks.{used_part, used_range, all_left, parts_left, told_chunk};
     ghost use Rattle.arena_core.specs.contracts.arena.Arena.{the_row};
 
-    /// The used parts of the chunks, newest first, each once. The arena ends as it was.
+    /// Returns an iterator over the bytes of the chunks' used parts, newest first, each once. The arena doesn't change.
     pub fn iter_allocated_chunks(&mut self) -> ChunkIter<'_, MIN_ALIGN>
         ensures* after { sem 𝓛 (follows_so (the_row MIN_ALIGN.row)
             (the_row MIN_ALIGN.row) self.entry.ghost_name none (λ _ _. ⊤) (λ last. last ≡ self.old)) }
@@ -219,21 +219,21 @@ impl<const MIN_ALIGN: usize> Arena<MIN_ALIGN> {
         ChunkIter { left: self.walk() }
     }
 
-    /// Where the used parts of the chunks begin, and how long they are, newest first, each once.
+    /// Returns an iterator over the addresses and lengths of the chunks' used parts, newest first, each once.
     pub fn iter_allocated_chunks_raw(&self) -> ChunkRawIter<'_, MIN_ALIGN>
         ensures { result ≡ used_ranges self.now.state }
     {
         ChunkRawIter { left: self.walk() }
     }
 
-    /// The chunks, newest first, each once.
+    /// Returns an iterator over the chunks, newest first, each once.
     pub fn iter_chunks(&self) -> Chunks<'_, MIN_ALIGN>
         ensures { result ≡ map told_chunk self.now.state.chunks }
     {
         Chunks { left: self.walk() }
     }
 
-    // A walk over all chunks.
+    // Returns a walk over all chunks.
     fn walk(&self) -> ChunksLeft<'_>
         ensures parts { map used_part (all_left result) ≡ used_parts self.now }
         ensures ranges { map used_range (all_left result) ≡ used_ranges self.now.state }

@@ -1,6 +1,6 @@
 //! A bump arena over chunks that a source grants: its calls on blocks, its bytes, and going back to a marked state.
 //!
-//! Places are plain numbers: a chunk is a region of bytes at a virtual address, a block is a value that names a
+//! Addresses are plain numbers: a chunk is a region of bytes at a virtual address, a block is a value that names a
 //! place, and calls take the arena. The rules are the definitions of the crate `arena_rules`.
 #![tactic(auto)]
 

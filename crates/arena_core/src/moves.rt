@@ -1,4 +1,4 @@
-// Where an arena places blocks, and gives them back.
+// How an arena places blocks, and gives them back.
 ghost use Rattle.std.specs.Prelude.{◌≡◌, ℕ, ◌+◌, ◌-◌, ◌^◌, ◌<◌, ◌≤◌, IfOk, IfErr, OnErr, IsTrue, Err, Some, None, [], ◌∷◌, true};
 ghost use Rattle.arena_rules.specs.Causes.{counted};
 
@@ -8,8 +8,9 @@ use arena_store::chunk::install;
 use arena_store::search::{Granted, ask_above};
 use arena_store::{ArenaErr, Block, ChunkSource};
 
-// How a slow way went, which is kept out of its callers: the block lies at the cursor, after so many requests that were refused;
-// or there is none. This comes in registers. A block would come in memory, which the callers clear on the fast way too.
+// The result of a slow path, which is kept out of line: the block is at the cursor, after this many refused requests,
+// or there is none. This is returned in registers. A block would be returned in memory, which the callers would also
+// clear on the fast path.
 #[derive(Clone, Copy)]
 pub(crate) enum SlowAnswer {
     AtCursor { refused: u32 },
@@ -17,8 +18,8 @@ pub(crate) enum SlowAnswer {
     NoMemory,
 }
 
-// Counts one more, up to the last value. A jump that isn't taken is faster here than a value that is chosen, since the next
-// call waits for the count.
+// Adds 1 to a count, up to its maximum. A branch that isn't taken is faster here than a conditional move, since the
+// next call waits for the count.
 #[inline(always)]
 fn count_one(count: &mut u64)
     ensures { count.new ≡ counted count.old 1 }
@@ -29,7 +30,7 @@ fn count_one(count: &mut u64)
     }
 }
 
-// Writes the last value again: the compiler makes a jump of what is written by a call.
+// Writes the maximum again. As a call, it makes the compiler emit a branch.
 #[cold]
 #[inline(never)]
 fn stay_at_last(count: &mut u64)
@@ -48,13 +49,14 @@ impl<const MIN_ALIGN: usize> Arena<MIN_ALIGN> {
     ghost use Rattle.arena_core.specs.BlockCalls.{PlacesBlock, PlacesAfter, GivesBack};
     ghost use Rattle.arena_core.specs.Adding.{AddsChunk, OnFound, FindsPlace};
 
-    /// Places a block, in a new chunk where the newest has no place for it. No byte in use changes. Where there is a
-    /// place this takes no memory, and a few machine operations.
+    /// Places a block, in a new chunk if the newest has no place for it. No byte in use changes. If the ready part of
+    /// the newest chunk has a place, this takes a few machine operations and no memory.
     ///
     /// # Errors
     ///
-    /// `AllocErr` where the source refused all that were asked for, which leaves the arena as it was; `OutOfMemory`
-    /// where memory for the table of chunks runs out, before the source is asked.
+    /// `AllocErr` if there is no place and the source refused every request, or none could be made: the arena is fixed,
+    /// or no chunk can be that large. `OutOfMemory` if there is no memory for the table of chunks; the source wasn't
+    /// asked. The arena is unchanged.
     #[inline]
     pub fn try_alloc_layout<C: ChunkSource>(
         &mut self,
@@ -68,11 +70,11 @@ impl<const MIN_ALIGN: usize> Arena<MIN_ALIGN> {
         Ok(block)
     }
 
-    /// The same as `try_alloc_layout`.
+    /// Places a block as `try_alloc_layout` does: both return errors.
     ///
     /// # Errors
     ///
-    /// As of `try_alloc_layout`.
+    /// See `try_alloc_layout`.
     #[inline]
     pub fn alloc_layout<C: ChunkSource>(
         &mut self,
@@ -85,7 +87,7 @@ impl<const MIN_ALIGN: usize> Arena<MIN_ALIGN> {
         self.try_alloc_layout(chunks, layout)
     }
 
-    /// The same, and how many requests were refused for the block.
+    /// Places a block as `try_alloc_layout` does, and also returns how many requests were refused for it.
     #[inline]
     pub fn alloc_counted<C: ChunkSource>(
         &mut self,
@@ -114,7 +116,7 @@ impl<const MIN_ALIGN: usize> Arena<MIN_ALIGN> {
         }
     }
 
-    // The block that a slow way placed, or why there is none.
+    // Returns the block that a slow path placed, or why there is none.
     #[inline(always)]
     pub(crate) fn slow_block(
         &self,
@@ -130,8 +132,8 @@ impl<const MIN_ALIGN: usize> Arena<MIN_ALIGN> {
         }
     }
 
-    // Places a block for which the ready part of the newest chunk has no room: in bytes that are made ready for it, or in a new
-    // chunk. It is kept out of the callers, so that an allocation in the ready part is small enough to be inlined.
+    // Places a block for which the ready part of the newest chunk has no room: in bytes that are made ready for it, or
+    // in a new chunk. It is kept out of line, so that an allocation in the ready part is small enough to be inlined.
     #[cold]
     #[inline(never)]
     fn alloc_below<C: ChunkSource>(&mut self, chunks: &mut C, layout: Layout) -> SlowAnswer
@@ -149,7 +151,8 @@ impl<const MIN_ALIGN: usize> Arena<MIN_ALIGN> {
         }
     }
 
-    // Where a block goes in the newest chunk, or in one that becomes the newest for it; and how many requests were refused.
+    // Returns the place of a block in the newest chunk, or in one that becomes the newest for it, and how many requests
+    // were refused.
     pub(crate) fn find_place<C: ChunkSource>(
         &mut self,
         chunks: &mut C,
@@ -176,7 +179,7 @@ impl<const MIN_ALIGN: usize> Arena<MIN_ALIGN> {
         }
     }
 
-    // Places a block in the newest chunk, where its bytes are made ready.
+    // Places a block in the newest chunk, and makes its bytes ready.
     fn place_at(&mut self, addr: u64, layout: Layout)
         requires { place self.old.state layout.size layout.align ≡ Some addr }
         ensures { self.new ≡ record {
@@ -190,8 +193,8 @@ impl<const MIN_ALIGN: usize> Arena<MIN_ALIGN> {
         count_one(&mut self.allocations);
     }
 
-    // The same, with the n bytes from an address on, which are in use then, copied into the block. Those of an older chunk are
-    // put where the bytes are made ready.
+    // Places a block, and copies n bytes into it from an address; they are in use once the block is placed. Those of an
+    // older chunk are written as the bytes are made ready.
     pub(crate) fn place_copy_at(&mut self, addr: u64, layout: Layout, from: u64, n: u64)
         requires place { place self.old.state layout.size layout.align ≡ Some addr }
         requires source { 0 < n → IsTrue (is_range_used (with_cursor addr self.old.state).chunks from n) }
@@ -213,7 +216,7 @@ impl<const MIN_ALIGN: usize> Arena<MIN_ALIGN> {
         count_one(&mut self.allocations);
     }
 
-    // A chunk for the block becomes the newest. Answers the block's place in it, and how many requests were refused.
+    // Makes a new chunk for the block the newest. Returns the block's place in it, and how many requests were refused.
     fn add_chunk<C: ChunkSource>(
         &mut self,
         chunks: &mut C,
@@ -245,8 +248,8 @@ impl<const MIN_ALIGN: usize> Arena<MIN_ALIGN> {
         Ok((addr, refused))
     }
 
-    /// Gives a block back. Only where it is the last one placed does the cursor move, so that its bytes are used
-    /// again; otherwise they stay dead until the arena is reset. No byte changes.
+    /// Gives a block back. If it is at the cursor, the cursor moves up, and its bytes can be used again; otherwise they
+    /// can't until a reset or a rewind. No byte changes.
     pub fn dealloc(&mut self, block: Block)
         requires { IsTrue (is_readable self.old.state block) }
         ensures { GivesBack self.old self.new block }

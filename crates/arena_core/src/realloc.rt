@@ -1,4 +1,4 @@
-// How an arena gives a block another size, and grows one with zeros.
+// How an arena resizes a block either way, and grows one with zeros.
 ghost use Rattle.std.specs.Prelude.{◌≡◌, ◌+◌, ◌-◌, ◌≤◌, IfOk, IsTrue, replicate};
 
 use crate::arena::Arena;
@@ -11,11 +11,11 @@ impl<const MIN_ALIGN: usize> Arena<MIN_ALIGN> {
     ghost use Rattle.arena_core.specs.Answers.{answer_of};
     ghost use Rattle.arena_core.specs.BlockCalls.{GrowsBlock, Reallocates};
 
-    /// Grows a block, as `grow` does; each new byte is 0.
+    /// Grows a block as `grow` does, and sets each new byte to 0.
     ///
     /// # Errors
     ///
-    /// As of `grow`.
+    /// See `grow`.
     pub fn grow_zeroed<C: ChunkSource>(
         &mut self,
         chunks: &mut C,
@@ -34,12 +34,12 @@ impl<const MIN_ALIGN: usize> Arena<MIN_ALIGN> {
         Ok(grown)
     }
 
-    /// Gives a block another size at its alignment: by `shrink` or by `grow`. An empty block is placed again.
+    /// Resizes a block and keeps its alignment: by `shrink` or by `grow`. An empty block is allocated again.
     ///
     /// # Errors
     ///
-    /// `AllocErr` with no request where the new size and the alignment are no layout, and otherwise as of the call that
-    /// serves it. The block stays as it was.
+    /// `AllocErr` without a request if the new size and the alignment aren't a valid layout, and otherwise the errors
+    /// of the call that is used. The block is unchanged.
     pub fn realloc<C: ChunkSource>(
         &mut self,
         chunks: &mut C,

@@ -1,4 +1,4 @@
-// How an arena grows and shrinks blocks, and gives all of them back.
+// How an arena grows and shrinks blocks, and resets.
 ghost use Rattle.std.specs.Prelude.{◌≡◌, ℕ, ◌+◌, ◌-◌, ◌^◌, ◌%◌, nat_lt, ◌≤◌, ◌<◌, if◌then◌else◌, IsOk, IsTrue, Some, min, take};
 
 use crate::arena::Arena;
@@ -7,7 +7,7 @@ use arena_place::{Layout, is_aligned_to, place, round_down_to, round_up_to_unche
 use arena_store::edit::{put_at, shift_in};
 use arena_store::{ArenaErr, Block, ChunkSource};
 
-// One fewer, unless the count stands at its last value.
+// Returns one less, unless the count is at its maximum.
 fn one_fewer(count: u64) -> u64
     requires { 0 < count }
     ensures { result ≡ (if nat_lt count (2 ^ 64 - 1) then count - 1 else count) }
@@ -28,12 +28,12 @@ impl<const MIN_ALIGN: usize> Arena<MIN_ALIGN> {
     ghost use Rattle.arena_core.specs.BlockCalls.{GrowsBlock, ShrinksBlock, ResizesAfter, growing_of, shrinking_of};
     ghost use Rattle.arena_core.specs.Resizes.{IsResizedUnasked, replaced, NoneReadable};
 
-    /// Shrinks a block, which may move it. Its first bytes are kept. To no greater alignment this takes no memory and
-    /// can't fail.
+    /// Shrinks a block, which may move it. Its first bytes are kept. If the alignment doesn't rise, this allocates
+    /// nothing and can't fail.
     ///
     /// # Errors
     ///
-    /// As of `try_alloc_layout`, where the block must move to a greater alignment; the block stays as it was.
+    /// Those of `try_alloc_layout`, if the block must move to a greater alignment; the block is unchanged.
     #[inline]
     pub fn shrink<C: ChunkSource>(
         &mut self,
@@ -52,13 +52,13 @@ impl<const MIN_ALIGN: usize> Arena<MIN_ALIGN> {
         Ok(shrunk)
     }
 
-    /// Grows a block, which may move it. Its bytes are kept. Where it grows in place this takes no memory, and moves its
-    /// bytes in one go.
+    /// Grows a block, which may move it. Its bytes are kept. If it grows in place, this allocates nothing, and moves
+    /// its bytes in one memory move.
     ///
     /// # Errors
     ///
-    /// As of `try_alloc_layout`, where it doesn't grow in place; also `AllocErr` with no request where what is wanted
-    /// more is no layout. The block stays as it was.
+    /// Those of `try_alloc_layout`, if it doesn't grow in place, and `AllocErr` without a request if the growth isn't a
+    /// valid layout. The block is unchanged.
     #[inline(always)]
     pub fn grow<C: ChunkSource>(
         &mut self,
@@ -75,9 +75,9 @@ impl<const MIN_ALIGN: usize> Arena<MIN_ALIGN> {
         Ok(grown)
     }
 
-    /// Gives all blocks back, and all chunks but the newest. Blocks placed before are readable no more, but for those
-    /// of no bytes: the generation rises, up to 2^64 - 1. The statistics begin again. The
-    /// bytes of the chunk that is kept don't change.
+    /// Gives all blocks back, and frees all chunks but the newest. Blocks placed before are no longer readable, except
+    /// empty ones: the generation rises, up to 2^64 - 1. The statistics begin at 0 again. The bytes of the chunk that
+    /// is kept don't change.
     #[inline]
     pub fn reset(&mut self)
         ensures memory { self.new ≡ record {
@@ -95,7 +95,7 @@ impl<const MIN_ALIGN: usize> Arena<MIN_ALIGN> {
         self.reallocations = 0;
     }
 
-    /// Shrinks a block, and counts the requests that were refused.
+    /// Shrinks a block as `shrink` does, and also returns how many requests were refused.
     pub fn shrink_counted<C: ChunkSource>(
         &mut self,
         chunks: &mut C,
@@ -119,7 +119,7 @@ impl<const MIN_ALIGN: usize> Arena<MIN_ALIGN> {
         self.slow_block(slow, layout)
     }
 
-    /// Grows a block, and counts the requests that were refused.
+    /// Grows a block as `grow` does, and also returns how many requests were refused.
     #[inline(always)]
     pub fn grow_counted<C: ChunkSource>(
         &mut self,
@@ -153,7 +153,7 @@ impl<const MIN_ALIGN: usize> Arena<MIN_ALIGN> {
                 Ok((self.move_down(block, addr, layout), 0))
             }
             None => {
-                // A copy for the call out of line, so that the block itself stays in registers.
+                // A copy for the out-of-line call, so that the block itself stays in registers.
                 let old = block;
                 let slow = self.grow_below(chunks, old, below, layout);
                 self.slow_block(slow, layout)
@@ -161,8 +161,8 @@ impl<const MIN_ALIGN: usize> Arena<MIN_ALIGN> {
         }
     }
 
-    // Grows a block at the cursor for which the ready part of the newest chunk has no room: down into bytes that are made ready
-    // for it, or again.
+    // Grows a block at the cursor for which the ready part of the newest chunk has no room: in place, into bytes that
+    // are made ready for it, or by a new allocation.
     #[cold]
     #[inline(never)]
     fn grow_below<C: ChunkSource>(
@@ -199,7 +199,7 @@ impl<const MIN_ALIGN: usize> Arena<MIN_ALIGN> {
         }
     }
 
-    // Shrinks a block to no greater alignment. At the cursor it moves up, if that gives half of it back, or more.
+    // Shrinks a block whose alignment doesn't rise. At the cursor it moves up, if that frees at least half of it.
     fn shrink_here(&mut self, block: Block, layout: Layout) -> Block
         requires readable { IsTrue (is_readable self.old.state block) }
         requires size { layout.size ≤ block.size }
@@ -221,7 +221,7 @@ impl<const MIN_ALIGN: usize> Arena<MIN_ALIGN> {
         shrunk
     }
 
-    // Moves a block's bytes to where a block of another layout begins in the newest chunk, and counts a reallocation.
+    // Moves a block's bytes to an address in the newest chunk, where it gets another layout, and counts a reallocation.
     #[inline(always)]
     fn move_down(&mut self, block: Block, addr: u64, layout: Layout) -> Block
         requires source { 0 < block.size → IsTrue (is_range_used self.old.state.chunks block.addr block.size) }
@@ -242,7 +242,7 @@ impl<const MIN_ALIGN: usize> Arena<MIN_ALIGN> {
         self.block_of(addr, layout)
     }
 
-    // Places a block again, with the first n bytes of the old one.
+    // Allocates a block again, with the first n bytes of the old one.
     #[cold]
     #[inline(never)]
     fn copy_to_new<C: ChunkSource>(
@@ -270,7 +270,7 @@ impl<const MIN_ALIGN: usize> Arena<MIN_ALIGN> {
         }
     }
 
-    // The block at an address.
+    // Returns the block at an address.
     pub(crate) fn block_of(&self, addr: u64, layout: Layout) -> Block
         ensures block { result ≡ record {
           generation = self.now.state.generation;
@@ -303,7 +303,7 @@ impl<const MIN_ALIGN: usize> Arena<MIN_ALIGN> {
         self.reallocations = self.reallocations.saturating_add(1);
     }
 
-    // Counts the last allocation as a reallocation.
+    // Counts the last allocation as a reallocation instead.
     fn count_move(&mut self)
         requires { 0 < self.old.statistics.allocations }
         ensures { self.new ≡ record {
@@ -316,7 +316,7 @@ impl<const MIN_ALIGN: usize> Arena<MIN_ALIGN> {
         self.reallocations = self.reallocations.saturating_add(1);
     }
 
-    // Moves n bytes to a place in the newest chunk, in one move of memory. The two may overlap.
+    // Moves n bytes to an address in the newest chunk, in one memory move. The two ranges may overlap.
     #[inline(always)]
     pub(crate) fn move_bytes(&mut self, from: u64, to: u64, n: u64)
         requires source { 0 < n → IsTrue (is_range_used self.old.state.chunks from n) }
@@ -337,7 +337,7 @@ impl<const MIN_ALIGN: usize> Arena<MIN_ALIGN> {
         }
     }
 
-    // The same of bytes that lie in the newest chunk.
+    // Moves n bytes within the newest chunk, in one memory move. The two ranges may overlap.
     #[inline(always)]
     fn move_in_newest(&mut self, from: u64, to: u64, n: u64)
         requires source { 0 < n → IsTrue (is_range_used self.old.state.chunks from n) }

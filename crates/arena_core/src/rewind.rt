@@ -21,7 +21,7 @@ impl<const MIN_ALIGN: usize> Arena<MIN_ALIGN> {
     ghost use Rattle.arena_store.specs.Memory.{Memory};
     ghost use Rattle.arena_core.specs.Checkpoints.{checkpoint_of, mark_at, is_accepted, with_first, with_raised, sent_back, GoesBack};
 
-    /// A mark of the present state. Takes no memory.
+    /// Returns a mark of the present state. Doesn't allocate.
     pub fn checkpoint(&self) -> Checkpoint
         ensures { result ≡ checkpoint_of self.now.state }
     {
@@ -32,8 +32,9 @@ impl<const MIN_ALIGN: usize> Arena<MIN_ALIGN> {
         }
     }
 
-    /// Whether the arena can go back to a mark: it is of the mark's generation, there are as many chunks, and the mark's
-    /// cursor lies in the last of them.
+    /// Returns whether the arena can go back to a mark: the arena is of the mark's generation and has at least as many
+    /// chunks, and the mark's cursor is in the last of those, at a multiple of the least alignment. A mark without a
+    /// chunk is accepted if the arena grows.
     pub fn accepts(&self, c: Checkpoint) -> bool
         ensures { result ≡ is_accepted c self.now.state }
     {
@@ -50,7 +51,7 @@ impl<const MIN_ALIGN: usize> Arena<MIN_ALIGN> {
         start <= c.addr && c.addr <= end && c.addr % MIN_ALIGN as u64 == 0
     }
 
-    // Where the last of so many chunks begins and ends, from the oldest on.
+    // Returns the base and the data end of the last of the n oldest chunks.
     fn ends_of(&self, n: u64) -> (u64, u64)
         requires some { 0 < n }
         requires within { n ≤ length self.now.state.chunks }
@@ -63,8 +64,8 @@ impl<const MIN_ALIGN: usize> Arena<MIN_ALIGN> {
         self.older.ends(n as usize - 1)
     }
 
-    /// Goes back to a mark: newer chunks are given up, and blocks that were placed since are dead. What stays in use keeps
-    /// its bytes. Takes no memory.
+    /// Goes back to a mark: newer chunks are freed, and so are blocks that were placed since. What stays in use keeps
+    /// its bytes. Doesn't allocate.
     pub fn rewind(&mut self, c: Checkpoint)
         requires { IsTrue (is_accepted c self.old.state) }
         ensures memory { self.new ≡ sent_back c self.old }
@@ -74,7 +75,7 @@ impl<const MIN_ALIGN: usize> Arena<MIN_ALIGN> {
         self.raise(c.addr);
     }
 
-    // How many chunks there are.
+    // Returns the number of chunks.
     fn chunk_count(&self) -> u64
         ensures { result ≡ length self.now.state.chunks }
     {
@@ -84,7 +85,7 @@ impl<const MIN_ALIGN: usize> Arena<MIN_ALIGN> {
         self.older.len() as u64 + 1
     }
 
-    // Gives up all chunks but the oldest, so many.
+    // Frees all but the n oldest chunks.
     fn keep_first(&mut self, n: u64)
         requires within { n ≤ length self.old.state.chunks }
         requires growing { n ≡ 0 → self.old.state.is_growing ≡ true }
@@ -105,7 +106,7 @@ impl<const MIN_ALIGN: usize> Arena<MIN_ALIGN> {
         self.newest = self.older.back_to(n as usize);
     }
 
-    // Moves the newest cursor up to an address, where it lies below.
+    // Moves the newest cursor up to an address, if it is below.
     fn raise(&mut self, addr: u64)
         requires high { addr ≤ top_of self.old.state.chunks }
         requires aligned { addr % self.old.state.min_align ≡ 0 }

@@ -1,4 +1,4 @@
--- Blocks that lie apart, in another order and in either direction.
+-- Blocks that are apart, in another order and in either direction.
 use Rattle.std.proofs.Common.{List, [], ◌∷◌, ◌++◌}
 use Rattle.std.specs.Prelude.{IsPermutation}
 use Rattle.std.specs.List.{AllByRecursion}
@@ -24,7 +24,7 @@ pub apart_turned : (bs cs others : List Block) → IsPermutation bs cs → AreAl
 apart_turned bs cs others same apart = apart_from cs others
     (all_in_order (λ (b : Block). IsApart b.addr b.size others) bs cs same (apart_to bs others apart))
 
--- The blocks of some lists are the blocks of each.
+-- If the blocks of two lists are apart from others, those of each list are.
 pub apart_front : (bs cs others : List Block) → AreAllApart (bs ++ cs) others → AreAllApart bs others × AreAllApart cs others
 apart_front [] cs others apart = (tt, apart)
 apart_front (b ∷ bs) cs others apart =
@@ -35,12 +35,12 @@ columns : (bs cs : List Block) (c : Block) → AreAllApart bs (c ∷ cs) → IsA
 columns [] cs c all = (tt, tt)
 columns (b ∷ bs) cs c all = let rest = columns bs cs c all.1 in ((blocks_turned b c all.0.0, rest.0), (all.0.1, rest.1))
 
--- Blocks that lie apart from others, and the others from them.
+-- If blocks are apart from others, the others are apart from them.
 pub all_turned : (bs cs : List Block) → AreAllApart bs cs → AreAllApart cs bs
 all_turned bs [] all = tt
 all_turned bs (c ∷ cs) all = let parts = columns bs cs c all in (parts.0, all_turned bs cs parts.1)
 
--- Blocks lie apart from none.
+-- Blocks are apart from none.
 pub apart_of_none : (bs : List Block) → AreAllApart bs []
 apart_of_none [] = tt
 apart_of_none (b ∷ bs) = (tt, apart_of_none bs)

@@ -18,14 +18,14 @@ same_places a = record { state = refl; statistics = refl; source = refl }
 
 -- ---- One block among others
 
--- One block is asked for so, and this answer is given.
+-- One block is asked for, and this is the answer.
 takes_one : {size align : ℕ} {old new : View} {bs : List Block} {end : Option AllocError} {goes : View → List Block → Type 0}
     (answer : Answer) → PlacesBlock old new size align answer → Follows answer new new bs end (goes new)
     → Takes size align old new bs end goes
 takes_one {old} {new} answer places then =
     record { start = old; between = new; answer = answer; written = same_places old; places = places; then = then }
 
--- Bytes may be written before it.
+-- Bytes may be written before the block is asked for.
 takes_after : {size align : ℕ} {old mid new : View} {bs : List Block} {end : Option AllocError} {goes : View → List Block → Type 0}
     → SamePlaces old mid → Takes size align mid new bs end goes → Takes size align old new bs end goes
 takes_after {old} {mid} same takes = record {
@@ -37,7 +37,7 @@ takes_after {old} {mid} same takes = record {
   then = takes.then;
 }
 
--- What goes on once it was placed may do so in another way.
+-- After the block was placed the call may go on in another way.
 takes_on : {size align : ℕ} {old mid new : View} {bs cs : List Block} {end last : Option AllocError}
     {goes goes' : View → List Block → Type 0} → Takes size align old mid bs end goes
     → ((between : View) (b : Block) (rest : List Block) → bs ≡ b ∷ rest → goes between rest
@@ -95,7 +95,7 @@ asked_then (Empty align ∷ xs) ys old mid new bs cs end (rest, is, more) second
     (rest ++ cs, rw is refl, asked_then xs ys old mid new rest cs end more second)
 asked_then (TooMuch ∷ xs) ys old mid new bs cs end first second = absurd (let no = first.0 in cc)
 
--- Where a call is refused, so is it with more behind that is not asked for.
+-- A call that is refused is so with further blocks that it no longer asks for.
 pub asked_refused : (xs ys : List Ask) (old new : View) (bs : List Block) (e : AllocError) → AsksFor xs old new bs (Some e)
     → AsksFor (xs ++ ys) old new bs (Some e)
 asked_refused [] ys old new bs e asked = absurd (let no = asked.0 in cc)
@@ -112,14 +112,14 @@ asked_refused (NoBytes ∷ xs) ys old new bs e (b, rest, none, is, more) =
 asked_refused (Empty align ∷ xs) ys old new bs e (rest, is, more) = (rest, is, asked_refused xs ys old new rest e more)
 asked_refused (TooMuch ∷ xs) ys old new bs e asked = asked
 
--- Bytes may be written behind, where nothing was refused.
+-- Bytes may be written afterwards, if nothing was refused.
 pub asked_same : (xs : List Ask) (old mid new : View) (bs : List Block) → AsksFor xs old mid bs None → SamePlaces mid new
     → AsksFor xs old new bs None
 asked_same xs old mid new bs asked same = simp append-nil at (asked_then xs [] old mid new bs [] None asked (refl, refl, same))
 
 -- ---- One block
 
--- the block that a call answers, if it does
+-- the block that a call returns, if it does
 abbrev pub block_of : {X : Type 0} → (X → Block) → Result X AllocError → List Block
 block_of f (Ok x) = f x ∷ []
 block_of f (Err e) = []
@@ -143,7 +143,7 @@ one_asked f (Err CapacityOverflow) size align old new placed = absurd placed
 pub view_same : (v w : View) → v.memory ≡ w.memory → v.source ≡ w.source → v ≡ w
 view_same v w memory source = λ i. record { memory = memory i; source = source i }
 
--- also where other bytes were written after it.
+-- even if other bytes were written after it.
 pub took_asked : {X : Type 0} (f : X → Block) (size align : ℕ) (old new : View) (result : Result X AllocError)
     → Took new (λ between. RoomAnswer f result (PlacesBlock old between size align)) → OnErr result (new.memory ≡ old.memory)
     → AsksFor (Room size align ∷ []) old new (block_of f result) (refusal result)

@@ -1,4 +1,4 @@
--- Boxes of new values, and of values in whose place new ones stand.
+-- Boxes of new values, and of values that are replaced by new ones.
 use Rattle.std.proofs.Common.{ap, sym, refl, subst, ◌∙◌, List, [], ◌∷◌, ◌++◌, Ok, Err}
 use Rattle.std.specs.Prelude.{Result, IsPermutation}
 use Rattle.std.proofs.lemmas.List.Sorted.{IsPermutation-append_left}
@@ -61,12 +61,12 @@ module _ {T : Type 0} {item : Ghosts T} {kind : Kind T} (is : IsLawful kind) {me
     err = tt;
   }
 
-  -- or stays where it is.
+  -- or stays in its place.
   pub takes_none : {v : T} {e : AllocError} → Boxes item mid new v (Err e) → TakesBox item kind meaning asks old new v v (Err e)
   takes_none boxes =
       record { blocks = makes.blocks ++ []; placed = placed_box boxes; held = tt; taken = tt; left = tt; err = refl }
 
--- It does where no new one is made, too.
+-- So it does if no new one is made.
 pub takes_refused : {T : Type 0} (item : Ghosts T) {kind : Kind T} {meaning : kind.Whole} {asks : List Ask} {old new : View} {v : T}
     {e : AllocError} → MakesNew kind meaning asks old new (Err e) → TakesBox item kind meaning asks old new v v (Err e)
 takes_refused item makes = record {

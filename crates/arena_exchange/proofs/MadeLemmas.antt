@@ -22,11 +22,11 @@ use Rattle.arena_exchange.specs.Copies.{IsMade, MakesNew, StaysWhole}
 use Rattle.arena_exchange.proofs.ApartLemmas.{all_in_order, apart_turned, apart_of_none}
 use Rattle.arena_exchange.proofs.AsksLemmas.{same_places, asked_then, asked_refused, block_of, refusal_leaves, one_asked}
 
--- ---- Values beside a call
+-- ---- Values that a call leaves alone
 
 module _ {T : Type 0} {kind : Kind T} (is : IsLawful kind) {old new : Memory} {before after : List Block}
     (frame : Frame old new before after) where
-  -- The blocks of a value that lie apart keep their bytes.
+  -- The blocks of a value that are apart keep their bytes.
   pub deep_agree : (v : T) → kind.is_held old v → AreAllApart (kind.deep old v) before → Agree old new (kind.deep old v)
   deep_agree v held apart = stays_agree old new after (kind.deep old v)
       (frame_keeps_all old new before after (kind.deep old v) frame (is.readable old v held) apart)
@@ -58,7 +58,7 @@ module _ {T : Type 0} {kind : Kind T} (is : IsLawful kind) {old new : Memory} {b
         deep = subst (λ bs. IsPermutation bs blocks) (sym stays.deep) made.deep;
       }
 
--- The blocks of a value that was made may be read.
+-- The blocks of a value that was made are readable.
 pub made_readable : {T : Type 0} {kind : Kind T} (is : IsLawful kind) {meaning : kind.Whole} {m : Memory} {blocks : List Block} {w : T}
     → IsMade kind meaning m blocks w → AreReadable m.state blocks
 made_readable {kind} is {m} {blocks} {w} made =
@@ -71,12 +71,12 @@ pub placed_stays : {T : Type 0} {kind : Kind T} (is : IsLawful kind) {old new : 
     → Frame old new [] blocks → kind.is_held old v → StaysWhole kind old new blocks v
 placed_stays {kind} is {old} v frame held = deep_stays is frame v held (apart_of_none (kind.deep old v))
 
--- Readable blocks lie apart from those that a call places.
+-- Readable blocks are apart from those that a call places.
 pub beside_new : (old new : Memory) (bs after : List Block) → AreReadable old.state bs → Frame old new [] after → AreAllApart bs after
 beside_new old new bs after readable frame =
     stays_apart old new after bs (frame_keeps_all old new [] after bs frame readable (apart_of_none bs))
 
--- Blocks placed after others, which may be read, are placed with them.
+-- Blocks placed after others, which are readable, are placed with them.
 pub frame_more : (old mid new : Memory) (bs cs : List Block) → Frame old mid [] bs → Frame mid new [] cs → Frame old new [] (bs ++ cs)
 frame_more old mid new bs cs first second = frame_then old mid new [] bs (bs ++ cs) first
     (frame_weaken mid new [] bs cs (bs ++ cs) (λ addr n some apart. tt)
@@ -133,13 +133,13 @@ pub one_refused : {T X : Type 0} {kind : Kind T} {meaning : kind.Whole} (f : X �
     {e : AllocError} → RoomAnswer f (Err e) (PlacesBlock old new size align) → MakesNew kind meaning (Room size align ∷ []) old new (Err e)
 one_refused f {e} placed = record { blocks = []; placed = places_one f (Err e) placed; made = tt }
 
--- Where a part of a value is refused, so is the value.
+-- If a part of a value is refused, so is the value.
 pub makes_refused : {T U : Type 0} {kind : Kind T} {of : Kind U} {meaning : kind.Whole} {meant : of.Whole} {xs : List Ask}
     (ys : List Ask) {old new : View} {e : AllocError} → MakesNew kind meaning xs old new (Err e)
     → MakesNew of meant (xs ++ ys) old new (Err e)
 makes_refused ys makes = record { blocks = makes.blocks; placed = places_refused ys makes.placed; made = tt }
 
--- A value whose one block is that of no storage is made of nothing.
+-- A value whose one block is the empty one of no storage is made of nothing.
 pub makes_empty : {T : Type 0} {kind : Kind T} {meaning : kind.Whole} {align : ℕ} {a : View} {w : T}
     → IsMade kind meaning a.memory (empty_block align ∷ []) w → MakesNew kind meaning (Empty align ∷ []) a a (Ok w)
 makes_empty {align} {a} made = record {
@@ -152,7 +152,7 @@ makes_empty {align} {a} made = record {
   made = made;
 }
 
--- No values are reached through a handle whose block is that of no storage.
+-- No values are reached through a handle whose block is the empty one of no storage.
 pub makes_no_values : {V T : Type 0} (item : Ghosts T) (block : V → Block) (is_in : Memory → V → Type 0) (values : Memory → V → List T)
     (is_trim : V → Type 0) (ask : V → Ask) (align : ℕ) (a : View) (w : V) → is_in a.memory w → block w ≡ empty_block align
     → values a.memory w ≡ [] → is_trim w → MakesNew (row_in item plain block is_in values is_trim ask) [] (Empty align ∷ []) a a (Ok w)

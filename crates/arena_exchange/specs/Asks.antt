@@ -14,8 +14,9 @@ use Rattle.arena_items.specs.declared.room.AllocError.TheVariants.{AllocErr, Cap
 use Rattle.arena_vec.specs.Held.{empty_block}
 use Rattle.arena_vec.specs.Growth.{new_growth}
 
--- A block of this size and this alignment; the block of a new map's table for so many pairs, with slots of this size and of this
--- alignment; a block of no bytes, or the one of no storage, for which the arena isn't asked; or more than a vector can have.
+-- A block of this size and this alignment; the block of a new map's table for this many pairs, with slots of this size
+-- and alignment; a block of no bytes, or the empty one of no storage, for which the arena isn't asked; or more than a
+-- vector can have.
 pub data Ask : Type 0 where
   Room : ℕ → ℕ → Ask
   Table : ℕ → ℕ → ℕ → Ask
@@ -37,8 +38,8 @@ abbrev pub refusal : {X : Type 0} → Result X AllocError → Option AllocError
 refusal (Ok x) = None
 refusal (Err e) = Some e
 
--- What follows the arena's answer. A block that it placed is the first of the call's blocks, and the call goes on. Else the call
--- ends there, with the arena's refusal.
+-- What follows the arena's answer. A block that it placed is the first of the call's blocks, and the call goes on.
+-- Otherwise the call ends there, with the arena's refusal.
 abbrev pub Follows : Answer → View → View → List Block → Option AllocError → (List Block → Type 0) → Type 0
 Follows answer between new blocks end goes_on = OnAnswer answer (λ b. (rest : List Block) × (blocks ≡ b ∷ rest) × goes_on rest)
     (λ k. (end ≡ Some (AllocErr k)) × (blocks ≡ []) × (new ≡ between))
@@ -54,8 +55,8 @@ pub record Takes (size align : ℕ) (old new : View) (blocks : List Block) (end 
   pub places : PlacesBlock start between size align answer
   pub then : Follows answer between new blocks end (goes_on between)
 
--- A call asks the arena for this, one after another, until it is refused, and for nothing else. These are the blocks that it has
--- then.
+-- A call asks the arena for these blocks, one after another, until it is refused, and for nothing else. `blocks` are
+-- those that it has then.
 abbrev pub AsksFor : List Ask → View → View → List Block → Option AllocError → Type 0
 AsksFor [] old new blocks end = (end ≡ None) × (blocks ≡ []) × SamePlaces old new
 AsksFor (Room size align ∷ asks) old new blocks end =
@@ -68,7 +69,7 @@ AsksFor (Empty align ∷ asks) old new blocks end =
     (rest : List Block) × (blocks ≡ empty_block align ∷ rest) × AsksFor asks old new rest end
 AsksFor (TooMuch ∷ asks) old new blocks end = (end ≡ Some CapacityOverflow) × (blocks ≡ []) × SamePlaces old new
 
--- A call asks for just this. Its blocks were free, no two of them have an address in common, and what was in use is as it was.
+-- A call asks for exactly this. Its blocks were free and have no address in common, and what was in use is as it was.
 pub record PlacesAll (asks : List Ask) (old new : View) (blocks : List Block) (end : Option AllocError) : Type 0 where
   pub asked : AsksFor asks old new blocks end
   pub apart : ArePairwiseApart blocks

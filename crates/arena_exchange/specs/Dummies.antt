@@ -19,7 +19,8 @@ pub record Boxes {T : Type 0} (item : Ghosts T) (old new : View) (v : T) (result
   pub held : IfOk result (IsBoxIn item new.memory)
   pub value : IfOk result (λ b. box_value item new.memory b ≡ v)
 
--- A value is taken out of its place, where a new one with this meaning stands then. Refused, the call leaves the place as it was.
+-- A value is taken out of its place, and replaced by a new one with this meaning. If the call is refused the place is
+-- as it was.
 pub record TakesOut {T : Type 0} (kind : Kind T) (meaning : kind.Whole) (asks : List Ask) (old new : View) (before after : T)
     (result : Result T AllocError) : Type 0 where
   pub blocks : List Block
@@ -28,7 +29,7 @@ pub record TakesOut {T : Type 0} (kind : Kind T) (meaning : kind.Whole) (asks : 
   pub left : OnOk result (IsMade kind meaning new.memory blocks after)
   pub err : OnErr result (after ≡ before)
 
--- The same, and the value is placed in a new box, whose block is asked for last.
+-- A value is taken out and replaced, and placed in a new box, whose block is asked for last.
 pub record TakesBox {T : Type 0} (item : Ghosts T) (kind : Kind T) (meaning : kind.Whole) (asks : List Ask) (old new : View)
     (before after : T) (result : Result (Box T) AllocError) : Type 0 where
   pub blocks : List Block

@@ -20,7 +20,7 @@ everywhere : {A : Type 0} (P : A → Type 0) → ((x : A) → P x) → (xs : Lis
 everywhere P all [] = tt
 everywhere P all (x ∷ xs) = (all x, everywhere P all xs)
 
--- lists of nothing are nothing together
+-- lists that are all empty are empty together
 pub none_in_all : {A B : Type 0} (f : A → List B) → ((x : A) → f x ≡ []) → (xs : List A) → flat_map f xs ≡ []
 none_in_all f none [] = refl
 none_in_all f none (x ∷ xs) = rw (none x) (none_in_all f none xs)

@@ -18,8 +18,9 @@ use Rattle.arena_exchange.specs.Kinds.{Kind, plain, text, option_of, both_of, ro
 use Rattle.arena_exchange.specs.declared.ids.CloneInSemanticIds.{CloneInSemanticIds}
 use Rattle.arena_exchange.specs.declared.ids.CloneInSemanticIds.TheVariants.{With}
 
--- A value that is held has readable blocks. In two memories with the same bytes in them, where they may be read in both, it is
--- the same in all respects. A copy with ids means what its source means, and a kind whose values are copied by their bytes is flat.
+-- A value that is held has readable blocks. In two memories with the same bytes in them, and where they are readable,
+-- it is the same in all respects. A copy with ids means what its source means, and a kind whose values are copied by
+-- their bytes is flat.
 pub record IsLawful {T : Type 0} (kind : Kind T) : Type 0 where
   pub readable : (m : Memory) (v : T) → kind.is_held m v → AreReadable m.state (kind.deep m v)
   pub held : (a c : Memory) (v : T) → kind.is_held a v → Agree a c (kind.deep a v) → AreReadable c.state (kind.deep a v)
@@ -67,7 +68,7 @@ pub all_each : {X : Type 0} (P : X → Type 0) (xs ys : List X) → AllByRecursi
 all_each P [] ys all = (tt, all)
 all_each P (x ∷ xs) ys all = let rest = all_each P xs ys all.1 in ((all.0, rest.0), rest.1)
 
--- what may be read, and what is the same, of two values
+-- what is readable, and what is the same, of two values
 pub readable_both : (m : Memory) (bs cs : List Block) → AreReadable m.state bs → AreReadable m.state cs → AreReadable m.state (bs ++ cs)
 readable_both m = all_both (λ (b : Block). IsTrue (is_readable m.state b))
 
@@ -240,7 +241,7 @@ module _ {T : Type 0} (item : Ghosts T) (kind : Kind T) (is : IsLawful kind) whe
       (ask : V → Ask) (read : (m : Memory) (v : V) → is_in m v → IsTrue (is_readable m.state (block v)))
       (again : (a c : Memory) (v : V) → is_in a v → IsTrue (is_readable c.state (block v)) → is_in c v)
       (same : (a c : Memory) (v : V) → bytes_of a (block v) ≡ bytes_of c (block v) → values a v ≡ values c v) where
-    -- values in a row that are reached through a handle, whose block determines them
+    -- sequences of values that are reached through a handle, whose block determines them
     row_in_lawful : IsLawful (row_in item kind block is_in values is_trim ask)
     row_in_lawful = record {
       readable = λ m v held. (read m v held.0, row.readable m (values m v) held.1);

@@ -19,20 +19,21 @@ pub record Kind (T : Type 0) : Type 1 where
   -- what one means, with no address in it
   pub Whole : Type 0
   pub whole : Memory → T → Whole
-  -- the blocks that it names, and those that its elements name in the same sense, in the order in which a copy places them; the
-  -- order bears on no other claim
+  -- the blocks that it names, and those that its elements name, in the order in which a copy places them; no other
+  -- claim depends on the order
   pub deep : Memory → T → List Block
-  -- each type on the way has at most 2 ^ 24 bytes
+  -- each type in it has at most 2 ^ 24 bytes
   pub is_small : Type 0
-  -- its handles are well formed and may be read, at every depth
+  -- its handles are well formed and readable, at every depth
   pub is_held : Memory → T → Type 0
   -- what a copy means, by whether it keeps semantic ids
   pub by_ids : CloneInSemanticIds → Whole → Whole
-  -- it is as a new one: the capacity of a vector is its length, and a map's table and hasher are those of a new map for its pairs
+  -- it is like a new one: the capacity of a vector is its length, and a map's table and hasher are those of a new map
+  -- for its pairs
   pub is_trim : Memory → T → Type 0
   -- what a copy asks of its arena, for one block after another of those that it names
   pub asks : Memory → T → List Ask
-  -- whether the bytes of each, copied elsewhere, are a copy of it
+  -- whether the bytes of each value, copied elsewhere, are a copy of it
   pub is_flat : CloneInSemanticIds → Bool
 
 -- Two values are alike by the rule for ids: the second means what a copy of the first means.
@@ -73,7 +74,7 @@ text = record {
 
 -- ---- Values that are made of others
 
--- something of the value, if there is one
+-- a function of the value, if there is one
 abbrev pub of_some : {A B : Type 0} → (A → B) → Option A → Option B
 of_some f None = None
 of_some f (Some v) = Some (f v)
@@ -83,7 +84,7 @@ all_of f None = []
 all_of f (Some v) = f v
 
 module _ {T : Type 0} (kind : Kind T) where
-  -- an option is none, or its value
+  -- an option is `None`, or its value
   abbrev pub option_of : Kind (Option T)
   option_of = record {
     Whole = Option kind.Whole;
@@ -140,7 +141,8 @@ module _ {T : Type 0} (item : Ghosts T) (kind : Kind T) where
     is_flat = λ ids. false;
   }
 
-  -- Values in a row are reached through their handle, which is held itself. Its block comes first, and it means its values.
+  -- A sequence of values is reached through its handle, which is held itself. Its block comes first, and it means its
+  -- values.
   abbrev pub row_in : {V : Type 0} → (V → Block) → (Memory → V → Type 0) → (Memory → V → List T) → (V → Type 0) → (V → Ask)
       → Kind V
   row_in block is_in values is_trim ask = record {

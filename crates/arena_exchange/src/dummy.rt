@@ -1,4 +1,4 @@
-// Values that stand in the place of others.
+// Values that take the place of others.
 ghost use Rattle.std.specs.Prelude.{[], ◌∷◌, ◌++◌, None, List};
 ghost use Rattle.arena_exchange.specs.Kinds.{Kind, plain, option_of, box_of, slice_of, vec_of, text};
 ghost use Rattle.arena_exchange.specs.KindLaws.{IsLawful, plain_lawful, option_lawful, box_lawful, slice_lawful, vec_lawful, text_lawful};
@@ -14,9 +14,9 @@ use arena_chunks::{Allocator, Block, ChunkSource, Str};
 use arena_items::{Box, BoxSlice, Grown, Item};
 use arena_vec::Vec;
 
-/// A type with a value that can stand where one was taken.
+/// A type with a dummy: a value that takes the place of one that was taken out.
 pub trait Dummy: Sized {
-    // What its values are at every depth.
+    // What the type's values are at every depth.
     ghost kind: { Kind Self };
 
     // What a dummy means at every depth.
@@ -25,11 +25,11 @@ pub trait Dummy: Sized {
     // What a dummy asks of the arena.
     ghost asks: { List Ask };
 
-    /// The dummy.
+    /// Returns a dummy.
     ///
     /// # Errors
     ///
-    /// As of the arena's `alloc_layout`. What was placed before stays then, and nobody names it.
+    /// As for the arena's `alloc_layout`. Blocks that were placed before stay, unused.
     fn dummy<C: ChunkSource>(a: &mut Allocator<C>) -> Grown<Self>
         requires { kind.is_small }
         ensures { MakesNew kind meaning asks a.old a.new result };

@@ -12,7 +12,7 @@ pub enum CloneInSemanticIds {
 }
 
 impl CloneInSemanticIds {
-    /// The variant's number.
+    /// Returns the variant's number.
     pub fn number(self) -> u32
         ensures with { self ≡ With → result ≡ 0 }
         ensures without { self ≡ Without → result ≡ 2 ^ 32 - 1 }

@@ -1,4 +1,4 @@
-// Values replaced by what is made of them.
+// Replacing values by what is made of them.
 use crate::dummy::Dummy;
 use arena_items::{Box, BoxSlice, Item};
 use arena_vec::Vec;
@@ -6,7 +6,7 @@ use core::mem;
 
 /// A value that can be replaced by one that is made of it.
 pub trait ReplaceWith: Dummy {
-    /// Puts what the closure makes of the value in its place. Nothing is placed in any arena but by the closure itself.
+    /// Replaces the value by what the closure makes of it. Only the closure itself may place anything in an arena.
     final fn replace_with<F: FnOnce(Self) -> Self>(&mut self, replacer: F)
         requires { F.pre replacer self.old }
         ensures { F.post replacer self.old self.new }

@@ -1,4 +1,4 @@
-// Values taken out of their place, where a dummy stays.
+// Taking values out of their place, and leaving a dummy.
 ghost use Rattle.std.specs.Prelude.{◌^◌, ◌≤◌};
 ghost use Rattle.arena_exchange.specs.Dummies.{TakesOut, TakesBox};
 
@@ -9,13 +9,13 @@ use arena_items::{Box, BoxSlice, Grown, Item};
 use arena_vec::Vec;
 use std::mem;
 
-/// A value that can be taken, and leaves a dummy.
+/// A value that can be taken out, and leaves a dummy.
 pub trait TakeIn: Dummy {
-    /// The value. A dummy stands in its place then.
+    /// Takes the value out, and leaves a dummy in its place.
     ///
     /// # Errors
     ///
-    /// As of `dummy`. The value stays in its place.
+    /// As for `dummy`. The value stays in its place.
     final fn take_in<C: ChunkSource>(&mut self, a: &mut Allocator<C>) -> Grown<Self>
         requires { Self.kind.is_small }
         ensures { TakesOut Self.kind Self.meaning Self.asks a.old a.new self.old self.new result }
@@ -24,11 +24,11 @@ pub trait TakeIn: Dummy {
         Ok(mem::replace(self, dummy))
     }
 
-    /// The value in a box. A dummy stands in its place then.
+    /// Takes the value out into a new box, and leaves a dummy in its place.
     ///
     /// # Errors
     ///
-    /// As of `dummy` and of `alloc`. The value stays in its place.
+    /// As for `dummy` and `alloc`. The value stays in its place.
     final fn take_in_box<C: ChunkSource>(&mut self, a: &mut Allocator<C>) -> Grown<Box<Self>>
     where
         Self: Item,

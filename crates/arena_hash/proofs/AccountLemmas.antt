@@ -27,9 +27,9 @@ use Rattle.arena_hash.specs.declared.map.HashMap.{HashMap}
 
 -- ---- Layouts
 
--- ---- Answers
+-- ---- Results
 
--- A refusal is told alike of each block,
+-- A refusal is reported alike for each block,
 pub answer-refused : {X Y : Type 0} (f : X → Block) (g : Y → Block) (e : AllocError) (P : Answer → Type 0)
     → RoomAnswer f (Err e) P → RoomAnswer g (Err e) P
 answer-refused f g (AllocErr refused) P h = h
@@ -43,7 +43,7 @@ pub took-refused : {X Y : Type 0} (f : X → Block) (g : Y → Block) (e : Alloc
 took-refused f g e old new size align took =
     record { between = took.between; took = answer-refused f g e _ took.took; places = took.places }
 
--- and a fact that follows from another does for each answer.
+-- and a fact that follows from another follows for each result.
 pub answer-map : {X : Type 0} (f : X → Block) (result : Result X AllocError) (P Q : Answer → Type 0) → ((x : Answer) → P x → Q x)
     → RoomAnswer f result P → RoomAnswer f result Q
 answer-map f (Ok x) P Q h a = h (Placed (f x)) a
@@ -95,7 +95,7 @@ module _ {K V S : Type 0} (k : Kind K V S) (keys : IsItemLayout k.keys.SIZE k.ke
     spare = rw slots (omega (arith, fewer));
   }
 
-  -- A table for so many pairs was asked for, and brought at most so many units into use.
+  -- A table for n pairs was asked for, and brought at most n units into use.
   pub capacity-costs : {X : Type 0} (old new : View) (block : X → Block) (pairs slots : ℕ) (result : Result X AllocError) → 0 < pairs
       → pairs < 2 ^ 32
       → IsSlotsFor pairs slots → Took new (λ between. RoomAnswer block result (PlacesBlock old between (slots * size) align))

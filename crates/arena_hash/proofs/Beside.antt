@@ -1,4 +1,4 @@
--- The blocks of what stands in slots, one by one and as a list.
+-- The blocks of the items in slots, one by one and as a list.
 use Rattle.std.proofs.Common.{◌≡◌, ℕ, suc, zero, List, [], ◌∷◌, map, refl, sym, subst, Some, None, Option}
 use Rattle.std.proofs.lemmas.Option.{none-some}
 use Rattle.std.specs.Prelude.{slice_get, IsTrue}
@@ -15,7 +15,7 @@ use Rattle.arena_table.specs.Tables.{slots_in, IsTextBeside}
 use Rattle.arena_hash.specs.Maps.{texts_in}
 use Rattle.arena_hash.specs.declared.map.HashMap.{HashMap}
 
--- each lies apart from the others
+-- each is apart from the others
 pub apart-items : {X : Type 0} (f : X → Block) (others : List Block) (slots : List (Option X))
     → ((x : X) → Has slots x → IsApart (f x).addr (f x).size others) → AreAllApart (map f (items slots)) others
 apart-items f others [] each = tt
@@ -34,7 +34,7 @@ has-apart f others (Some z ∷ xs) (suc i) x s all = has-apart f others xs i x s
 -- ---- The texts of a map's keys
 
 module _ {K V S : Type 0} (k : Kind K V S) (memory : Memory) (m : HashMap K V S) where
-  -- one by one they lie beside the table
+  -- one by one they are apart from the table
   pub texts-beside : AreReadable memory.state (texts_in k memory m) → AreAllApart (texts_in k memory m) (m.table.block ∷ []) → (x : K × V)
       → Has (slots_in k.keys k.values memory m.table) x → IsTextBeside k.key memory m.table.block x.0
   texts-beside readable apart x h = record {

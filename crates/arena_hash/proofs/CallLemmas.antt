@@ -31,7 +31,7 @@ use Rattle.arena_hash.specs.declared.map.HashMap.{HashMap}
 use Rattle.arena_hash.proofs.AccountLemmas.{free-costs, insert-costs}
 use Rattle.arena_hash.proofs.MapLemmas.{moved-none, found-under, open-under, put-held, put-is, change-held, change-is, close-held, close-is}
 
--- what a put does where there is room, and where there isn't
+-- what a put does if there is room, and if there isn't
 pub growth-room : (slots len : ℕ) → len < limit slots → growth_for false slots len ≡ Stays
 growth-room slots len room = let less : nat_lt len (limit slots) ≡ true = grind (arith, nat_tests) in rw less refl
 
@@ -101,7 +101,7 @@ module _ {K V S : Type 0} (k : Kind K V S) (keys : IsItemLayout k.keys.SIZE k.ke
           frame = frame;
         }
 
-    -- or is gone.
+    -- or is removed.
     pub takes-out : {X : Type 0} (w : HashMap K V S) (tells : Option V → X → Type 0) (x : X) → w.table ≡ m.table → w.hasher ≡ m.hasher
         → w.len + 1 ≡ m.len
         → IsTableIn k new.memory w.hasher w.table → Closed (slots old.memory m) (slots new.memory w) at → tells (Some p.1) x
@@ -158,7 +158,7 @@ module _ {K V S : Type 0} (k : Kind K V S) (keys : IsItemLayout k.keys.SIZE k.ke
       frame = frame;
     }
 
-    -- where there is room in the table,
+    -- if there is room in the table,
     pub puts-room : {X : Type 0} (new : View) (w : HashMap K V S) (value : V) (tells : Option V → X → Type 0) (x : X)
         → IsTextBeside k.key old.memory m.table.block key → m.len < limit m.table.slots → w.table ≡ m.table → w.hasher ≡ m.hasher
         → w.len ≡ m.len + 1 → SamePlaces old new → Frame old.memory new.memory (m.table.block ∷ []) (m.table.block ∷ [])
@@ -178,7 +178,7 @@ module _ {K V S : Type 0} (k : Kind K V S) (keys : IsItemLayout k.keys.SIZE k.ke
         (sym (growth-room m.table.slots m.len room)) made)
         told
 
-    -- and where the next one was placed.
+    -- and if the next one was placed.
     pub puts-grown : {X : Type 0} (mid new : View) (t : Table K V) (w : HashMap K V S) (value : V) (tells : Option V → X → Type 0) (x : X)
         → IsTextBeside k.key old.memory m.table.block key → limit m.table.slots ≤ m.len → w.table ≡ t → w.hasher ≡ m.hasher
         → w.len ≡ m.len + 1
@@ -239,7 +239,7 @@ module _ {K V S : Type 0} (k : Kind K V S) (keys : IsItemLayout k.keys.SIZE k.ke
           frame = rw same (frame_reflexive old.memory (m.table.block ∷ []));
         }
 
-    -- and isn't taken out.
+    -- and isn't removed.
     pub takes-none : {X : Type 0} (tells : Option V → X → Type 0) (x : X) → tells None x → TakesOut k old old m key tells m x
     takes-none tells x told =
         let places : SamePlaces old old = record { state = refl; statistics = refl; source = refl } in

@@ -1,4 +1,4 @@
--- Pairs that are put into a map, one after another.
+-- Pairs that are inserted into a map, one after another.
 use Rattle.std.proofs.Common.{◌≡◌, ◌+◌, ◌*◌, ◌≤◌, ℕ, List, [], ◌∷◌, ◌++◌, length, refl, sym, ap, subst, ◌∙◌, arith, Ok, Err, Option, Some, None, IsTrue}
 use Rattle.std.proofs.lemmas.List.{length_push}
 use Rattle.std.specs.Iterator.{Yields}
@@ -18,7 +18,7 @@ use Rattle.arena_hash.specs.Maps.{IsMapIn, map_in}
 use Rattle.arena_hash.specs.declared.map.HashMap.{HashMap}
 use Rattle.arena_hash.proofs.CostLemmas.{insert-most}
 
--- A map of pairs and one more is theirs with that one put.
+-- The map of pairs and one more is their map with that one inserted.
 with_all-push : {K V : Type 0} (content : K → List ℕ) (is : Finite K V) (ps : List (K × V)) (p : K × V)
     → with_all content is (ps ++ p ∷ []) ≡ with_pair (with_all content is ps) (content p.0) p.0 p.1
 with_all-push content is [] p = refl
@@ -39,7 +39,7 @@ PutsAll-push k old mid new m u w (q ∷ ps) p before run put =
     (run.0, run.1, run.2, run.3, PutsAll-push k run.0 mid new run.1 u w ps p before run.4 put)
 
 module _ {K V S I : Type 0} (k : Kind K V S) (steps : I → Option (K × V) → I → Type 0) where
-  -- these pairs were taken and put into a new map
+  -- these pairs were taken from the iterator and inserted into a new map
   pub record IsCollecting (iter now : I) (old new : View) (m : HashMap K V S) : Type 0 where
     pub held : IsMapIn k new.memory m
     pub frame : Frame old.memory new.memory [] (m.table.block ∷ [])
@@ -87,7 +87,7 @@ module _ {K V S I : Type 0} (k : Kind K V S) (steps : I → Option (K × V) → 
       puts = PutsAll-push k old mid new c.first u w c.pairs p before c.puts put;
     }
       where
-        -- its text is as it was from the start
+        -- its text is unchanged since the start
         content : content_in k.key mid.memory p.0 ≡ content_in k.key old.memory p.0
         content =
             ap (k.key.content p.0)

@@ -64,7 +64,7 @@ module _ {K V S : Type 0} (k : Kind K V S) (keys : IsItemLayout k.keys.SIZE k.ke
 
   module _ {X : Type 0} (old new : View) (m w : HashMap K V S) (one : old.memory.state.min_align ≡ 1)
       (ring : (m.table.slots ≡ 0) ⊎ IsRing m.table.slots) (within : m.len ≤ limit m.table.slots) where
-    -- The next table is placed again, as where a collection had no block.
+    -- The next table is placed as a new block, as for a collection without a block.
     next-costs : (result : Result X AllocError) → limit m.table.slots ≤ m.len → m.len < most_pairs
         → MakesRoom size align old new m.table.block 0 (GrowsTo (next_slots m.table.slots)) (λ _. w.table.block) result
         → Costs farthest (2 * unit_of k) (credit_of k m) 0 old new result

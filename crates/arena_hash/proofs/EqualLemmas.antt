@@ -23,7 +23,7 @@ module _ {K V S : Type 0} (k : Kind K V S) (memory : Memory) (eq : V → V → B
       ∙ sym held'.count)
 
   module _ (xs : List (K × V)) (lists : Lists (content_in k.key memory) (map_in k memory one) xs) where
-    -- the text of a pair that is listed may be read
+    -- the text of a pair that is listed is readable
     pub listed-readable : (i : ℕ) (p : K × V) → slice_get xs i ≡ Some p → IsTrue (is_readable memory.state (k.key.text p.0))
     listed-readable i p s =
         let there : map_in k memory one (content_in k.key memory p.0) ≡ Some p =
@@ -31,14 +31,14 @@ module _ {K V S : Type 0} (k : Kind K V S) (memory : Memory) (eq : V → V → B
         let h = under-has (content_in k.key memory) (slots_in k.keys k.values memory one.table) (content_in k.key memory p.0) p there in
         (texts-beside k memory one held.texts held.apart p h.0).readable
 
-    -- where the maps are equal, each pair that is listed has an equal value in the other
+    -- if the maps are equal, each pair that is listed has an equal value in the other
     pub listed-equal : AreEqual {K = K} eq (map_in k memory one) (map_in k memory other) → (i : ℕ) (p : K × V) → slice_get xs i ≡ Some p
         → AreBoth eq (Some p.1) (value_of (map_in k memory other (content_in k.key memory p.0)))
     listed-equal equal =
         found-equal (content_in k.key memory) eq (map_in k memory other) xs lists.once
         (subst (λ m. AreEqual {K = K} eq m (map_in k memory other)) (sym lists.map_is) equal)
 
-    -- where all were found, they are
+    -- if all were found, the maps are equal
     pub listed-found : one.len ≡ other.len → (done : List (K × V)) → xs ≡ done
         → ((i : ℕ) (p : K × V) → slice_get done i ≡ Some p
         → AreBoth eq (Some p.1) (value_of (map_in k memory other (content_in k.key memory p.0))))
@@ -52,7 +52,7 @@ module _ {K V S : Type 0} (k : Kind K V S) (memory : Memory) (eq : V → V → B
         (omega (arith, same, len, held.count, held'.count))
         (λ i p s. found i p (ap (λ ps. slice_get ps i) (sym all) ∙ s)))
 
--- ---- What `get` gave
+-- ---- What `get` returned
 
 module _ {V : Type 0} (eq : V → V → Bool) (value found : V) (result other : Option V) (gave : result ≡ other) where
   -- an equal value

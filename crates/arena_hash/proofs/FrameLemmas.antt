@@ -1,4 +1,4 @@
--- What a call on other blocks leaves of a map: the map, and where searches of it end.
+-- What a call on other blocks leaves of a map: the map, and the places where searches of it end.
 use Rattle.std.proofs.Common.{◌≡◌, ℕ, List, Option, sym, subst, ◌∙◌}
 use Rattle.arena_chunks.specs.Memory.{Memory}
 use Rattle.arena_chunks.specs.Frame.{Frame, AreAllApart}
@@ -19,7 +19,7 @@ use Rattle.arena_hash.specs.Maps.{IsMapIn, IsLookIn, StaysMap, footprint}
 use Rattle.arena_hash.specs.declared.map.HashMap.{HashMap}
 use Rattle.arena_hash.specs.declared.map.Look.{Look}
 
--- A search ends at the same slot by other homes and contents that are the same for what stands there.
+-- A search ends at the same slot under other homes and contents that agree on the items in slots.
 module _ {X : Type 0} (one other : X → ℕ) (n : ℕ) (slots : List (Option X)) (homes : (x : X) → Has slots x → other x ≡ one x) where
   spot-agree : (hash at mark : ℕ) → IsSpotFor one n slots hash at mark → IsSpotFor other n slots hash at mark
   spot-agree hash at mark s = record {

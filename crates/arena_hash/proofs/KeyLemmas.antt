@@ -10,21 +10,21 @@ use Rattle.arena_table.specs.Contents.{Kind, content_in}
 use Rattle.arena_hash.specs.Maps.{IsMapIn, map_in, pairs_in, texts_in}
 use Rattle.arena_hash.specs.declared.map.HashMap.{HashMap}
 
--- what is in the list that a function makes of another, it makes of something in that,
+-- each item of a mapped list is the image of an item of the list,
 of-mapped : {X Y : Type 0} (f : X → Y) (xs : List X) (y : Y) (i : ℕ) → i < length (map f xs) → slice_index_or (map f xs) i y ≡ y
     → (x : X) × (slice_get xs i ≡ Some x) × (f x ≡ y)
 of-mapped f [] y i less at = absurd (omega (arith, less))
 of-mapped f (x ∷ xs) y zero less at = (x, refl, at)
 of-mapped f (x ∷ xs) y (suc i) less at = of-mapped f xs y i (omega (arith, less)) at
 
--- and the other way round
+-- and conversely
 in-mapped : {X Y : Type 0} (f : X → Y) (xs : List X) (i : ℕ) (x : X) → slice_get xs i ≡ Some x → Contains (map f xs) (f x)
 in-mapped f [] i x s = absurd (none-some x s)
 in-mapped f (z ∷ xs) zero x s = (0, omega arith, ap f (same_Some z x s))
 in-mapped f (z ∷ xs) (suc i) x s = let r = in-mapped f xs i x s in (suc r.0, omega (arith, r.1), r.2)
 
 module _ {K V S : Type 0} (k : Kind K V S) (memory : Memory) (m : HashMap K V S) where
-  -- A key stands under its content.
+  -- A key is stored under its content.
   pub stands-under : (q : List ℕ) (p : K × V) → map_in k memory m q ≡ Some p → content_in k.key memory p.0 ≡ q
   stands-under q p there = (under-in (content_in k.key memory) (pairs_in k memory m) q p there).2
 

@@ -22,12 +22,12 @@ use Rattle.arena_hash.specs.Maps.{IsMapIn, map_in, pairs_in}
 use Rattle.arena_hash.specs.declared.map.HashMap.{HashMap}
 use Rattle.arena_hash.proofs.Beside.{texts-beside, texts-readable, texts-apart}
 
--- what stays where it is
+-- unchanged slots hold the same items
 pub moved-none : {X : Type 0} (slots : List (Option X)) → Moved slots slots
 moved-none slots = record { count = refl; only = λ x h. h; keeps = λ x h. h; once = λ content once. once }
 
 module _ {K V S : Type 0} (k : Kind K V S) where
-  -- what stands in the slots of a map, and what their contents are
+  -- the items in the slots of a map, and their contents
   abbrev slots : Memory → HashMap K V S → List (Option (K × V))
   slots memory m = slots_in k.keys k.values memory m.table
 
@@ -38,26 +38,26 @@ module _ {K V S : Type 0} (k : Kind K V S) where
   pub map-table : (memory : Memory) (m : HashMap K V S) → IsMapIn k memory m → IsTableIn k memory m.hasher m.table
   map-table memory m held = record { handle = held.handle; table = held.table; texts = texts-beside k memory m held.texts held.apart }
 
-  -- with a free slot where there are any,
+  -- with a free slot if it has any slots,
   pub map-free : (memory : Memory) (m : HashMap K V S) → IsMapIn k memory m → 0 < m.table.slots → HasFree k.keys k.values memory m.table
   map-free memory m held some = omega (arith, held.count, held.within)
 
-  -- in which no content stands twice.
+  -- in which no content occurs twice.
   pub map-once : (memory : Memory) (m : HashMap K V S) → IsMapIn k memory m → IsOnce (content memory) (slots memory m)
   map-once memory m held = is_once (content_in k.key memory) (slots memory m) held.once
 
-  -- What a search finds stands under its content,
+  -- What a search finds is stored under its content,
   pub found-under : (memory : Memory) (m : HashMap K V S) (at : ℕ) (p : K × V) (q : List ℕ) → IsMapIn k memory m
       → slice_get (slots memory m) at ≡ Some (Some p) → content memory p ≡ q → map_in k memory m q ≡ Some p
   found-under memory m at p q held there has = has-under (content_in k.key memory) (slots memory m) at p q (map-once memory m held) there
       has
 
-  -- and under one that it doesn't find nothing stands.
+  -- and under a content that it doesn't find nothing is stored.
   pub open-under : (memory : Memory) (m : HashMap K V S) (q : List ℕ) → Lacks (content memory) (slots memory m) q
       → map_in k memory m q ≡ None
   open-under memory m q lacks = lacks-under (content_in k.key memory) (slots memory m) q lacks
 
-  -- What stands in a slot stands in one of the table's.
+  -- A slot that holds an item is one of the table's.
   pub taken-within : (memory : Memory) (m : HashMap K V S) (at : ℕ) (p : K × V) → IsMapIn k memory m
       → slice_get (slots memory m) at ≡ Some (Some p)
       → at < m.table.slots
@@ -66,12 +66,12 @@ module _ {K V S : Type 0} (k : Kind K V S) where
   -- ---- Calls
 
   module _ (old new : Memory) (before after : List Block) (frame : Frame old new before after) where
-    -- a key whose text lies beside the blocks of a call has the same content
+    -- a key whose text is apart from the blocks of a call has the same content
     pub content-stays : (x : K) → IsTrue (is_readable old.state (k.key.text x)) → IsApart (k.key.text x).addr (k.key.text x).size before
         → content_in k.key new x ≡ content_in k.key old x
     content-stays x readable apart = ap (k.key.content x) (frame_keeps old new before after (k.key.text x) frame readable apart).bytes
 
-  -- A text that could be read lies beside a block that was placed since.
+  -- A text that was readable is apart from a block that was placed since.
   pub text-beside : (old new : Memory) (block : Block) (x : K) → Frame old new [] (block ∷ [])
       → IsTrue (is_readable old.state (k.key.text x))
       → IsTextBeside k.key new block x
@@ -88,7 +88,7 @@ module _ {K V S : Type 0} (k : Kind K V S) where
     same : (x : K × V) → IsTextBeside k.key old m.table.block x.0 → content new x ≡ content old x
     same x beside = content-stays old new _ _ frame x.0 beside.readable (beside.apart, tt)
 
-    -- a table of keys that were known is a map
+    -- a table whose keys' texts were readable before, and apart from the block, is a map
     module _ (knows : (x : K × V) → Has (slots new w) x → IsTextBeside k.key old m.table.block x.0) where
       next-held : IsOnce (content old) (slots new w) → w.len ≡ length (pairs_in k new w) → w.len ≤ limit w.table.slots → IsMapIn k new w
       next-held once count within = record {
@@ -138,7 +138,7 @@ module _ {K V S : Type 0} (k : Kind K V S) where
     -- ---- A slot was changed, or freed
 
     module _ (at : ℕ) (p : K × V) (there : slice_get (slots old m) at ≡ Some (Some p)) where
-      -- another value in place of the one that was there
+      -- another value replaced the one that was there
       module _ (value : V) (changed : slots new w ≡ set (slots old m) at (Some (p.0, value))) where
         change-knows : (x : K × V) → Has (slots new w) x → IsTextBeside k.key old m.table.block x.0
         change-knows x h = elim (put-cases (slots old m) at h.0 (Some p) (p.0, value) x there

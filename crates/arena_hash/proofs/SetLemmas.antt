@@ -19,7 +19,7 @@ use Rattle.arena_hash.proofs.AccountLemmas.{answer-refused}
 
 module _ {K V S X Y : Type 0} (k : Kind K V S) (old new : View) (m : HashMap K V S) (key : K) (value : V) (tells : Option V → X → Type 0)
     (says : Option V → Y → Type 0) (w : HashMap K V S) where
-  -- What a put tells may be told otherwise,
+  -- What a put reports may be replaced by what follows from it,
   pub puts-as : (x : X) (y : Y) → ((before : Option V) → tells before x → says before y) → Puts k old new m key value tells w (Ok x)
       → Puts k old new m key value says w (Ok y)
   puts-as x y told p =
@@ -45,7 +45,7 @@ module _ {K V S X Y : Type 0} (k : Kind K V S) (old new : View) (m : HashMap K V
         frame = p.frame;
       }
 
-  -- and so may a refusal.
+  -- and so may the result type of a refusal.
   pub puts-refused-as : (e : AllocError) → Puts {X = X} k old new m key value tells w (Err e) → Puts {X = Y} k old new m key value says w
       (Err e)
   puts-refused-as e p = record {
@@ -77,7 +77,7 @@ module _ {K V S X Y : Type 0} (k : Kind K V S) (old new : View) (m : HashMap K V
     frame = p.frame;
   }
 
--- So may what a removal tells.
+-- So may what a removal reports.
 pub takes-as : {K V S X Y : Type 0} (k : Kind K V S) (old new : View) (m : HashMap K V S) (key : K) (tells : Option V → X → Type 0)
     (says : Option V → Y → Type 0) (w : HashMap K V S) (x : X) (y : Y) → ((before : Option V) → tells before x → says before y)
     → TakesOut k old new m key tells w x → TakesOut k old new m key says w y
@@ -92,7 +92,7 @@ has-both eq all None (Some y) e = absurd (false≢true e)
 has-both eq all (Some x) None e = absurd (false≢true (sym e))
 has-both eq all (Some x) (Some y) e = all x.1 y.1
 
--- Where any two values are equal, equal maps have the same contents.
+-- If any two values are equal, equal maps have the same contents.
 pub same-sets : {K : Type 0} (eq : Unit {0} → Unit {0} → Bool) → ((x y : Unit {0}) → IsTrue (eq x y)) → (one other : Finite K (Unit {0}))
     → (answer : Bool) → (IsTrue answer ↔ AreEqual eq one other) → (IsTrue answer ↔ HaveSame one other)
 same-sets eq all one other answer equal = (
@@ -102,7 +102,7 @@ same-sets eq all one other answer equal = (
 
 -- ---- Iterators
 
--- an iterator gave the items of the pairs that it gave
+-- an iterator returned the items of the pairs that it returned
 pub items-yielded : {T I : Type 0} (steps : I → Option T → I → Type 0) (iter : I) (pairs : List (T × Unit {0})) (now : I)
     → Yields (StepsInPairs steps) iter pairs now → Yields steps iter (map (λ p. p.0) pairs) now
 items-yielded steps iter [] now run = run

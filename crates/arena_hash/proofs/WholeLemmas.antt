@@ -22,7 +22,7 @@ use Rattle.arena_hash.specs.declared.map.HashMap.{HashMap}
 use Rattle.arena_hash.proofs.AccountLemmas.{took-refused, capacity-costs}
 use Rattle.arena_hash.proofs.FreeLemmas.{free-map, free-is}
 
--- A handle with no table is a map of nothing in every arena.
+-- A handle without a table is an empty map in every arena.
 pub new-map : {K V S : Type 0} (k : Kind K V S) (m : HashMap K V S) → ((memory : Memory) → IsTableHandle k.keys k.values memory m.table)
     → m.table.slots ≡ 0 → m.table.block.size ≡ 0 → m.len ≡ 0 → IsNew k m.hasher m
 new-map k m handle none size len = record {
@@ -41,7 +41,7 @@ new-map k m handle none size len = record {
 module _ {K V S : Type 0} (k : Kind K V S) (keys : IsItemLayout k.keys.SIZE k.keys.ALIGN)
     (values : IsItemLayout k.values.SIZE k.values.ALIGN)
     (keys_small : k.keys.SIZE ≤ 2 ^ 24) (values_small : k.values.SIZE ≤ 2 ^ 24) where
-  -- Room for none: nothing is placed.
+  -- Room for no pairs: nothing is placed.
   pub places-none : (old : View) (pairs : ℕ) (hasher : S) (m : HashMap K V S) → pairs ≡ 0 → IsNew k hasher m
       → PlacesMap {X = HashMap K V S} k (λ m. m) old old pairs (Ok m)
   places-none old pairs hasher m zero new = record {
@@ -134,7 +134,7 @@ module _ {K V S : Type 0} (k : Kind K V S) (keys : IsItemLayout k.keys.SIZE k.ke
           frame = tt;
         }
 
--- The same of a set as of its map.
+-- A set is created as its map is.
 pub places-as : {K V S X Y : Type 0} (k : Kind K V S) (f : X → HashMap K V S) (h : Y
     → HashMap K V S) (old new : View) (pairs : ℕ) (x : X) (y : Y)
     → h y ≡ f x → PlacesMap k f old new pairs (Ok x) → PlacesMap k h old new pairs (Ok y)

@@ -1,4 +1,4 @@
--- What maps cost: the bytes that calls bring into use, by the two numbers of a map.
+-- What maps cost: the bytes that calls bring into use, in terms of a map's two numbers, spare and credit.
 use Rattle.std.specs.Prelude.{◌≡◌, ℕ, ◌+◌, ◌-◌, ◌*◌, ◌^◌, ◌<◌, ◌≤◌, Bool, false, IsTrue, Result, IsOk, OnOk, OnErr}
 use Rattle.arena_rules.specs.State.{used_bytes}
 use Rattle.arena_chunks.specs.Source.{View}
@@ -23,7 +23,7 @@ credit_of k m = credit (unit_of k) m.table.slots m.len
 abbrev pub used : View → ℕ
 used a = used_bytes a.memory.state
 
--- A call took no bytes and moved no cursor, and no number is the worse for it.
+-- A call took no bytes and moved no cursor; the credit didn't rise, and the spare didn't fall.
 pub record IsFree {K V S : Type 0} (k : Kind K V S) (old new : View) (m w : HashMap K V S) : Type 0 where
   pub places : SamePlaces old new
   pub bytes : used new ≡ used old
@@ -37,7 +37,7 @@ pub record IsPaid {K V S : Type 0} (k : Kind K V S) (old new : View) (m w : Hash
   pub credit : credit_of k w ≤ credit_of k m + unit_of k
   pub spare : spare_of m ≤ spare_of w + 1
 
--- A call asked the arena for one layout, of at most so many bytes with its padding, and answers what the arena did.
+-- A call asked the arena for one layout, of at most this many bytes with its padding, and returns the arena's result.
 pub record AsksOnce {X K V S : Type 0} (k : Kind K V S) (old new : View) (block : X → Block) (most : ℕ)
     (result : Result X AllocError) : Type 0 where
   pub size : ℕ

@@ -50,7 +50,7 @@ module _ {K V S : Type 0} (k : Kind K V S) (a c : Memory) (m : HashMap K V S) (a
       sym (under-agree (content_in k.key a) (content_in k.key c) (slots a) content-same)
       ∙ ap (λ s. first_of (content_in k.key c) (items s)) slots-same
 
-  -- and is held where its footprint may be read.
+  -- and is held if its footprint is readable.
   pub held-agree : IsMapIn k a m → AreReadable c.state (footprint k a m) → IsMapIn k c m
   held-agree held readable = record {
     handle = record {

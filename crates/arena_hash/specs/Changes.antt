@@ -16,7 +16,8 @@ use Rattle.arena_hash.specs.Maps.{IsMapIn, map_in}
 use Rattle.arena_hash.specs.Policy.{growth_for}
 use Rattle.arena_hash.specs.declared.map.HashMap.{HashMap}
 
--- A call that takes no memory makes the handle this map, in its table. No cursor moves, and nothing is asked for or counted.
+-- A call that takes no memory turns the handle into this map, in the same table. No cursor moves, and nothing is
+-- requested or counted.
 pub record Becomes {K V S : Type 0} (k : Kind K V S) (old new : View) (m : HashMap K V S) (is : Finite K V) (w : HashMap K V S) : Type 0
   where
     pub held : IsMapIn k new.memory w
@@ -27,8 +28,9 @@ pub record Becomes {K V S : Type 0} (k : Kind K V S) (old new : View) (m : HashM
     pub costs : IsFree k old new m w
     pub frame : Frame old.memory new.memory (m.table.block ∷ []) (m.table.block ∷ [])
 
--- A call that puts a pair, and tells of the value that stood there, or is refused and leaves all as it was. The arena is asked for
--- the next table exactly where the key is new and there is no room.
+-- A call that inserts a pair and reports the previous value, or is refused and leaves the map and the memory unchanged.
+-- The arena is asked for the next table exactly if the key is new, there is no room, and the map doesn't have the most
+-- pairs.
 pub record Puts {X K V S : Type 0} (k : Kind K V S) (old new : View) (m : HashMap K V S) (key : K) (value : V)
     (tells : Option V → X → Type 0) (w : HashMap K V S) (result : Result X AllocError) : Type 0 where
   pub made : MakesRoom (slot_size k.keys.SIZE k.values.SIZE) (table_align k.keys.ALIGN k.values.ALIGN) old new m.table.block 0
@@ -42,14 +44,14 @@ pub record Puts {X K V S : Type 0} (k : Kind K V S) (old new : View) (m : HashMa
   pub hasher : w.hasher ≡ m.hasher
   pub frame : Frame old.memory new.memory (m.table.block ∷ []) (w.table.block ∷ [])
 
--- A call that takes a pair out, and tells of its value.
+-- A call that removes a key, and reports its value.
 pub record TakesOut {X K V S : Type 0} (k : Kind K V S) (old new : View) (m : HashMap K V S) (key : K)
     (tells : Option V → X → Type 0) (w : HashMap K V S) (result : X) : Type 0 where
   pub becomes : Becomes k old new m (without (map_in k old.memory m) (content_in k.key old.memory key)) w
   pub says : tells (value_of (map_in k old.memory m (content_in k.key old.memory key))) result
   pub len : w.len ≡ (if has (map_in k old.memory m) (content_in k.key old.memory key) then m.len - 1 else m.len)
 
--- An empty map, which places nothing: it is one in every arena.
+-- An empty map without a table: it is held in every arena.
 pub record IsNew {K V S : Type 0} (k : Kind K V S) (hasher : S) (m : HashMap K V S) : Type 0 where
   pub held : (memory : Memory) → IsMapIn k memory m
   pub map_is : (memory : Memory) → map_in k memory m ≡ empty
@@ -59,7 +61,8 @@ pub record IsNew {K V S : Type 0} (k : Kind K V S) (hasher : S) (m : HashMap K V
   pub credit : credit_of k m ≡ 0
   pub hasher_is : m.hasher ≡ hasher
 
--- An answer that is the value that stood there, or none; one that says that none stood there; and one that says that one did.
+-- A result that is the previous value, or none; one that says that there was no value; and one that says that there was
+-- one.
 abbrev pub is_value : {V : Type 0} → Option V → Option V → Type 0
 is_value before answer = answer ≡ before
 
@@ -69,8 +72,8 @@ is_new before answer = answer ≡ not (is_some before)
 abbrev pub was_there : {V : Type 0} → Option V → Bool → Type 0
 was_there before answer = answer ≡ is_some before
 
--- A call that makes an empty map with room for so many pairs places a table for them, none for 0. The arena is asked for that table's
--- layout and no other, and its answer is the call's.
+-- A call that creates an empty map with room for a number of pairs: it places a table for them, and none for 0. The
+-- arena is asked for that table's layout and no other, and its result is the call's.
 pub record PlacesMap {X K V S : Type 0} (k : Kind K V S) (map : X → HashMap K V S) (old new : View) (pairs : ℕ)
     (result : Result X AllocError) : Type 0 where
   pub none : pairs ≡ 0 → (new ≡ old) × IsOkAnd result (λ x. IsNew k (map x).hasher (map x))

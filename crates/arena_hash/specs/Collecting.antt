@@ -10,15 +10,15 @@ use Rattle.arena_hash.specs.Changes.{IsNew, Puts, is_value}
 use Rattle.arena_hash.specs.Maps.{map_in}
 use Rattle.arena_hash.specs.declared.map.HashMap.{HashMap}
 
--- These pairs were put one after another.
+-- These pairs were inserted one after another.
 abbrev pub PutsAll : {K V S : Type 0} → Kind K V S → View → HashMap K V S → List (K × V) → View → HashMap K V S → Type 0
 PutsAll k old m [] new w = (new ≡ old) × (w ≡ m)
 PutsAll {K} {V} {S} k old m (p ∷ ps) new w =
     (mid : View) × (u : HashMap K V S) × (before : Option V) × Puts k old mid m p.0 p.1 is_value u (Ok before)
     × PutsAll k mid u ps new w
 
--- All pairs of an iterator were put into a new map: it is the map of them, by their contents from the start, and each took two units
--- at most.
+-- All pairs of an iterator were inserted into a new map: it is the map of them, by their contents before the call, and
+-- each took at most two units.
 pub record CollectsAll {K V S I : Type 0} (k : Kind K V S) (steps : I → Option (K × V) → I → Type 0) (iter : I) (old new : View)
     (m : HashMap K V S) : Type 0 where
   pub pairs : List (K × V)
@@ -29,7 +29,8 @@ pub record CollectsAll {K V S I : Type 0} (k : Kind K V S) (steps : I → Option
   pub is_new : IsNew k first.hasher first
   pub puts : PutsAll k old first pairs new m
 
--- Some pairs were put into a new map, and one more was refused. What was placed stays: two units for each that was put, at most.
+-- Some pairs were inserted into a new map, and one more was refused. What was placed stays: at most two units for each
+-- pair inserted.
 pub record CollectsSome {K V S I : Type 0} (k : Kind K V S) (steps : I → Option (K × V) → I → Type 0) (iter : I) (old new : View)
     (e : AllocError) : Type 0 where
   pub pairs : List (K × V)

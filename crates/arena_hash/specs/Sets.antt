@@ -5,11 +5,11 @@ use Rattle.hash_ring.specs.Finite.{Finite, has}
 use Rattle.hash_ring.specs.Walks.{Lists}
 use Rattle.arena_table.specs.Contents.{Key, Kind, kind}
 
--- what the types of a set tell of it
+-- what a set's types determine
 abbrev pub set_kind : {T S : Type 0} → Ghosts T → Key T → (S → List ℕ → ℕ) → Kind T (Unit {0}) S
 set_kind items key hash = kind items key Rattle.arena_items.specs.contracts.numbers.plain.UnitItem.TheImpl.ghosts hash
 
--- The list has each key of a map once: they are those of a list of its pairs.
+-- The list has each key of a map once: it is the keys of a list of the map's pairs.
 abbrev pub ListsKeys : {K V : Type 0} → (K → List ℕ) → Finite K V → List K → Type 0
 ListsKeys {K} {V} content is keys = (pairs : List (K × V)) × (keys ≡ map (λ p. p.0) pairs) × Lists content is pairs
 

@@ -14,12 +14,12 @@ use arena_table::ArenaKey;
 use hash_ring::KeyHasher;
 
 impl<K: ArenaKey, V: Item, S: KeyHasher> HashMap<K, V, S> {
-    /// A map of an iterator's pairs, inserted one by one. No hint is used. A later pair replaces the value
-    /// of an earlier one with the same key.
+    /// Collects an iterator's pairs into a map, inserting them one by one. The size hint isn't used. A later pair
+    /// replaces the value of an earlier one with the same key.
     ///
     /// # Errors
     ///
-    /// As of `insert`. What was placed stays.
+    /// As for `insert`. What was placed stays in the arena.
     pub fn from_iter_in<C: ChunkSource, I: Iterator<Item = (K, V)>>(
         iter: I,
         a: &mut Allocator<C>,

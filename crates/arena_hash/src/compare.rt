@@ -11,7 +11,7 @@ use arena_table::ArenaKey;
 use hash_ring::KeyHasher;
 
 impl<K: ArenaKey, V: Item + PartialEq, S: KeyHasher> HashMap<K, V, S> {
-    /// Whether the same contents are keys of both maps, and have equal values.
+    /// Returns whether the same contents are keys of both maps, with equal values.
     pub fn eq<C: ChunkSource>(&self, a: &Allocator<C>, other: &HashMap<K, V, S>) -> bool
         requires keys_small { K.SIZE ≤ 2 ^ 24 }
         requires values_small { V.SIZE ≤ 2 ^ 24 }

@@ -18,7 +18,7 @@ use arena_table::{ArenaKey, Table};
 use hash_ring::{KeyHasher, next_slots};
 
 impl<K: ArenaKey, V: Item, S: KeyHasher> HashMap<K, V, S> {
-    // The next table, with all pairs.
+    // Places the next table, with all pairs of this one.
     #[cold]
     #[inline(never)]
     pub(crate) fn grown<C: ChunkSource>(&self, a: &mut Allocator<C>) -> Grown<Table<K, V>>
@@ -47,8 +47,8 @@ impl<K: ArenaKey, V: Item, S: KeyHasher> HashMap<K, V, S> {
         Ok(table)
     }
 
-    // Puts a pair, whose content no slot holds, into the next table. In a call of its own, so that an insert
-    // that grows nothing writes nothing for it.
+    // Places the next table and inserts a pair with a new content. A separate function, so that an insert that doesn't
+    // grow the table writes nothing for it.
     #[cold]
     #[inline(never)]
     pub(crate) fn insert_grown<C: ChunkSource>(

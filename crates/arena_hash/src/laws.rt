@@ -1,4 +1,4 @@
-// Laws of maps. Each is a call that does nothing: made in a body, it gives its facts there.
+// Laws of maps. Each is a function that does nothing: a call in a body makes its facts available there.
 ghost use Rattle.std.specs.Prelude.{◌≡◌, ◌+◌, ◌-◌, ◌*◌, ◌^◌, ◌<◌, ◌≤◌, ◌↔◌, ℕ, List, Bool, Option, Some, Result};
 ghost use Rattle.std.specs.List.{Contains};
 ghost use Rattle.arena_chunks.specs.Memory.{Memory};
@@ -19,8 +19,8 @@ use arena_items::Item;
 use arena_table::ArenaKey;
 use hash_ring::KeyHasher;
 
-/// A map's block has at least the bytes of its pairs. A new map's table for so many pairs takes a unit for each at
-/// most, with the padding before it, and once they are in it the map has half as much credit at most.
+/// A map's block has at least the bytes of its pairs. A new map's table for n pairs, with the padding before it, takes
+/// at most n units, and with n pairs in it the map has at most half as much credit.
 pub fn bytes_law<K: ArenaKey, V: Item, S: KeyHasher>()
     ensures pairs { (memory : Memory) (m : HashMap K V S) → IsMapIn (kind K.Item K.key V.Item S.hash_of) memory m
         → (K.SIZE + V.SIZE) * m.len ≤ m.table.block.size }
@@ -32,10 +32,10 @@ pub fn bytes_law<K: ArenaKey, V: Item, S: KeyHasher>()
         ≤ unit_of (kind K.Item K.key V.Item S.hash_of) * pairs }
 {}
 
-/// The frame law of maps, with what `arena_items::laws::frame_law` doesn't say, that searches end where they did. A call on
-/// some blocks leaves a map whose footprint lies apart from them: it is held, names the same blocks, means the same, its
-/// footprint lies apart from the blocks that the call has then, and so of searches. For a set take the law of its map,
-/// whose values are `()`.
+/// The frame law of maps. It says one thing more than `arena_items::laws::frame_law`: searches end where they did. If a
+/// map's footprint is apart from the blocks that a call changes, then after the call the map is held, has the same
+/// footprint and the same meaning, its footprint is apart from the call's new blocks, and searches end where they did.
+/// For a set, use the law of its map, whose values are `()`.
 pub fn map_frame_law<K: ArenaKey, V: Item, S: KeyHasher>()
     ensures { (old new : Memory) (before after : List Block) (m : HashMap K V S) → Frame old new before after
         → IsMapIn (kind K.Item K.key V.Item S.hash_of) old m
@@ -43,7 +43,7 @@ pub fn map_frame_law<K: ArenaKey, V: Item, S: KeyHasher>()
         → StaysMap (kind K.Item K.key V.Item S.hash_of) old new after m }
 {}
 
-/// Two maps of the same contents have one length, whatever arenas, tables and hashers they have.
+/// Two maps with the same contents have the same length, whatever their arenas, tables and hashers.
 pub fn lengths_law<K: ArenaKey, V: Item, S: KeyHasher>()
     ensures { (a c : Memory) (m w : HashMap K V S)
         → IsMapIn (kind K.Item K.key V.Item S.hash_of) a m → IsMapIn (kind K.Item K.key V.Item S.hash_of) c w
@@ -52,7 +52,7 @@ pub fn lengths_law<K: ArenaKey, V: Item, S: KeyHasher>()
         → m.len ≡ w.len }
 {}
 
-/// What a map knows of its keys: each stands under its content, and the map's texts are those of its keys.
+/// Facts about a map's keys: each key is stored under its content, and the map's texts are those of its keys.
 pub fn texts_law<K: ArenaKey, V: Item, S: KeyHasher>()
     ensures contents { (memory : Memory) (m : HashMap K V S) (q : List ℕ) (p : K × V)
         → map_in (kind K.Item K.key V.Item S.hash_of) memory m q ≡ Some p
@@ -64,9 +64,9 @@ pub fn texts_law<K: ArenaKey, V: Item, S: KeyHasher>()
         × (K.key.text p.0 ≡ b)) }
 {}
 
-/// What a program's calls on one map or set take together: each insert raises the bytes that the arena uses
-/// and the map's credit together by at most two units, whatever it answers, and calls that take no memory
-/// don't raise them. So n inserts take at most 2 * n units more than the credit that the map had.
+/// What a program's calls on one map or set take together: each insert raises the sum of the bytes that the arena uses
+/// and the map's credit by at most two units, whatever it returns, and calls that take no memory don't raise it. So n
+/// inserts take at most 2 * n units more than the credit that the map had.
 pub fn costs_law<K: ArenaKey, V: Item, S: KeyHasher>()
     ensures inserts { (old new : View) (m w : HashMap K V S) (key : K) (value : V)
         (result : Result (Option V) AllocError)
@@ -86,9 +86,10 @@ pub fn costs_law<K: ArenaKey, V: Item, S: KeyHasher>()
         ≤ used old + credit_of (kind K.Item K.key V.Item S.hash_of) m }
 {}
 
-/// What an insert costs, over an arena of least alignment 1, as `arena_items::laws::costs_law` joins costs: two units, less
-/// what the map's credit rises and more by what it falls, whatever is answered. A refusal over a growing arena is starved,
-/// and over any other it means that the arena has fewer bytes. So n inserts cost 2 * n units with the credit before.
+/// What an insert costs over an arena of least alignment 1, in the form that `arena_items::laws::costs_law` adds up:
+/// two units, less the rise of the map's credit, or plus its fall, whatever is returned. A refusal over a growing arena
+/// is starved; over any other it means that the arena has fewer bytes. So n inserts cost at most 2 * n units plus the
+/// credit before.
 pub fn insert_law<K: ArenaKey, V: Item, S: KeyHasher>()
     ensures map { (old new : View) (m w : HashMap K V S) (key : K) (value : V)
         (result : Result (Option V) AllocError)

@@ -17,22 +17,22 @@ use arena_table::{ArenaKey, PutValue, Table, find, value_at};
 use hash_ring::{FxHasher, KeyHasher, Spot, limit_of};
 use std::marker::PhantomData;
 
-/// A finite map by the content of its keys. It is a name: two of them may name one table.
+/// A finite map by the content of its keys. It is a handle: two of them may refer to the same table.
 #[derive(Clone, Copy)]
 pub struct HashMap<K, V, S = FxHasher> {
-    /// Where the pairs stand.
+    /// Where the pairs are stored.
     pub table: Table<K, V>,
-    /// How many pairs there are.
+    /// The number of pairs.
     pub len: u32,
     /// What hashes the keys' contents.
     pub hasher: S,
 }
 
-/// The name by which users of the Rust crate know it.
+/// The name of this type in the Rust crate.
 pub type ArenaHashMap<K, V, S = FxHasher> = HashMap<K, V, S>;
 
-/// Where the search of a map for a content ended, with the content's hash. While the map is as it was, a key of that content goes
-/// there.
+/// Where a map's search for a content ended, with the content's hash. As long as the map is unchanged, a key with that
+/// content goes there.
 #[derive(Clone, Copy)]
 pub struct Look {
     pub(crate) hash: u64,
@@ -50,7 +50,7 @@ impl<K: ArenaKey, V: Item, S: KeyHasher> HashMap<K, V, S> {
         self.hasher.hash(key.content(a, &mut room))
     }
 
-    // Looks for a content, among the table's bytes.
+    // Searches the table's bytes for a content.
     #[inline(always)]
     pub(crate) fn look_by<C: ChunkSource>(
         &self,
@@ -76,7 +76,7 @@ impl<K: ArenaKey, V: Item, S: KeyHasher> HashMap<K, V, S> {
         Look { hash, spot }
     }
 
-    // Looks for a key.
+    // Searches for a key.
     #[inline(always)]
     pub(crate) fn look<C: ChunkSource>(&self, a: &Allocator<C>, key: K) -> Look
         requires keys_small { K.SIZE ≤ 2 ^ 24 }
@@ -106,7 +106,7 @@ impl<K: ArenaKey, V: Item, S: KeyHasher> HashMap<K, V, S> {
         value_at::<K, V>(a.read(self.table.block), self.table.slots, at)
     }
 
-    /// How many pairs there are.
+    /// Returns the number of pairs.
     #[inline]
     pub fn len(&self) -> u32
         ensures { result ≡ self.now.len }
@@ -114,7 +114,7 @@ impl<K: ArenaKey, V: Item, S: KeyHasher> HashMap<K, V, S> {
         self.len
     }
 
-    /// Whether there is no pair.
+    /// Returns whether there is no pair.
     #[inline]
     pub fn is_empty(&self) -> bool
         ensures { result ≡ (self.now.len == 0) }
@@ -122,7 +122,7 @@ impl<K: ArenaKey, V: Item, S: KeyHasher> HashMap<K, V, S> {
         self.len == 0
     }
 
-    /// The value of a key.
+    /// Returns the value of a key, if the key is there.
     #[inline(always)]
     pub fn get<C: ChunkSource>(&self, a: &Allocator<C>, key: K) -> Option<V>
         requires keys_small { K.SIZE ≤ 2 ^ 24 }
@@ -137,7 +137,7 @@ impl<K: ArenaKey, V: Item, S: KeyHasher> HashMap<K, V, S> {
         self.get_by(a, wanted)
     }
 
-    /// The value of the key with this content, so that a text need not be placed to be looked for.
+    /// Returns the value of the key with this content, so that a text can be looked up without placing it.
     #[inline(always)]
     pub fn get_by<C: ChunkSource>(&self, a: &Allocator<C>, content: &[u8]) -> Option<V>
         requires keys_small { K.SIZE ≤ 2 ^ 24 }
@@ -149,7 +149,8 @@ impl<K: ArenaKey, V: Item, S: KeyHasher> HashMap<K, V, S> {
         self.search(a, content).0
     }
 
-    /// The value of the key with this content, and where the search for it ended: there `insert_at` puts a key of this content.
+    /// Returns the value of the key with this content, and where the search for it ended: `insert_at` puts a key with
+    /// this content there.
     #[inline(always)]
     pub fn search<C: ChunkSource>(&self, a: &Allocator<C>, content: &[u8]) -> (Option<V>, Look)
         requires keys_small { K.SIZE ≤ 2 ^ 24 }
@@ -168,7 +169,7 @@ impl<K: ArenaKey, V: Item, S: KeyHasher> HashMap<K, V, S> {
         }
     }
 
-    /// Whether a key is there.
+    /// Returns whether a key is there.
     #[inline(always)]
     pub fn contains_key<C: ChunkSource>(&self, a: &Allocator<C>, key: K) -> bool
         requires keys_small { K.SIZE ≤ 2 ^ 24 }
@@ -181,13 +182,12 @@ impl<K: ArenaKey, V: Item, S: KeyHasher> HashMap<K, V, S> {
         self.get(a, key).is_some()
     }
 
-    /// Puts a pair, and answers the value that the key had. A key that is there stays, with the new value.
+    /// Inserts a pair, and returns the previous value of the key. A key that is there stays, with the new value.
     ///
     /// # Errors
     ///
-    /// `CapacityOverflow` where the key is new and there are 4,294,967,295 pairs; `AllocErr` and
-    /// `OutOfMemory` as of the arena's `alloc_layout`, where the key is new and the table is full. Nothing
-    /// changes.
+    /// `CapacityOverflow` if the key is new and there are 4,294,967,295 pairs; `AllocErr` and `OutOfMemory` as for the
+    /// arena's `alloc_layout`, if the key is new and the table is full. The map and the memory are unchanged.
     #[inline(always)]
     pub fn insert<C: ChunkSource>(
         &mut self,
@@ -207,11 +207,12 @@ impl<K: ArenaKey, V: Item, S: KeyHasher> HashMap<K, V, S> {
         self.insert_at(a, look, key, value)
     }
 
-    /// Puts a pair as `insert` does, where the search for the key's content ended. The map is as it was then.
+    /// Inserts a pair as `insert` does, where the search for the key's content ended. The map must be unchanged since
+    /// then.
     ///
     /// # Errors
     ///
-    /// As of `insert`.
+    /// As for `insert`.
     #[inline(always)]
     pub fn insert_at<C: ChunkSource>(
         &mut self,
@@ -247,7 +248,7 @@ impl<K: ArenaKey, V: Item, S: KeyHasher> HashMap<K, V, S> {
         }
     }
 
-    // Puts a value into a slot, and answers the one that was there.
+    // Replaces the value in a slot, and returns the old one.
     #[inline(always)]
     fn replace<C: ChunkSource>(&self, a: &mut Allocator<C>, at: u64, value: V) -> V
         requires keys_small { K.SIZE ≤ 2 ^ 24 }
@@ -277,7 +278,7 @@ impl<K: ArenaKey, V: Item, S: KeyHasher> HashMap<K, V, S> {
         old
     }
 
-    /// Takes a pair out, and answers its value.
+    /// Removes a key, and returns its value, if the key was there.
     #[inline(always)]
     pub fn remove<C: ChunkSource>(&mut self, a: &mut Allocator<C>, key: K) -> Option<V>
         requires keys_small { K.SIZE ≤ 2 ^ 24 }

@@ -20,18 +20,18 @@ use arena_table::ArenaKey;
 use hash_ring::{FxHasher, KeyHasher};
 use std::marker::Model;
 
-/// A finite set by content. It is a name: two of them may name one table.
+/// A finite set by content. It is a handle: two of them may refer to the same table.
 #[derive(Clone, Copy)]
 pub struct HashSet<T, S = FxHasher> {
-    /// The items are its keys.
+    /// The map whose keys are the items.
     pub map: HashMap<T, (), S>,
 }
 
-/// The name by which users of the Rust crate know it.
+/// The name of this type in the Rust crate.
 pub type ArenaHashSet<T, S = FxHasher> = HashSet<T, S>;
 
 impl<T: ArenaKey, S: KeyHasher> HashSet<T, S> {
-    /// An empty set with `S::default()` as its hasher. It places nothing.
+    /// Returns an empty set with `S::default()` as its hasher. Nothing is placed.
     pub fn new_in() -> HashSet<T, S>
         ensures set { IsNew (set_kind T.Item T.key S.hash_of) result.map.hasher result.map }
         ensures hasher { S.is_default result.map.hasher }
@@ -41,7 +41,7 @@ impl<T: ArenaKey, S: KeyHasher> HashSet<T, S> {
         }
     }
 
-    /// An empty set with this hasher. It places nothing.
+    /// Returns an empty set with this hasher. Nothing is placed.
     pub fn with_hasher_in(hasher: S) -> HashSet<T, S>
         ensures { IsNew (set_kind T.Item T.key S.hash_of) hasher result.map }
     {
@@ -50,11 +50,11 @@ impl<T: ArenaKey, S: KeyHasher> HashSet<T, S> {
         }
     }
 
-    /// An empty set with room for so many items, and `S::default()` as its hasher.
+    /// Returns an empty set with room for `capacity` items, and `S::default()` as its hasher.
     ///
     /// # Errors
     ///
-    /// As of the map's `with_capacity_in`.
+    /// As for the map's `with_capacity_in`.
     pub fn with_capacity_in<C: ChunkSource>(
         capacity: u64,
         a: &mut Allocator<C>,
@@ -68,11 +68,11 @@ impl<T: ArenaKey, S: KeyHasher> HashSet<T, S> {
         Ok(HashSet { map })
     }
 
-    /// An empty set with room for so many items, and this hasher.
+    /// Returns an empty set with room for `capacity` items, and this hasher.
     ///
     /// # Errors
     ///
-    /// As of the map's `with_capacity_and_hasher_in`.
+    /// As for the map's `with_capacity_and_hasher_in`.
     pub fn with_capacity_and_hasher_in<C: ChunkSource>(
         capacity: u64,
         hasher: S,
@@ -87,11 +87,11 @@ impl<T: ArenaKey, S: KeyHasher> HashSet<T, S> {
         Ok(HashSet { map })
     }
 
-    /// A set of an iterator's items, inserted one by one. No hint is used.
+    /// Collects an iterator's items into a set, inserting them one by one. The size hint isn't used.
     ///
     /// # Errors
     ///
-    /// As of `insert`. What was placed stays.
+    /// As for `insert`. What was placed stays in the arena.
     pub fn from_iter_in<C: ChunkSource, I: Iterator<Item = T>>(
         iter: I,
         a: &mut Allocator<C>,
@@ -120,18 +120,18 @@ impl<T: ArenaKey, S: KeyHasher> HashSet<T, S> {
         Ok(HashSet { map })
     }
 
-    /// The set of a map's keys.
+    /// Returns the set of a map's keys.
     pub fn from(map: HashMap<T, (), S>) -> HashSet<T, S>
         ensures { result.map ≡ map }
     {
         HashSet { map }
     }
 
-    /// Puts an item, and answers whether it is new. One that is there stays.
+    /// Inserts an item, and returns whether it is new. An item that is there stays.
     ///
     /// # Errors
     ///
-    /// As of the map's `insert`. Nothing changes.
+    /// As for the map's `insert`. The set and the memory are unchanged.
     #[inline]
     pub fn insert<C: ChunkSource>(&mut self, a: &mut Allocator<C>, item: T) -> Grown<bool>
         requires small { T.SIZE ≤ 2 ^ 24 }
@@ -145,7 +145,7 @@ impl<T: ArenaKey, S: KeyHasher> HashSet<T, S> {
         Ok(old.is_none())
     }
 
-    /// Takes an item out, and answers whether it was there.
+    /// Removes an item, and returns whether it was there.
     #[inline]
     pub fn remove<C: ChunkSource>(&mut self, a: &mut Allocator<C>, item: T) -> bool
         requires small { T.SIZE ≤ 2 ^ 24 }
@@ -157,7 +157,7 @@ impl<T: ArenaKey, S: KeyHasher> HashSet<T, S> {
         self.map.remove(a, item).is_some()
     }
 
-    /// Whether an item is there.
+    /// Returns whether an item is there.
     #[inline]
     pub fn contains<C: ChunkSource>(&self, a: &Allocator<C>, item: T) -> bool
         requires small { T.SIZE ≤ 2 ^ 24 }
@@ -169,7 +169,7 @@ impl<T: ArenaKey, S: KeyHasher> HashSet<T, S> {
         self.map.contains_key(a, item)
     }
 
-    /// How many items there are.
+    /// Returns the number of items.
     #[inline]
     pub fn len(&self) -> u32
         ensures { result ≡ self.now.map.len }
@@ -177,7 +177,7 @@ impl<T: ArenaKey, S: KeyHasher> HashSet<T, S> {
         self.map.len
     }
 
-    /// Whether there is no item.
+    /// Returns whether there is no item.
     #[inline]
     pub fn is_empty(&self) -> bool
         ensures { result ≡ (self.now.map.len == 0) }
@@ -185,7 +185,7 @@ impl<T: ArenaKey, S: KeyHasher> HashSet<T, S> {
         self.map.len == 0
     }
 
-    /// The items, each once, in an open order.
+    /// Returns an iterator over the items, each once, in unspecified order.
     pub fn iter<'a, C: ChunkSource>(&self, a: &'a Allocator<C>) -> SetIter<'a, T, C>
         requires small { T.SIZE ≤ 2 ^ 24 }
         requires held { IsMapIn (set_kind T.Item T.key S.hash_of) a.now.memory self.now.map }
@@ -199,7 +199,7 @@ impl<T: ArenaKey, S: KeyHasher> HashSet<T, S> {
         }
     }
 
-    /// Whether the same contents are items of both sets.
+    /// Returns whether the same contents are items of both sets.
     pub fn eq<C: ChunkSource>(&self, a: &Allocator<C>, other: &HashSet<T, S>) -> bool
         requires small { T.SIZE ≤ 2 ^ 24 }
         requires held { IsMapIn (set_kind T.Item T.key S.hash_of) a.now.memory self.now.map }
@@ -212,7 +212,7 @@ impl<T: ArenaKey, S: KeyHasher> HashSet<T, S> {
     }
 }
 
-/// The items of a set, each once.
+/// An iterator over the items of a set, each once.
 #[derive(Drop)]
 pub struct SetIter<'a, T: Item, C: ChunkSource> {
     keys: IntoKeys<'a, T, (), C>,

@@ -16,14 +16,14 @@ use arena_table::{ArenaKey, key_at, value_at};
 use hash_ring::{KeyHasher, Scan, start, step};
 use std::marker::{Model, PhantomData};
 
-/// The pairs of a map, each once, in an open order.
+/// An iterator over the pairs of a map, each once, in unspecified order.
 #[derive(Drop)]
 pub struct Iter<'a, K: Item, V: Item, C: ChunkSource> {
     bytes: &'a [u8],
     slots: u64,
     scan: Scan,
     left: u32,
-    // The types of the pairs, and the source of the arena's chunks, which isn't looked at.
+    // The types of the pairs, and the source of the arena's chunks, which isn't used.
     of: PhantomData<(K, V)>,
     source: PhantomData<C>,
 }
@@ -40,7 +40,7 @@ impl<'a, K: Item, V: Item, C: ChunkSource> Model for Iter<'a, K, V, C> {
 }
 
 impl<K: ArenaKey, V: Item, S: KeyHasher> HashMap<K, V, S> {
-    /// The pairs, each once, in an open order.
+    /// Returns an iterator over the pairs, each once, in unspecified order.
     pub fn iter<'a, C: ChunkSource>(&self, a: &'a Allocator<C>) -> Iter<'a, K, V, C>
         requires keys_small { K.SIZE ≤ 2 ^ 24 }
         requires values_small { V.SIZE ≤ 2 ^ 24 }
@@ -59,7 +59,8 @@ impl<K: ArenaKey, V: Item, S: KeyHasher> HashMap<K, V, S> {
         }
     }
 
-    /// The pair in a slot of the table, if one stands there. A walk by slots can go on while the arena changes elsewhere.
+    /// Returns the pair in a slot of the table, or `None` if the slot is free. A walk by slots can continue while the
+    /// arena changes elsewhere.
     #[tactic(auto, using(arena_table::proofs::SlotLemmas::slot_laws))]
     #[inline]
     pub fn pair_at<C: ChunkSource>(&self, a: &Allocator<C>, slot: u64) -> Option<(K, V)>
@@ -79,7 +80,7 @@ impl<K: ArenaKey, V: Item, S: KeyHasher> HashMap<K, V, S> {
         ))
     }
 
-    /// The keys, each once, in an open order.
+    /// Returns an iterator over the keys, each once, in unspecified order.
     pub fn into_keys<'a, C: ChunkSource>(self, a: &'a Allocator<C>) -> IntoKeys<'a, K, V, C>
         requires keys_small { K.SIZE ≤ 2 ^ 24 }
         requires values_small { V.SIZE ≤ 2 ^ 24 }
@@ -92,7 +93,7 @@ impl<K: ArenaKey, V: Item, S: KeyHasher> HashMap<K, V, S> {
         }
     }
 
-    /// The value of each pair once, in an open order.
+    /// Returns an iterator over the values, one for each pair, in unspecified order.
     pub fn into_values<'a, C: ChunkSource>(self, a: &'a Allocator<C>) -> IntoValues<'a, K, V, C>
         requires keys_small { K.SIZE ≤ 2 ^ 24 }
         requires values_small { V.SIZE ≤ 2 ^ 24 }
@@ -140,7 +141,7 @@ impl<'a, K: Item, V: Item, C: ChunkSource> Iterator for Iter<'a, K, V, C> {
     }
 }
 
-/// The keys of a map, each once.
+/// An iterator over the keys of a map, each once.
 #[derive(Drop)]
 pub struct IntoKeys<'a, K: Item, V: Item, C: ChunkSource> {
     pub(crate) pairs: Iter<'a, K, V, C>,
@@ -180,7 +181,7 @@ impl<'a, K: Item, V: Item, C: ChunkSource> Iterator for IntoKeys<'a, K, V, C> {
     }
 }
 
-/// The values of a map, each pair's once.
+/// An iterator over the values of a map, one for each pair.
 #[derive(Drop)]
 pub struct IntoValues<'a, K: Item, V: Item, C: ChunkSource> {
     pairs: Iter<'a, K, V, C>,

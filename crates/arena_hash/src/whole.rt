@@ -12,7 +12,7 @@ use arena_table::{ArenaKey, Table};
 use hash_ring::{KeyHasher, slots_for};
 
 impl<K: ArenaKey, V: Item, S: KeyHasher> HashMap<K, V, S> {
-    /// An empty map with `S::default()` as its hasher. It places nothing.
+    /// Returns an empty map with `S::default()` as its hasher. Nothing is placed.
     pub fn new_in() -> HashMap<K, V, S>
         ensures map { IsNew (kind K.Item K.key V.Item S.hash_of) result.hasher result }
         ensures hasher { S.is_default result.hasher }
@@ -20,7 +20,7 @@ impl<K: ArenaKey, V: Item, S: KeyHasher> HashMap<K, V, S> {
         HashMap::with_hasher_in(S::default())
     }
 
-    /// An empty map with this hasher. It places nothing.
+    /// Returns an empty map with this hasher. Nothing is placed.
     pub fn with_hasher_in(hasher: S) -> HashMap<K, V, S>
         ensures { IsNew (kind K.Item K.key V.Item S.hash_of) hasher result }
     {
@@ -31,11 +31,11 @@ impl<K: ArenaKey, V: Item, S: KeyHasher> HashMap<K, V, S> {
         }
     }
 
-    /// An empty map with room for so many pairs, and `S::default()` as its hasher.
+    /// Returns an empty map with room for `capacity` pairs, and `S::default()` as its hasher.
     ///
     /// # Errors
     ///
-    /// As of `with_capacity_and_hasher_in`.
+    /// As for `with_capacity_and_hasher_in`.
     pub fn with_capacity_in<C: ChunkSource>(
         capacity: u64,
         a: &mut Allocator<C>,
@@ -49,12 +49,12 @@ impl<K: ArenaKey, V: Item, S: KeyHasher> HashMap<K, V, S> {
         HashMap::with_capacity_and_hasher_in(capacity, S::default(), a)
     }
 
-    /// An empty map with room for so many pairs, and this hasher. For none it places nothing.
+    /// Returns an empty map with room for `capacity` pairs, and this hasher. Nothing is placed if `capacity` is 0.
     ///
     /// # Errors
     ///
-    /// `CapacityOverflow` where the capacity passes 4,294,967,295, and else as of the arena's
-    /// `alloc_layout`. Nothing changes.
+    /// `CapacityOverflow` if `capacity` exceeds 4,294,967,295; otherwise as for the arena's `alloc_layout`. The memory
+    /// is unchanged.
     pub fn with_capacity_and_hasher_in<C: ChunkSource>(
         capacity: u64,
         hasher: S,
@@ -80,7 +80,7 @@ impl<K: ArenaKey, V: Item, S: KeyHasher> HashMap<K, V, S> {
         })
     }
 
-    /// Takes all pairs out. The table stays.
+    /// Removes all pairs. The table stays.
     pub fn clear<C: ChunkSource>(&mut self, a: &mut Allocator<C>)
         requires keys_small { K.SIZE ≤ 2 ^ 24 }
         requires values_small { V.SIZE ≤ 2 ^ 24 }

@@ -1,4 +1,4 @@
--- What it costs to take room: the bytes that come into use, at least alignment 1, and what a refusal is.
+-- What it costs to take room in an arena of least alignment 1: the bytes that come into use, and what a refusal is.
 use Rattle.std.proofs.Common.{◌≡◌, ℕ, ◌-◌, ◌*◌, ◌^◌, ◌≤◌, ◌==◌, ◌&&◌, nat_le, Bool, true, false, refl, sym, ap, ◌∙◌, subst, arith, IsTrue, Option, Some, None, Result, Ok, Err, inl, inr}
 use Rattle.std.specs.Prelude.{if◌then◌else◌}
 use Rattle.std.proofs.Math.Nat.{mul-le-mul_right}
@@ -29,11 +29,11 @@ some_none p same = cc
 none_some : (p : ℕ) → None ≡ Some p → ⊥
 none_some p same = cc
 
--- the same bytes are in use where no cursor moved
+-- as many bytes are in use if no cursor moved
 pub same_used : (old new : View) → SamePlaces old new → used new ≡ used old
 same_used old new same = ap (λ (s : State). used_bytes s) same.state
 
--- two views of one memory and one source are one
+-- two views of the same memory and the same source are equal
 same_view : (a b : View) → a.memory ≡ b.memory → a.source ≡ b.source → a ≡ b
 same_view a b m s = λ i. record { memory = m i; source = s i }
 
@@ -49,7 +49,7 @@ module _ (old new : View) (size align : ℕ) (block : Block) (one : old.memory.s
   }
 
   module _ (same : block.align ≡ align) where
-    -- What grows by less than a layout is not refused for it.
+    -- A block that grows to a layout is not refused as too large.
     not_too_large : growing_of old.memory block size align ≡ Refused → ⊥
     not_too_large is =
         let power = layout_power size align layout in
@@ -88,7 +88,7 @@ module _ (old new : View) (size align : ℕ) (block : Block) (one : old.memory.s
             }
         by Refused is = absurd (not_too_large is)
 
-    -- One that is refused was to be placed again.
+    -- A refused growth is a refused placing of a new block.
     grown_refused : (k : ℕ) → GrowsBlock old new block size align (Denied k) → PlacesBlock old new size align (Denied k)
     grown_refused k grows = by (growing_of old.memory block size align) refl
       where
@@ -110,7 +110,7 @@ module _ (old new : View) (size align : ℕ) (block : Block) (one : old.memory.s
             )
         by Refused is = absurd (not_too_large is)
 
-    -- So was one for which memory runs out.
+    -- So is one that runs out of memory.
     grown_exhausted : GrowsBlock old new block size align Exhausted → PlacesBlock old new size align Exhausted
     grown_exhausted grows = (grows.0, record { valid = grows.1.valid; outcome = grows.1.outcome.1 })
 
@@ -118,7 +118,7 @@ module _ (old new : View) (size align : ℕ) (block : Block) (one : old.memory.s
 
 module _ (old new : View) (block : Block) (cap size align : ℕ) (one : old.memory.state.min_align ≡ 1)
     (layout : IsTrue (is_layout size align)) (same : block.align ≡ align) where
-  -- A block that is taken takes the place of the other.
+  -- A block that is taken replaces the old one.
   pub taken_brings : (b : Block) → block.size ≤ size → TakesRoom old new block cap size align (Placed b) → Brings old new size align block
   taken_brings b more takes = elim (zero_or_more cap) [
     | inl none ↦ placed_brings old new size align block one layout b (takes.placed none)
@@ -138,7 +138,7 @@ module _ (old new : View) (block : Block) (cap size align : ℕ) (one : old.memo
   ]
   taken_refused f CapacityOverflow takes = takes
 
--- A refusal that leaves the memory is whole: nothing was written behind it.
+-- A refusal that leaves the memory is the whole call: nothing was written after it.
 refused_whole : (old between new : View) (size align k : ℕ) → PlacesBlock old between size align (Denied k) → SamePlaces between new
     → new.memory ≡ old.memory → PlacesBlock old new size align (Denied k)
 refused_whole old between new size align k places same kept =
@@ -152,13 +152,13 @@ exhausted_whole old between new size align places same kept =
     subst (λ (v : View). PlacesBlock old v size align Exhausted) is places
 
 module _ {X : Type 0} (old new : View) (block : Block) (size align cap : ℕ) (f : X → Block) where
-  -- No growth brings nothing into use.
+  -- A growth of nothing brings nothing into use.
   pub stays_brings : (result : Result X AllocError) → MakesRoom size align old new block cap growth.Stays f result → used new ≡ used old
   stays_brings result made = same_used old new made.1
 
   module _ (more : ℕ) (one : old.memory.state.min_align ≡ 1) (held : IsHeld (cap * size) align old.memory.state block)
       (layout : IsTrue (is_layout (more * size) align)) where
-    -- Where the capacity rises, the new block takes the place of the old.
+    -- If the capacity rises, the new block replaces the old one.
     pub room_brings : (x : X) → cap ≤ more → MakesRoom size align old new block cap (growth.GrowsTo more) f (Ok x)
         → Brings old new (more * size) align block
     room_brings x greater made =

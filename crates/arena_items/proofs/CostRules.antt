@@ -37,7 +37,7 @@ costs_nothing far bytes before after old new x same le = record {
 
 module _ {X : Type 0} (old new : View) (block : Block) (size align cap more : ℕ) (f : X → Block) (bytes before after : ℕ)
     (one : old.memory.state.min_align ≡ 1) (held : IsHeld (cap * size) align old.memory.state block) where
-  -- what is asked for, whatever is answered
+  -- what is asked for, whatever the answer
   taken_asks : (between : View) (a : Answer) → IsTrue (is_layout (more * size) align) → align ≤ 16
       → more * size + (align - 1) ≤ bytes + before → TakesRoom old between block cap (more * size) align a → SamePlaces between new
       → AsksWithin (used old + (bytes + before)) old new
@@ -98,7 +98,7 @@ costs_weaken far near few many before after old new result close le costs = reco
   full = λ still k is. let short = costs.full still k is in record { still = still; short = omega (arith, short.short) };
 }
 
--- Of calls that weren't refused it doesn't matter how far up the newest data end may lie.
+-- For calls that weren't refused the address bound doesn't matter.
 pub costs_ok : {X : Type 0} (far near bytes before after : ℕ) (old new : View) (result : Result X AllocError) → IsOk result
     → Costs far bytes before after old new result → Costs near bytes before after old new result
 costs_ok far near bytes before after old new (Ok x) ok costs = record {
@@ -109,7 +109,7 @@ costs_ok far near bytes before after old new (Ok x) ok costs = record {
 }
 costs_ok far near bytes before after old new (Err e) ok costs = absurd (cc)
 
--- The first weren't refused.
+-- The first call wasn't refused.
 pub costs_then : {X Y : Type 0} (far one two before between after : ℕ) (old mid new : View) (first : Result X AllocError)
     (second : Result Y AllocError) → mid.memory.state.is_growing ≡ old.memory.state.is_growing
     → (old.memory.state.is_growing ≡ false → allocated_bytes mid.memory.state ≡ allocated_bytes old.memory.state) → IsOk first

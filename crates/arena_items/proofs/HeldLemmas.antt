@@ -15,13 +15,13 @@ placed_held old new size align b places =
     let of_layout = places.1.outcome.of_layout in
     record { readable = of_layout.readable; of_size = of_layout.of_size; of_align = of_layout.of_align }
 
--- It is so after a write, whichever block was written.
+-- It stays so after a write, whichever block was written.
 pub written_held : (old new : Memory) (size align at : ℕ) (b c : Block) (list : List ℕ) → WritesBlock old new c at list
     → IsHeld size align old.state b → IsHeld size align new.state b
 written_held old new size align at b c list writes held =
     record { readable = rw writes.state held.readable; of_size = held.of_size; of_align = held.of_align }
 
--- A value that was written over a whole block is read there.
+-- A value that was written over a whole block is read from it.
 pub wrote_value : {T : Type 0} (old new : Memory) (b : Block) (encoded : T → List ℕ) (decoded : List ℕ → T) (v : T)
     → WritesBlock old new b 0 (encoded v) → length (encoded v) ≡ b.size
     → decoded (encoded v) ≡ v → decoded (bytes_of new b) ≡ v

@@ -1,4 +1,5 @@
--- The lemmas that a crate above cites: sizes of types, what blocks of values need, and what becomes of boxes beside a call.
+-- The lemmas that crates above cite: sizes of types, what blocks of values need, and what becomes of boxes in calls on
+-- other blocks.
 use Rattle.std.proofs.Common.{◌≡◌, ℕ, ◌+◌, ◌*◌, ◌^◌, ◌<◌, ◌≤◌, max, ap, refl, subst, ◌∙◌, arith, List, [], ◌∷◌, Some, length, replicate, take, drop, take_all}
 use Rattle.std.specs.Prelude.{slice_get}
 use Rattle.std.proofs.lemmas.Bool.Decides.{nat_tests}
@@ -85,11 +86,11 @@ pair_at_most size align size' align' h k =
     let all = up-is (second_at size align' + size') (max align align') greater in
     omega (arith, a.1, b.1, c.1, at.below, all.below)
 
--- ---- Boxes beside a call
+-- ---- Boxes in calls on other blocks
 
 module _ {T : Type 0} (item : Ghosts T) (old new : Memory) (before after : List Block) (b : Box T)
     (frame : Frame old new before after) (held : IsBoxIn item old b) (apart : IsApart b.block.addr b.block.size before) where
-  -- One whose block lies apart is held,
+  -- One whose block is apart is held,
   pub box_held : IsBoxIn item new b
   box_held = record {
     readable = (frame_keeps old new before after b.block frame held.readable apart).readable;
@@ -101,13 +102,13 @@ module _ {T : Type 0} (item : Ghosts T) (old new : Memory) (before after : List 
   pub box_same : box_value item new b ≡ box_value item old b
   box_same = ap item.decoded (frame_keeps old new before after b.block frame held.readable apart).bytes
 
-  -- and lies apart from the blocks after.
+  -- and is apart from the blocks after.
   pub box_apart : IsApart b.block.addr b.block.size after
   box_apart = (frame_keeps old new before after b.block frame held.readable apart).apart
 
 -- ---- Arrays
 
--- Where a block was placed for n values, their bytes are below 2 ^ 63.
+-- If a block was placed for n values, their bytes are below 2 ^ 63.
 pub array_fits : (old new : View) (size align n : ℕ) (b : Block) → IsItemLayout size align
     → PlacesArray old new size align n (Placed b) → n * size < 2 ^ 63
 array_fits old new size align n b h array =
@@ -115,7 +116,7 @@ array_fits old new size align n b h array =
     let above = (up-is (n * size) align h.is_align).above in
     grind (arith, nat_tests)
 
--- Where a closure gives the same at each index, and changes no capture, it gives copies.
+-- A closure that gives the same at each index, and changes no capture, gives copies.
 pub fills_same : {S A : Type 0} (R : S → ℕ → A → S → Type 0) (s : S) (v : A)
     → ((i : ℕ) (x : A) (t : S) → R s i x t → (x ≡ v) × (t ≡ s)) → (i : ℕ) (xs : List A) (t : S) → FillsFrom R s i xs t
     → xs ≡ replicate (length xs) v
@@ -125,7 +126,7 @@ fills_same R s v same i (x ∷ xs) t (u, step, run) =
     let rest = fills_same R s v same (i + 1) xs t (subst (λ w. FillsFrom R w (i + 1) xs t) is.1 run) in
     λ p. is.0 p ∷ rest p
 
--- Where it gives the items of a list at their indices, and changes no capture, it gives that list.
+-- A closure that gives the items of a list at their indices, and changes no capture, gives that list.
 fills_items : {S A : Type 0} (R : S → ℕ → A → S → Type 0) (s : S) (all : List A)
     → ((i : ℕ) (x : A) (t : S) → i < length all → R s i x t → (slice_get all i ≡ Some x) × (t ≡ s))
     → (i : ℕ) (xs : List A) (t : S) → i + length xs ≤ length all → FillsFrom R s i xs t → xs ≡ take (length xs) (drop i all)

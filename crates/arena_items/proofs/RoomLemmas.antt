@@ -38,7 +38,7 @@ zero_or_more (suc n) = inr (omega arith)
 
 -- ---- Layouts and blocks
 
--- So many values in a row have a layout.
+-- n values in a row have a layout.
 pub row_is_layout : (n size align : ℕ) → IsItemLayout size align → n < 2 ^ 32 → size ≤ 2 ^ 24 → IsTrue (is_layout (n * size) align)
 row_is_layout n size align h few small =
     let at_most : n * size ≤ n * 2 ^ 24 = mul-le-mul_left n small in
@@ -47,7 +47,7 @@ row_is_layout n size align h few small =
     let fits : nat_le (up (n * size) align) (2 ^ 63 - 1) ≡ true = grind (arith, nat_tests, near.below, bounds.1, at_most) in
     rw (align_is_power align h.is_align, fits) refl
 
--- A front of a readable block may be read.
+-- A front of a readable block is readable.
 pub front_readable : (state : State) (b : Block) (n : ℕ) → IsTrue (is_readable state b) → n ≤ b.size
     → IsTrue (is_readable state (record b { size = n }))
 front_readable state b n readable within = elim (zero_or_more n) [
@@ -100,7 +100,7 @@ module _ (old new : View) (b c : Block) (cap size align : ℕ) (takes : TakesRoo
     | inr some ↦ (takes.grown some).1.outcome.frame
   ]
 
-  -- What stood in the old block stands in front.
+  -- The bytes of the old block are at the front of the new one.
   pub taken_front : (cap ≡ 0 → b.size ≡ 0) → (n : ℕ) → n ≤ b.size → b.size ≤ size
       → take n (bytes_of new.memory c) ≡ take n (bytes_of old.memory b)
   taken_front no_bytes n within more = elim (zero_or_more cap) [
@@ -120,7 +120,7 @@ refused_same old new b cap size align k takes = elim (zero_or_more cap) [
   | inr some ↦ (takes.grown some).1.outcome.1.memory
 ]
 
--- So does lack of memory.
+-- So does running out of memory.
 pub exhausted_same : (old new : View) (b : Block) (cap size align : ℕ) → TakesRoom old new b cap size align Exhausted
     → new.memory ≡ old.memory
 exhausted_same old new b cap size align takes = elim (zero_or_more cap) [
@@ -130,21 +130,21 @@ exhausted_same old new b cap size align takes = elim (zero_or_more cap) [
 
 -- ---- Answers
 
--- What is so of the arena's answer is so of that which the growth's answer stands for.
+-- What holds of the arena's answer holds of the one that the growth's result represents.
 pub grown_as : {X : Type 0} (f : X → Block) (answer : Result X ArenaErr) (P : Answer → Type 0) → P (answer_by f answer)
     → RoomAnswer f (growth_answer answer) P
 grown_as f (Ok x) P holds = holds
 grown_as f (Err (NoPlace refused)) P holds = holds
 grown_as f (Err NoTable) P holds = holds
 
--- So it is where a value was not placed.
+-- What holds of the answer of a failed placing holds of the growth's error.
 pub refused_as : {X Y : Type 0} (f : X → Block) (g : Y → Block) (e : ItemErr) (P : Answer → Type 0) → Answers {X = X} f (Err e) P
     → RoomAnswer {X = Y} g (Err (growth_error e)) P
 refused_as f g (NotPlaced refused) P holds = holds
 refused_as f g NoMemory P holds = holds
 refused_as f g (TooFew taken) P holds = absurd holds
 
--- Where none was taken the arena is as it was.
+-- If no block was taken the arena is as it was.
 pub none_taken : (old new : View) (b : Block) (cap size align : ℕ) (answer : Result Block ArenaErr)
     → TakesRoom old new b cap size align (answer_of answer) → OnErr (growth_answer answer) (new.memory ≡ old.memory)
 none_taken old new b cap size align (Ok c) takes = tt
@@ -174,7 +174,7 @@ room_then size align old mid new block cap (GrowsTo more) f g x y is made same =
     record { between = made.between; took = rw is made.took; places = same_then made.between mid new made.places same }
 room_then size align old mid new block cap Overflows f g x y is made same = absurd (let no = made.0 in cc)
 
--- A refusal is one of each call with this growth.
+-- A refusal doesn't depend on the result's type.
 pub room_refused : {X Y : Type 0} (size align : ℕ) (old new : View) (block : Block) (cap : ℕ) (growth : Growth) (f : X → Block)
     (g : Y → Block) (e : AllocError)
     → MakesRoom size align old new block cap growth f (Err e) → MakesRoom size align old new block cap growth g (Err e)

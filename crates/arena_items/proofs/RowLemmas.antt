@@ -1,4 +1,4 @@
--- Values that stand one after another, of which some are moved or replaced at once.
+-- Sequences of values, of which some are moved or replaced at once.
 use Rattle.std.proofs.Common.{◌≡◌, ℕ, zero, suc, ◌+◌, ◌-◌, ◌*◌, ◌≤◌, List, [], ◌∷◌, ◌++◌, Some, length, take, drop, sym, ap, ◌∙◌, arith, add-one, refl}
 use Rattle.std.specs.Prelude.{slice_get}
 use Rattle.std.proofs.lemmas.Grind.{common_steps}
@@ -13,11 +13,11 @@ use Rattle.arena_items.specs.Values.{elements, bytes_of}
 use Rattle.arena_items.specs.Rows.{over}
 use Rattle.arena_items.proofs.ElementLemmas.{length-elements, elements-append, elements-same, elements-push}
 
--- what is behind a part that is written stays
+-- what comes after a part that is written stays
 spliced_rest : (at : ℕ) (bs ys : List ℕ) → at + length ys ≤ length bs → drop (at + length ys) (splice bs at ys) ≡ drop (at + length ys) bs
 spliced_rest at bs ys h = grind (arith, common_steps)
 
--- the first of the first are the first
+-- taking n twice is taking n once
 taken_twice : (n : ℕ) (xs : List ℕ) → take n (take n xs) ≡ take n xs
 taken_twice n xs = grind (arith, common_steps)
 
@@ -29,13 +29,13 @@ module _ {T : Type 0} (size : ℕ) (dec : List ℕ → T) where
       sym (take_at (elements size dec k bs) (elements size dec (n - k) (drop (k * size) bs)) k (length-elements size dec k bs))
       ∙ ap (take k) (sym (elements-append size dec k (n - k) bs) ∙ ap (λ m. elements size dec m bs) whole)
 
-  -- and those behind them the rest.
+  -- and those after them the rest.
   pub elements-drop : (i m : ℕ) (bs : List ℕ) → elements size dec m (drop (i * size) bs) ≡ drop i (elements size dec (i + m) bs)
   elements-drop i m bs =
       sym (drop_at (elements size dec i bs) (elements size dec m (drop (i * size) bs)) i (length-elements size dec i bs))
       ∙ ap (drop i) (sym (elements-append size dec i m bs))
 
-  -- They see their own bytes alone.
+  -- They depend only on their own bytes.
   pub elements-front : (k : ℕ) (bs : List ℕ) → elements size dec k (take (k * size) bs) ≡ elements size dec k bs
   elements-front k bs = elements-same size dec k (take (k * size) bs) bs (taken_twice (k * size) bs)
 
@@ -84,7 +84,7 @@ module _ {T : Type 0} (size : ℕ) (dec : List ℕ → T) where
       ∙ elements-over to k n (bytes_of old b) list sized target (omega (arith, length-bytes (image old) b.addr b.size))
       ∙ ap (over (elements size dec n (bytes_of old b)) to) part
 
-  -- some values of a block are put behind those of another
+  -- some values of a block are copied after those of another
   pub copied_values : (old new : Memory) (b c : Block) (from to n : ℕ)
       → WritesBlock old new c (to * size) (bytes_from (image old) (b.addr + from * size) (n * size))
       → (from + n) * size ≤ b.size → (to + n) * size ≤ c.size

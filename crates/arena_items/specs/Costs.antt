@@ -12,27 +12,29 @@ use Rattle.arena_items.specs.declared.room.AllocError.TheVariants.{AllocErr}
 abbrev pub used : View → ℕ
 used a = used_bytes a.memory.state
 
--- A block of so many bytes takes the place of another. What it has more comes into use at least, and at most all of it with its
--- padding.
+-- A block of this size replaces another. At least the bytes that it has more come into use, and at most all of it with
+-- its padding.
 pub record Brings (old new : View) (size align : ℕ) (block : Block) : Type 0 where
   pub least : used old + size ≤ used new + block.size
   pub most : used new ≤ used old + size + (align - 1)
 
--- ---- Calls that may take so many bytes
+-- ---- Calls that may take this many bytes
 
--- Calls that may bring so many bytes into use, less what the credit rises, and more by what it falls. They ask for no more than that
--- takes. Over an arena that grows they are refused only where they were starved, and over another only where it has fewer bytes.
+-- A call that brings at most `bytes` into use, less what the credit rises or plus what it falls. It asks for no more
+-- than that takes. In an arena that grows it is refused only if it is starved, and in a fixed one only if the arena has
+-- fewer bytes.
 pub record Costs {X : Type 0} (far bytes before after : ℕ) (old new : View) (result : Result X AllocError) : Type 0 where
   pub takes : used new + after ≤ used old + (bytes + before)
   pub asks : AsksWithin (used old + (bytes + before)) old new
   pub starved : old.memory.state.is_growing ≡ true → (k : ℕ) → result ≡ Err (AllocErr k) → IsStarved far old new
   pub full : old.memory.state.is_growing ≡ false → (k : ℕ) → result ≡ Err (AllocErr k) → IsFull (used old + (bytes + before)) old
 
--- the newest data end up to which a block may be placed
+-- a data end of the newest chunk up to which no block is refused for lack of addresses
 abbrev pub farthest : ℕ
 farthest = 2 ^ 63 + 2 ^ 62
 
--- A block of this layout has no more bytes than that with its padding, nor has it with the credit afterwards.
+-- A block of this layout with its padding fits in `bytes` and the credit before. The credit afterwards fits too:
+-- together with the block if the call succeeds, by itself if it fails.
 pub record Covers {X : Type 0} (bytes before after size align : ℕ) (result : Result X AllocError) : Type 0 where
   pub layout : IsTrue (is_layout size align)
   pub small : align ≤ 16

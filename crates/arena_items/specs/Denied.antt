@@ -16,7 +16,7 @@ Only wanted align_wanted size align = (size ≡ wanted) × (align ≡ align_want
 abbrev pub TextOf : ℕ → Layouts
 TextOf bytes = Only bytes 1
 
--- what a collection of values of this size and alignment asks for that grows so, if anything
+-- what a collection of values of this size and alignment asks for in this growth, if anything
 abbrev pub RoomFor : (value_size value_align : ℕ) → Growth → Layouts
 RoomFor value_size value_align (GrowsTo more) size align = Only (more * value_size) value_align size align
 RoomFor value_size value_align growth size align = ⊥

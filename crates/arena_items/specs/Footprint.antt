@@ -6,7 +6,7 @@ use Rattle.arena_chunks.specs.Memory.{Memory, is_readable}
 use Rattle.arena_store.specs.declared.block.Block.{Block}
 use Rattle.arena_items.specs.Values.{bytes_of}
 
--- each of the blocks may be read
+-- each of the blocks is readable
 abbrev pub AreReadable : State → List Block → Type 0
 AreReadable state blocks = AllByRecursion (λ (b : Block). IsTrue (is_readable state b)) blocks
 

@@ -1,4 +1,4 @@
--- What a handle needs of an arena, again.
+-- What a handle needs of an arena, in another state.
 use Rattle.std.proofs.Common.{◌≡◌, ℕ, List, [], ◌∷◌, ◌++◌, IsTrue}
 use Rattle.std.specs.List.{AllByRecursion}
 use Rattle.arena_rules.specs.State.{State}
@@ -7,18 +7,18 @@ use Rattle.arena_store.specs.declared.block.Block.{Block}
 use Rattle.arena_items.specs.Footprint.{AreReadable, Agree}
 use Rattle.arena_items.specs.Values.{IsHeld, bytes_of}
 
--- A block of a layout is readable.
+-- A block that is held is readable.
 pub held_readable : (size align : ℕ) (state : State) (b : Block) → IsHeld size align state b → AreReadable state (b ∷ [])
 held_readable size align state b held = (held.readable, tt)
 
--- It has its layout wherever it may be read.
+-- It is held wherever it is readable.
 pub held_again : (size align : ℕ) (old new : State) (b : Block) → IsHeld size align old b → IsTrue (is_readable new b)
     → IsHeld size align new b
 held_again size align old new b held readable = record { readable = readable; of_size = held.of_size; of_align = held.of_align }
 
 -- ---- The blocks of two values
 
--- What holds of each of two lists' members holds of each list's, and the other way.
+-- What holds of all members of two lists holds of all members of each, and the other way.
 all_parts : {X : Type 0} (P : X → Type 0) (xs ys : List X) → AllByRecursion P (xs ++ ys) → AllByRecursion P xs × AllByRecursion P ys
 all_parts P [] ys all = (tt, all)
 all_parts P (x ∷ xs) ys all = let rest = all_parts P xs ys all.1 in ((all.0, rest.0), rest.1)

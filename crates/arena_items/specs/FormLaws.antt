@@ -1,9 +1,9 @@
--- The laws of a type's byte form, as those of types that hold it need them.
+-- The laws of a type's byte form, in the form that types built from it need.
 use Rattle.std.specs.Prelude.{◌≡◌, ℕ, ◌^◌, ◌≤◌, List, length}
 use Rattle.arena_items.specs.declared.item.Item.{Ghosts}
 use Rattle.arena_items.specs.Layout.{IsItemLayout}
 
--- Where the type has at most 2 ^ 24 bytes, a byte form has that many, and gives its value back.
+-- If the type has at most 2 ^ 24 bytes, each byte form has the type's size, and decodes to its value.
 pub record IsForm {T : Type 0} (item : Ghosts T) : Type 0 where
   pub layout : IsItemLayout item.SIZE item.ALIGN
   pub sized : (v : T) → item.is_value v → item.SIZE ≤ 2 ^ 24 → length (item.encoded v) ≡ item.SIZE
@@ -18,7 +18,7 @@ module _ {T : Type 0} (is_value : T → Type 0) (encoded : T → List ℕ) (deco
   abbrev item_of : Ghosts T
   item_of = record { is_value = is_value; encoded = encoded; decoded = decoded; SIZE = SIZE; ALIGN = ALIGN }
 
-  -- the same of its parts
+  -- a byte form with its laws, from its parts
   abbrev pub form : IsItemLayout SIZE ALIGN → ((v : T) → is_value v → SIZE ≤ 2 ^ 24 → length (encoded v) ≡ SIZE)
       → ((v : T) → is_value v → SIZE ≤ 2 ^ 24 → decoded (encoded v) ≡ v) → Form T
   form layout sized back = record { item = item_of; is = record { layout = layout; sized = sized; back = back } }

@@ -1,4 +1,4 @@
--- Numbers that are not 0, and what stands in place of 0.
+-- Numbers that are not 0, and what takes the place of 0.
 use Rattle.std.specs.Prelude.{ℕ, zero, suc, ◌-◌, ◌^◌, ◌<◌, max, ℤ, pos, negsuc, unsigned_abs}
 use Rattle.std.proofs.Common.{arith}
 use Rattle.std.specs.declared.num.NonZeroU8.{NonZeroU8}
@@ -14,11 +14,11 @@ use Rattle.std.specs.declared.num.NonZeroI64.{NonZeroI64}
 use Rattle.std.specs.declared.num.NonZeroI128.{NonZeroI128}
 use Rattle.std.specs.declared.num.NonZeroIsize.{NonZeroIsize}
 
--- in place of 0 stands 1
+-- 1 takes the place of 0
 pub above_0 : (n : ℕ) → 0 < max 1 n
 above_0 n = omega arith
 
--- the value of a number, at each type
+-- a number as a value of each type
 abbrev pub non_zero_u8 : ℕ → NonZeroU8
 non_zero_u8 n = record { value = max 1 n; ok = above_0 n }
 
@@ -37,7 +37,7 @@ non_zero_u128 n = record { value = max 1 n; ok = above_0 n }
 abbrev pub non_zero_usize : ℕ → NonZeroUsize
 non_zero_usize n = record { value = max 1 n; ok = above_0 n }
 
--- in place of 0 stands -(m + 1), the least number of the type
+-- -(m + 1), the minimum of the type, takes the place of 0
 abbrev pub not_0_or : ℕ → ℤ → ℤ
 not_0_or m (pos zero) = negsuc m
 not_0_or m (pos (suc k)) = pos (suc k)

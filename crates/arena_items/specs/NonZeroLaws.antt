@@ -1,4 +1,4 @@
--- The bytes of numbers that are not 0 give them back.
+-- Numbers that are not 0 are decoded from their bytes.
 use Rattle.std.specs.Prelude.{◌≡◌, ℕ, zero, suc, ◌^◌, ◌<◌, max, refl, ℤ, pos, negsuc, unsigned_abs, FitsSigned}
 use Rattle.std.specs.Int.{Width, byte_at, byte_worth, sum_through}
 use Rattle.std.specs.Coded.{le_prop}
@@ -36,7 +36,7 @@ pub not_0_back : (w : Width) (m : ℕ) (z : ℤ) → 0 < unsigned_abs z → Fits
     → not_0_or m (signed_of w (signed_bytes w z)) ≡ z
 not_0_back w m z p h = rw (signed_back w z h) (not_0_same m z p)
 
--- values of one number are one, whichever proof they hold that it isn't 0
+-- two values of the same number are equal, whatever proof they hold that it isn't 0
 module _ {N A : Type 0} (size : A → ℕ) (make : (x : A) → 0 < size x → N) (x y : A) (p : 0 < size x) (q : 0 < size y) where
   made_same : x ≡ y → make x p ≡ make y q
   made_same e = subst (λ z. (r : 0 < size z) → make x p ≡ make z r) e (λ r. ap (make x) (le_prop p r)) q

@@ -18,6 +18,6 @@ bool_bytes false = 0 ∷ []
 abbrev pub bool_of : List ℕ → Bool
 bool_of bs = not (slice_index bs 0 == 0)
 
--- a number that is no scalar value stands for U+0000
+-- a number that is no scalar value decodes to U+0000
 abbrev pub scalar_or_0 : ℕ → ℕ
 scalar_or_0 n = if nat_lt n 0xD800 || (nat_le 0xE000 n && nat_lt n 0x11_0000) then n else 0

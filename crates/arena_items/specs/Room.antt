@@ -14,26 +14,26 @@ use Rattle.arena_items.specs.declared.room.Growth.TheVariants.{Stays, GrowsTo, O
 use Rattle.arena_items.specs.declared.room.AllocError.{AllocError}
 use Rattle.arena_items.specs.declared.room.AllocError.TheVariants.{AllocErr, CapacityOverflow, OutOfMemory}
 
--- a fact of the arena's answer that a result stands for: the arena knows no overflow
+-- a fact of the answer that a result represents: an arena never reports an overflow
 abbrev pub RoomAnswer : {X : Type 0} → (X → Block) → Result X AllocError → (Answer → Type 0) → Type 0
 RoomAnswer block (Ok x) P = P (Placed (block x))
 RoomAnswer block (Err (AllocErr refused)) P = P (Refused refused)
 RoomAnswer block (Err OutOfMemory) P = P Exhausted
 RoomAnswer block (Err CapacityOverflow) P = ⊥
 
--- what the arena answered, as calls tell it that may grow a collection
+-- the arena's result, as that of a call that may grow a collection
 abbrev pub growth_answer : {X : Type 0} → Result X ArenaErr → Result X AllocError
 growth_answer (Ok x) = Ok x
 growth_answer (Err (NoPlace refused)) = Err (AllocErr refused)
 growth_answer (Err NoTable) = Err OutOfMemory
 
--- why a value was not placed, told so: an iterator that ended early is a refusal with no request
+-- the error of a placing as that of a growth: an iterator that ended early becomes a refusal with no request
 abbrev pub growth_error : ItemErr → AllocError
 growth_error (NotPlaced refused) = AllocErr refused
 growth_error NoMemory = OutOfMemory
 growth_error (TooFew taken) = AllocErr 0
 
--- A block of this layout is taken for a collection: placed where the capacity was 0, and else grown.
+-- A block of this layout is taken for a collection: placed if the capacity was 0, and otherwise grown.
 pub record TakesRoom (old new : View) (block : Block) (cap size align : ℕ) (answer : Answer) : Type 0 where
   pub placed : cap ≡ 0 → PlacesBlock old new size align answer
   pub grown : 0 < cap → GrowsBlock old new block size align answer
@@ -50,8 +50,8 @@ pub record Took (new : View) (P : View → Type 0) : Type 0 where
   pub took : P between
   pub places : SamePlaces between new
 
--- What a call that makes room for values of this size and alignment does to the places of its arena, by its growth: nothing
--- where there is room, one call of the arena that places or grows a block, or nothing and a refusal.
+-- What a call that makes room for values of this size and alignment does to its arena, by its growth: nothing if there
+-- is room, one call that places or grows a block, or nothing and a refusal.
 abbrev pub MakesRoom : {X : Type 0} → ℕ → ℕ → View → View → Block → ℕ → Growth → (X → Block)
     → Result X AllocError → Type 0
 MakesRoom size align old new block cap Stays f result = IsOkAnd result (λ x. f x ≡ block) × SamePlaces old new

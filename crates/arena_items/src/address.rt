@@ -3,20 +3,20 @@ ghost use Rattle.std.specs.Prelude.{◌≡◌, ℕ};
 
 use crate::boxes::Box;
 
-/// An address of an arena.
+/// An address in an arena.
 #[derive(Clone, Copy, PartialEq, Eq, Hash, Debug)]
 pub struct Address(pub u64);
 
 impl Address {
-    /// The address of no box whose value has bytes.
+    /// No box whose value has bytes has this address.
     pub const DUMMY: Address = Address(0);
 }
 
-/// What has an address.
+/// A type whose values have an address.
 pub trait GetAddress {
     ghost addr: { Self → ℕ };
 
-    /// The address.
+    /// Returns the address.
     fn address(&self) -> Address
         ensures { result.0 ≡ addr self.now };
 }

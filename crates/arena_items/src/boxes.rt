@@ -13,16 +13,16 @@ use crate::placing::{ItemErr, place_one};
 use arena_chunks::{Allocator, Block, ChunkSource};
 use std::marker::PhantomData;
 
-/// The handle of a value that stands in an arena. It is a name: two of them may name one value.
+/// The handle of a value in an arena. It is a name: two of them may name the same value.
 #[derive(Clone, Copy)]
 pub struct Box<T> {
     /// The block of the value's bytes.
     pub block: Block,
-    /// The type of the value, which takes no place in the handle.
+    /// The type of the value, which takes no space in the handle.
     pub of: PhantomData<T>,
 }
 
-/// The name by which users of the Rust crate know it.
+/// The Rust crate's name for it.
 pub type ArenaBox<T> = Box<T>;
 
 #[tactic(auto, using(arena_chunks::proofs::Layers::layer_laws, crate::proofs::HeldLemmas::held_laws))]
@@ -31,7 +31,7 @@ impl<T: Item> Box<T> {
     ///
     /// # Errors
     ///
-    /// As of the arena's `alloc_layout`. Nothing changes.
+    /// As for the arena's `alloc_layout`. Nothing changes.
     #[inline]
     pub fn new_in<C: ChunkSource>(value: T, a: &mut Allocator<C>) -> Result<Box<T>, ItemErr>
         requires { T.SIZE ≤ 2 ^ 24 }
@@ -45,7 +45,7 @@ impl<T: Item> Box<T> {
         })
     }
 
-    /// Whether the arena holds the box: its block may be read there, and has the type's size and alignment.
+    /// Returns whether the arena holds the box: its block is readable there, and has the type's size and alignment.
     #[inline]
     pub fn is_held<C: ChunkSource>(&self, a: &Allocator<C>) -> bool
         ensures { IsTrue result ↔ IsBoxIn T.Item a.now.memory self.now }
@@ -53,7 +53,7 @@ impl<T: Item> Box<T> {
         a.is_held_place(self.block) && self.block.size == T::SIZE && self.block.align == T::ALIGN
     }
 
-    /// The value.
+    /// Returns the value.
     #[inline]
     pub fn get<C: ChunkSource>(self, a: &Allocator<C>) -> T
         requires small { T.SIZE ≤ 2 ^ 24 }
@@ -88,14 +88,14 @@ impl<T: Item> Box<T> {
 }
 
 impl<T> Box<T> {
-    /// The block of a box.
+    /// Returns the block of a box.
     pub fn as_non_null(boxed: &Box<T>) -> Block
         ensures { result ≡ boxed.now.block }
     {
         boxed.block
     }
 
-    /// The block of a box.
+    /// Returns the block of a box.
     pub fn into_non_null(boxed: Box<T>) -> Block
         ensures { result ≡ boxed.block }
     {

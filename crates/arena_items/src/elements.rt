@@ -1,4 +1,4 @@
-// Values in blocks: one that fills its block, and those that stand one after another.
+// Values in blocks: one that fills its block, and sequences of them.
 ghost use Rattle.std.specs.Prelude.{◌≡◌, ℕ, ◌+◌, ◌*◌, ◌^◌, ◌<◌, ◌≤◌, ◌++◌, [], ◌∷◌, IsTrue, Some, length, replicate, slice_get, slice_set};
 ghost use Rattle.std.specs.List.{All, flat_map};
 ghost use Rattle.arena_chunks.specs.Memory.{is_readable};
@@ -8,7 +8,7 @@ ghost use Rattle.arena_items.specs.Values.{IsHeld, bytes_of, elements};
 use crate::item::Item;
 use arena_chunks::{Allocator, Block, ChunkSource, Edit};
 
-/// A value that writes its byte form into a place.
+/// Writes the byte form of a value into a place.
 #[derive(Clone, Copy)]
 pub(crate) struct Encoded<T> {
     pub(crate) value: T,
@@ -25,7 +25,7 @@ impl<T: Item> Edit for Encoded<T> {
     }
 }
 
-/// Values that write their byte forms into a place, one after another.
+/// Writes the byte forms of values into a place, one after another.
 #[derive(Drop)]
 pub(crate) struct EncodedAll<'a, T> {
     pub(crate) values: &'a [T],
@@ -42,7 +42,7 @@ impl<T: Item> Edit for EncodedAll<'_, T> {
     }
 }
 
-/// A value that writes its byte form into a place so many times.
+/// Writes the byte form of a value into a place `times` times.
 #[derive(Clone, Copy)]
 pub(crate) struct EncodedTimes<T> {
     pub(crate) value: T,
@@ -64,7 +64,7 @@ impl<T: Item> Edit for EncodedTimes<T> {
     }
 }
 
-// Does nothing: what stands in a slice are values.
+// Does nothing at run time: for the proof, what a slice holds are values of its type.
 fn known_all<T: Item>(values: &[T])
     ensures { All T.is_value values.now }
 {
@@ -88,7 +88,7 @@ pub(crate) fn write_whole<T: Item, C: ChunkSource>(a: &mut Allocator<C>, block: 
     a.write_with(block, 0, T::SIZE, &Encoded { value });
 }
 
-/// The value at an index of a block.
+/// Returns the value at an index of a block.
 #[tactic(auto, using(arena_chunks::proofs::Layers::layer_laws, crate::proofs::ElementLemmas::list_laws))]
 #[inline]
 pub fn item_at<T: Item, C: ChunkSource>(a: &Allocator<C>, block: Block, i: u64) -> T
@@ -102,7 +102,7 @@ pub fn item_at<T: Item, C: ChunkSource>(a: &Allocator<C>, block: Block, i: u64) 
     T::decode(&a.read(block)[at..at + T::SIZE as usize])
 }
 
-/// Replaces the value at an index of a block. At the end of a list this puts one more there.
+/// Replaces the value at an index of a block. At the end of a list this appends the value.
 #[tactic(auto, using(arena_chunks::proofs::Layers::layer_laws, crate::proofs::ElementLemmas::list_laws))]
 #[inline]
 pub fn put_item<T: Item, C: ChunkSource>(a: &mut Allocator<C>, block: Block, i: u64, value: T)
@@ -121,7 +121,7 @@ pub fn put_item<T: Item, C: ChunkSource>(a: &mut Allocator<C>, block: Block, i: 
     a.write_with(block, i * T::SIZE, T::SIZE, &Encoded { value });
 }
 
-/// Puts values behind the first `i` of a block, in one pass.
+/// Writes values after the first `i` of a block, in one pass.
 #[tactic(auto, using(arena_chunks::proofs::Layers::layer_laws, crate::proofs::ElementLemmas::list_laws))]
 #[inline]
 pub fn put_items<T: Item, C: ChunkSource>(a: &mut Allocator<C>, block: Block, i: u64, values: &[T])
@@ -139,7 +139,7 @@ pub fn put_items<T: Item, C: ChunkSource>(a: &mut Allocator<C>, block: Block, i:
     a.write_with(block, i * T::SIZE, size, &EncodedAll { values });
 }
 
-/// Puts a value behind the first `i` of a block, so many times, in one pass.
+/// Writes `times` copies of a value after the first `i` of a block, in one pass.
 #[tactic(auto, using(arena_chunks::proofs::Layers::layer_laws, crate::proofs::ElementLemmas::list_laws))]
 pub fn put_copies<T: Item, C: ChunkSource>(
     a: &mut Allocator<C>,

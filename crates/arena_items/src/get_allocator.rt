@@ -1,4 +1,4 @@
-// What has an allocator.
+// Types that have an allocator.
 ghost use Rattle.std.specs.Prelude.{◌≡◌, refl};
 ghost use Rattle.std.specs.Borrow.{Lends, sem};
 ghost use Rattle.arena_chunks.specs.Source.{View};
@@ -6,26 +6,25 @@ ghost use Rattle.arena_chunks.specs.contracts.allocator.Allocator.{the_row};
 
 use arena_chunks::{Allocator, ChunkSource};
 
-/// What has an allocator, and lends it.
+/// A type that has an allocator, and lends it.
 pub trait GetAllocator {
     type Chunks: ChunkSource;
 
-    // The allocator that it has, and the value with another in its place.
+    // The allocator, and the value with another one in its place.
     ghost lent: { Self → View };
 
     ghost with_lent: { Self → View → Self };
 
-    /// The allocator. Where the type is a parameter, callers take `allocator_of`.
+    /// Returns the allocator. Code that is generic over the type calls `allocator_of` instead.
     fn allocator(&mut self) -> &mut Allocator<Self::Chunks>
         ensures* writes_back { sem 𝓛 (Lends Self.row (the_row Self.Chunks.row Self.Chunks.ChunkSource)
             self.entry result (with_lent self.entry.now)) }
         ensures shows { result.now ≡ lent self.entry.now };
 
-    // What is put in its place is there.
+    // The allocator that is put in place is the one that is read back.
     ghost lent_back: { (s : Self) (a : View) → lent (with_lent s a) ≡ a };
 
-    // Lending touches nothing else: to put back what was there changes nothing, and only the last that was put
-    // counts.
+    // Lending touches nothing else: putting back what was there changes nothing, and only the last one put back counts.
     ghost rest_stays: { (s : Self) → with_lent s (lent s) ≡ s };
 
     ghost last_counts: { (s : Self) (a c : View) → with_lent (with_lent s a) c ≡ with_lent s c };
@@ -49,8 +48,8 @@ impl<C: ChunkSource> GetAllocator for Allocator<C> {
     }
 }
 
-/// The allocator of a value whose type is only known to have one: a caller who is generic over that calls this, and knows then
-/// what becomes of the value.
+/// Returns the allocator of a value of any type that has one. Generic code calls this, since its contract says what
+/// becomes of the value.
 pub fn allocator_of<A: GetAllocator>(a: &mut A) -> &mut Allocator<A::Chunks>
     ensures* writes_back { sem 𝓛 (Lends A.row (the_row A.Chunks.row A.Chunks.ChunkSource)
         a.entry result (A.with_lent a.entry.now)) }

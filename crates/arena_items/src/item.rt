@@ -5,24 +5,24 @@ ghost use Rattle.arena_items.specs.Layout.{IsItemLayout};
 
 /// A type whose values are kept as bytes. Decoding the byte form of a value gives the value back.
 pub trait Item: Copy {
-    // What a variable of the type may be. In a law a variable of a number type ranges over all numbers.
+    // The values that a variable of the type can have. In a law a variable of a number type ranges over all numbers.
     ghost is_value: { Self → Type 0 };
 
     ghost encoded: { Self → List ℕ };
 
     ghost decoded: { List ℕ → Self };
 
-    /// How many bytes a value has: a multiple of `ALIGN`.
+    /// The bytes of a value, a multiple of `ALIGN`.
     const SIZE: u64;
 
     ghost SIZE: { ℕ };
 
-    /// A value's address is a multiple of it: 1, 2, 4, 8 or 16.
+    /// The alignment of a value's address: 1, 2, 4, 8 or 16.
     const ALIGN: u64;
 
     ghost ALIGN: { ℕ };
 
-    /// Does nothing: what stands in a variable is a value.
+    /// Does nothing at run time: for the proof, a variable of the type holds one of its values.
     fn known(&self)
         ensures { is_value self.now };
 
@@ -45,7 +45,7 @@ pub trait Item: Copy {
         }
     }
 
-    /// The value of a byte form. Any bytes have one.
+    /// Returns the value that the bytes encode. All bytes encode one.
     fn decode(bytes: &[u8]) -> Self
         requires length { length bytes.now ≡ SIZE }
         requires small { SIZE ≤ 2 ^ 24 }

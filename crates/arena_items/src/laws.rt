@@ -1,5 +1,5 @@
-// What calls leave of the values that they don't work on, and where new values lie. Each law is a call that does nothing:
-// made in a body, it gives its facts there.
+// What stays of values that a call doesn't work on, and where new values are placed. Each law is a call that does
+// nothing: made in a body, it gives its facts there.
 ghost use Rattle.std.specs.Prelude.{◌≡◌, ◌≢◌, ℕ, ◌<◌, ◌≤◌, List, [], ◌∷◌, IsTrue};
 ghost use Rattle.arena_rules.specs.State.{State, IsValid};
 ghost use Rattle.arena_chunks.specs.Memory.{Memory, is_readable};
@@ -18,15 +18,15 @@ use crate::address::Address;
 use crate::values::InArena;
 pub use costs::{costs_law, room_law};
 
-/// The frame law. A call on some blocks leaves every value whose footprint lies apart from them: it is held, names the same
-/// blocks, means the same, and its footprint lies apart from the blocks that the call has then.
+/// The frame law. A call on some blocks keeps every value whose footprint is apart from them: it is held, names the
+/// same blocks and means the same, and its footprint is apart from the blocks that the call has afterwards.
 pub fn frame_law<V: InArena>()
     ensures { (old new : Memory) (before after : List Block) (v : V) → Frame old new before after
         → V.is_held old v → AreAllApart (V.footprint old v) before → StaysHeld old new after V.InArena v }
 {}
 
-/// To go back to a mark leaves every value whose footprint may still be read: it is held, names the same blocks and means the
-/// same. So it leaves one whose footprint may be read at the mark, if what is in use there stays in use.
+/// Rolling back to a mark keeps every value whose footprint is still readable: it is held, names the same blocks and
+/// means the same. So it keeps a value whose footprint was readable at the mark, if what was in use there still is.
 pub fn back_law<V: InArena>()
     ensures readable { (old new : Memory) (v : V) → GoesBack old new → V.is_held old v
         → AreReadable new.state (V.footprint old v) → StaysHeld old new [] V.InArena v }
@@ -39,8 +39,8 @@ pub fn meaning_law<V: InArena>()
     ensures { (a c : Memory) (v : V) → Agree a c (V.footprint a v) → V.means a v ≡ V.means c v }
 {}
 
-/// A new block of some bytes has another address than every block of some bytes that was readable before. No readable block
-/// of some bytes lies below 4096, so none at `Address::DUMMY`, which is 0.
+/// A new non-empty block has another address than every non-empty block that was readable before. No readable non-empty
+/// block is placed below 4096, so none at `Address::DUMMY`, which is 0.
 pub fn address_law()
     ensures new { (old new : Memory) (b c : Block) → Frame old new [] (b ∷ [])
         → IsTrue (is_readable old.state c) → 0 < b.size → 0 < c.size → b.addr ≢ c.addr }

@@ -1,5 +1,5 @@
-//! Values in an arena: types with a byte form, the handles that name the places of values, and what becomes of a value while
-//! an arena is used.
+//! Values in an arena: types with a byte form, the handles of values, and what becomes of a value while an arena is
+//! used.
 #![tactic(auto)]
 
 mod address;

@@ -13,11 +13,11 @@ use std::fmt;
 /// Why a value was not placed.
 #[derive(Clone, Copy, PartialEq, Eq, Debug)]
 pub enum ItemErr {
-    /// There is no place for it: all requests for a chunk, so many, were refused.
+    /// No place was found. `refused` requests for a chunk were refused.
     AllocErr { refused: u32 },
-    /// Memory for the table of chunks runs out. The source wasn't asked.
+    /// Out of memory for the table of chunks. The source wasn't asked.
     OutOfMemory,
-    /// The iterator ended early, after so many values.
+    /// The iterator ended early, after `taken` values.
     TooFew { taken: u64 },
 }
 
@@ -49,7 +49,7 @@ pub(crate) fn layout_of<T: Item>() -> Layout
     Layout::of(T::SIZE, T::ALIGN)
 }
 
-// What the arena answered, as calls on values tell it.
+// Converts the arena's result to that of calls that place values.
 #[inline(always)]
 fn told(placed: Result<Block, ArenaErr>) -> Result<Block, ItemErr>
     ensures { Answers (λ b. b) result (λ answer. answer_of placed ≡ answer) }
@@ -61,7 +61,7 @@ fn told(placed: Result<Block, ArenaErr>) -> Result<Block, ItemErr>
     }
 }
 
-// A block for one value.
+// Places a block for one value.
 #[tactic(auto, using(crate::proofs::PlacingLemmas::answers_as))]
 #[inline]
 pub(crate) fn place_one<T: Item, C: ChunkSource>(a: &mut Allocator<C>) -> Result<Block, ItemErr>
@@ -71,7 +71,7 @@ pub(crate) fn place_one<T: Item, C: ChunkSource>(a: &mut Allocator<C>) -> Result
     told(a.alloc_layout(layout_of::<T>()))
 }
 
-// A block for n values.
+// Places a block for n values.
 #[tactic(auto, using(crate::proofs::PlacingLemmas::answers_as))]
 #[inline]
 pub(crate) fn place_array<T: Item, C: ChunkSource>(

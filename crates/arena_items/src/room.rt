@@ -13,15 +13,15 @@ use std::fmt;
 /// Why a collection didn't grow.
 #[derive(Clone, Copy, PartialEq, Eq, Debug)]
 pub enum AllocError {
-    /// There is no place for the block: all requests for a chunk, so many, were refused.
+    /// No place was found for the block. `refused` requests for a chunk were refused.
     AllocErr { refused: u32 },
-    /// What is required passes the greatest capacity.
+    /// More is required than the greatest capacity.
     CapacityOverflow,
-    /// Memory for the table of chunks runs out. The source wasn't asked.
+    /// Out of memory for the table of chunks. The source wasn't asked.
     OutOfMemory,
 }
 
-/// What a call answers that may grow a collection.
+/// The result of a call that may grow a collection.
 pub type Grown<X> = Result<X, AllocError>;
 
 impl fmt::Display for AllocError {
@@ -41,8 +41,8 @@ impl fmt::Display for AllocError {
 
 impl Error for AllocError {}
 
-/// So that a function which places a value and makes a collection grow has one error. An iterator that ended early is told
-/// as a refusal with no request.
+/// Lets a function that places a value and grows a collection have one error. An iterator that ended early becomes a
+/// refusal with no request.
 impl From<ItemErr> for AllocError {
     ghost use Rattle.arena_items.specs.Room.{growth_error};
 
@@ -57,11 +57,11 @@ impl From<ItemErr> for AllocError {
     }
 }
 
-/// What the arena answered, as calls tell it that may grow a collection.
+/// Converts the arena's result to that of a call that may grow a collection.
 ///
 /// # Errors
 ///
-/// The arena's own. `CapacityOverflow` is none of them.
+/// The arena's own, never `CapacityOverflow`.
 #[inline(always)]
 pub fn grown<X>(answer: Result<X, ArenaErr>) -> Grown<X>
     ensures { result ≡ growth_answer answer }
@@ -73,18 +73,18 @@ pub fn grown<X>(answer: Result<X, ArenaErr>) -> Grown<X>
     }
 }
 
-/// What a call that makes room does with the capacity.
+/// What a call that makes room does to the capacity.
 #[derive(Clone, Copy)]
 pub enum Growth {
-    /// There is room.
+    /// There is room already.
     Stays,
-    /// The capacity becomes this one.
+    /// The capacity becomes `cap`.
     GrowsTo { cap: u64 },
-    /// What is required passes the greatest capacity.
+    /// More is required than the greatest capacity.
     Overflows,
 }
 
-// A block of this layout: placed where there was no room, and else the old block grown.
+// Places a block of this layout if the capacity was 0, and grows the old block otherwise.
 #[inline(always)]
 fn place_or_grow<C: ChunkSource>(
     a: &mut Allocator<C>,
@@ -103,11 +103,11 @@ fn place_or_grow<C: ChunkSource>(
     }
 }
 
-/// A block of this layout for a collection: placed where there was no room, and else the old block grown.
+/// Takes a block of this layout for a collection: placed if the capacity was 0, and otherwise the old block grown.
 ///
 /// # Errors
 ///
-/// As of the arena's `alloc_layout` or `grow`. Nothing changes.
+/// As for the arena's `alloc_layout` or `grow`. Nothing changes.
 #[inline(always)]
 pub fn take_room<C: ChunkSource>(
     a: &mut Allocator<C>,

@@ -1,4 +1,4 @@
-// Values that stand one after another in blocks, many of which are moved at once.
+// Sequences of values in blocks, many of which are moved at once.
 ghost use Rattle.std.specs.Prelude.{◌≡◌, ℕ, ◌+◌, ◌*◌, ◌≤◌, ◌++◌, IsTrue, take, drop};
 ghost use Rattle.arena_chunks.specs.Memory.{is_readable, image, bytes_from};
 ghost use Rattle.arena_chunks.specs.BlockCalls.{WritesBlock};
@@ -8,7 +8,7 @@ ghost use Rattle.arena_items.specs.Rows.{over};
 use crate::item::Item;
 use arena_chunks::{Allocator, Block, ChunkSource};
 
-/// Moves values of a block to another place in it, in one move of memory.
+/// Moves `n` values of a block to another index in it, in one move of memory. The ranges may overlap.
 pub fn move_items<T: Item, C: ChunkSource>(
     a: &mut Allocator<C>,
     block: Block,
@@ -31,7 +31,7 @@ pub fn move_items<T: Item, C: ChunkSource>(
     a.move_within(block, from * size, to * size, n * size);
 }
 
-/// Copies the first values of a block that stand from an index on behind the first `to` of another, in one move of memory.
+/// Copies `n` values of a block, from an index on, to index `to` of another, in one move of memory.
 pub fn copy_items<T: Item, C: ChunkSource>(
     a: &mut Allocator<C>,
     source: Block,

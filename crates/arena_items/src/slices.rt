@@ -1,4 +1,4 @@
-// Boxed slices: the handles of values that stand one after another in an arena, and their byte form.
+// Boxed slices: the handles of sequences of values in an arena, and their byte form.
 ghost use Rattle.std.specs.Prelude.{◌≡◌, ℕ, ◌*◌, ◌^◌, ◌<◌, ◌≤◌, ◌↔◌, List, [], IsTrue, Some, slice_get, slice_set, length, take, drop, refl};
 ghost use Rattle.std.specs.Int.{w64, from_le_bytes};
 ghost use Rattle.arena_chunks.specs.Memory.{Memory};
@@ -17,21 +17,20 @@ use arena_chunks::{Allocator, Block, ChunkSource};
 use std::marker::PhantomData;
 pub use walk::SliceIter;
 
-/// The handle of values of one type that stand one after another in an arena. It is a name: two of them may name the
-/// same values.
+/// The handle of a sequence of values in an arena. It is a name: two of them may name the same values.
 #[derive(Clone, Copy)]
 pub struct BoxSlice<T> {
     /// The block of the values' bytes.
     pub block: Block,
     /// How many values there are.
     pub length: u64,
-    /// The type of the values, which takes no place in the handle.
+    /// The type of the values, which takes no space in the handle.
     pub of: PhantomData<T>,
 }
 
 #[tactic(auto, using(crate::proofs::ElementLemmas::list_laws))]
 impl<T: Item> BoxSlice<T> {
-    /// A slice of no values, which has no place in any arena.
+    /// Returns a slice of no values, which has no place in any arena.
     pub fn new_empty_boxed_slice() -> BoxSlice<T>
         ensures length { result.length ≡ 0 }
         ensures block { result.block ≡ record { generation = 0; addr = T.ALIGN; size = 0; align = T.ALIGN } }
@@ -45,7 +44,7 @@ impl<T: Item> BoxSlice<T> {
         }
     }
 
-    /// How many values there are.
+    /// Returns how many values there are.
     #[inline]
     pub fn len(self) -> u64
         ensures { result ≡ self.length }
@@ -53,21 +52,22 @@ impl<T: Item> BoxSlice<T> {
         self.length
     }
 
-    /// Itself.
+    /// Returns the slice itself.
     pub fn into_arena_slice(self) -> BoxSlice<T>
         ensures { result ≡ self }
     {
         self
     }
 
-    /// Itself.
+    /// Returns the slice itself.
     pub fn into_arena_slice_mut(self) -> BoxSlice<T>
         ensures { result ≡ self }
     {
         self
     }
 
-    /// Whether the arena holds the slice: its block may be read there, and has the size of its values and their alignment.
+    /// Returns whether the arena holds the slice: its block is readable there, and has the size and alignment of its
+    /// values.
     #[inline]
     pub fn is_held<C: ChunkSource>(&self, a: &Allocator<C>) -> bool
         ensures { IsTrue result ↔ IsSliceIn T.Item a.now.memory self.now }
@@ -79,7 +79,7 @@ impl<T: Item> BoxSlice<T> {
         a.is_held_place(self.block) && size == needed && self.block.align == T::ALIGN
     }
 
-    /// The bytes of the values, one after another.
+    /// Returns the bytes of the values, one after another.
     pub fn as_slice<'x, C: ChunkSource>(self, a: &'x Allocator<C>) -> &'x [u8]
         requires { IsSliceIn T.Item a.now.memory self }
         ensures bytes { result.now ≡ bytes_of a.now.memory self.block }
@@ -88,7 +88,7 @@ impl<T: Item> BoxSlice<T> {
         a.read(self.block)
     }
 
-    /// The value at an index.
+    /// Returns the value at an index.
     #[inline]
     pub fn get<C: ChunkSource>(self, a: &Allocator<C>, i: u64) -> T
         requires small { T.SIZE ≤ 2 ^ 24 }

@@ -24,16 +24,16 @@ pub trait ArenaItems: OverArena {
     ///
     /// # Errors
     ///
-    /// As of the arena's `alloc_layout`. Nothing changes.
+    /// As for the arena's `alloc_layout`. Nothing changes.
     fn alloc<T: Item>(&mut self, value: T) -> Result<Box<T>, ItemErr>
         requires { T.SIZE ≤ 2 ^ 24 }
         ensures { PlacesBox T.Item (Self.view self.old) (Self.view self.new) (λ v. v ≡ value) result };
 
-    /// Places what a closure gives. It is called only where there is a place.
+    /// Places the value that a closure returns. The closure is called only if there is a place.
     ///
     /// # Errors
     ///
-    /// As of `alloc`.
+    /// As for `alloc`.
     fn alloc_with<T: Item, F: FnOnce() -> T>(&mut self, f: F) -> Result<Box<T>, ItemErr>
     where
         F: Drop,
@@ -46,28 +46,28 @@ pub trait ArenaItems: OverArena {
     ///
     /// # Errors
     ///
-    /// As of the arena's `alloc_layout`; also `AllocErr` with no request where so many values have no layout. Nothing
+    /// As for the arena's `alloc_layout`; also `AllocErr` with no request if that many values have no layout. Nothing
     /// changes.
     fn alloc_slice_copy<T: Item>(&mut self, src: &[T]) -> Result<BoxSlice<T>, ItemErr>
         requires { T.SIZE ≤ 2 ^ 24 }
         ensures { PlacesSlice T.Item (Self.view self.old) (Self.view self.new) (length src.now)
             (λ list. list ≡ src.now) result };
 
-    /// Places a value so many times, in one pass.
+    /// Places `len` copies of a value, in one pass.
     ///
     /// # Errors
     ///
-    /// As of `alloc_slice_copy`.
+    /// As for `alloc_slice_copy`.
     fn alloc_slice_fill_copy<T: Item>(&mut self, len: u64, value: T) -> Result<BoxSlice<T>, ItemErr>
         requires { T.SIZE ≤ 2 ^ 24 }
         ensures { PlacesSlice T.Item (Self.view self.old) (Self.view self.new) len
             (λ list. list ≡ replicate len value) result };
 
-    /// Places what a closure gives at 0, at 1 and so on. It is called only where there is a place.
+    /// Places what a closure returns for 0, 1 and so on, up to `len` - 1. It is called only if there is a place.
     ///
     /// # Errors
     ///
-    /// As of `alloc_slice_copy`.
+    /// As for `alloc_slice_copy`.
     fn alloc_slice_fill_with<T: Item, F: FnMut(u64) -> T>(
         &mut self,
         len: u64,
@@ -82,11 +82,11 @@ pub trait ArenaItems: OverArena {
         ensures { PlacesSlice T.Item (Self.view self.old) (Self.view self.new) len
             (λ list. (last : F) × FillsFrom F.step f 0 list last) result };
 
-    /// Places the first values of an iterator, as many as it tells. None is taken where there is no place.
+    /// Places as many items of an iterator as it says it has. None is taken if there is no place.
     ///
     /// # Errors
     ///
-    /// As of `alloc_slice_copy`; also `TooFew` where the iterator ended before. The block was then given back: what was in
+    /// As for `alloc_slice_copy`; also `TooFew` if the iterator ends before. The block is then given back: what was in
     /// use stays as it was, but some padding, or a new chunk, may stay.
     fn alloc_slice_fill_iter<T: Item, I: ExactSizeIterator<Item = T>>(
         &mut self,
@@ -108,7 +108,7 @@ pub trait ArenaItems: OverArena {
     ///
     /// # Errors
     ///
-    /// As of `alloc`.
+    /// As for `alloc`.
     fn try_alloc<T: Item>(&mut self, value: T) -> Result<Box<T>, ItemErr>
         requires { T.SIZE ≤ 2 ^ 24 }
         ensures { PlacesBox T.Item (Self.view self.old) (Self.view self.new) (λ v. v ≡ value) result }
@@ -120,7 +120,7 @@ pub trait ArenaItems: OverArena {
     ///
     /// # Errors
     ///
-    /// As of `alloc`.
+    /// As for `alloc`.
     fn try_alloc_with<T: Item, F: FnOnce() -> T>(&mut self, f: F) -> Result<Box<T>, ItemErr>
     where
         F: Drop,
@@ -136,7 +136,7 @@ pub trait ArenaItems: OverArena {
     ///
     /// # Errors
     ///
-    /// As of `alloc_slice_copy`.
+    /// As for `alloc_slice_copy`.
     fn alloc_slice_clone<T: Item>(&mut self, src: &[T]) -> Result<BoxSlice<T>, ItemErr>
         requires { T.SIZE ≤ 2 ^ 24 }
         ensures { PlacesSlice T.Item (Self.view self.old) (Self.view self.new) (length src.now)
@@ -149,7 +149,7 @@ pub trait ArenaItems: OverArena {
     ///
     /// # Errors
     ///
-    /// As of `alloc_slice_copy`.
+    /// As for `alloc_slice_copy`.
     fn alloc_slice_fill_clone<T: Item>(
         &mut self,
         len: u64,
@@ -162,11 +162,11 @@ pub trait ArenaItems: OverArena {
         self.alloc_slice_fill_copy(len, *value)
     }
 
-    /// Places the type's default so many times.
+    /// Places `len` copies of the type's default.
     ///
     /// # Errors
     ///
-    /// As of `alloc_slice_copy`.
+    /// As for `alloc_slice_copy`.
     fn alloc_slice_fill_default<T: Item + Default>(
         &mut self,
         len: u64,

@@ -12,15 +12,15 @@ use crate::item::Item;
 use crate::slices::BoxSlice;
 use arena_chunks::Str;
 
-/// A value that names blocks of an arena: one, as a handle does, or several, or by its case one or another.
+/// A value that names blocks of an arena: one, as a handle does, several, or some that depend on its variant.
 pub trait InArena {
     // What values of the type mean.
     ghost Meaning: { Type 0 };
 
-    // All blocks whose bytes the value reads: those that it names, and those that their bytes name as texts of its keys.
+    // All blocks whose bytes the value reads: those that it names, and the texts of its keys that their bytes name.
     ghost footprint: { Memory → Self → List Block };
 
-    // The handle is well formed and its footprint may be read.
+    // The handle is well formed and its footprint is readable.
     ghost is_held: { Memory → Self → Type 0 };
 
     ghost means: { Memory → Self → Meaning };
@@ -93,7 +93,7 @@ impl InArena for Str {
     ghost held_again = { λ a c s held agree readable. readable.0 };
 }
 
-/// Two values at once, as the parts of a value of one's own: it names the blocks of both.
+/// Two values at once, such as the parts of a larger one: they name the blocks of both.
 impl<V: InArena, W: InArena> InArena for (V, W) {
     ghost Meaning = { V.Meaning × W.Meaning };
 

@@ -1,9 +1,9 @@
-// Bytes that are cleared in their place.
+// Clearing bytes in place.
 ghost use Rattle.std.specs.Prelude.{◌≡◌, length, replicate};
 
 use arena_chunks::Edit;
 
-/// Clears all bytes of a place, of any number of them: each is 0 then.
+/// Sets all bytes of a place to 0, however many there are.
 #[derive(Clone, Copy)]
 pub struct Zeros;
 

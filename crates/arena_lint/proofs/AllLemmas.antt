@@ -1,4 +1,4 @@
--- What comes of work on a lent arena, where the work is a source, is what comes of the source alone.
+-- What is promised of work on a lent arena, where the work is a source, is what is promised of the source alone.
 use Rattle.std.proofs.Common.{ℕ, inl, inr, List, [], ◌∷◌, map, length, refl, ap, arith}
 use Rattle.std.specs.List.{AllZip}
 use Rattle.arena_chunks.specs.Source.{Source, View}
@@ -13,7 +13,7 @@ use Rattle.lint_reports.specs.declared.report.FileReport.{FileReport}
 use Rattle.arena_lint.specs.Linting.{lint_bytes}
 use Rattle.arena_lint.specs.All.{IsLintedAlone, linted, is_refused, lint_terms}
 
--- An arena that keeps its kind is of the pool's still.
+-- An arena that keeps its kind is still of the pool's kind.
 pub kind_kept : (old new : View) → KeepsKind old.memory new.memory → (kind : PoolKind) → IsOfKind kind old.memory.state
     → IsOfKind kind new.memory.state
 kind_kept old new keeps = still_of_kind old.memory.state new.memory.state keeps.is_growing keeps.allocated

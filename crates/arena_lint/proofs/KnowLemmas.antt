@@ -15,7 +15,7 @@ use Rattle.tree_rules.specs.declared.finding.FindKind.TheVariants.{Redefined, Sh
 use Rattle.tree_rules.specs.declared.finding.FindKind.{FindKind}
 use Rattle.arena_lint.specs.Knowing.{has_number, IsScope, AreScopes, found_of}
 
--- What follows of each two follows of all.
+-- What follows for each two follows for all.
 pub zip_weaker : {A B : Type 0} (R S : A → B → Type 0) → ((a : A) (b : B) → R a b → S a b) → (xs : List A) (ys : List B) → AllZip R xs ys
     → AllZip S xs ys
 zip_weaker R S follows [] [] all = tt
@@ -24,11 +24,11 @@ zip_weaker R S follows _ _ all = absurd all
 
 -- ---- Whether a name is known
 
--- What stands outside is seen where nothing stands inside.
+-- What is outside is seen where nothing is inside.
 seen_outside : (a b : Option ℕ) → is_some a ≡ false → is_some (seen a b) ≡ is_some b
 seen_outside a b none = grind arith
 
--- A scope more has what its own set has.
+-- One scope more has what its own set has.
 meant_more : (scope : List (ℕ × ℕ)) (scopes : List (List (ℕ × ℕ))) (o : Option ℕ)
     → is_some (meant (scope ∷ scopes) o) ≡ (has_number scope o || is_some (meant scopes o))
 meant_more scope scopes o = grind arith
@@ -49,7 +49,7 @@ abbrev is_number : ℕ → Option ℕ → Bool
 is_number id None = false
 is_number id (Some j) = id == j
 
--- A text is one with a number exactly where it has that number.
+-- A text equals one with a number exactly if it has that number.
 same_number : (texts : List (List ℕ)) (name other : List ℕ) (id : ℕ) → number_of texts name ≡ Some id
     → bytes_eq name other ≡ is_number id (number_of texts other)
 same_number texts name other id is = same_from_decides (bytes_eq name other) (is_number id (number_of texts other))
@@ -61,7 +61,7 @@ same_number texts name other id is = same_from_decides (bytes_eq name other) (is
     to (Some j) there here = same_Some name other
         (sym (number_there name texts id is) ∙ ap (slice_get texts) (eqb-true id j here) ∙ number_there other texts j there)
 
--- ---- A text more has a number
+-- ---- One more text has a number
 
 scope_grown : (texts : List (List ℕ)) (text : List ℕ) → number_of texts text ≡ None → (names : NameSet) (scope : List (ℕ × ℕ))
     → IsScope texts names scope → IsScope (texts ++ text ∷ []) names scope
@@ -79,7 +79,7 @@ scopes_grown texts text sets scopes are = by (number_of texts text) refl
     by None none = zip_weaker (IsScope texts) (IsScope (texts ++ text ∷ [])) (scope_grown texts text none) sets scopes are
     by (Some i) some = are
 
--- ---- A pair more in a scope
+-- ---- One more pair in a scope
 
 scope_defined : {texts : List (List ℕ)} {name : List ℕ} {names : NameSet} {scope : List (ℕ × ℕ)} {id : ℕ} (v : ℕ)
     → number_of texts name ≡ Some id → IsScope texts names scope → IsScope texts (name ∷ names) (scope ++ (id, v) ∷ [])
@@ -117,7 +117,7 @@ defined_is texts (names ∷ outer) (scope ∷ scopes) after name id is_new is_se
     ]
 defined_is texts _ _ after name id is_new is_seen some number are new saw becomes = absurd are
 
--- ---- A set more
+-- ---- One more set
 
 pub no_names : (texts : List (List ℕ)) → IsScope texts [] []
 no_names texts = record { same = λ name. grind arith; within = λ id far. refl }

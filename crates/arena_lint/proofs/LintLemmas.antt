@@ -47,7 +47,7 @@ use Rattle.arena_lint.proofs.SpendingLemmas.{spends_then, spends_nothing}
 
 -- ---- Nothing
 
--- Handles that place nothing: they know no name, in every arena, and lie apart from all.
+-- Handles that place nothing: they know no name, in any arena, and are apart from all blocks.
 pub record IsNothing (k : Known) : Type 0 where
   pub known : (m : Memory) → AreNames m k
   pub knows : (m : Memory) → Knows m k ([] ∷ [])
@@ -89,7 +89,7 @@ tree_room {m} {t} is none = let given = is.tree in record {
 given_is : {m : Memory} {t : Tree} (given : IsTreeIn m t) (trees : Stmts) → Means m t trees → given.trees ≡ trees
 given_is {m} {t} given trees means = one_stmts given.trees trees m (vec_list node_item m t.stmts) given.means means
 
--- A text has at least its tree's weight in bytes.
+-- A text has at least as many bytes as its tree's weight.
 abbrev AreLight : Type 0
 AreLight = (bytes : List ℕ) (ss : Stmts) → TreeOf bytes (Ok ss) → weights ss ≤ length bytes
 
@@ -140,7 +140,7 @@ never one other (inr is) = absurd (other is)
 
 module _ {bytes : List ℕ} {old new : View} {error : Option AllocError} (unused : used old ≡ 0)
     (spends : Spends (LintsAsk bytes) (lint_bytes (length bytes)) 0 0 old new error) where
-  -- No more was taken than may be, of an arena of which nothing was used.
+  -- No more was taken than may be, on an arena of which nothing was used.
   lints : (report : FileReport) → Reports bytes report → IfNone (said report) (IsProgramText bytes)
       → ((report ≡ Full) ⊎ (report ≡ Refused) → IsDenied (LintsAsk bytes) new)
       → (report ≡ Full → IsFull (lint_bytes (length bytes)) old) → (report ≡ Refused → IsStarved (2 ^ 62) old new)
@@ -168,7 +168,7 @@ module _ {bytes : List ℕ} {old new : View} {error : Option AllocError} (unused
       let short = full (sym spends.kind.is_growing ∙ is) in record { still = short.still; short = omega (arith, short.short, unused) })
       (λ no. absurd (cc))
 
-  -- A text that has no tree is told so.
+  -- A text that has no tree is reported so.
   pub unparsed : (why : TreeErr) → Parses bytes old new (Err why) → Lints bytes old new (unparsed_by new.memory.state.is_growing why)
   unparsed (tree.Syntax at) parsed = lints (Syntax at) parsed.0 tt (never (λ no. cc) (λ no. cc)) (λ no. absurd (cc)) (λ no. absurd (cc))
   unparsed (tree.TooDeep at) parsed = lints (TooDeep at) parsed.0 tt (never (λ no. cc) (λ no. cc)) (λ no. absurd (cc)) (λ no. absurd (cc))

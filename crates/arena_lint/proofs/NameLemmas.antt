@@ -23,7 +23,7 @@ use Rattle.arena_tree.proofs.Layers.{one_row, list_len, seen, some_node}
 use Rattle.arena_lint.specs.Rooms.{HasExpr, HaveExprs, ListHasExprs, AreNamed, stmt_names}
 use Rattle.arena_lint.specs.Steps.{Left}
 
--- ---- Expressions with no kids
+-- ---- Expressions with no children
 
 -- a name is a text
 pub name_at : {m : Memory} {n : Node} {room : ℕ} → HasExpr m n room → n.kind ≡ kind.Name
@@ -31,9 +31,10 @@ pub name_at : {m : Memory} {n : Node} {room : ℕ} → HasExpr m n room → n.ki
 name_at {m} {n} has is =
     let s = seen kind.Name m n is has.expr has.stands in (s.0, name_text (text_bytes m n.text) (subst IsExpr s.1 has.good))
 
--- ---- Nodes with kids
+-- ---- Nodes with children
 
--- The node's list of kids stands for expressions with these names. It has them where they are good, and where there is room for as many.
+-- The node's list of children represents expressions with these names, if it is well formed and there is room for as
+-- many.
 pub record HasKids (m : Memory) (n : Node) (names : List (List ℕ)) (count : ℕ) (IsGood : Type 0) : Type 0 where
   pub named : AreNamed m (kids_in m n) names
   pub have : (room : ℕ) → IsGood → count ≤ room → ListHasExprs m (kids_of n) room
@@ -82,7 +83,7 @@ kid_within {m} {ns} {room} i n have = by have.exprs ns i have.stand have.good ha
     by (And e rest) (k ∷ ns) (suc i) at good few is = by rest ns i at.1 good.1 (omega (arith, few)) is
     by _ _ i at good few is = absurd at
 
--- One kid more is behind.
+-- One more child is done.
 pub kid_found : {m : Memory} {sets : List NameSet} {found new all : List Finding} (ns : List Node) (i : ℕ) (n : Node)
     → slice_get ns i ≡ Some n → ((e : Expr) → ExprAt e m n → new ≡ found ++ undefined sets (names_of e))
     → Left m (drop i ns) sets found all → Left m (drop (i + 1) ns) sets new all
@@ -98,7 +99,7 @@ kid_found {m} {sets} {found} {new} {all} ns i n is one before =
       all_is = rw (one e at.0, append_assoc, ← undefined_both sets (names_of e) (all_names rest)) before;
     }
 
--- Behind the last one nothing is left.
+-- After the last one nothing is left.
 pub kids_found : {m : Memory} {sets : List NameSet} {found all : List Finding} (v : Vec Node) (i : ℕ) → i ≡ v.raw.len
     → Left m (drop i (vec_list node_item m v)) sets found all → found ≡ all
 kids_found {m} {sets} {found} {all} v i last left =

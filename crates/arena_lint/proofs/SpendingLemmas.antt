@@ -1,4 +1,4 @@
--- What calls spend that are made one after another.
+-- What calls spend one after another.
 use Rattle.std.proofs.Common.{◌≡◌, ℕ, ◌+◌, ◌≤◌, refl, ap, ◌∙◌, arith, Ok, Err, Some, None, List}
 use Rattle.std.specs.Prelude.{Result, Option, IsErr, IsErrAnd}
 use Rattle.std.proofs.lemmas.Option.{none-some, same_Some}
@@ -27,7 +27,7 @@ err_is (Err f) e is = ap Err (same_Some f e is)
 
 -- ---- Spending
 
--- What the arena says of one call is what is said here.
+-- What is promised of one call of the arena, in these terms.
 pub spends_costs : {X : Type 0} {layouts : Layouts} {few many before after all left : ℕ} {old new : View} {result : Result X AllocError}
     → Costs far_up few before after old new result → KeepsKind old.memory new.memory → (result ≡ Err CapacityOverflow → ⊥)
     → ((k : ℕ) → result ≡ Err (AllocErr k) → IsDenied layouts new) → few + before ≤ many + all
@@ -107,7 +107,7 @@ takes_more many less takes = record {
 pub takes_exhausted : {weight : ℕ} (a : View) (k : Known) (error : Option AllocError) → IsExhausted error → Takes weight a a k k error
 takes_exhausted a k error exhausted = record { numbers = λ is. omega arith; spends = λ few. spends_nothing exhausted }
 
--- what `?` hands on
+-- what `?` passes on
 pub err_takes : {X : Type 0} {weight : ℕ} {old new : View} {k l : Known} (result : Result X AllocError) {e : AllocError}
     → IsErr result × IsErrAnd result (λ f. f ≡ e) → Takes weight old new k l (Some e) → Takes weight old new k l (error_of result)
 err_takes (Ok x) is takes = absurd is.1

@@ -59,7 +59,7 @@ line_within {m} {ns} {room} {others} i n have = by have.stmts ns i have.stand ha
         ((all_of_both (stmt_blocks s m k) (stmts_blocks rest m ns) others).0 apart).1 is
     by _ _ i at good light few apart is = absurd at
 
--- A node stands for one statement at most.
+-- A node represents at most one statement.
 one_stmt : (s t : Stmt) (m : Memory) (n : Node) → StmtAt s m n → StmtAt t m n → s ≡ t
 one_stmt s t m n one two = same (one_stmts (Then s NoStmts) (Then t NoStmts) m (n ∷ []) (one, tt) (two, tt))
   where
@@ -98,9 +98,10 @@ show_finds m k first found (Err e') (Show e) n at no-let no-block uses sets know
 show_finds m k first found (Ok x) (Show e) n at no-let no-block uses sets knows = (knows, uses sets knows)
 show_finds m k first found result (tree.Block body) n at no-let no-block uses sets knows = absurd (no-block at.0)
 
--- ---- Trees stay
+-- ---- Trees are unchanged
 
--- What stands on blocks that lie apart from the names' stands after a call that moved these, and its blocks lie apart still.
+-- What is represented on blocks that are apart from the names' still is after a call that moved these, and its blocks
+-- are still apart.
 still : {old new : Memory} {k l : Known} → Moves old new k l → (P : Memory → Type 0) (blocks : Memory → List Block)
     → AreReadable old.state (blocks old) → AreAllApart (blocks old) (all_blocks old k)
     → (Agree old new (blocks old) → AreReadable new.state (blocks old) → P new × (blocks new ≡ blocks old))
@@ -181,7 +182,7 @@ block_body {m} {n} {room} {others} has is =
       };
     }
 
--- The statements of a block stand in a later arena.
+-- The statements of a block are represented in a later arena.
 pub body_still : {old new : Memory} {k l : Known} {n : Node} {room : ℕ} → Moves old new k l → HasStmt old n room (all_blocks old k)
     → n.kind ≡ kind.Block → (s : Stmt) → StmtAt s old n → (ss : Stmts) × (s ≡ tree.Block ss) × StmtsAt ss new (kids_in new n)
 body_still {new = new} {n = n} moves has is s at =

@@ -105,7 +105,7 @@ module _ {old now : View} {k l : Known} {first before : List Finding} (v : Vec N
     (walking : Walking old now k l first before (vec_list node_item old.memory v) i) where
   module _ {room : ℕ} {n : Node} (has : ListHasStmts old.memory v room (all_blocks old.memory k))
       (is : slice_get (vec_list node_item now.memory v) i ≡ Some n) where
-    -- The list has the nodes that it had, and what stood there stands there still.
+    -- The list has the nodes that it had, and they still represent the same.
     there : slice_get (vec_list node_item old.memory v) i ≡ Some n
     there = subst (λ (ns : List Node). slice_get ns i ≡ Some n) (same_list walking.moves has) is
 
@@ -119,7 +119,7 @@ module _ {old now : View} {k l : Known} {first before : List Finding} (v : Vec N
         (subst (StmtsAt left old.memory) (drop_item (vec_list node_item old.memory v) i n there) (walking.behind ss at).stand)
 
     module _ {new : View} {j : Known} where
-      -- What is behind, and one statement more, are among all of them.
+      -- What is done, and one statement more, are among all of them.
       pub walking_takes : {error : Option AllocError} (ss : Stmts) → StmtsAt ss old.memory (vec_list node_item old.memory v)
           → ((s : Stmt) → StmtAt s now.memory n → Takes (weight s) now new l j error) → Takes (weights ss) old new k j error
       walking_takes ss at takes =
@@ -128,7 +128,7 @@ module _ {old now : View} {k l : Known} {first before : List Finding} (v : Vec N
           takes_more (weights ss) (omega (arith, behind.all, ap weights one.is))
           (takes_then behind.takes (takes one.stmt (stands one.stmt one.stands)))
 
-      -- One statement more is walked over.
+      -- One more statement is walked over.
       pub walking_next : {after : List Finding} → Moves now.memory new.memory l j
           → ((s : Stmt) → StmtAt s now.memory n → Finds now.memory new.memory l j before after (Ok tt) (walk_stmt s))
           → ((s : Stmt) → StmtAt s now.memory n → Takes (weight s) now new l j None)
@@ -146,7 +146,7 @@ module _ {old now : View} {k l : Known} {first before : List Finding} (v : Vec N
         };
       }
 
-  -- All are behind.
+  -- All are done.
   module _ (ss : Stmts) (at : StmtsAt ss old.memory (vec_list node_item old.memory v)) (last : i ≡ v.raw.len) where
     all_behind : (walking.behind ss at).left ≡ NoStmts
     all_behind = let behind = walking.behind ss at in none_left behind.left old.memory (subst (StmtsAt behind.left old.memory)

@@ -1,4 +1,4 @@
--- What comes of a text that a worker lints on an arena of a pool.
+-- What is promised of a text that a worker lints on an arena of a pool.
 use Rattle.std.specs.Prelude.{◌≡◌, ◌≢◌, ℕ, ◌^◌, ◌≤◌, ◌⊎◌, Bool, true, false, List, length, None, IfNone, IsSomeAnd}
 use Rattle.arena_chunks.specs.Source.{Source}
 use Rattle.arena_pool.specs.declared.kind.PoolKind.{PoolKind}
@@ -13,9 +13,9 @@ use Rattle.lint_reports.specs.declared.report.FileReport.{FileReport}
 use Rattle.lint_reports.specs.declared.report.FileReport.TheVariants.{Checked, Syntax, TooDeep, NumberTooBig, Full, Refused, OutOfMemory}
 use Rattle.arena_lint.specs.Linting.{Lints, lint_bytes}
 
--- What comes of a text alone, over a pool of this kind: its one report. A report that says nothing of the text comes of programs alone, or
--- of lack of memory before the text was begun. It is `Full` only where the pool's arenas have fewer bytes than it may take, and `Refused`
--- only over a standard pool, exactly where what shows why is there.
+-- What is promised of each text over a pool of this kind: its one report. A report that says nothing of the text is
+-- only of a program, or of lack of memory before the text was begun. It is `Full` only if the pool's arenas have fewer
+-- bytes than it may take, and `Refused` only over a standard pool, exactly if there is something that shows why.
 pub record IsLintedAlone {C : Type 0} (source : C → Source) (kind : PoolKind) (bytes : List ℕ) (linted : Linted C) : Type 0 where
   pub reports : Reports bytes linted.report
   pub stopped : IfNone (said linted.report) (IsProgramText bytes ⊎ (linted.report ≡ OutOfMemory))
@@ -33,7 +33,7 @@ is_refused Full = false
 is_refused Refused = true
 is_refused OutOfMemory = false
 
--- what came of a text as work
+-- the result of a text as work
 abbrev pub linted : {C : Type 0} → Served FileReport C → Linted C
 linted served = record { report = served.outcome; starved = served.starved }
 

@@ -16,7 +16,7 @@ abbrev pub has_number : List (ℕ × ℕ) → Option ℕ → Bool
 has_number scope None = false
 has_number scope (Some id) = is_some (value_in scope id)
 
--- The scope has the numbers of just these names, and no number that no text has.
+-- The scope has the numbers of exactly these names, and no number that no text has.
 pub record IsScope (texts : List (List ℕ)) (names : NameSet) (scope : List (ℕ × ℕ)) : Type 0 where
   pub same : (name : List ℕ) → has_name names name ≡ has_number scope (number_of texts name)
   pub within : (id : ℕ) → length texts ≤ id → value_in scope id ≡ None
@@ -29,7 +29,7 @@ AreScopes texts known scopes = AllZip (IsScope texts) known scopes
 abbrev pub Knows : Memory → Known → List NameSet → Type 0
 Knows m k known = AreScopes (names_in m k.symbols) known (scopes_in entry_item m k.scopes)
 
--- what is found where a definition is found to be one of these, or none
+-- the findings of a definition: one of this kind, or none
 abbrev pub found_of : Option FindKind → List ℕ → List Finding
 found_of None name = []
 found_of (Some kind) name = finding kind name ∷ []

@@ -1,4 +1,4 @@
--- What the report of a text is, and what it takes.
+-- The report of a text, and what it takes.
 use Rattle.std.specs.Prelude.{◌≡◌, ℕ, ◌+◌, ◌*◌, ◌≤◌, ◌⊎◌, Bool, true, false, List, length, IfNone}
 use Rattle.arena_chunks.specs.Source.{View}
 use Rattle.arena_chunks.specs.Asking.{AsksWithin, IsFull}
@@ -15,16 +15,18 @@ use Rattle.lint_reports.specs.Reports.{Reports, said}
 use Rattle.lint_reports.specs.declared.report.FileReport.{FileReport}
 use Rattle.lint_reports.specs.declared.report.FileReport.TheVariants.{Syntax, TooDeep, NumberTooBig, Full, Refused, OutOfMemory}
 
--- the bytes of the arena that the report of a text takes at most
+-- the most bytes of the arena that the report of a text takes
 abbrev pub lint_bytes : ℕ → ℕ
 lint_bytes length = 4096 * (length + 1)
 
--- what the report of a text asks for: what its tree does, and for its names blocks of eight parts for each byte and twenty, at most
+-- what the report of a text asks for: what its tree asks for, and for its names blocks of at most eight parts for each
+-- byte and twenty
 abbrev pub LintsAsk : List ℕ → Layouts
 LintsAsk bytes size align = AskedFor bytes size align ⊎ NamesAsk (8 * length bytes + 20) size align
 
--- A text has its own report, on an arena of which nothing was used. Only a program is not read to its end: where a block that it asks for has
--- no place, in an arena that doesn't grow and has fewer bytes than it may take, or that grows and was starved; or where memory runs out.
+-- A text has its own report, on an arena of which nothing was used. Only the report of a program may say nothing of the
+-- text: where a block that it asks for has no place, in an arena that doesn't grow and has fewer bytes than it may
+-- take, or in one that grows and was starved; or where memory runs out.
 pub record Lints (bytes : List ℕ) (old new : View) (report : FileReport) : Type 0 where
   pub reports : Reports bytes report
   pub stopped : IfNone (said report) (IsProgramText bytes)
@@ -36,12 +38,12 @@ pub record Lints (bytes : List ℕ) (old new : View) (report : FileReport) : Typ
       → IsStarvedWithin (lint_bytes (length bytes)) old.memory.state new.memory.state old.source new.source
   pub kind : KeepsKind old.memory new.memory
 
--- what is said where a block had no place, by whether the arena grows
+-- the report where a block had no place, by whether the arena grows
 abbrev pub no_place : Bool → FileReport
 no_place true = Refused
 no_place false = Full
 
--- what is said where a text has no tree
+-- the report of a text that has no tree
 abbrev pub unparsed_by : Bool → TreeErr → FileReport
 unparsed_by growing (tree.Syntax at) = Syntax at
 unparsed_by growing (tree.TooDeep at) = TooDeep at

@@ -16,7 +16,8 @@ use Rattle.arena_tree.specs.StmtsAt.{StmtAt, StmtsAt, stmt_blocks, stmts_blocks}
 use Rattle.arena_tree.specs.declared.node.Node.{Node}
 use Rattle.arena_tree.specs.declared.tree.Tree.{Tree}
 
--- The node stands for an expression with at most so many nodes below it, and so do nodes for expressions, and those of a list.
+-- The node represents an expression with at most `room` nodes below it; and so for nodes of expressions, and those of a
+-- list.
 pub record HasExpr (m : Memory) (n : Node) (room : ℕ) : Type 0 where
   pub expr : Expr
   pub stands : ExprAt expr m n
@@ -33,7 +34,7 @@ pub record ListHasExprs (m : Memory) (v : Vec Node) (room : ℕ) : Type 0 where
   pub held : IsVecIn node_item m v
   pub have : HaveExprs m (vec_list node_item m v) room
 
--- the nodes stand for expressions that have these names
+-- the nodes represent expressions that have these names
 pub record AreNamed (m : Memory) (ns : List Node) (names : List (List ℕ)) : Type 0 where
   pub exprs : Exprs
   pub stand : ExprsAt exprs m ns
@@ -41,8 +42,8 @@ pub record AreNamed (m : Memory) (ns : List Node) (names : List (List ℕ)) : Ty
 
 -- ---- Statements
 
--- The node stands for a statement with at most so many nodes below it, of the weight of a text at most, whose blocks lie apart from
--- these; and so do nodes for statements, and those of a list.
+-- The node represents a statement with at most `room` nodes below it, of the weight of a text at most, whose blocks are
+-- apart from these; and so for nodes of statements, and those of a list.
 pub record HasStmt (m : Memory) (n : Node) (room : ℕ) (others : List Block) : Type 0 where
   pub stmt : Stmt
   pub stands : StmtAt stmt m n

@@ -16,13 +16,13 @@ use Rattle.arena_symbols.specs.declared.names.Names.{Names as Known}
 use Rattle.arena_tree.specs.Spending.{KeepsKind, IsStarvedBehind}
 use Rattle.arena_symbols.specs.Named.{all_credit}
 
--- the bytes of the arena that a walk over statements of this weight takes at most
+-- the most bytes of the arena that a walk over statements of this weight takes
 abbrev pub walk_bytes : ℕ → ℕ
 walk_bytes weight = 1536 * weight
 
--- Calls that may bring so many bytes into use, less what is saved afterwards, and more by what was saved before. They ask for no more than
--- that takes. A block that is refused has one of these layouts and no place: over an arena that grows where it was starved, and over another
--- where it has fewer bytes. They are never stopped for want of numbers.
+-- Calls that may bring `bytes` into use, less what is saved afterwards, and more by what was saved before. They ask for
+-- no more than that takes. A block that is refused has one of these layouts and no place: an arena that grows was
+-- starved, and any other has fewer bytes. The calls never run out of numbers.
 pub record Spends (layouts : Layouts) (bytes before after : ℕ) (old new : View) (error : Option AllocError) : Type 0 where
   pub takes : used new + after ≤ used old + (bytes + before)
   pub asks : AsksWithin (used old + (bytes + before)) old new
@@ -41,7 +41,8 @@ numbers_in m k =
 abbrev pub walk_asks : ℕ → Layouts
 walk_asks count = NamesAsk (4 * count + 16)
 
--- A walk over statements of a weight adds at most two to the count for each. Where there may be so many it spends what they take.
+-- A walk over statements adds at most twice their weight to the count. If there may be that many, it spends what they
+-- take.
 pub record Takes (weight : ℕ) (old new : View) (k l : Known) (error : Option AllocError) : Type 0 where
   pub numbers : error ≡ None → numbers_in new.memory l ≤ numbers_in old.memory k + 2 * weight
   pub spends : numbers_in old.memory k + 2 * weight ≤ most_texts

@@ -18,25 +18,27 @@ use Rattle.arena_tree.specs.declared.node.Node.{Node}
 use Rattle.arena_lint.specs.Knowing.{Knows}
 use Rattle.arena_lint.specs.Spending.{Takes}
 
--- Some expressions are behind: what these nodes stand for is left, and what is found with what is found of them is all.
+-- Some expressions are done: these nodes represent those that are left, and what was found and what is found of them is
+-- all.
 pub record Left (m : Memory) (ns : List Node) (sets : List NameSet) (found all : List Finding) : Type 0 where
   pub exprs : Exprs
   pub stand : ExprsAt exprs m ns
   pub all_is : found ++ undefined sets (all_names exprs) ≡ all
 
--- What is found is a walk's, and so is what is known behind it.
+-- The findings are those of a walk, and so is what is known after it.
 abbrev pub Finds : Memory → Memory → Known → Known → List Finding → List Finding → Result (Unit {0}) AllocError → (List NameSet
     → Walk) → Type 0
 Finds old new k l first found result walked =
     (sets : List NameSet) → Knows old k sets → OnOk result (Knows new l (walked sets).known × (found ≡ first ++ (walked sets).findings))
 
--- Some statements are behind: what is known there, from which a walk over those that are left ends as one over all.
+-- Some statements are done: from what is known there, a walk over those that are left ends as one over all.
 pub record Halfway (new : Memory) (l : Known) (first found : List Finding) (ss left : Stmts) (sets : List NameSet) : Type 0 where
   pub between : List NameSet
   pub knows : Knows new l between
   pub all : found_first found (walk left between) ≡ found_first first (walk ss sets)
 
--- What the statements behind have taken, and where a walk over all is halfway. These nodes stood for those that are left.
+-- What the statements that are done have taken, and where a walk over all is halfway. These nodes represented those
+-- that are left.
 pub record Behind (old new : View) (k l : Known) (first found : List Finding) (ns : List Node) (ss : Stmts) : Type 0 where
   pub left : Stmts
   pub stand : StmtsAt left old.memory ns
@@ -54,7 +56,7 @@ abbrev pub IsNotEmpty : List NameSet → Type 0
 IsNotEmpty [] = ⊥
 IsNotEmpty (names ∷ sets) = Unit {0}
 
--- A block begins: the list stands for its statements, and an empty set of names is known.
+-- A block begins: the list represents its statements, and an empty set of names is known.
 pub record Enters (old new : Memory) (k l : Known) (n : Node) (list : Vec Node) : Type 0 where
   pub body : (s : Stmt) → StmtAt s old n → (ss : Stmts) × (s ≡ tree.Block ss) × StmtsAt ss new (vec_list node_item new list)
   pub knows : (sets : List NameSet) → Knows old k sets → Knows new l ([] ∷ sets) × IsNotEmpty sets

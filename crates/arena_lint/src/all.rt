@@ -12,7 +12,7 @@ use std::alloc::Global;
 use std::sync::Wait;
 use std::thread::Threads;
 
-// The sources as parts, of which no byte is copied.
+// The sources as parts. Copies no byte.
 fn parts_of<'a>(alloc: Global, sources: &'a [Bytes]) -> Result<Vec<Source<'a>>, OutOfMemory>
     ensures { IfOk result (λ parts. parts.items ≡ sources.now) }
 {
@@ -24,21 +24,22 @@ fn parts_of<'a>(alloc: Global, sources: &'a [Bytes]) -> Result<Vec<Source<'a>>, 
     Ok(parts)
 }
 
-/// The report of each text, in order, by so many workers at most, each a thread, and never more than there are texts. Each text
-/// has an arena of the pool to itself, of which nothing is used, and its report is its own alone: whatever was linted before or
-/// beside it, by however many workers.
+/// Lints texts over a pool, on at most `workers` threads and never more than there are texts. Returns the report of
+/// each text, in order. Each text has an arena of the pool to itself, of which nothing is used, and the promises about
+/// its report don't depend on what is linted before it or at the same time, nor on how many workers there are.
 ///
-/// - It is `Full` only over a fixed pool, where the arenas have fewer than 4096 bytes for each byte of the text and 4096 more.
-/// - It is `Refused` only over a standard pool, and then `starved` has what shows that the arena's source of chunks refused, or
+/// - It is `Full` only over a fixed pool whose arenas have fewer than 4096 bytes for each byte of the text and 4096
+///   more.
+/// - It is `Refused` only over a standard pool, and then `starved` shows that the arena's source of chunks refused, or
 ///   that the arena grew large. Such an arena doesn't go back to the pool.
-/// - It is `OutOfMemory` where there is no memory for it, be it for an arena or for what was found.
+/// - It is `OutOfMemory` where there is no memory for it: for an arena, or for what was found.
 ///
-/// The gate is told of each text's begin and end, by the worker that lints it. The call waits at the pool's lock, and without
-/// end over a fixed pool that has no arena, where there are texts.
+/// The worker that lints a text calls the gate when it begins and when it ends. The call waits at the pool's lock; over
+/// a fixed pool with no arena, it waits forever if there are texts.
 ///
 /// # Errors
 ///
-/// Memory for the claims, the workers or their reports runs out.
+/// Out of memory for the claims, the workers or their reports.
 pub fn lint_all<
     R: Threads + Wait + Sync,
     K: ChunkMaker + Drop + Send,

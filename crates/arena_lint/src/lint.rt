@@ -19,7 +19,7 @@ use lint_reports::{FileReport, Findings};
 use std::alloc::Global;
 use tree_rules::laws::tree_weight;
 
-// A block had no place.
+// The report where a block had no place.
 fn no_place<C: ChunkSource>(a: &Allocator<C>) -> FileReport
     ensures { result ≡ no_place a.now.memory.state.is_growing }
 {
@@ -30,7 +30,7 @@ fn no_place<C: ChunkSource>(a: &Allocator<C>) -> FileReport
     }
 }
 
-// A text has no tree.
+// The report of a text that has no tree.
 fn unparsed<C: ChunkSource>(a: &Allocator<C>, why: TreeErr) -> FileReport
     ensures { result ≡ unparsed_by a.now.memory.state.is_growing why }
 {
@@ -57,14 +57,15 @@ fn findings<C: ChunkSource>(alloc: Global, a: &mut Allocator<C>, tree: Tree) -> 
     Ok(found)
 }
 
-/// What is found in a text of at most 16,777,216 bytes. Its tree, its names and their scopes are placed in the arena, of which
-/// nothing is used yet; they take at most 4096 bytes for each byte of the text, and 4096 more.
+/// Returns the report of a text of at most 16,777,216 bytes. Its tree, its names and their scopes are placed in the
+/// arena, of which nothing is used yet; they take at most 4096 bytes for each byte of the text, and 4096 more.
 ///
 /// # Errors
 ///
-/// `Syntax`, `TooDeep` or `NumberTooBig` at the first token for which the text is no program. Where a block that a program asks
-/// for has no place, it is `Full` over an arena that doesn't grow, which has fewer bytes than those, and `Refused` over one that
-/// grows, which was starved. It is `OutOfMemory` where memory runs out.
+/// `Syntax`, `TooDeep` or `NumberTooBig` at the first token that is refused, or `Syntax` at the end of a text that ends
+/// too early. Where a block that a program asks for has no place, it is `Full` over an arena that doesn't grow, which
+/// has fewer bytes than those, and `Refused` over one that grows, which was starved. It is `OutOfMemory` where memory
+/// runs out.
 pub fn lint_one<C: ChunkSource>(alloc: Global, a: &mut Allocator<C>, src: &[u8]) -> FileReport
     requires unused { used a.old ≡ 0 }
     requires small { length src.now ≤ 2 ^ 24 }
@@ -79,7 +80,7 @@ pub fn lint_one<C: ChunkSource>(alloc: Global, a: &mut Allocator<C>, src: &[u8])
         Ok(found) => FileReport::Checked(found),
         Err(AllocError::AllocErr { .. }) => no_place(a),
         Err(AllocError::OutOfMemory) => FileReport::OutOfMemory,
-        // A walk never passes what may have numbers.
+        // A walk never needs more numbers than there are.
         Err(AllocError::CapacityOverflow) => unreachable!(),
     }
 }

@@ -1,4 +1,4 @@
-// The names of an expression that are defined nowhere.
+// The names of an expression that aren't defined.
 ghost use Rattle.std.specs.Prelude.{◌≡◌, ◌≢◌, ◌-◌, ◌<◌, ◌≤◌, [], ◌∷◌, ◌++◌, List, OnOk, Some, slice_get};
 ghost use Rattle.std.specs.Str.{IsUtf8};
 ghost use Rattle.arena_items.specs.Values.{IsTextIn, text_bytes};
@@ -19,7 +19,7 @@ use lint_reports::{FindKind, Findings};
 use std::alloc::Global;
 use std::str;
 
-// The names that a walk knows: each has a number, and the numbers of those that are defined stand in scopes.
+// The names that a walk knows: each has a number, and scopes hold the numbers of those that are defined.
 pub(crate) type Known = arena_symbols::Names;
 
 // Whether a name is defined.
@@ -31,7 +31,7 @@ fn is_defined<C: ChunkSource>(a: &Allocator<C>, known: &Known, name: &str) -> bo
     known.resolve(a, name).is_some()
 }
 
-// A name is used.
+// Adds a finding if the name isn't defined.
 fn use_name<C: ChunkSource>(
     alloc: Global,
     a: &Allocator<C>,
@@ -53,7 +53,7 @@ fn use_name<C: ChunkSource>(
     found.push(FindKind::Undefined, copy)
 }
 
-// The list of the kids of an expression that isn't a number nor a name. The count is there for what is known of it.
+// The list of the children of an expression that is neither a number nor a name. Only the contract uses the count.
 fn kids_within<C: ChunkSource>(a: &Allocator<C>, node: Node, _room: u64) -> Vec<Node>
     requires tree { HasExpr a.now.memory node _room }
     requires num { node.kind ≢ Kind.Num }

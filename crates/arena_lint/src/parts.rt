@@ -12,19 +12,19 @@ use std::alloc::Global;
 use std::sync::Wait;
 use std::thread::Threads;
 
-/// What came of a source.
+/// The result for a source.
 #[derive(Drop)]
 pub struct Linted<C: ChunkSource> {
-    /// What is said of it.
+    /// Its report.
     pub report: FileReport,
-    /// What shows that it was starved, exactly where the report is `Refused`.
+    /// What shows that it was starved, exactly if the report is `Refused`.
     pub starved: Option<Starved<C>>,
 }
 
-/// Why no source has a report.
+/// Why no reports are returned.
 #[derive(Clone, Copy, PartialEq, Eq, Debug, thiserror::Error)]
 pub enum LintErr {
-    /// Memory for the claims, the workers or the reports runs out.
+    /// Out of memory for the claims, the workers or the reports.
     #[error("out of memory")]
     OutOfMemory,
 }
@@ -35,7 +35,7 @@ impl From<OutOfMemory> for LintErr {
     }
 }
 
-// Sources, each of which has its report. The slice has no bytes, and is there for their lifetime alone.
+// The work of linting sources. The slice is empty, and is there for their lifetime alone.
 #[derive(Drop)]
 struct Linting<'a> {
     of: &'a [u8],
@@ -64,7 +64,7 @@ impl<'a, C: ChunkSource> Work<C> for Linting<'a> {
     }
 }
 
-// What came of each source, by the names of the linter.
+// The results of the work, in the types of the linter.
 fn with_names<C: ChunkSource + Drop>(
     alloc: Global,
     all: Vec<Served<FileReport, C>>,
@@ -82,11 +82,11 @@ fn with_names<C: ChunkSource + Drop>(
     Ok(each)
 }
 
-/// As `lint_all`, of sources that are parts of one input, of which no byte is copied.
+/// Does what `lint_all` does, for sources that are parts of one input. Copies no byte.
 ///
 /// # Errors
 ///
-/// Memory for the claims, the workers or their reports runs out.
+/// Out of memory for the claims, the workers or their reports.
 #[tactic(auto, using(crate::proofs::AllLemmas::all_alone))]
 pub fn lint_parts<
     R: Threads + Wait + Sync,

@@ -11,9 +11,9 @@ use arena_chunks::{Allocator, ChunkSource};
 use lint_reports::FileReport;
 use std::alloc::Global;
 
-/// Lints two texts one after another on an arena that doesn't grow, with a reset between them. Each has its own report, whatever
-/// the other defines; and whatever the first took, the second has all bytes of the arena. `Full` is told only of a text for which the
-/// arena has too few bytes, and `Refused` of none.
+/// Lints two texts one after another on an arena that doesn't grow, with a reset between them. Each has its own report,
+/// whatever the other defines; and the second has all bytes of the arena, whatever the first took. A report is `Full`
+/// only if the arena has too few bytes for its text, and never `Refused`.
 pub fn lint_two<C: ChunkSource>(
     alloc: Global,
     a: &mut Allocator<C>,
@@ -33,7 +33,7 @@ pub fn lint_two<C: ChunkSource>(
 {
     used_by_giving_back();
     let one = lint_one(alloc, a, first);
-    // So the arena is known to be valid, and a reset keeps its bytes.
+    // Provides that the arena is valid, so that a reset keeps its bytes.
     let _ = a.min_align();
     a.reset();
     let two = lint_one(alloc, a, second);

@@ -26,7 +26,7 @@ use lint_reports::{FindKind, Findings};
 use std::alloc::Global;
 use std::str;
 
-// Want of memory outside the arena.
+// Out of memory outside the arena.
 fn exhausted(r: Result<(), OutOfMemory>) -> Grown<()>
     ensures same { IfOk result (λ x. r ≡ Ok x) }
     ensures exhausted { IsExhausted (error_of result) }
@@ -37,7 +37,7 @@ fn exhausted(r: Result<(), OutOfMemory>) -> Grown<()>
     }
 }
 
-// A name is defined. What is found of it, if anything.
+// Defines a name. Returns what is found of it, if anything.
 fn define_name<C: ChunkSource>(
     a: &mut Allocator<C>,
     known: &mut Known,
@@ -57,7 +57,7 @@ fn define_name<C: ChunkSource>(
     Ok(finding(is_new, is_seen))
 }
 
-// What is found of a definition, by whether it is new in its block, and whether a block around has it.
+// What is found of a definition, by whether it is new in its block, and whether an enclosing block has it.
 fn finding(is_new: bool, is_seen: bool) -> Option<FindKind>
     ensures { result ≡ (if is_new then (if is_seen then Some FindKind.Shadowed else None) else Some FindKind.Redefined) }
 {
@@ -71,7 +71,7 @@ fn finding(is_new: bool, is_seen: bool) -> Option<FindKind>
     }
 }
 
-// A finding, if there is one.
+// Adds a finding, if there is one.
 fn add(found: &mut Findings, kind: Option<FindKind>, name: Bytes) -> Grown<()>
     ensures added { OnOk result (found.new ≡ found.old ++ found_of kind name) }
     ensures exhausted { IsExhausted (error_of result) }
@@ -82,7 +82,7 @@ fn add(found: &mut Findings, kind: Option<FindKind>, name: Bytes) -> Grown<()>
     }
 }
 
-// A definition in the tree.
+// Walks over a definition in the tree.
 fn define<C: ChunkSource>(
     alloc: Global,
     a: &mut Allocator<C>,
@@ -108,7 +108,7 @@ fn define<C: ChunkSource>(
     add(found, kind, name)
 }
 
-// The names that a statement uses, which is no block.
+// Uses the names of a statement that is no block.
 fn use_names<C: ChunkSource>(
     alloc: Global,
     a: &Allocator<C>,
@@ -160,7 +160,7 @@ fn let_line<C: ChunkSource>(
     define(alloc, a, known, node.text, found)
 }
 
-// A block begins. The list of its statements.
+// Begins a block. Returns the list of its statements.
 fn enter_block<C: ChunkSource>(
     a: &mut Allocator<C>,
     known: &mut Known,
@@ -179,7 +179,7 @@ fn enter_block<C: ChunkSource>(
     Ok(kids(a, node))
 }
 
-// A block ends.
+// Ends a block.
 fn leave_block<C: ChunkSource>(a: &mut Allocator<C>, known: &mut Known)
     requires { AreNames a.old.memory known.old }
     ensures moves { Moves a.old.memory a.new.memory known.old known.new }

@@ -1,4 +1,4 @@
--- A run whose picture was drawn, and one behind which memory runs out.
+-- A run whose picture was drawn, and one after which memory runs out.
 use Rattle.std.proofs.Common.{◌≡◌, ℕ, ◌∙◌, ◌<◌, List, length, take, take_all, Some, None, subst, sym, arith}
 use Rattle.std.specs.FinMap as finite
 use Rattle.std.proofs.lemmas.Option.{slice_get_past}

@@ -10,7 +10,7 @@ use Rattle.arena_chunks.specs.Walks.{told_chunk}
 use Rattle.arena_store.specs.declared.block.Block.{Block}
 use Rattle.arena_picture.specs.Shapes.{has_block, place_from, StandsIn}
 
--- the chunk in whose used part a block lies has it, and one that begins behind it doesn't
+-- the chunk whose used part has a block has it, and one that begins after it doesn't
 using_has : (m : ℕ) (chunk : Chunk) (older : List Chunk) (block : Block) → AreChunks m (chunk ∷ older)
     → IsTrue (is_used_by block.addr block.size chunk) → has_block (told_chunk chunk) block ≡ true
 using_has m chunk older block valid used = let low = valid.0.cursor_low in grind (arith, nat_tests)

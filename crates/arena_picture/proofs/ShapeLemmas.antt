@@ -21,7 +21,7 @@ all_shown chunks held =
     flat_map-append shown_block (chunk_shapes 0 chunks) (map (block_shape chunks) held)
     ∙ ap (λ xs. xs ++ shown_blocks (map (block_shape chunks) held)) (none_shown 0 chunks) ∙ each_shown chunks held
 
--- the shapes of all chunks were put, and then those of all blocks
+-- the shapes of all chunks were appended, and then those of all blocks
 shapes_put : (chunks : List Chunk) (held : List (ℕ × Block)) (first all : List Shape) (n k : ℕ) → length chunks ≤ n → length held ≤ k
     → first ++ chunk_shapes n (drop n chunks) ≡ chunk_shapes 0 chunks → all ≡ first ++ map (block_shape chunks) (take k held)
     → all ≡ shapes_of chunks held

@@ -10,12 +10,12 @@ use Rattle.arena_core.specs.declared.iter.Chunk.{Chunk}
 use Rattle.arena_picture.specs.declared.shapes.Shape.{Shape}
 use Rattle.arena_picture.specs.Text.{filled, label_template, label_text, shape_text, em_of, head_template, foot_template, svg_text}
 
--- a number was put in place of a `$`
+-- a number was appended in place of a `$`
 filled_number : (text numbers : List ℕ) (n : ℕ) → filled (36 ∷ text) (n ∷ numbers) ≡ decimal n ++ filled text numbers
 unfolding filled
 filled_number text numbers n = refl
 
--- a byte that isn't one, or for which no number is left, was put
+-- a byte that isn't one, or for which no number is left, was appended
 pub filled_byte : (text numbers : List ℕ) (n c : ℕ) → (c ≡ 36 → ⊥) → filled (c ∷ text) (n ∷ numbers) ≡ c ∷ filled text (n ∷ numbers)
 unfolding filled
 filled_byte text numbers n c other = let test : (c == 36) ≡ false = grind (arith, nat_tests) in rw test refl
@@ -66,7 +66,7 @@ all_put template out whole numbers i end before =
 
 -- ---- A block of some bytes
 
--- its label is put where it is wide enough
+-- its label is appended where it is wide enough
 pub labelled : (em name : ℕ) (block : Block) (a b : List ℕ) → em ≤ block.size / 9
     → b ≡ a ++ filled label_template (name ∷ block.size ∷ []) → b ≡ a ++ label_text em name block
 labelled em name block a b wide put = let test : nat_le em (block.size / 9) ≡ true = grind (arith, nat_tests) in rw test put

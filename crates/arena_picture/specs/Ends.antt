@@ -19,13 +19,13 @@ abbrev pub picture_of : State → List (ℕ × Block) → List ℕ
 picture_of state held =
     let chunks = map told_chunk state.chunks in svg_text chunks (shapes_of chunks held)
 
--- the block stands in the used part of a chunk of this state
+-- the block is in the used part of a chunk of this state
 abbrev pub HasPlace : State → Block → Type 0
 HasPlace state block =
     let chunks = map told_chunk state.chunks in StandsIn 0 chunks block (place_from 0 chunks block)
 
--- The calls were run, and the picture of the arena and of the blocks that names hold then was written, as this says. Each of
--- those that has bytes has its place in a chunk.
+-- The calls were run, and the picture of the arena and of the blocks that names hold afterwards was written, as this
+-- says. Each block with bytes has its place in a chunk.
 pub record RunsToPicture (old new : Outside) (calls : List Call) (Is : IsWritten) : Type 0 where
   pub replies : List Reply
   pub held : List (ℕ × Block)
@@ -34,6 +34,6 @@ pub record RunsToPicture (old new : Outside) (calls : List Call) (Is : IsWritten
   pub placed : (name : ℕ) (p : Place) → finite.get runs.last.held name ≡ Some p → 0 < p.size
       → HasPlace new.arena.memory.state (block_at runs.last.state.generation p)
 
--- A run ends as one of `arena_calls` does, but that what was written of it is the picture.
+-- A run ends as one of `arena_calls` does, except that the picture is what was written of it.
 abbrev pub Draws : Status → Outside → Outside → Type 0
 Draws = EndsWith RunsToPicture

@@ -9,7 +9,7 @@ use Rattle.arena_picture.specs.declared.shapes.Shape as shape
 abbrev pub has_block : arena.Chunk → Block → Bool
 has_block chunk block = nat_le chunk.base block.addr && nat_le (block.addr + block.size) (chunk.base + chunk.size)
 
--- Row and x of a block: the row of the first chunk that has it, and how far it lies behind that chunk's base. Where no chunk
+-- Row and x of a block: the row of the first chunk that has it, and its distance from that chunk's base. Where no chunk
 -- has it, which is so of empty blocks alone, that is the left end of the row below all chunks.
 abbrev pub place_from : ℕ → List arena.Chunk → Block → ℕ × ℕ
 place_from row [] block = (row, 0)
@@ -37,7 +37,7 @@ shown_block (shape.TheVariants.Block row x name block) = (name, block) ∷ []
 abbrev pub shown_blocks : List shape.Shape → List (ℕ × Block)
 shown_blocks shapes = flat_map shown_block shapes
 
--- A block of some bytes stands in the used part of a chunk, as far behind its base as the place says, in the chunk's row.
+-- A block with bytes is in the used part of a chunk, as far from its base as the place says, in the chunk's row.
 pub record StandsIn (first : ℕ) (chunks : List arena.Chunk) (block : Block) (place : ℕ × ℕ) : Type 0 where
   pub newer : List arena.Chunk
   pub chunk : arena.Chunk

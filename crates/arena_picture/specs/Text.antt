@@ -11,11 +11,11 @@ filled [] numbers = []
 filled (c ∷ text) [] = c ∷ filled text []
 filled (c ∷ text) (n ∷ numbers) = if c == 36 then decimal n ++ filled text numbers else c ∷ filled text (n ∷ numbers)
 
--- a line feed behind each line
+-- a line feed after each line
 abbrev pub lines : List (List ℕ) → List ℕ
 lines all = flat_map (λ (line : List ℕ). line ++ 10 ∷ []) all
 
--- What is said of a chunk, all of it, and its used part over it: the bytes from its cursor on.
+-- What is shown of a chunk: all of it, and its used part over it, which is the bytes from its cursor on.
 abbrev pub chunk_template : List ℕ
 chunk_template = lines
     (codes "<svg y='$em'><text y='1.5em'>chunk at $: $ bytes, $ used</text>"
@@ -28,8 +28,8 @@ chunk_text row chunk =
     let used = chunk.size - free in
     filled chunk_template ((row * 18) ∷ chunk.base ∷ chunk.size ∷ used ∷ chunk.size ∷ free ∷ used ∷ [])
 
--- A block of some bytes: one rectangle at its x, as wide as its bytes, with its name, its size and its address as its title.
--- Where it is 9 `em` wide, its name and its size stand on it.
+-- A block with bytes: one rectangle at its x, as wide as its bytes, with its name, its size and its address as its
+-- title. Where it is 9 `em` wide, it is labelled with its name and its size.
 abbrev pub block_template : List ℕ
 block_template =
     codes "<svg y='$em'><svg class='block' x='$' y='6em' width='$' height='8em'>" ++ 10

@@ -22,7 +22,7 @@ fn picture_of(alloc: Global, arena: &Arena<1>, held: &[(u32, Block)]) -> Result<
     svg_of(alloc, chunks.as_slice(), shapes.as_slice())
 }
 
-/// Reads all of the input as calls, runs them over the arena, and writes the picture of the arena after them. Nothing is
+/// Reads all of the input as calls, runs them on the arena, and writes the picture of the arena after them. Nothing is
 /// written before the last call was run.
 pub fn draw_lines<C: ChunkSource, I: Input, O: Output>(
     alloc: Global,

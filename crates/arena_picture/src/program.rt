@@ -1,4 +1,4 @@
-// What the program draws, says and answers.
+// The program: what it draws, writes and returns.
 ghost use Rattle.std.specs.Prelude.{◌≡◌, []};
 ghost use Rattle.std.specs.Process.{exit_status};
 ghost use Rattle.arena_rules.specs.Creation.{empty_state};
@@ -16,8 +16,8 @@ use arena_chunks::Arena;
 use std::alloc::Global;
 use std::process::ExitCode;
 
-/// The program: draws a new arena with a budget of 1 GiB after the calls of the input. It says on `messages` why it ends where
-/// all isn't well, and answers the exit status, which is the same where `messages` can't be written.
+/// The program: draws a new arena with a budget of 1 GiB after the calls of the input. If it fails, it writes the
+/// reason to `messages`. Returns the exit status, which is the same if `messages` can't be written.
 pub fn run_picture<C: Budgeted, I: Input, O: Output, E: Output>(
     alloc: Global,
     arena: &mut Arena<1>,
@@ -37,6 +37,6 @@ pub fn run_picture<C: Budgeted, I: Input, O: Output, E: Output>(
         × Explains [] status (E.written messages.old) (E.faults messages.old) (E.written messages.new) (E.faults messages.new) }
 {
     let status = draw_lines(alloc, arena, chunks, input, output);
-    // Words are never misused: it takes none.
+    // The program takes no words, so it needs no line for `Usage`.
     exit_with(messages, &status, b"")
 }

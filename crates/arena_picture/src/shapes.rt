@@ -5,7 +5,7 @@ ghost use Rattle.arena_picture.specs.Shapes.{has_block, place_from, shapes_of, s
 use arena_chunks::{Block, Chunk};
 use std::alloc::{AllocError, Global};
 
-/// What a picture shows. Each chunk has a row, the newest the first.
+/// A shape of a picture. Each chunk has a row, the newest the first one.
 #[derive(Clone, Copy)]
 pub enum Shape {
     Chunk {
@@ -42,7 +42,7 @@ fn place_of(chunks: &[Chunk], block: &Block) -> (u64, u64)
     (chunks.len() as u64, 0)
 }
 
-/// The shapes of these chunks, newest first, and of the blocks that names hold, in their order.
+/// Returns the shapes of these chunks, newest first, and of the blocks that names hold, in their order.
 pub fn shapes_of(
     alloc: Global,
     chunks: &[Chunk],

@@ -32,7 +32,7 @@ grey: free. hatched: used by no block. blue: blocks, name:bytes. red: empty bloc
 </text></svg></svg></svg>
 ";
 
-/// The template with a number in place of each `$`.
+/// Appends the template with a number in place of each `$`.
 pub fn put(out: &mut Vec<u8>, template: &[u8], numbers: &[u128]) -> Result<(), AllocError>
     ensures { OnOk result (out.new.items ≡ out.old.items ++ filled template.now numbers.now) }
 {
@@ -49,7 +49,7 @@ pub fn put(out: &mut Vec<u8>, template: &[u8], numbers: &[u128]) -> Result<(), A
     Ok(())
 }
 
-// A block that is at least 9 `em` wide is told its name and its size.
+// Appends a shape. A block that is at least 9 `em` wide is labelled with its name and its size.
 fn put_shape(out: &mut Vec<u8>, em: u64, shape: &Shape) -> Result<(), AllocError>
     ensures { OnOk result (out.new.items ≡ out.old.items ++ shape_text em shape.now) }
 {
@@ -91,7 +91,7 @@ fn em_of(chunks: &[Chunk]) -> u64
     largest / 160 + 1
 }
 
-/// The shapes as SVG, in a picture of these chunks. A row is 108 pixels high.
+/// Returns the shapes as SVG, in a picture of these chunks. A row is 108 pixels high.
 pub fn svg_of(alloc: Global, chunks: &[Chunk], shapes: &[Shape]) -> Result<Vec<u8>, AllocError>
     ensures { IfOk result (λ out. out.items ≡ svg_text chunks.now shapes.now) }
 {

@@ -16,7 +16,7 @@ pub struct Layout {
 }
 
 impl Layout {
-    // Whether the two numbers are a layout.
+    // Returns whether the two numbers are a valid layout.
     pub(crate) const fn is_valid(size: u64, align: u64) -> bool
         ensures { result ≡ is_layout size align }
     {
@@ -29,7 +29,7 @@ impl Layout {
         }
     }
 
-    /// The layout of this size and alignment, or none where there is no such layout.
+    /// Returns the layout of this size and alignment, or `None` if it isn't valid.
     pub const fn new(size: u64, align: u64) -> Option<Layout>
         ensures valid { is_some result ≡ is_layout size align }
         ensures value { IfSome result (λ l. (l.size ≡ size) × (l.align ≡ align)) }
@@ -41,7 +41,7 @@ impl Layout {
         }
     }
 
-    /// The layout of this size and alignment, which are one.
+    /// Returns the layout of this size and alignment, which must be valid.
     #[inline(always)]
     pub const fn of(size: u64, align: u64) -> Layout
         requires { IsTrue (is_layout size align) }
@@ -51,7 +51,7 @@ impl Layout {
         Layout { size, align }
     }
 
-    /// The layout of `n` elements of this size in a row, or none where there is no such layout.
+    /// Returns the layout of `n` consecutive elements of this size, or `None` if it isn't valid.
     pub const fn array(n: u64, size: u64, align: u64) -> Option<Layout>
         ensures valid { is_some result ≡ is_layout (n * size) align }
         ensures value { IfSome result (λ l. (l.size ≡ n * size) × (l.align ≡ align)) }
@@ -62,14 +62,14 @@ impl Layout {
         }
     }
 
-    /// The size in bytes.
+    /// Returns the size in bytes.
     pub const fn size(&self) -> u64
         ensures { result ≡ self.now.size }
     {
         self.size
     }
 
-    /// The alignment, a power of two.
+    /// Returns the alignment, a power of two.
     pub const fn align(&self) -> u64
         ensures { result ≡ self.now.align }
     {
@@ -77,7 +77,7 @@ impl Layout {
     }
 }
 
-/// The same as `Layout::new`.
+/// Returns the layout of this size and alignment, or `None` if it isn't valid, as `Layout::new` does.
 pub const fn layout_from_size_align(size: u64, align: u64) -> Option<Layout>
     ensures valid { is_some result ≡ is_layout size align }
     ensures value { IfSome result (λ l. (l.size ≡ size) × (l.align ≡ align)) }

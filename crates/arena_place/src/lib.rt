@@ -1,4 +1,4 @@
-//! Layouts, and where a bump arena places blocks and chunks. Every call is pure and takes no memory.
+//! Layouts, and where a bump arena places blocks and chunks. Every call is pure and allocates nothing.
 #![tactic(auto)]
 
 ghost use Rattle.std.specs.Prelude.{◌≡◌};
@@ -14,28 +14,28 @@ pub use rounding::{is_aligned_to, round_down_to, round_up_to, round_up_to_unchec
 /// Bases and data sizes of chunks are multiples of this.
 pub const CHUNK_ALIGN: u64 = 16;
 
-/// So many addresses stand between the data end of a chunk and the next chunk.
+/// At least this many addresses are between the data end of a chunk and the base of the next chunk.
 pub const CHUNK_FOOTER_SIZE: u64 = 48;
 
-/// What the data size of a chunk lacks to a power of two, or to whole pages.
+/// The data size of a chunk plus this is a power of two or whole pages, except for an arena over a region.
 pub const OVERHEAD: u64 = 64;
 
 /// The first chunk begins at this address, and larger chunks are whole pages of this size, less the overhead.
 pub const TYPICAL_PAGE_SIZE: u64 = 4096;
 
-/// The size of the first chunk with its overhead.
+/// The least size that an allocation tries for a chunk, with its overhead.
 pub const FIRST_ALLOCATION_GOAL: u64 = 16384;
 
-/// The least data size that is tried for a chunk.
+/// The least data size that an allocation tries for a chunk.
 pub const DEFAULT_CHUNK_SIZE_WITHOUT_FOOTER: u64 = FIRST_ALLOCATION_GOAL - OVERHEAD;
 
-/// A region that an arena is made over has at least this size in bytes: its last 48 bytes are left out of the chunk.
+/// The least size in bytes of a region that an arena is made over: its last 48 bytes are left out of the chunk.
 pub const RAW_MIN_SIZE: u64 = CHUNK_FOOTER_SIZE;
 
-/// The size of a region that an arena is made over is a multiple of this, as its address would be.
+/// The size of a region that an arena is made over is a multiple of this.
 pub const RAW_MIN_ALIGN: u64 = CHUNK_ALIGN;
 
-/// The numbers that the constants stand for.
+/// The values of the constants.
 pub fn constants()
     ensures chunk_align { CHUNK_ALIGN ≡ 16 }
     ensures chunk_footer_size { CHUNK_FOOTER_SIZE ≡ 48 }

@@ -9,7 +9,8 @@ use crate::layout::Layout;
 use crate::rounding::{round_down_to, round_up_to, round_up_to_unchecked};
 use crate::{CHUNK_ALIGN, CHUNK_FOOTER_SIZE, OVERHEAD, TYPICAL_PAGE_SIZE};
 
-// The alignment of a block where none is below the least. No alignment is below 1, which the compiler doesn't know.
+// Returns the greater of the block's alignment and the least one. The branch saves a comparison that the compiler
+// keeps, as it doesn't know that no alignment is below 1.
 #[inline(always)]
 fn align_with(layout: Layout, min_align: u64) -> u64
     ensures { result ≡ max layout.align min_align }
@@ -21,7 +22,7 @@ fn align_with(layout: Layout, min_align: u64) -> u64
     }
 }
 
-/// Where a block is placed below the cursor, or none where that would be below the start.
+/// Returns where a block is placed below the cursor, or `None` if that is below the start.
 #[inline(always)]
 pub fn place(start: u64, cursor: u64, layout: Layout, min_align: u64) -> Option<u64>
     requires start { 0 < start }
@@ -48,7 +49,7 @@ fn rounded(wanted: u64) -> Option<u64>
     None
 }
 
-/// The data size of a chunk for a tried size and a block, or none where no layout is that large.
+/// Returns the data size of a chunk for a tried size and a block, or `None` if no layout is that large.
 pub fn chunk_data_size(n: u64, layout: Layout) -> Option<u64>
     ensures { result ≡ size_for n layout.size layout.align }
 {
@@ -60,8 +61,8 @@ pub fn chunk_data_size(n: u64, layout: Layout) -> Option<u64>
     }
 }
 
-/// The base of a chunk whose newest neighbour has its data end there, or of the first chunk; none where it passes
-/// the last address.
+/// Returns the base of the chunk after one with this data end, or of the first chunk for `None`. The result is `None`
+/// if the base exceeds the last address.
 pub fn next_base(end: Option<u64>, align: u64) -> Option<u64>
     requires power { IsTrue (is_power align) }
     requires chunk { 16 ≤ align }

@@ -3,7 +3,7 @@ ghost use Rattle.std.specs.Prelude.{◌≡◌, ◌+◌, ◌-◌, ◌%◌, ◌^�
 ghost use Rattle.std.specs.Option.{SomeIff};
 ghost use Rattle.arena_rules.specs.Rounding.{up, down, is_power};
 
-/// The greatest multiple of the divisor at or below `n`.
+/// Returns the greatest multiple of the divisor at or below `n`.
 #[inline(always)]
 pub const fn round_down_to(n: u64, divisor: u64) -> u64
     requires { IsTrue (is_power divisor) }
@@ -12,7 +12,7 @@ pub const fn round_down_to(n: u64, divisor: u64) -> u64
     n & !(divisor - 1)
 }
 
-/// The least multiple of the divisor at or above `n`. The caller knows that `n + divisor - 1` fits.
+/// Returns the least multiple of the divisor at or above `n`. The sum `n + divisor - 1` must fit in 64 bits.
 #[inline(always)]
 pub const fn round_up_to_unchecked(n: u64, divisor: u64) -> u64
     requires power { IsTrue (is_power divisor) }
@@ -22,7 +22,7 @@ pub const fn round_up_to_unchecked(n: u64, divisor: u64) -> u64
     round_down_to(n + (divisor - 1), divisor)
 }
 
-/// The least multiple of the divisor at or above `n`, or none where `n + divisor - 1` doesn't fit.
+/// Returns the least multiple of the divisor at or above `n`, or `None` if `n + divisor - 1` overflows.
 pub const fn round_up_to(n: u64, divisor: u64) -> Option<u64>
     requires { IsTrue (is_power divisor) }
     ensures { SomeIff result (n + (divisor - 1) < 2 ^ 64) (up n divisor) }
@@ -33,7 +33,7 @@ pub const fn round_up_to(n: u64, divisor: u64) -> Option<u64>
     }
 }
 
-/// Whether `n` is a multiple of the alignment.
+/// Returns whether `n` is a multiple of the alignment.
 #[inline(always)]
 pub const fn is_aligned_to(n: u64, align: u64) -> bool
     requires { IsTrue (is_power align) }

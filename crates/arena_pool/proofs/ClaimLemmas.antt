@@ -12,12 +12,12 @@ use Rattle.atomic_table.proofs.Lists.{at_set, at_snoc, set_again, set_else}
 use Rattle.arena_pool.specs.declared.claims.rule.ClaimView.{ClaimView}
 use Rattle.arena_pool.specs.Claiming.{times, claims_of, new_view, with_claimed, with_taken, with_free, joined, IsKept, Kept, Swapped, Loaded, Knows, IsOnce, ClaimedOnce, has, claimers, Happen}
 
--- how often a word stands in two lists
+-- how often a word occurs in two lists
 pub times-append : (w : ℕ) (xs ys : List ℕ) → times w (xs ++ ys) ≡ times w xs + times w ys
 times-append w [] ys = omega arith
 times-append w (x ∷ xs) ys = omega (arith, times-append w xs ys)
 
--- a word stands once in the list of itself alone
+-- a word occurs once in the list of itself alone
 pub times-same : (w : ℕ) → times w (w ∷ []) ≡ 1
 times-same w = grind (arith, nat_tests)
 
@@ -37,24 +37,24 @@ is_taken w v = omega (arith, times-append w v.taken (w ∷ []), times-same w)
 pub knows_taken : (w : ℕ) (v : ClaimView) → Knows w (with_taken w v)
 knows_taken w v = omega (arith, is_taken w v)
 
--- a word that stands nowhere in a list is not in it
+-- a word that doesn't occur in a list is not in it
 has-none : (w : ℕ) (xs : List ℕ) → times w xs ≡ 0 → has w xs ≡ false
 has-none w [] zero_times = refl
 has-none w (x ∷ xs) zero_times = let ih : times w xs ≡ 0 → has w xs ≡ false = has-none w xs in grind (arith, nat_tests, ih)
 
--- where a word stands once at most, it is in the list as often as it stands there
+-- if a word occurs at most once, it is in the list as often as it occurs
 has-once : (w : ℕ) (xs : List ℕ) → times w xs ≤ 1 → (if has w xs then 1 else 0) ≡ times w xs
 has-once w [] once = refl
 has-once w (x ∷ xs) once =
     let ih : times w xs ≤ 1 → (if has w xs then 1 else 0) ≡ times w xs = has-once w xs in
     let never : times w xs ≡ 0 → has w xs ≡ false = has-none w xs in grind (arith, nat_tests, ih, never)
 
--- where there is one claim at most, there are as many views as claims
+-- if there is at most one claim, there are as many views as claims
 pub claimers-is : (w : ℕ) (views : List ClaimView) → claims_of w views ≤ 1 → claims_of w views ≡ claimers w views
 claimers-is w [] few = refl
 claimers-is w (v ∷ vs) few = omega (arith, has-once w v.claimed (omega arith), claimers-is w vs (omega arith))
 
--- the claims once a view changes
+-- the claims after a view changes
 pub claims-set : (w : ℕ) (views : List ClaimView) (id : ℕ) (v u : ClaimView) → get_elem? views id ≡ some v
     → claims_of w (set views id u) + times w v.claimed ≡ claims_of w views + times w u.claimed
 claims-set w [] id v u at = absurd (some-ne-none v (sym at))
@@ -81,12 +81,12 @@ claims-two w (x ∷ xs) (suc i) zero u v at there apart = let e = ap (λ (y : Cl
     omega (arith, e, claims-at w xs i u at)
 claims-two w (x ∷ xs) (suc i) (suc j) u v at there apart = omega (arith, claims-two w xs i j u v at there (λ e. apart (ap suc e)))
 
--- the claims once there is a further view
+-- the claims after a view is added
 pub claims-snoc : (w : ℕ) (views : List ClaimView) (v : ClaimView) → claims_of w (views ++ v ∷ []) ≡ claims_of w views + times w v.claimed
 claims-snoc w [] v = omega arith
 claims-snoc w (x ∷ xs) v = omega (arith, claims-snoc w xs v)
 
--- a number that is 1 at most is 0 or 1
+-- a number that is at most 1 is 0 or 1
 pub bit : (k : ℕ) → k ≤ 1 → (k ≡ 0) ⊎ (k ≡ 1)
 bit zero h = inl refl
 bit (suc zero) h = inr refl
@@ -154,7 +154,7 @@ own_once : (n : ℕ) (views : List ClaimView) (id : ℕ) (v u : ClaimView) (afte
 own_once n views id v u after kept at w =
     omega (arith, kept.counted w, kept.bits w, claims-set w views id v u at, claims-at w views id v at)
 
--- a swap finds 1 where an earlier one was of its word, and else what the word was at first
+-- a swap finds 1 if an earlier one was of its word, and otherwise the word's first value
 pub happened : (words : List ℕ) (swaps : List (ℕ × ℕ)) → Happen words swaps → (i w found : ℕ) → w < length words
     → get_elem? swaps i ≡ some (w, found)
     → found ≡ (if has w (map (λ (s : ℕ × ℕ). s.0) (take i swaps)) then 1 else get_or words w 0)

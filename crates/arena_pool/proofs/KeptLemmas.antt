@@ -19,7 +19,7 @@ use Rattle.arena_pool.specs.declared.kind.PoolKind.{PoolKind}
 use Rattle.arena_pool.specs.Kinds.{IsOfKind}
 use Rattle.arena_pool.proofs.KindLemmas.{still}
 
--- a frame does
+-- a frame keeps it
 pub frame_of_kind : (kind : PoolKind) (old new : Memory) (before after : List Block) → Frame old new before after → IsOfKind kind old.state
     → IsOfKind kind new.state
 frame_of_kind kind old new before after frame of_kind = record {
@@ -29,7 +29,7 @@ frame_of_kind kind old new before after frame of_kind = record {
 
 -- ---- The calls on blocks
 
--- Where the memory is the same, so is the kind.
+-- If the memory is the same, so is the kind.
 same_of_kind : (kind : PoolKind) (old new : Memory) → new ≡ old → IsOfKind kind old.state → IsOfKind kind new.state
 same_of_kind kind old new same of_kind = subst (λ (m : Memory). IsOfKind kind m.state) (sym same) of_kind
 
@@ -77,7 +77,7 @@ array_of_kind kind old new size align n answer places of_kind = elim (cases_Bool
   | inr none ↦ same_view kind old new (places.refused none).same of_kind
 ]
 
--- whatever a call that places a value answers
+-- whatever a call that places a value returns
 answered : {X : Type 0} (kind : PoolKind) (new : Memory) (P : Answer → Type 0) (block : X → Block) (result : Result X ItemErr)
     → ((answer : Answer) → P answer → IsOfKind kind new.state) → Answers block result P → IsOfKind kind new.state
 answered kind new P block (Ok x) keeps answers = keeps (Placed (block x)) answers

@@ -26,7 +26,7 @@ reset_of_kind kind state valid of_kind = record {
   region = λ bytes is. reset_keeps_bytes state valid (still kind bytes state of_kind is) ∙ of_kind.region bytes is;
 }
 
--- After a reset nothing is used, and the kind is as before.
+-- After a reset no bytes are in use, and the kind is as before.
 pub reset_is_unused : (kind : PoolKind) (arena : View) → IsValid arena.memory.state → IsOfKind kind arena.memory.state
     → IsUnused kind (reset_view arena)
 reset_is_unused kind arena valid of_kind = record {
@@ -47,7 +47,7 @@ new_standard arena new =
       of_kind = record { growing = refl; region = λ bytes is. cc };
     })
 
--- No new arena passes a limit: one that grows has no bytes yet, and a fixed pool has no limit.
+-- No new arena exceeds a limit: one that grows has no bytes yet, and a fixed pool has no limit.
 pub empty_within : (limit : Option ℕ) (arena : View) → IsNew Standard arena → IsWithin limit arena
 empty_within None arena new = refl
 empty_within (Some limit) arena new = rw new.memory (grind (arith, nat_tests))
@@ -56,7 +56,7 @@ pub new_within : (kind : PoolKind) (limit : Option ℕ) (arena : View) → HasLi
 new_within Standard limit arena has new = empty_within limit arena new
 new_within (FixedSize bytes) limit arena has new = rw has refl
 
--- the memory over a region, but for its last 48 bytes
+-- the memory over a region, except its last 48 bytes
 abbrev region_memory : List ℕ → Memory
 region_memory items = uncounted_memory (fixed_state 1 (length items - 48)) (take (length items - 48) items ∷ [])
 
@@ -71,6 +71,6 @@ region_is_new bytes items arena source regions zeros is fresh = record {
   source = subst IsFresh (sym (ap (λ (a : View). a.source) is)) fresh;
 }
 
--- No block of some bytes of an unused arena can be read.
+-- No non-empty block of an unused arena is readable.
 pub none_readable : (kind : PoolKind) (arena : View) → IsUnused kind arena → NoneReadable arena.memory.state
 none_readable kind arena unused = unused_unreadable arena.memory.state unused.used

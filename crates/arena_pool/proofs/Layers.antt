@@ -1,5 +1,5 @@
--- The lemmas that a layer above cites: which arenas are of a kind, what the events of a pool come to, what a seat knows, and what the rules
--- of claims and of two owners come to.
+-- The lemmas that a layer above cites: which arenas are of a kind, what the events of a pool do, what a seat knows, and
+-- what follows from the rules of claims and of two owners.
 pub use Rattle.arena_pool.proofs.KindLemmas.{reset_of_kind, reset_is_unused, none_readable}
 pub use Rattle.arena_pool.proofs.KeptLemmas.{
   frame_of_kind,

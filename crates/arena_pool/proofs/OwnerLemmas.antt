@@ -13,7 +13,7 @@ use Rattle.arena_pool.specs.declared.owners.rule.OwnerView.{OwnerView}
 use Rattle.arena_pool.specs.Sharing.{owner_view, with_lists, lists_of, Setup, IsShared, Shares, Took, Gave, FirstSwapped, SecondSwapped, Looked, FreedOnce}
 
 module _ {A : Type 0} where
-  -- what stands in a list of one
+  -- the item in a list of one
   only : (x v : A) (id : ℕ) → get_elem? (x ∷ []) id ≡ some v → (id ≡ 0) × (x ≡ v)
   only x v zero at = (refl, some-injective x v at)
   only x v (suc id) at = absurd (some-ne-none v (sym at))
@@ -24,7 +24,7 @@ module _ {A : Type 0} where
   map-set f (x ∷ xs) zero a = refl
   map-set f (x ∷ xs) (suc i) a = λ k. f x ∷ map-set f xs i a k
 
-  -- what stands in a list of the same twice
+  -- the item in a list of two equal items
   both : (x v : A) (seat : ℕ) → get_elem? (x ∷ x ∷ []) seat ≡ some v → x ≡ v
   both x v zero at = some-injective x v at
   both x v (suc zero) at = some-injective x v at
@@ -45,7 +45,7 @@ second_stays : (ws : List ℕ) (k : ℕ) → get_or (set ws 0 k) 1 0 ≡ get_or 
 second_stays [] k = refl
 second_stays (x ∷ xs) k = refl
 
--- a list of one of the two words, or of none, has them once at most together
+-- a list of at most one of the two words has them at most once together
 few : (xs : List ℕ) → xs ≡ 0 ∷ [] ⊎ (xs ≡ 1 ∷ [] ⊎ xs ≡ []) → times 0 xs + times 1 xs ≤ 1
 few xs h =
     let P : List ℕ → Type 0 = λ ys. times 0 ys + times 1 ys ≤ 1 in
@@ -56,12 +56,12 @@ module _ {X : Type 0} where
   claims : (w : ℕ) (x v : OwnerView X) → some x ≡ some v → times w x.lists.claimed ≡ times w v.lists.claimed
   claims w x v e = ap (λ (u : OwnerView X). times w u.lists.claimed) (some-injective x v e)
 
-  -- where the table is made, the seat has its one view
+  -- during setup the seat has its one view
   alone : (a : X) (k : ℕ) (s : State (Option X) (OwnerView X)) (id : ℕ) (v : OwnerView X) → Setup a k s → get_elem? s.views id ≡ some v
       → (id ≡ 0) × (owner_view a k ≡ v)
   alone a k s id v made at = only (owner_view a k) v id (subst (λ (vs : List (OwnerView X)). get_elem? vs id ≡ some v) made.1 at)
 
-  -- a view of one stage is none of another
+  -- a view at one stage isn't one at another
   other_stage : (a : X) (k n : ℕ) (s : State (Option X) (OwnerView X)) (id : ℕ) (v : OwnerView X) → Setup a k s
       → get_elem? s.views id ≡ some v → v.stage ≡ n → k ≢ n → ⊥
   other_stage a k n s id v made at stage apart = apart (ap (λ (u : OwnerView X). u.stage) (alone a k s id v made at).1 ∙ stage)
@@ -75,7 +75,7 @@ module _ {X : Type 0} where
       (λ r. ⊎_elim (λ h. absurd (other_stage a 2 3 s id v h.0 at stage (omega arith))) (λ h. h) r)
       holds
 
-  -- beside one of two views there is another
+  -- besides one of two views there is another
   other : (views : List (OwnerView X)) (i : ℕ) (v : OwnerView X) → length views ≡ 2 → get_elem? views i ≡ some v
       → (j : ℕ) × (u : OwnerView X) × (get_elem? views j ≡ some u) × (i ≢ j)
   other [] i v len at = absurd (omega arith)
@@ -100,7 +100,7 @@ module _ {X : Type 0} where
   sum w (x ∷ y ∷ []) (suc zero) (suc (suc j)) v u len at there apart = absurd (some-ne-none u (sym there))
   sum w (x ∷ y ∷ z ∷ zs) i j v u len at there apart = absurd (omega arith)
 
-  -- an owner that claims nothing and finds word 0 taken finds word 1 free, and what is shared there
+  -- an owner that claims nothing and finds word 0 taken finds word 1 free, and what is shared in the slot
   pub there : (a : X) (s : State (Option X) (OwnerView X)) (i : ℕ) (v : OwnerView X) → IsShared a s → get_elem? s.views i ≡ some v
       → v.lists.claimed ≡ [] → get_or s.words 0 0 ≡ 1
       → (get_or s.words 1 0 ≡ 0) × (s.homes ≡ some (Some a) ∷ [])
@@ -121,7 +121,7 @@ module _ {X : Type 0} where
       ) in
       (free, sh.home free)
 
-  -- word 0 is taken exactly where the other owner claims it
+  -- word 0 is taken exactly if the other owner claims it
   later : (a : X) (s : State (Option X) (OwnerView X)) (i j : ℕ) (v u : OwnerView X) → IsShared a s → get_elem? s.views i ≡ some v
       → get_elem? s.views j ≡ some u → i ≢ j → v.lists.claimed ≡ []
       → (get_or s.words 0 0 ≡ 1) ↔ (0 < times 0 u.lists.claimed)
@@ -131,14 +131,14 @@ module _ {X : Type 0} where
       ∙ sum 0 s.views i j v u sh.pair at to apart in
       (λ one. omega (arith, one, none0, both), λ some_times. omega (arith, some_times, none0, both, sh.kept.bits 0))
 
-  -- a step on the first slot while the table is made: the views and the words afterwards
+  -- a step on the first slot during setup: the views and the words afterwards
   views_after : (a b : X) (k n : ℕ) (s : State (Option X) (OwnerView X)) (id : ℕ) (v : OwnerView X) → Setup a k s
       → get_elem? s.views id ≡ some v → set s.views id (owner_view b n) ≡ owner_view b n ∷ []
   views_after a b k n s id v made at =
       let w : OwnerView X = owner_view b n in
       subst (λ (i : ℕ). set s.views i w ≡ w ∷ []) (sym (alone a k s id v made at).0) (ap (λ (vs : List (OwnerView X)). set vs 0 w) made.1)
 
-  -- nor is an owner one of a table that is being made
+  -- nor is an owner one of a table during setup
   not_shared : (a : X) (n : ℕ) (s : State (Option X) (OwnerView X)) (id : ℕ) (v : OwnerView X) → IsShared a s
       → get_elem? s.views id ≡ some v → v.stage ≡ n → 3 ≢ n → ⊥
   not_shared a n s id v sh at stage apart = apart (sym (sh.each id v at).0 ∙ stage)
@@ -163,7 +163,7 @@ module _ {X : Type 0} where
       (λ h. absurd (not_shared a 0 s id v h at refl (omega arith))) r)
       holds
 
-  -- the same for a seat that is known to be so
+  -- the seat takes the empty slot, if its view is at that stage
   pub takes_slot : (a : X) (slots id : ℕ) (me : Me (Option X) (OwnerView X)) → me ≡ (owner_view a 0, [])
       → Allows (Shares a) slots id me 0 (λ n. n) (Took (step slots 0 0 0 none) me)
   takes_slot a slots id me is = subst (λ (m : Me (Option X) (OwnerView X)). Allows (Shares a) slots id m 0 (λ n. n)
@@ -190,7 +190,7 @@ module _ {X : Type 0} where
       (λ h. absurd (not_shared a 1 s id v h at refl (omega arith))) r)
       holds
 
-  -- the same for a seat that is known to be so
+  -- the seat gives the full slot, if its view is at that stage
   pub gives_slot : (a : X) (slots id : ℕ) (me : Me (Option X) (OwnerView X)) → me ≡ (owner_view a 1, (0, Some a) ∷ [])
       → Allows (Shares a) slots id me 0 (λ n. n) (Gave (step slots 0 0 0 none) me)
   gives_slot a slots id me is = subst (λ (m : Me (Option X) (OwnerView X)). Allows (Shares a) slots id m 0 (λ n. n)
@@ -233,13 +233,13 @@ module _ {X : Type 0} where
       r)
       holds
 
-  -- the same for a seat that is known to be so
+  -- the one seat becomes two owners, if its view is at that stage
   pub parts : (a : X) (id : ℕ) (v : OwnerView X) → v ≡ owner_view a 2
       → Splits (Shares a) id v (owner_view v.shared 3) (owner_view v.shared 3)
   parts a id v is = subst (λ (u : OwnerView X). Splits (Shares a) id u (owner_view u.shared 3) (owner_view u.shared 3)) (sym is)
       (parts_here a id)
 
-  -- the claims of an owner keep the rule where its view does
+  -- the claims of an owner keep the rule if its view does
   stays : (a : X) (s : State (Option X) (OwnerView X)) (id : ℕ) (v : OwnerView X) (l : ClaimView) (ws : List ℕ)
       (t : State (Option X) (OwnerView X))
       → IsShared a s → get_elem? s.views id ≡ some v
@@ -338,7 +338,7 @@ module _ {X : Type 0} where
     there = λ i v at claimed one. there a s i v sh at claimed one;
   }
 
-  -- the state has one view while the table is made, and is shared from when there are two
+  -- the state has one view during setup, and is shared once there are two
   pub two_share : (a : X) (s : State (Option X) (OwnerView X)) → Shares a s → length s.views ≡ 2 → IsShared a s
   two_share a s holds pair = ⊎_elim
       (λ l. ⊎_elim (λ h. absurd (let e = ap length h.0.1 in omega arith)) (λ h. absurd (let e = ap length h.0.1 in omega arith)) l)

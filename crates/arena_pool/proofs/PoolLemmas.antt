@@ -15,7 +15,7 @@ use Rattle.arena_pool.specs.Kinds.{is_fixed, HasLimit, is_within, IsWithin, IsOf
 use Rattle.arena_pool.specs.Pool.{Pool, Pooled, IsPool, IsPooled, LendsNone, Gets, can_take, most_lent, store, put, give_up}
 use Rattle.arena_pool.proofs.KindLemmas.{new_standard, empty_within, reset_is_unused}
 
--- A list with something behind it isn't empty.
+-- A list that something was appended to isn't empty.
 some_stored : (p : Pool) (stack : List Pooled) (a : Pooled) → p.stack ≡ [] → p.stack ≡ stack ++ a ∷ [] → ⊥
 some_stored p stack a none is = omega (arith, length-append stack (a ∷ []), ap length is, ap length none)
 
@@ -63,7 +63,7 @@ given_up_is_pool p pool lent =
 
 -- ---- What a put comes to
 
--- What doesn't pass the limit is stored.
+-- An arena within the limit is stored.
 put_within : (p : Pool) (arena : View) (id : Option ℕ) → IsWithin p.limit (reset_view arena)
     → put p arena id ≡ store p (reset_view arena, id)
 put_within p arena id within = rw within refl
@@ -72,7 +72,7 @@ pub put_is_kept : (p : Pool) (arena : View) (id : Option ℕ) (limit : ℕ) → 
     → allocated_bytes (reset arena.memory.state) ≤ limit → put p arena id ≡ store p (reset_view arena, id)
 put_is_kept p arena id limit has few = put_within p arena id (rw has (grind (arith, nat_tests)))
 
--- What passes it is gone.
+-- One that exceeds it is given up.
 put_over : (p : Pool) (arena : View) (id : Option ℕ) → is_within p.limit (allocated_bytes (reset arena.memory.state)) ≡ false
     → put p arena id ≡ give_up p
 put_over p arena id over = rw over refl
@@ -81,7 +81,7 @@ pub put_is_gone : (p : Pool) (arena : View) (id : Option ℕ) (limit : ℕ) → 
     → limit < allocated_bytes (reset arena.memory.state) → put p arena id ≡ give_up p
 put_is_gone p arena id limit has many = put_over p arena id (rw has (grind (arith, nat_tests)))
 
--- Where there is no limit each is stored.
+-- Without a limit each is stored.
 pub put_unlimited : (p : Pool) (arena : View) (id : Option ℕ) → p.limit ≡ None → put p arena id ≡ store p (reset_view arena, id)
 put_unlimited p arena id none = put_within p arena id (rw none refl)
 
@@ -93,7 +93,7 @@ pub put_of_fixed : (p : Pool) (arena : View) (id : Option ℕ) → IsPool p → 
     → put p arena id ≡ store p (reset_view arena, id)
 put_of_fixed p arena id pool fixed = put_unlimited p arena id (fixed_has_none p.kind p.limit pool.limit fixed)
 
--- It leaves one less lent, whether the arena is stored or gone.
+-- One arena less is lent, whether this one is stored or given up.
 pub put_is_counted : (p : Pool) (arena : View) (id : Option ℕ)
     → ((put p arena id).lent ≡ p.lent - 1) × ((put p arena id).kind ≡ p.kind) × ((put p arena id).limit ≡ p.limit)
 put_is_counted p arena id = elim (cases_Bool (is_within p.limit (allocated_bytes (reset arena.memory.state)))) [
@@ -111,7 +111,7 @@ put_is_pool p arena id pool lent valid of_kind has_id =
       | inr over ↦ rw (put_over p arena id over) (given_up_is_pool p pool lent)
     ]
 
--- ---- Which answer a get gives
+-- ---- The result of a get
 
 pub answers_stored : (p q : Pool) (answer : Result Pooled PoolErr) → Gets p answer q → 0 < length p.stack → IsOk answer
 answers_stored p q (Ok lent) gets some = refl
@@ -135,7 +135,7 @@ answers_limit p q (Err PoolEmpty) gets none standard most = absurd (standard_is_
 answers_limit p q (Err Limit) gets none standard most = refl
 answers_limit p q (Err OutOfMemory) gets none standard most = absurd (omega (arith, gets.0.2))
 
--- Who needn't wait is refused for lack of memory alone.
+-- A get that needn't wait is refused for lack of memory alone.
 goes : (p : Pool) (e : PoolErr) → IsTrue (can_take p) → LendsNone p e → e ≡ OutOfMemory
 goes p PoolEmpty can refused = let h = rw (refused.0, refused.1) at can in grind (arith, nat_tests)
 goes p Limit can refused = let h = rw (refused.0, refused.1, refused.2) at can in grind (arith, nat_tests)
@@ -144,14 +144,14 @@ goes p OutOfMemory can refused = refl
 pub answers_at_once : (p q : Pool) (e : PoolErr) → Gets p (Err e) q → IsTrue (can_take p) → e ≡ OutOfMemory
 answers_at_once p q e gets can = goes p e can gets.0
 
--- One that is stored, and one that can be made, is lent at once.
+-- If an arena is stored, or can be made, it is lent at once.
 takes_stored : (p : Pool) → p.lent < most_lent → 0 < length p.stack → IsTrue (can_take p)
 takes_stored p few some = grind (arith, nat_tests)
 
 takes_new : (p : Pool) → p.lent < most_lent → p.kind ≡ Standard → p.made < 2 ^ 64 - 1 → IsTrue (can_take p)
 takes_new p few standard room = rw standard (grind (arith, nat_tests))
 
--- Who waits would be refused.
+-- A get that waits would be refused.
 pub answers_waiting : (p q : Pool) (answer : Result Pooled PoolErr) → Gets p answer q → can_take p ≡ false → p.lent < most_lent
     → (answer ≡ Err PoolEmpty) ⊎ (answer ≡ Err Limit)
 answers_waiting p q (Ok lent) (inl stored) waits few =
@@ -167,7 +167,7 @@ restored : (p : Pool) (stack : List Pooled) (stored lent : ℕ) → stack ≡ p.
     → record p { stack = stack; stored = stored; lent = lent } ≡ p
 restored p stack stored lent same_stack same_stored same_lent = rw (same_stack, same_stored, same_lent) refl
 
--- What was stored last is lent next.
+-- The arena that was stored last is lent next.
 stored_is_newest : (p q : Pool) (a lent : Pooled) → 0 < p.lent → Gets (store p a) (Ok lent) q → (lent ≡ a) × (q ≡ p)
 stored_is_newest p q a lent some (inl stored) =
     let same = same_from_push p.stack q.stack a lent stored.stack in

@@ -23,7 +23,7 @@ with_free w v = record v { free = v.free ++ w ∷ [] }
 abbrev pub joined : ClaimView → ClaimView → ClaimView
 joined v u = record { claimed = v.claimed ++ u.claimed; taken = v.taken ++ u.taken; free = v.free ++ u.free }
 
--- how often w stands in the list
+-- how often w occurs in the list
 abbrev pub times : ℕ → List ℕ → ℕ
 times w [] = 0
 times w (x ∷ xs) = (if x == w then 1 else 0) + times w xs
@@ -32,18 +32,18 @@ times w (x ∷ xs) = (if x == w then 1 else 0) + times w xs
 abbrev pub Knows : ℕ → ClaimView → Type 0
 Knows w v = 0 < times w v.claimed + times w v.taken
 
--- no word stands twice among those that the seat claimed
+-- the seat claimed no word twice
 abbrev pub IsOnce : ClaimView → Type 0
 IsOnce v = (w : ℕ) → times w v.claimed ≤ 1
 
--- what contracts see of a seat: at which table it is, and what it knows
+-- what contracts see of a seat: its table, and what it knows
 pub record Sitting : Type 0 where
   pub table : TableId
   pub view : ClaimView
 
 -- ---- The rule
 
--- how often w stands in all lists of claimed words together
+-- how often w occurs in all lists of claimed words together
 abbrev pub claims_of : ℕ → List ClaimView → ℕ
 claims_of w [] = 0
 claims_of w (v ∷ vs) = times w v.claimed + claims_of w vs
@@ -60,8 +60,8 @@ Kept n s = IsKept n s.words s.views
 
 -- ---- The steps
 
--- A swap found 0, of a word that the seat didn't know as taken, and the seat claims it; or it found 1, and the seat finds it taken.
--- Each step tells that the seat claimed no word twice.
+-- A swap found 0, of a word that the seat didn't know as taken, and the seat claims it; or it found 1, and the seat
+-- finds it taken. Each step says that the seat claimed no word twice.
 abbrev pub Swapped : {S : Type 0} → Step S → Me S ClaimView → ℕ → Me S ClaimView → Type 0
 Swapped s me found now =
     (now.1 ≡ me.1)

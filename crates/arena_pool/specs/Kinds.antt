@@ -14,7 +14,7 @@ abbrev pub is_fixed : PoolKind → Bool
 is_fixed Standard = false
 is_fixed (FixedSize bytes) = true
 
--- An arena of the kind grows, or it doesn't and has a region of so many bytes, of which the last 48 are no block's.
+-- An arena of the kind grows, or it doesn't and has a region of this many bytes, the last 48 of which are no block's.
 pub record IsOfKind (kind : PoolKind) (state : State) : Type 0 where
   pub growing : state.is_growing ≡ not (is_fixed kind)
   pub region : (bytes : ℕ) → kind ≡ FixedSize bytes → allocated_bytes state ≡ bytes - 48
@@ -28,7 +28,7 @@ HasRegions (FixedSize bytes) = (bytes % 16 ≡ 0) × (48 ≤ bytes)
 abbrev pub HasId : PoolKind → Option ℕ → Type 0
 HasId kind id = is_some id ≡ is_fixed kind
 
--- those of a new pool's arenas are the numbers from 0
+-- the ids of a new pool's arenas are the numbers from 0
 abbrev pub first_id : PoolKind → ℕ → Option ℕ
 first_id Standard i = None
 first_id (FixedSize bytes) i = Some i
@@ -38,16 +38,16 @@ abbrev pub HasLimit : PoolKind → Option ℕ → Type 0
 HasLimit Standard limit = Unit {0}
 HasLimit (FixedSize bytes) limit = limit ≡ None
 
--- whether so many bytes don't pass the limit
+-- whether this many bytes are within the limit
 abbrev pub is_within : Option ℕ → ℕ → Bool
 is_within None allocated = true
 is_within (Some limit) allocated = nat_le allocated limit
 
--- the arena has no more bytes than the limit, if there is one: all its bytes count, and not just those that are used
+-- the arena has no more bytes than the limit, if there is one: all its bytes count, not just those in use
 abbrev pub IsWithin : Option ℕ → View → Type 0
 IsWithin limit arena = IsTrue (is_within limit (allocated_bytes arena.memory.state))
 
--- an arena of the kind of which nothing is used or counted
+-- an arena of the kind with no bytes in use, and nothing counted
 pub record IsUnused (kind : PoolKind) (arena : View) : Type 0 where
   pub valid : IsValid arena.memory.state
   pub used : used_bytes arena.memory.state ≡ 0
@@ -59,7 +59,7 @@ abbrev pub new_memory : PoolKind → Memory
 new_memory Standard = zeroed_memory (empty_state 1)
 new_memory (FixedSize bytes) = zeroed_memory (fixed_state 1 (bytes - 48))
 
--- a source that has refused nothing, and of which nothing was asked, as far as it tells
+-- a source that has refused nothing, and has recorded no request, if it records them
 pub record IsFresh (source : Source) : Type 0 where
   pub refusals : source.refusals ≡ 0
   pub asked : IfSome source.asked (λ made. made ≡ [])

@@ -1,4 +1,4 @@
--- What a pool is named by.
+-- Names of pools.
 use Rattle.std.specs.Prelude.{◌≡◌, ℕ}
 use Rattle.std.specs.declared.sync.ledger.Blank.{Blank}
 use Rattle.arena_pool.specs.Pool.{most_lent}

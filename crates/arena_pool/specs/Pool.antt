@@ -13,7 +13,7 @@ use Rattle.arena_pool.specs.declared.book.PoolErr.TheVariants.{PoolEmpty, OutOfM
 abbrev pub Pooled : Type 0
 Pooled = View × Option ℕ
 
--- What arenas a pool has, and how many bytes one has at most that it keeps, if there is a limit; those that are stored, newest
+-- The kind of a pool's arenas, and the limit on the bytes of a stored one, if there is one; the stored arenas, newest
 -- last; and how many were made, are stored, are lent and were given up.
 pub record Pool : Type 0 where
   pub kind : PoolKind
@@ -24,7 +24,7 @@ pub record Pool : Type 0 where
   pub lent : ℕ
   pub given_up : ℕ
 
--- as it is stored, and as it is lent
+-- an arena as it is stored, and as it is lent
 pub record IsPooled (kind : PoolKind) (limit : Option ℕ) (p : Pooled) : Type 0 where
   pub unused : IsUnused kind p.0
   pub id : HasId kind p.1
@@ -39,7 +39,7 @@ pub record IsPool (p : Pool) : Type 0 where
 
 -- ---- How a pool begins
 
--- so many new arenas are stored
+-- a new pool has stored `count` new arenas
 pub record Begins (kind : PoolKind) (limit : Option ℕ) (count : ℕ) (p : Pool) : Type 0 where
   pub arenas : All (λ (a : Pooled). IsNew kind a.0) p.stack
   pub ids : map (λ (a : Pooled). a.1) p.stack ≡ map (first_id kind) (range_with_len 0 count)
@@ -52,7 +52,7 @@ pub record LendsStored (p : Pool) (lent : Pooled) (q : Pool) : Type 0 where
   pub stack : p.stack ≡ q.stack ++ lent ∷ []
   pub pool : q ≡ record p { stack = q.stack; stored = p.stored - 1; lent = p.lent + 1 }
 
--- where none is stored, a standard pool lends a new one
+-- if none is stored, a standard pool lends a new arena
 pub record LendsNew (p : Pool) (lent : Pooled) (q : Pool) : Type 0 where
   pub none_stored : p.stack ≡ []
   pub standard : p.kind ≡ Standard
@@ -61,7 +61,8 @@ pub record LendsNew (p : Pool) (lent : Pooled) (q : Pool) : Type 0 where
   pub id : lent.1 ≡ None
   pub pool : q ≡ record p { made = p.made + 1; lent = p.lent + 1 }
 
--- Why none is lent, where none is stored: the pool is fixed; it has made as many as can be counted; or memory runs out.
+-- Why none is lent, if none is stored: the pool is fixed; it has made as many as can be counted; or it is out of
+-- memory.
 abbrev pub LendsNone : Pool → PoolErr → Type 0
 LendsNone p PoolEmpty = (p.stack ≡ []) × IsTrue (is_fixed p.kind)
 LendsNone p Limit = (p.stack ≡ []) × (p.kind ≡ Standard) × (p.made ≡ 2 ^ 64 - 1)
@@ -71,11 +72,11 @@ abbrev pub Gets : Pool → Result Pooled PoolErr → Pool → Type 0
 Gets p (Ok lent) q = LendsStored p lent q ⊎ LendsNew p lent q
 Gets p (Err e) q = LendsNone p e × (q ≡ p)
 
--- how many arenas can be lent at once
+-- the maximum number of arenas that are lent at once
 abbrev pub most_lent : ℕ
 most_lent = 4294967295
 
--- A get needn't wait: not as many are lent as can be, and one is stored or can be made.
+-- A get needn't wait: fewer than the maximum are lent, and one is stored or can be made.
 abbrev pub can_take : Pool → Bool
 can_take p = nat_lt p.lent most_lent && (nat_lt 0 (length p.stack) || not (is_fixed p.kind) && nat_lt p.made (2 ^ 64 - 1))
 
@@ -85,14 +86,14 @@ can_take p = nat_lt p.lent most_lent && (nat_lt 0 (length p.stack) || not (is_fi
 abbrev pub store : Pool → Pooled → Pool
 store p a = record p { stack = p.stack ++ a ∷ []; stored = p.stored + 1; lent = p.lent - 1 }
 
--- one that was lent is gone
+-- an arena that was lent is given up
 abbrev pub give_up : Pool → Pool
 give_up p = record p { lent = p.lent - 1; given_up = p.given_up + 1 }
 
--- an arena that was lent is stored, and one that passes the limit is gone
+-- an arena that was lent is stored, or given up if it exceeds the limit
 abbrev pub keep : Pool → Pooled → Pool
 keep p a = if is_within p.limit (allocated_bytes a.0.memory.state) then store p a else give_up p
 
--- the same for an arena as its borrower left it
+-- an arena that was lent is reset, and kept as by `keep`
 abbrev pub put : Pool → View → Option ℕ → Pool
 put p arena id = keep p (reset_view arena, id)

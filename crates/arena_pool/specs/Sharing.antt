@@ -9,7 +9,7 @@ use Rattle.arena_pool.specs.declared.claims.rule.ClaimView.{ClaimView}
 use Rattle.arena_pool.specs.Claiming.{times, IsKept, ClaimedOnce, new_view, with_claimed, with_taken, with_free}
 use Rattle.arena_pool.specs.declared.owners.rule.OwnerView.{OwnerView}
 
--- what contracts see of an owner: at which table it is, what it knows, and what it owns
+-- what contracts see of an owner: its table, what it knows, and what it owns
 pub record Owning (X : Type 0) : Type 0 where
   pub table : TableId
   pub lists : ClaimView
@@ -26,11 +26,12 @@ lists_of v = v.lists
 
 -- ---- The rule
 
--- while the table is made it has one seat
+-- during setup the table has one seat
 abbrev pub Setup : {X : Type 0} → X → ℕ → State (Option X) (OwnerView X) → Type 0
 Setup a k s = (s.words ≡ 0 ∷ 0 ∷ []) × (s.views ≡ owner_view a k ∷ [])
 
--- There are two owners, and the rule of claims holds. No owner claims both words. While word 1 is 0, what is shared is at home.
+-- There are two owners, and the rule of claims holds. No owner claims both words. While word 1 is 0, what is shared is
+-- in the slot.
 pub record IsShared {X : Type 0} (a : X) (s : State (Option X) (OwnerView X)) : Type 0 where
   pub kept : IsKept 2 s.words (map lists_of s.views)
   pub pair : length s.views ≡ 2
@@ -38,7 +39,7 @@ pub record IsShared {X : Type 0} (a : X) (s : State (Option X) (OwnerView X)) : 
       → (v.stage ≡ 3) × (v.shared ≡ a) × (times 0 v.lists.claimed + times 1 v.lists.claimed ≤ 1)
   pub home : slice_index s.words 1 ≡ 0 → s.homes ≡ some (Some a) ∷ []
 
--- the slot is empty; it is out with the seat; what is shared is in it; there are two owners
+-- the slot is empty; the seat has taken it; what is shared is in it; there are two owners
 abbrev pub Shares : {X : Type 0} → X → State (Option X) (OwnerView X) → Type 0
 Shares a s =
     ((Setup a 0 s × (s.homes ≡ some None ∷ [])) ⊎ (Setup a 1 s × (s.homes ≡ none ∷ [])))
@@ -52,7 +53,7 @@ Took s me found now = now ≡ (owner_view me.0.shared 1, (0, None) ∷ [])
 abbrev pub Gave : {X : Type 0} → Step (Option X) → Me (Option X) (OwnerView X) → ℕ → Me (Option X) (OwnerView X) → Type 0
 Gave s me found now = now ≡ (owner_view me.0.shared 2, [])
 
--- an owner's lists become those that a step of the claims leaves
+-- an owner's lists become those after a step of the claims
 abbrev pub FirstSwapped : {X : Type 0} → Step (Option X) → Me (Option X) (OwnerView X) → ℕ → Me (Option X) (OwnerView X) → Type 0
 FirstSwapped s me found now =
     (now.1 ≡ me.1)
@@ -65,14 +66,14 @@ Looked s me found now =
     × (((found ≡ 0) × (now.0 ≡ with_lists (with_free s.word me.0.lists) me.0) × (times s.word me.0.lists.taken ≡ 0))
     ⊎ ((found ≡ 1) × (now.0 ≡ with_lists (with_taken s.word me.0.lists) me.0)))
 
--- the second word was free, and with it comes the slot
+-- the second word was free, and the owner that claims it takes the slot
 abbrev pub SecondSwapped : {X : Type 0} → Step (Option X) → Me (Option X) (OwnerView X) → ℕ → Me (Option X) (OwnerView X) → Type 0
 SecondSwapped s me found now = (found ≡ 0) × (now ≡ (with_lists (with_claimed s.word me.0.lists) me.0, (0, Some me.0.shared) ∷ []))
 
 -- ---- What the rule comes to
 
--- At most one owner claims a word, and none claims both. An owner that hasn't given up finds word 0 taken exactly where the other has,
--- and then word 1 is free and what is shared is there.
+-- At most one owner claims a word, and none claims both. An owner that hasn't given up finds word 0 taken exactly if
+-- the other has given up; then word 1 is free, and what is shared is in the slot.
 pub record FreedOnce {X : Type 0} (a : X) (s : State (Option X) (OwnerView X)) : Type 0 where
   pub one : ClaimedOnce (map lists_of s.views)
   pub apart : (i : ℕ) (v : OwnerView X) → get_elem? s.views i ≡ some v → times 0 v.lists.claimed + times 1 v.lists.claimed ≤ 1

@@ -18,7 +18,7 @@ pub enum PoolErr {
     /// None is stored in a fixed pool.
     #[error("pool is empty")]
     PoolEmpty,
-    /// None is stored, and memory for the place of a new one runs out.
+    /// None is stored, and there is no memory for a new one.
     #[error("out of memory")]
     OutOfMemory,
     /// None is stored, and 2^64 - 1 were made.
@@ -26,23 +26,23 @@ pub enum PoolErr {
     Limit,
 }
 
-/// How many arenas a pool made, and where they are.
+/// The numbers of arenas that a pool made, by where they are.
 #[derive(Clone, Copy, PartialEq, Eq, Debug)]
 pub struct Counts {
     /// All that the pool made.
     pub made: u64,
     /// Those that can be lent.
     pub stored: u64,
-    /// Those that were lent, and may come back.
+    /// Those that are lent, and may come back.
     pub lent: u64,
-    /// Those that were lent, and don't come back.
+    /// Those that were lent, and won't come back.
     pub given_up: u64,
     pub ghost all: { made ≡ stored + lent + given_up },
 }
 
-/// The arenas that are stored, newest last, and the counts of a pool. Each arena is of the pool's kind, and nothing of it
-/// is used; where the pool has a limit, none has more bytes. A place is reserved for each arena that is lent, so that to
-/// give one back takes no memory.
+/// The stored arenas of a pool, newest last, and its counts. Each stored arena is of the pool's kind, with no bytes in
+/// use; if the pool has a limit, none has more bytes. A place is reserved for each lent arena, so giving one back takes
+/// no memory.
 #[derive(Drop)]
 pub struct Book<K: ChunkMaker> {
     stock: Stock<K, Bare>,
@@ -57,11 +57,11 @@ impl<K: ChunkMaker> Model for Book<K> {
 }
 
 impl<K: ChunkMaker> Book<K> {
-    /// A standard pool with so many arenas, which are empty.
+    /// Creates a standard pool with `count` empty arenas.
     ///
     /// # Errors
     ///
-    /// Memory for their table runs out.
+    /// Out of memory for the table of arenas.
     pub fn new(alloc: Global, count: u32, maker: K) -> Result<Book<K>, OutOfMemory>
     where
         K: Drop,
@@ -71,12 +71,12 @@ impl<K: ChunkMaker> Book<K> {
         Ok(Book { stock })
     }
 
-    /// The same with a limit in bytes: an arena that comes back and still has more after its reset, which keeps the newest
-    /// chunk alone, isn't stored.
+    /// Creates a standard pool with `count` empty arenas and a limit in bytes. A reset keeps only the newest chunk; an
+    /// arena that comes back and still has more bytes than the limit isn't stored.
     ///
     /// # Errors
     ///
-    /// Memory for their table runs out.
+    /// Out of memory for the table of arenas.
     pub fn new_with_limit(
         alloc: Global,
         count: u32,
@@ -91,11 +91,11 @@ impl<K: ChunkMaker> Book<K> {
         Ok(Book { stock })
     }
 
-    /// A fixed pool with so many arenas, each over a region of `bytes`, with ids from 0.
+    /// Creates a fixed pool with `count` arenas, each over a region of `bytes` bytes, with ids from 0.
     ///
     /// # Errors
     ///
-    /// Memory for their table or for a region runs out.
+    /// Out of memory for the table of arenas or for a region.
     pub fn new_fixed(
         alloc: Global,
         count: u32,
@@ -112,13 +112,13 @@ impl<K: ChunkMaker> Book<K> {
         Ok(Book { stock })
     }
 
-    /// Lends the newest arena that is stored, with its id, which takes no memory. Where none is stored, a standard pool
-    /// lends a new one.
+    /// Lends the newest stored arena, with its id. This takes no memory. If none is stored, a standard pool makes a new
+    /// arena and lends that.
     ///
     /// # Errors
     ///
-    /// `PoolEmpty` where none is stored in a fixed pool, and `Limit` where none is in a standard one that has made
-    /// 2^64 - 1. `OutOfMemory` comes only of a new one. Nothing changes then.
+    /// `PoolEmpty` if none is stored in a fixed pool; `Limit` if none is stored in a standard pool that has made
+    /// 2^64 - 1; `OutOfMemory` if there is no memory for a new one. The stored arenas and the counts are unchanged.
     pub fn take(&mut self) -> Result<(Allocator<K::Chunks>, Option<u32>), PoolErr>
         ensures gets { Gets self.old result self.new }
         ensures lent { IfOk result (IsPooled self.old.kind self.old.limit) }
@@ -127,8 +127,8 @@ impl<K: ChunkMaker> Book<K> {
         Ok((arena, id))
     }
 
-    /// Resets an arena that was lent, and stores it. Where there is a limit, and the arena then has more bytes, it is dropped
-    /// and counted as given up. Takes no memory.
+    /// Resets a lent arena, and stores it. If it then has more bytes than the limit, it is dropped and counted as given
+    /// up. Takes no memory.
     pub fn store(&mut self, a: Allocator<K::Chunks>, id: Option<u32>)
         requires lent { 0 < self.old.lent }
         requires kind { IsOfKind self.old.kind a.memory.state }
@@ -140,7 +140,7 @@ impl<K: ChunkMaker> Book<K> {
         drop(self.stock.keep(a, allocated, id));
     }
 
-    /// One arena that was lent doesn't come back.
+    /// Counts one lent arena as given up: it won't come back.
     pub fn forget(&mut self)
         requires { 0 < self.old.lent }
         ensures { self.new ≡ give_up self.old }
@@ -148,14 +148,14 @@ impl<K: ChunkMaker> Book<K> {
         self.stock.forget();
     }
 
-    /// How many bytes a stored arena has at most, if there is a limit.
+    /// Returns the limit on a stored arena's bytes, if there is one.
     pub fn limit(&self) -> Option<u64>
         ensures { result ≡ self.now.limit }
     {
         self.stock.limit()
     }
 
-    /// The four counts. By this call a caller knows what every book keeps.
+    /// Returns the four counts. The contract also says what every book keeps (`IsPool`).
     pub fn counts(&self) -> Counts
         ensures made { result.made ≡ self.now.made }
         ensures stored { result.stored ≡ self.now.stored }

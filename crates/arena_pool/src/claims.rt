@@ -12,7 +12,7 @@ use std::marker::Model;
 /// Why there are no claims.
 #[derive(Debug, Drop, PartialEq, Eq, thiserror::Error)]
 pub enum ClaimErr {
-    /// Memory for the words runs out.
+    /// Out of memory for the words.
     #[error("out of memory")]
     OutOfMemory,
 }
@@ -23,8 +23,8 @@ impl From<AllocError> for ClaimErr {
     }
 }
 
-/// Words that are 0 or 1, which threads share by reference. A thread claims one by a swap to 1, and has it where
-/// the swap found 0. No call waits. Contracts see which words these are, and how many.
+/// Words that are 0 or 1, which threads share by reference. A thread claims a word by a swap to 1, and has it if the
+/// swap found 0. No call waits. Contracts see which words these are, and how many.
 #[derive(Drop)]
 pub struct Claims {
     table: Table<(), ClaimView, u64, ClaimRule, Global>,
@@ -44,7 +44,7 @@ impl Model for Claims {
         × (c.table.shared.key ≡ c.table.shared.table_id.words) };
 }
 
-/// A thread's seat at some claims. It takes no bytes. Contracts see which claims, and what the seat knows.
+/// A thread's seat at a `Claims` table. It has no bytes. Contracts see which claims, and what the seat knows.
 #[derive(Drop)]
 pub struct ClaimSeat {
     seat: Seat<(), ClaimView>,
@@ -62,7 +62,7 @@ impl Model for ClaimSeat {
 }
 
 impl Claims {
-    /// So many words, all of them 0, and a seat that knows nothing.
+    /// Creates `words` words, all of them 0, and a seat that knows nothing.
     ///
     /// # Errors
     ///
@@ -77,7 +77,7 @@ impl Claims {
         Ok((Claims { table }, ClaimSeat { seat }))
     }
 
-    /// Another seat, which knows nothing.
+    /// Returns another seat, which knows nothing.
     pub fn split(&self, seat: &mut ClaimSeat) -> ClaimSeat
         requires { seat.old.table ≡ self.now }
         ensures same { seat.new ≡ seat.old }
@@ -88,8 +88,8 @@ impl Claims {
         }
     }
 
-    /// Swaps the word to 1. True where it found 0: now it is this seat's. False where it is taken, as it is where
-    /// the seat knew so.
+    /// Swaps the word to 1. Returns `true` if it found 0: this seat has claimed the word. Returns `false` if the word
+    /// was taken, which it is if the seat knew so before.
     #[tactic(auto, using(crate::proofs::ClaimLemmas::knows_claimed, crate::proofs::ClaimLemmas::knows_taken))]
     pub fn claim(&self, seat: &mut ClaimSeat, word: u32) -> bool
         requires seat { seat.old.table ≡ self.now }
@@ -108,7 +108,7 @@ impl Claims {
             == 0
     }
 
-    /// Loads the word. True where it was 1, as it is where the seat claimed it or found it taken.
+    /// Loads the word. Returns `true` if it was 1, which it is if the seat claimed it or found it taken before.
     #[tactic(auto, using(crate::proofs::ClaimLemmas::knows_taken))]
     pub fn is_claimed(&self, seat: &mut ClaimSeat, word: u32) -> bool
         requires seat { seat.old.table ≡ self.now }
@@ -127,7 +127,7 @@ impl Claims {
             == 1
     }
 
-    /// The seat knows what another knew, too.
+    /// Adds what another seat knows to this one. The other seat is spent.
     pub fn join(&self, seat: &mut ClaimSeat, other: ClaimSeat)
         requires seat { seat.old.table ≡ self.now }
         requires other { other.table ≡ self.now }

@@ -16,7 +16,7 @@ use std::alloc::Global;
 use std::sync::Wait;
 use std::sync::ledger::Blank;
 
-/// Arenas over regions of one size, which threads borrow and give back, each with its loan.
+/// A pool of arenas over regions of one size. Threads borrow them and give them back, each with its loan.
 #[derive(Drop)]
 pub struct FixedSizeAllocatorPool<K: ChunkMaker, L: PoolName> {
     pool: Shared<K, L, Bare>,
@@ -24,7 +24,7 @@ pub struct FixedSizeAllocatorPool<K: ChunkMaker, L: PoolName> {
 }
 
 impl<K: ChunkMaker, L: PoolName> FixedSizeAllocatorPool<K, L> {
-    /// A pool of so many arenas, each over a region of `bytes`. It makes no more.
+    /// Creates a pool of `thread_count` arenas, each over a region of `bytes` bytes. It makes no more.
     ///
     /// # Errors
     ///
@@ -55,8 +55,8 @@ impl<K: ChunkMaker, L: PoolName> FixedSizeAllocatorPool<K, L> {
         Ok(FixedSizeAllocatorPool { pool })
     }
 
-    /// Borrows an arena of which nothing is used, as `AllocatorPool::get` does. Waits while none is stored: without end once all
-    /// were given up. Never refuses.
+    /// Borrows an arena with no bytes in use, as `AllocatorPool::get` does. Waits while none is stored: forever once
+    /// all were given up. Never refuses.
     ///
     /// # Errors
     ///
@@ -68,7 +68,7 @@ impl<K: ChunkMaker, L: PoolName> FixedSizeAllocatorPool<K, L> {
         self.pool.lend(rt)
     }
 
-    /// Gives an arena back. It is reset, and one that waits is woken. Takes no memory.
+    /// Gives an arena back: it is reset and stored, and one waiting thread is woken. Takes no memory.
     pub fn add<R: Wait>(&self, rt: &R, a: Allocator<K::Chunks>, loan: Loan<L>)
         requires { IsOfKind L.kind a.memory.state }
     {
@@ -77,7 +77,7 @@ impl<K: ChunkMaker, L: PoolName> FixedSizeAllocatorPool<K, L> {
         self.pool.add(rt, a, allocated, loan);
     }
 
-    /// The arena of the loan doesn't come back. Once none is left who asks waits without end.
+    /// Ends the loan of an arena that won't come back. Once all were given up, `get` waits forever.
     pub fn forget<R: Wait>(&self, rt: &R, loan: Loan<L>) {
         self.pool.forget(rt, loan);
     }

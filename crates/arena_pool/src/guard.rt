@@ -21,8 +21,8 @@ pub struct FixedSizeAllocatorMetadata {
     pub id: u32,
 }
 
-/// A lent arena. Contracts see it as the arena with its id. It is spent by `put_back` or by `give_up`, and can't be
-/// dropped. So it can't go into a closure either, which may be dropped: who works in a thread borrows there.
+/// A lent arena. Contracts see it as the arena with its id. It is consumed by `put_back` or by `give_up`, and can't be
+/// dropped. So it can't be moved into a closure either, which may be dropped: a thread borrows its arena itself.
 pub struct AllocatorGuard<'a, K: ChunkMaker, L: PoolName> {
     pool: &'a AllocatorPool<K, L>,
     arena: Box<Allocator<K::Chunks>, Global>,
@@ -51,7 +51,7 @@ impl<'a, K: ChunkMaker, L: PoolName> AllocatorGuard<'a, K, L> {
         AllocatorGuard { pool, arena, loan }
     }
 
-    /// The lent arena.
+    /// Returns the lent arena.
     pub fn parts_mut(&mut self) -> &mut Allocator<K::Chunks>
         ensures* writes_back { sem 𝓛 (lends_arena K.row L.row K.Chunks.row K.Chunks.ChunkSource
             (record { kind = L.kind; limit = L.limit }) (record { name = L.name; parts = L.parts }) self.entry result) }
@@ -60,7 +60,7 @@ impl<'a, K: ChunkMaker, L: PoolName> AllocatorGuard<'a, K, L> {
         &mut self.arena
     }
 
-    /// The arena's id, which the arenas of a fixed pool have, and no others.
+    /// Returns the arena's id, which the arenas of a fixed pool have, and no others.
     pub fn fixed_size_metadata(&self) -> Option<FixedSizeAllocatorMetadata>
         ensures id { result ≡ option_map (λ id. record { id = id }) self.now.1 }
         ensures fixed { is_some result ≡ is_fixed L.kind }
@@ -68,8 +68,8 @@ impl<'a, K: ChunkMaker, L: PoolName> AllocatorGuard<'a, K, L> {
         self.loan.id().map(|id| FixedSizeAllocatorMetadata { id })
     }
 
-    /// Gives the arena back. It is reset, and one that waits is woken. Where it then has more bytes than the pool's limit it
-    /// is dropped. Takes no memory.
+    /// Gives the arena back: it is reset and stored, and one waiting thread is woken. If it has more bytes than the
+    /// pool's limit after the reset, it is dropped instead. Takes no memory.
     pub fn put_back<R: Wait>(self, rt: &R)
         requires { IsOfKind L.kind self.0.memory.state }
     {
@@ -82,8 +82,8 @@ impl<'a, K: ChunkMaker, L: PoolName> AllocatorGuard<'a, K, L> {
         pool.shared.add(rt, arena, allocated, loan);
     }
 
-    /// Keeps the arena, as it stands. It doesn't come back to the pool: a fixed one whose arenas were all given up lends none
-    /// any more, and who asks it waits without end.
+    /// Keeps the arena, as it is. It won't come back to the pool: a fixed pool whose arenas were all given up lends
+    /// none any more, and `get` waits forever.
     pub fn give_up<R: Wait>(self, rt: &R) -> Allocator<K::Chunks>
         ensures { result ≡ self.entry.0 }
     {

@@ -1,5 +1,5 @@
-// What the events of a pool come to, and which arenas are of a kind. Each law is a call that does nothing: made in a body,
-// it gives its facts there.
+// Laws of a pool's events, of kinds of arenas, of claims and of owners. Each is a function that does nothing: a call in
+// a body makes its facts available there.
 ghost use Rattle.std.specs.Prelude.{◌≡◌, ℕ, ◌+◌, ◌-◌, ◌^◌, ◌<◌, ◌≤◌, ◌⊎◌, [], ◌∷◌, length, map, take, slice_index, false, IsTrue, if◌then◌else◌, List, Option, None, Some, Result, Ok, Err, IsOk};
 ghost use mathlib.Core.Option.{some};
 ghost use lib.ListN.{get_elem?};
@@ -28,9 +28,9 @@ ghost use Rattle.arena_pool.specs.declared.kind.PoolKind.TheVariants.{Standard};
 ghost use Rattle.arena_pool.specs.declared.book.PoolErr.{PoolErr};
 ghost use Rattle.arena_pool.specs.declared.book.PoolErr.TheVariants.{PoolEmpty, Limit, OutOfMemory};
 
-/// Each event keeps what every book keeps: each arena that was made is stored, lent or given up, and those that are stored
-/// are of the kind, with nothing used, and don't pass the limit. So is each one that is lent. A get that lends one leaves
-/// one more lent, none given up, and kind and limit as they are.
+/// Each event keeps what every book keeps: each arena that was made is stored, lent or given up, and each stored one is
+/// of the pool's kind, has no bytes in use, and is within the limit. So is each arena when it is lent. A get that lends
+/// an arena raises the number lent by 1; the number given up, the kind and the limit are unchanged.
 pub fn events()
     ensures counted { (p q : Pool) (lent : Pooled) → Gets p (Ok lent) q
         → (q.lent ≡ p.lent + 1) × (q.kind ≡ p.kind) × (q.limit ≡ p.limit) × (q.given_up ≡ p.given_up) }
@@ -42,9 +42,9 @@ pub fn events()
     ensures given_up { (p : Pool) → IsPool p → 0 < p.lent → IsPool (give_up p) }
 {}
 
-/// A get is refused exactly so: where none is stored, a fixed pool is empty, and one that has made as many as can be counted
-/// is at its limit. Else it lends one, or memory for a new one runs out. It waits, under the lock, exactly where it would
-/// be refused for one of the first two, or as many are lent as can be.
+/// When a get is refused: if none is stored, by a fixed pool with `PoolEmpty`, and by a standard pool that has made
+/// 2^64 - 1 with `Limit`. Otherwise it lends an arena, or is out of memory for a new one. Under the lock it waits
+/// exactly if it would be refused in one of these two ways, or if `MOST_LENT` arenas are lent.
 pub fn answers()
     ensures stored { (p q : Pool) (answer : Result Pooled PoolErr) → Gets p answer q → 0 < length p.stack
         → IsOk answer }
@@ -57,9 +57,9 @@ pub fn answers()
         → p.lent < most_lent → (answer ≡ Err PoolEmpty) ⊎ (answer ≡ Err Limit) }
 {}
 
-/// What a put comes to. An arena that has no more bytes than the limit after its reset becomes the newest of the stack, and
-/// so does each where there is no limit, as in a fixed pool. One that has more is gone. Either way one less is lent, and
-/// kind and limit stay.
+/// What a put does. An arena that has no more bytes than the limit after its reset becomes the newest stored one, and
+/// so does every arena if there is no limit, as in a fixed pool. An arena that has more is given up. Either way one
+/// arena less is lent, and the kind and the limit are unchanged.
 pub fn puts()
     ensures kept { (p : Pool) (arena : View) (id : Option ℕ) (limit : ℕ) → p.limit ≡ Some limit
         → allocated_bytes (reset arena.memory.state) ≤ limit → put p arena id ≡ store p (reset_view arena, id) }
@@ -73,14 +73,14 @@ pub fn puts()
         (q.lent ≡ p.lent - 1) × (q.kind ≡ p.kind) × (q.limit ≡ p.limit) }
 {}
 
-/// What was put last, and doesn't pass the limit, is lent next, with its id, and reset.
+/// The arena that was put last, if it is within the limit, is lent next, reset and with its id.
 pub fn newest()
     ensures { (p q : Pool) (arena : View) (id : Option ℕ) (lent : Pooled) → 0 < p.lent
         → IsWithin p.limit (reset_view arena)
         → Gets (put p arena id) (Ok lent) q → (lent ≡ (reset_view arena, id)) × (q ≡ p) }
 {}
 
-/// Calls keep the kind of an arena: each that leaves a frame, each on blocks, whatever it answers, and a reset.
+/// Calls keep the kind of an arena: each call with a frame, each call on blocks, whatever it returns, and a reset.
 pub fn kinds()
     ensures frame { (kind : PoolKind) (old new : Memory) (before after : List Block)
         → Frame old new before after → IsOfKind kind old.state → IsOfKind kind new.state }
@@ -98,7 +98,8 @@ pub fn kinds()
         → IsOfKind kind (reset state) }
 {}
 
-/// So do calls that place values: from what a `PlacesBox` and a `PlacesSlice` have in `placed`.
+/// Calls that place values keep the kind of an arena: the premises are the fields `placed` of `PlacesBox` and
+/// `PlacesSlice`.
 pub fn kinds_by_values<T>()
     ensures boxed { (kind : PoolKind) (old new : View) (size align : ℕ) (result : Result (Box T) ItemErr)
         → Answers (λ b. b.block) result (PlacesBlock old new size align)
@@ -108,15 +109,15 @@ pub fn kinds_by_values<T>()
         → IsOfKind kind old.memory.state → IsOfKind kind new.memory.state }
 {}
 
-/// Where nothing of an arena is used, no block of some bytes can be read, whoever placed it before.
+/// If an arena has no bytes in use, no non-empty block of it is readable, no matter which borrower placed the block.
 pub fn unused()
     ensures { (kind : PoolKind) (arena : View) → IsUnused kind arena → NoneReadable arena.memory.state }
 {}
 
-/// Each word is claimed once. In each state that the rule of claims allows a word is the number of seats that claim
-/// it, no two seats claim one word, and none claims a word twice. Of swaps one after another, whoever makes them, each
-/// finds 1 where an earlier one was of its word, and else what the word was at first: so of all swaps of a word that
-/// was 0 the first alone finds 0.
+/// Each word is claimed once. In each state that the rule of claims allows, a word is the number of seats that claim
+/// it, no two seats claim the same word, and none claims a word twice. In a sequence of swaps, by any threads, each
+/// finds 1 if an earlier one was of its word, and otherwise the word's first value: of all swaps of a word that was 0,
+/// the first alone finds 0.
 pub fn claimed_once()
     ensures counted { (n : ℕ) (words : List ℕ) (views : List ClaimView) → IsKept n words views
         → (w : ℕ) → slice_index words w ≡ claimers w views }
@@ -129,9 +130,10 @@ pub fn claimed_once()
         → found ≡ (if has w (map (λ s. s.0) (take i swaps)) then 1 else slice_index words w) }
 {}
 
-/// A shared arena is freed at most once, and of two owners that give up exactly the later frees it. In each state that
-/// the rule of two owners allows at most one of them claims word 0, at most one word 1, and none both. One that hasn't
-/// given up finds word 0 taken exactly where the other has; then word 1 is free, and the arena is there to be taken.
+/// A shared arena is freed at most once, and of two owners that give up, exactly the later one frees it. In each state
+/// that the rule of two owners allows, at most one of them claims word 0, at most one claims word 1, and none claims
+/// both. An owner that hasn't given up finds word 0 taken exactly if the other has given up; then word 1 is free, and
+/// the arena is in the slot.
 pub fn freed_once<X>()
     ensures { (a : X) (s : TableState (Option X) (OwnerView X)) → Shares a s → length s.views ≡ 2
         → FreedOnce a s }

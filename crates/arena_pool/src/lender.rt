@@ -1,4 +1,4 @@
-// What lies under a pool's lock.
+// What a pool's lock protects.
 ghost use Rattle.std.specs.Prelude.{◌≡◌, IfOk, OnErr, IsOk, IsTrue, Ok, Err};
 ghost use Rattle.arena_rules.specs.State.{allocated_bytes};
 ghost use Rattle.arena_pool.specs.Kinds.{is_fixed, IsUnused, IsWithin};
@@ -13,13 +13,14 @@ use crate::stock::Stock;
 use arena_chunks::{Allocator, OutOfMemory};
 use std::marker::Model;
 
-// Who lends the arenas of a pool that is named: its stock, and its loans. As many arenas are lent as loans are about. Contracts
-// see the stock.
+// Lends the arenas of a named pool: its stock, and its loans. There is one loan for each lent arena. Contracts see the
+// stock.
 #[derive(Drop)]
 pub(crate) struct Lender<K: ChunkMaker, L: PoolName, P: Packing<Allocator<K::Chunks>>> {
-    // A pair is dropped whatever its parts are: the borrow checker covers no call between functions over P that takes a stock.
+    // In a pair, which can be dropped whatever its parts are: the borrow checker covers no call between functions over
+    // P that takes a stock.
     pub(crate) pair: (Stock<K, P>, Lending<L>),
-    // How many threads wait for an arena.
+    // The number of threads that wait for an arena.
     pub(crate) waiting: u64,
 }
 
@@ -35,7 +36,7 @@ impl<K: ChunkMaker, L: PoolName, P: Packing<Allocator<K::Chunks>>> Model for Len
 }
 
 impl<K: ChunkMaker, L: PoolName, P: Packing<Allocator<K::Chunks>>> Lender<K, L, P> {
-    // Whether `take` lends an arena or wants memory for a new one.
+    // Returns whether `take` lends an arena, or fails for lack of memory alone.
     pub(crate) fn can_take(&self) -> bool
         ensures { result ≡ can_take self.now }
     {
@@ -44,7 +45,7 @@ impl<K: ChunkMaker, L: PoolName, P: Packing<Allocator<K::Chunks>>> Lender<K, L, 
             && (counts.stored > 0 || !self.pair.0.is_fixed() && counts.made < u64::MAX)
     }
 
-    // A get, with a loan for the arena.
+    // Lends an arena, with a loan for it.
     #[inline]
     pub(crate) fn take(&mut self) -> Result<(P::Packed, Loan<L>), OutOfMemory>
         requires { IsTrue (can_take self.old) }
@@ -62,7 +63,8 @@ impl<K: ChunkMaker, L: PoolName, P: Packing<Allocator<K::Chunks>>> Lender<K, L, 
         }
     }
 
-    // The arena of a loan, of which nothing is used, is stored. Where it passes the limit it comes back to be let go.
+    // Stores the arena of a loan, which has no bytes in use. If it exceeds the limit, it is returned for the caller to
+    // drop.
     #[inline]
     pub(crate) fn keep(
         &mut self,
@@ -79,7 +81,7 @@ impl<K: ChunkMaker, L: PoolName, P: Packing<Allocator<K::Chunks>>> Lender<K, L, 
         stock.keep(arena, allocated, id)
     }
 
-    // The arena of a loan doesn't come back.
+    // Ends the loan of an arena that won't come back.
     pub(crate) fn forget(&mut self, loan: Loan<L>)
         ensures { self.new ≡ give_up self.old }
     {
@@ -95,7 +97,7 @@ impl<K: ChunkMaker, L: PoolName, P: Packing<Allocator<K::Chunks>>> Lender<K, L, 
         self.waiting = self.waiting.saturating_add(1);
     }
 
-    // One thread waits no more.
+    // One thread less waits for an arena.
     pub(crate) fn end_wait(&mut self)
         ensures { self.new ≡ self.old }
     {

@@ -8,8 +8,8 @@ use std::marker::Model;
 use std::sync::ledger;
 use std::sync::ledger::{Blank, Share};
 
-/// What a lent arena leaves with its borrower: its id, and one part of the pool's ledger. It is spent where the arena is
-/// given back or given up, to a pool of the same name, and can't be dropped, nor go into a closure.
+/// The loan of an arena: the arena's id, and one part of the pool's ledger. It is consumed when the arena is given back
+/// or given up, to the pool of the same name. It can't be dropped, and so can't be moved into a closure.
 pub struct Loan<L: PoolName> {
     id: Option<u32>,
     share: Share<L>,
@@ -28,7 +28,7 @@ impl<L: PoolName> Loan<L> {
     }
 }
 
-// How many arenas are lent: as many as loans are about. Contracts see the number.
+// The number of lent arenas, which is the number of loans. Contracts see the number.
 #[derive(Drop)]
 pub(crate) struct Lending<L: PoolName> {
     ledger: ledger::Book<L>,
@@ -47,7 +47,7 @@ impl<L: PoolName> Model for Lending<L> {
 }
 
 impl<L: PoolName> Lending<L> {
-    // Nothing is lent yet.
+    // Opens the ledger. Nothing is lent yet.
     pub(crate) fn open(blank: Blank) -> Lending<L>
         requires { IsBlankOf L.name L.parts blank }
         ensures { result ≡ 0 }
@@ -56,7 +56,7 @@ impl<L: PoolName> Lending<L> {
         Lending { ledger, spare }
     }
 
-    // A loan for an arena with this id.
+    // Returns a loan for an arena with this id.
     #[inline]
     pub(crate) fn lend(&mut self, id: Option<u32>) -> Loan<L>
         requires room { self.old < MOST_LENT }
@@ -71,7 +71,7 @@ impl<L: PoolName> Lending<L> {
         }
     }
 
-    // A loan is spent, so at least one arena was lent. The id of its arena.
+    // Ends a loan, and returns the id of its arena. At least one arena was lent, since the loan exists.
     #[inline]
     pub(crate) fn settle(&mut self, loan: Loan<L>) -> Option<u32>
         ensures counted { self.new + 1 ≡ self.old }

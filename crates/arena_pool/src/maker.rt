@@ -7,10 +7,10 @@ use std::alloc::Global;
 
 /// Makes the source of chunks of each new arena.
 pub trait ChunkMaker {
-    /// The sources that it makes.
+    /// The type of the sources.
     type Chunks: ChunkSource + Drop + Send;
 
-    /// A source that has refused nothing, and of which nothing was asked, as far as it tells.
+    /// Makes a source that has refused nothing, and has recorded no request, if it records them.
     fn make(&mut self) -> Self::Chunks
         ensures { IsFresh (Self.Chunks.source result) };
 }
@@ -24,7 +24,7 @@ pub struct MemoryMaker {
 }
 
 impl MemoryMaker {
-    /// A maker of sources of at most `budget` bytes each. Takes no memory.
+    /// Returns a maker of sources of at most `budget` bytes each. Takes no memory.
     pub fn new(alloc: Global, budget: u64) -> MemoryMaker
         ensures { result.budget ≡ budget }
     {

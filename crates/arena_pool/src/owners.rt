@@ -1,4 +1,4 @@
-// Two owners of one arena, of whom the later to give up frees it.
+// Two owners of one arena; the later one to give up gets it.
 ghost use Rattle.std.specs.Prelude.{◌≡◌, ◌<◌, IfOk, IfErr, MatchBool, false};
 ghost use Rattle.std.specs.Arc.{arc_value};
 ghost use Rattle.arena_pool.specs.Claiming.{new_view, with_taken, with_free, times};
@@ -13,7 +13,7 @@ use std::alloc::Global;
 use std::marker::Model;
 use std::sync::Arc;
 
-// Two words and a slot. Who finds word 0 taken claims word 1, and with it the slot.
+// Two words and a slot. The owner that finds word 0 taken claims word 1, and with it the slot.
 type Shelf<C> = Table<
     Option<Allocator<C>>,
     OwnerView<Allocator<C>>,
@@ -24,15 +24,15 @@ type Shelf<C> = Table<
 
 type Place<C> = Seat<Option<Allocator<C>>, OwnerView<Allocator<C>>>;
 
-/// Why an arena isn't shared. It comes back.
+/// Why an arena isn't shared. The error returns the arena.
 #[derive(Drop)]
 pub enum ShareErr<C: ChunkSource> {
-    /// Memory for the two owners runs out.
+    /// Out of memory for the two owners.
     OutOfMemory { arena: Allocator<C> },
 }
 
-/// One of the two owners of an arena. It may go to another thread. Contracts see the arena, at which table it lies,
-/// and what the owner knows. An owner that is dropped doesn't give up: then the arena goes with the later of the two.
+/// One of the two owners of an arena. It may be sent to another thread. Contracts see the arena, its table, and what
+/// the owner knows. An owner that is dropped doesn't give up: then the arena is dropped with the later of the two.
 #[derive(Drop)]
 pub struct Owner<C: ChunkSource> {
     table: Arc<Shelf<C>, Global>,
@@ -75,7 +75,7 @@ impl<C: ChunkSource> Model for OwnerSeat<C> {
     ghost view = { λ o. o.seat.me.0.lists };
 }
 
-/// What giving up comes to: the arena stays with the other owner, or it is freed from both.
+/// The result of giving up: the arena stays with the other owner, or it is freed from both.
 #[derive(Drop)]
 pub enum GaveUp<C: ChunkSource> {
     /// The other owner has the arena now.
@@ -84,11 +84,11 @@ pub enum GaveUp<C: ChunkSource> {
     Freed(Allocator<C>, OwnerSeat<C>),
 }
 
-/// Two owners of the arena.
+/// Shares an arena between two owners.
 ///
 /// # Errors
 ///
-/// Out of memory. The arena comes back.
+/// Out of memory. The error returns the arena.
 pub fn share<C: ChunkSource + Drop>(
     alloc: Global,
     a: Allocator<C>,
@@ -106,7 +106,7 @@ pub fn share<C: ChunkSource + Drop>(
     let Ok(other) = Arc::try_clone(&table) else {
         return Err(ShareErr::OutOfMemory { arena: a });
     };
-    // From here on nothing fails, so the arena may go.
+    // Nothing fails from here on, so the arena can be moved.
     table.shared.load::<Take>(&mut seat, 0);
     let _ = table.shared.exchange(&mut seat, 0, Some(a));
     table.shared.load::<Give>(&mut seat, 0);
@@ -121,8 +121,8 @@ pub fn share<C: ChunkSource + Drop>(
 }
 
 impl<C: ChunkSource + Drop> Owner<C> {
-    /// Whether the other owner hasn't given up yet, as a load of word 0 found. Where it has, `give_up` of this one
-    /// frees the arena.
+    /// Returns `true` if the other owner hadn't given up yet when word 0 was loaded. If it returns `false`, `give_up`
+    /// of this owner frees the arena.
     #[tactic(auto, using(crate::proofs::ClaimLemmas::is_taken))]
     pub fn is_double_owned(&mut self) -> bool
         ensures table { self.new.table ≡ self.old.table }
@@ -136,7 +136,8 @@ impl<C: ChunkSource + Drop> Owner<C> {
         self.table.shared.load::<Look>(&mut self.seat, 0) == 0
     }
 
-    /// Of the two owners the first to call this leaves the arena to the other, and the later has it.
+    /// Gives up this owner. The first of the two owners to call this leaves the arena to the other; the second gets the
+    /// arena.
     pub fn give_up(self) -> GaveUp<C>
         ensures { IsGivenUp self result }
     {

@@ -11,10 +11,10 @@ pub(crate) trait Packing<A> {
     // A packed value.
     type Packed: Drop + Send;
 
-    // The value in it.
+    // The value that is packed.
     ghost unpacked: { Self.Packed → A };
 
-    // Packs the value. Memory may run out.
+    // Packs the value; may run out of memory.
     fn pack(alloc: Global, value: A) -> Result<Self::Packed, OutOfMemory>
         ensures { IfOk result (λ p. unpacked p ≡ value) };
 }
@@ -49,7 +49,7 @@ impl<A: Drop + Send> Packing<A> for InBoxes {
     }
 }
 
-// A packed arena with its id, which the arenas of a fixed pool have. Contracts see the arena with its id.
+// A packed arena, with its id if its pool is fixed. Contracts see the arena with its id.
 #[derive(Drop)]
 pub(crate) struct Stored<K: ChunkMaker, P: Packing<Allocator<K::Chunks>>> {
     pub(crate) arena: P::Packed,

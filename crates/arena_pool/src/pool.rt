@@ -17,15 +17,15 @@ use std::alloc::Global;
 use std::sync::Wait;
 use std::sync::ledger::Blank;
 
-/// Arenas of one kind, which threads borrow and give back. Each lies in a box, so that what moves is a pointer.
+/// A pool of arenas of one kind, which threads borrow and give back. Each is in a box, so only a pointer is moved.
 #[derive(Drop)]
 pub struct AllocatorPool<K: ChunkMaker, L: PoolName> {
     pub(crate) shared: Shared<K, L, InBoxes>,
 }
 
 impl<K: ChunkMaker, L: PoolName> AllocatorPool<K, L> {
-    /// A pool of arenas that grow, with so many at first. One for each thread will do; the pool makes more where none is
-    /// stored.
+    /// Creates a pool of arenas that grow, with `thread_count` at first. One for each thread suffices; the pool makes
+    /// more if none is stored.
     ///
     /// # Errors
     ///
@@ -48,8 +48,8 @@ impl<K: ChunkMaker, L: PoolName> AllocatorPool<K, L> {
         })
     }
 
-    /// The same with a limit in bytes: an arena that comes back and still has more after its reset, which keeps the newest
-    /// chunk alone, is dropped and counted as given up.
+    /// Creates a pool of arenas that grow, with a limit in bytes. A reset keeps only the newest chunk; an arena that
+    /// comes back and still has more bytes than the limit is dropped and counted as given up.
     ///
     /// # Errors
     ///
@@ -73,7 +73,7 @@ impl<K: ChunkMaker, L: PoolName> AllocatorPool<K, L> {
         })
     }
 
-    /// A pool of so many arenas that don't grow, each over a region of `bytes`. It makes no more.
+    /// Creates a pool of `thread_count` arenas that don't grow, each over a region of `bytes` bytes. It makes no more.
     ///
     /// # Errors
     ///
@@ -105,13 +105,13 @@ impl<K: ChunkMaker, L: PoolName> AllocatorPool<K, L> {
         })
     }
 
-    /// Borrows an arena of which nothing is used. Waits while none is stored and no new one can be made, and while as many
-    /// are lent as can be: without end over a fixed pool whose arenas were all given up. What an earlier borrower wrote stays
-    /// in the arena, and a block shows it until it is written.
+    /// Borrows an arena with no bytes in use. Waits while none is stored and no new one can be made, and while
+    /// `MOST_LENT` are lent: forever if all arenas of a fixed pool were given up. Bytes that an earlier borrower wrote
+    /// stay in the arena, and a block shows them until it is written.
     ///
     /// # Errors
     ///
-    /// Memory for the place or the box of a new arena runs out. A fixed pool never refuses.
+    /// Out of memory for the place or the box of a new arena. A fixed pool never refuses.
     pub fn get<R: Wait>(&self, rt: &R) -> Result<AllocatorGuard<'_, K, L>, OutOfMemory>
         ensures unused { IfOk result (λ guard. IsUnused L.kind guard.0) }
         ensures within { IfOk result (λ guard. IsWithin L.limit guard.0) }
@@ -121,11 +121,11 @@ impl<K: ChunkMaker, L: PoolName> AllocatorPool<K, L> {
         Ok(AllocatorGuard::new(self, arena, loan))
     }
 
-    /// The same as `get`, by a name that says that it waits.
+    /// The same as `get`, with a name that says that it waits.
     ///
     /// # Errors
     ///
-    /// As of `get`.
+    /// As for `get`.
     pub fn get_wait<R: Wait>(&self, rt: &R) -> Result<AllocatorGuard<'_, K, L>, OutOfMemory>
         ensures unused { IfOk result (λ guard. IsUnused L.kind guard.0) }
         ensures within { IfOk result (λ guard. IsWithin L.limit guard.0) }
@@ -134,7 +134,7 @@ impl<K: ChunkMaker, L: PoolName> AllocatorPool<K, L> {
         self.get(rt)
     }
 
-    /// The four counts, as they are while the lock is held.
+    /// Returns the four counts, as they are while the lock is held.
     pub fn counts<R: Wait>(&self, rt: &R) -> Counts {
         self.shared.counts(rt)
     }

@@ -1,4 +1,4 @@
-// A stock of arenas under a lock, whoever lends them.
+// A stock of arenas under a lock, for every pool type.
 ghost use Rattle.std.specs.Prelude.{◌≡◌, IfOk, IsOk, IsTrue};
 ghost use Rattle.std.specs.Sync.Mutex.{mutex_guard_value};
 ghost use Rattle.arena_rules.specs.State.{allocated_bytes};
@@ -25,7 +25,7 @@ pub(crate) struct Shared<K: ChunkMaker, L: PoolName, P: Packing<Allocator<K::Chu
 }
 
 impl<K: ChunkMaker, L: PoolName, P: Packing<Allocator<K::Chunks>>> Shared<K, L, P> {
-    // Over a new stock.
+    // Creates the pool over a new stock.
     pub(crate) fn over(stock: Stock<K, P>, blank: Blank) -> Shared<K, L, P>
         requires blank { IsBlankOf L.name L.parts blank }
         requires kind { stock.kind ≡ L.kind }
@@ -39,12 +39,12 @@ impl<K: ChunkMaker, L: PoolName, P: Packing<Allocator<K::Chunks>>> Shared<K, L, 
         }
     }
 
-    // The four counts, as they are while the lock is held.
+    // Returns the four counts, as they are while the lock is held.
     pub(crate) fn counts<R: Wait>(&self, rt: &R) -> Counts {
         self.lock(rt).counts()
     }
 
-    // An arena with its loan.
+    // Lends an arena, with its loan.
     #[inline]
     pub(crate) fn lend<R: Wait>(&self, rt: &R) -> Result<(P::Packed, Loan<L>), OutOfMemory>
         ensures unused { IfOk result (λ lent. IsUnused L.kind (P.unpacked lent.0)) }
@@ -55,13 +55,13 @@ impl<K: ChunkMaker, L: PoolName, P: Packing<Allocator<K::Chunks>>> Shared<K, L, 
         let lent = lender.take();
         drop(lender);
         if lent.is_err() {
-            // Nothing was taken: another that waits may find the memory.
+            // Nothing was lent: another waiting thread may find the memory.
             self.freed.notify_one();
         }
         lent
     }
 
-    // Takes the lock. Where it is free that is one step, in line.
+    // Takes the lock. If it is free, that is one inlined step.
     #[inline]
     fn lock<R: Wait>(&self, rt: &R) -> MutexGuard<'_, Lender<K, L, P>> {
         match self.lender.try_lock() {
@@ -82,7 +82,8 @@ impl<K: ChunkMaker, L: PoolName, P: Packing<Allocator<K::Chunks>>> Shared<K, L, 
         self.wait(rt, lender)
     }
 
-    // Waits until an arena can be lent. Those that wait are counted, so that who gives back wakes one only where there is one.
+    // Waits until an arena can be lent. Waiting threads are counted, so that giving back wakes one only if there is
+    // one.
     #[cold]
     #[inline(never)]
     fn wait<'b, R: Wait>(
@@ -101,7 +102,7 @@ impl<K: ChunkMaker, L: PoolName, P: Packing<Allocator<K::Chunks>>> Shared<K, L, 
         lender
     }
 
-    // Lets the lock go, and wakes one that waits.
+    // Releases the lock, and wakes one waiting thread.
     #[inline]
     fn wake_one(&self, lender: MutexGuard<'_, Lender<K, L, P>>) {
         let is_awaited = lender.is_awaited();
@@ -111,8 +112,8 @@ impl<K: ChunkMaker, L: PoolName, P: Packing<Allocator<K::Chunks>>> Shared<K, L, 
         }
     }
 
-    // Stores an arena of which nothing is used and which has so many bytes, and wakes one that waits. Where it passes the
-    // limit it is dropped, once the lock is free.
+    // Stores an arena with no bytes in use and `allocated` bytes in all, and wakes one waiting thread. If the arena
+    // exceeds the limit, it is dropped after the lock is released.
     #[inline]
     pub(crate) fn add<R: Wait>(&self, rt: &R, arena: P::Packed, allocated: u64, loan: Loan<L>)
         requires unused { IsUnused L.kind (P.unpacked arena) }
@@ -124,7 +125,7 @@ impl<K: ChunkMaker, L: PoolName, P: Packing<Allocator<K::Chunks>>> Shared<K, L, 
         drop(gone);
     }
 
-    // An arena doesn't come back. One that waits for its part of the ledger is woken.
+    // Ends the loan of an arena that won't come back. One thread that waits for its part of the ledger is woken.
     pub(crate) fn forget<R: Wait>(&self, rt: &R, loan: Loan<L>) {
         let mut lender = self.lock(rt);
         lender.forget(loan);

@@ -16,7 +16,7 @@ use std::alloc::Global;
 use std::sync::Wait;
 use std::sync::ledger::Blank;
 
-/// Arenas that grow, which threads borrow and give back, each with its loan.
+/// A pool of arenas that grow. Threads borrow them and give them back, each with its loan.
 #[derive(Drop)]
 pub struct StandardAllocatorPool<K: ChunkMaker, L: PoolName> {
     pool: Shared<K, L, Bare>,
@@ -24,7 +24,7 @@ pub struct StandardAllocatorPool<K: ChunkMaker, L: PoolName> {
 }
 
 impl<K: ChunkMaker, L: PoolName> StandardAllocatorPool<K, L> {
-    /// A pool with so many arenas at first. It makes more where none is stored.
+    /// Creates a pool with `thread_count` arenas at first. It makes more if none is stored.
     ///
     /// # Errors
     ///
@@ -46,18 +46,18 @@ impl<K: ChunkMaker, L: PoolName> StandardAllocatorPool<K, L> {
         Ok(StandardAllocatorPool { pool })
     }
 
-    /// Borrows an arena of which nothing is used. Waits as `AllocatorPool::get` does.
+    /// Borrows an arena with no bytes in use. Waits as `AllocatorPool::get` does.
     ///
     /// # Errors
     ///
-    /// Memory for the place of a new arena runs out.
+    /// Out of memory for the place of a new arena.
     pub fn get<R: Wait>(&self, rt: &R) -> Result<(Allocator<K::Chunks>, Loan<L>), OutOfMemory>
         ensures { IfOk result (λ lent. IsUnused Standard lent.0) }
     {
         self.pool.lend(rt)
     }
 
-    /// Gives an arena back. It is reset, and one that waits is woken. Takes no memory.
+    /// Gives an arena back: it is reset and stored, and one waiting thread is woken. Takes no memory.
     pub fn add<R: Wait>(&self, rt: &R, a: Allocator<K::Chunks>, loan: Loan<L>)
         requires { IsOfKind Standard a.memory.state }
     {
@@ -66,7 +66,7 @@ impl<K: ChunkMaker, L: PoolName> StandardAllocatorPool<K, L> {
         self.pool.add(rt, a, allocated, loan);
     }
 
-    /// The arena of the loan doesn't come back.
+    /// Ends the loan of an arena that won't come back.
     pub fn forget<R: Wait>(&self, rt: &R, loan: Loan<L>) {
         self.pool.forget(rt, loan);
     }

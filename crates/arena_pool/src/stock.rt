@@ -1,4 +1,4 @@
-// The arenas that a pool stores, however it packs them, and its counts.
+// The stored arenas of a pool, however they are packed, and its counts.
 ghost use Rattle.std.specs.Prelude.{◌≡◌, ◌+◌, ◌<◌, IfOk};
 ghost use Rattle.arena_rules.specs.State.{allocated_bytes};
 ghost use Rattle.arena_pool.specs.Kinds.{is_fixed, is_within, HasId, HasLimit, HasRegions, IsNew, IsUnused, IsWithin};
@@ -13,7 +13,7 @@ use arena_region::Region;
 use std::alloc::Global;
 use std::marker::Model;
 
-// The arenas that are stored, newest last, and the counts of a pool: what a book is, over either way to pack arenas.
+// The stored arenas of a pool, newest last, and its counts: what a `Book` is, for either way to pack arenas.
 #[derive(Drop)]
 pub(crate) struct Stock<K: ChunkMaker, P: Packing<Allocator<K::Chunks>>> {
     kind: PoolKind,
@@ -49,7 +49,7 @@ impl<K: ChunkMaker, P: Packing<Allocator<K::Chunks>>> Model for Stock<K, P> {
         × HasLimit b.kind b.limit };
 }
 
-// A new arena of the kind.
+// Makes a new arena of this kind.
 fn new_arena<K: ChunkMaker>(
     alloc: Global,
     kind: PoolKind,
@@ -83,7 +83,7 @@ fn new_packed<K: ChunkMaker, P: Packing<Allocator<K::Chunks>>>(
 }
 
 impl<K: ChunkMaker, P: Packing<Allocator<K::Chunks>>> Stock<K, P> {
-    // A pool with so many new arenas, which keeps none of more bytes than the limit.
+    // Creates a pool with `count` new arenas, which stores no arena with more bytes than the limit.
     pub(crate) fn of_kind(
         alloc: Global,
         kind: PoolKind,
@@ -118,7 +118,7 @@ impl<K: ChunkMaker, P: Packing<Allocator<K::Chunks>>> Stock<K, P> {
         })
     }
 
-    // Lends the newest that is stored, or where none is stored a new one, as `Book::take` does.
+    // Lends the newest stored arena, or if none is stored a new one, as `Book::take` does.
     #[inline]
     pub(crate) fn take(&mut self) -> Result<Stored<K, P>, PoolErr>
         ensures gets { Gets self.old result self.new }
@@ -130,7 +130,7 @@ impl<K: ChunkMaker, P: Packing<Allocator<K::Chunks>>> Stock<K, P> {
         self.take_new()
     }
 
-    // Lends the newest that is stored.
+    // Lends the newest stored arena.
     #[inline]
     fn take_stored(&mut self) -> Stored<K, P>
         requires { 0 < self.old.stored }
@@ -141,7 +141,7 @@ impl<K: ChunkMaker, P: Packing<Allocator<K::Chunks>>> Stock<K, P> {
         self.stack.take_last()
     }
 
-    // Lends a new one, where none is stored.
+    // Lends a new arena. None is stored.
     #[cold]
     #[inline(never)]
     fn take_new(&mut self) -> Result<Stored<K, P>, PoolErr>
@@ -166,8 +166,8 @@ impl<K: ChunkMaker, P: Packing<Allocator<K::Chunks>>> Stock<K, P> {
         Ok(Stored { arena, id: None })
     }
 
-    // Stores one that was lent and of which nothing is used. Where it has more bytes than the limit it is counted as given
-    // up, and comes back to be let go.
+    // Stores a lent arena with no bytes in use. If it has more bytes than the limit, it is counted as given up, and
+    // returned for the caller to drop.
     #[inline]
     pub(crate) fn keep(
         &mut self,
@@ -189,7 +189,7 @@ impl<K: ChunkMaker, P: Packing<Allocator<K::Chunks>>> Stock<K, P> {
         Some(arena)
     }
 
-    // Whether one of so many bytes doesn't pass the limit.
+    // Returns whether an arena with `allocated` bytes is within the limit.
     #[inline]
     fn is_within(&self, allocated: u64) -> bool
         ensures { result ≡ is_within self.now.limit allocated }
@@ -200,7 +200,7 @@ impl<K: ChunkMaker, P: Packing<Allocator<K::Chunks>>> Stock<K, P> {
         }
     }
 
-    // Stores one that was lent, of which nothing is used and which doesn't pass the limit.
+    // Stores a lent arena with no bytes in use, which is within the limit.
     #[inline]
     fn store(&mut self, arena: P::Packed, id: Option<u32>)
         requires lent { 0 < self.old.lent }
@@ -213,7 +213,7 @@ impl<K: ChunkMaker, P: Packing<Allocator<K::Chunks>>> Stock<K, P> {
         self.lent -= 1;
     }
 
-    // One that was lent doesn't come back.
+    // Counts one lent arena as given up.
     pub(crate) fn forget(&mut self)
         requires { 0 < self.old.lent }
         ensures { self.new ≡ give_up self.old }

@@ -11,7 +11,7 @@ use Rattle.arena_calls.specs.declared.status.Status.TheVariants.{Done, Usage, Ba
 use Rattle.arena_calls.proofs.StatusLemmas.{same_bytes, too_many}
 use Rattle.arena_program.specs.ScriptEnds.{Promise, EndsAsPromised, status_of}
 
--- what a status that no fault brings says of the bytes
+-- what a status without a fault says of the bytes
 abbrev Says : Status → List ℕ → Type 0
 Says Done bytes = (length bytes ≤ limit) × (scripts : List (List Command)) × ScriptsOf bytes (Ok scripts)
 Says (BadLine n) bytes = (length bytes ≤ limit) × ScriptsOf bytes (Err n)

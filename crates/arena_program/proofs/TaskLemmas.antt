@@ -33,7 +33,7 @@ number_here least most words w rest n front is low high = record {
       cc;
 }
 
--- what stands behind the word `fixed` in a lender's words
+-- what follows the word `fixed` in a lender's words
 fixed_words : (words rest : List (List ℕ)) → words ≡ codes "fixed" ∷ rest → (l : Lender) → IsLender l → words ≡ lender_words l
     → (bytes : ℕ) × (arenas : ℕ) × (IsWithin 48 16777216 bytes × (bytes % 16 ≡ 0) × IsWithin 1 64 arenas)
     × (rest ≡ number bytes ∷ number arenas ∷ [])

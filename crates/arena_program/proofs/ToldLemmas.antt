@@ -1,4 +1,4 @@
--- What is told of what came of pieces of work, one after another.
+-- The texts of the results of pieces of work, one after another.
 use Rattle.std.proofs.Common.{◌≡◌, ℕ, ◌+◌, List, [], ◌∷◌, ◌++◌, Option, map, refl, sym, ap, ◌∙◌, append_assoc}
 use Rattle.std.specs.List.{flat_map}
 use Rattle.std.proofs.lemmas.Grind.{flat_map-append}
@@ -34,14 +34,14 @@ reports_whole all = reports_from 0 all
 -- ---- One after another
 
 module _ {S : Type 0} (i : ℕ) (served : S) (all rest : List S) (first : all ≡ served ∷ rest) where
-  -- the text of the next one was put
+  -- the text of the next one was appended
   pub text_step : (text : ℕ → S → List ℕ) (whole old new : List ℕ) → old ++ text_from text i all ≡ whole
       → new ≡ old ++ text i served → new ++ text_from text (i + 1) rest ≡ whole
   text_step text whole old new before put =
       ap (λ xs. xs ++ text_from text (i + 1) rest) put ∙ append_assoc old (text i served) (text_from text (i + 1) rest)
       ∙ ap (λ xs. old ++ text_from text i xs) (sym first) ∙ before
 
-  -- what shows that it was starved was put
+  -- what shows that it was starved was appended
   pub starved_step : {C : Type 0} (starved : S → Option (Starved C)) (whole old new : List (ℕ × Starved C)) → old ++ starved_of starved i all ≡ whole
       → new ≡ old ++ shown i (starved served) → new ++ starved_of starved (i + 1) rest ≡ whole
   starved_step starved whole old new before put =

@@ -15,15 +15,15 @@ use Rattle.arena_calls.specs.declared.status.Status.{Status}
 use Rattle.arena_calls.specs.declared.status.Status.TheVariants.{Done, Usage, BadLine, OutOfMemory, ReadFault, WriteFault, InputTooLong}
 use Rattle.arena_program.specs.ScriptEnds.{starved_of, IsUnrun}
 
--- what came of each source
+-- the result of each source
 abbrev pub Reported : Type 0 → Type 0
 Reported C = List (Linted C)
 
 abbrev pub text_of_linted : {C : Type 0} → Reported C → List ℕ
 text_of_linted all = text_of_reports (map (λ linted. linted.report) all)
 
--- The whole input was read, and this came of each of its sources, in order, as of that source alone over a standard pool. What shows that
--- sources were starved was gained.
+-- The whole input was read, and these are the results of its sources, in order, each as promised of that source alone
+-- over a standard pool. What shows that sources were starved was gained.
 pub record RunsSources {C : Type 0} (source : C → Source) (old new : Outside) (before after : List (ℕ × Starved C)) (all : Reported C)
     : Type 0 where
   pub bytes : List ℕ
@@ -32,8 +32,8 @@ pub record RunsSources {C : Type 0} (source : C → Source) (old new : Outside) 
   pub gained : after ≡ before ++ starved_of (λ linted. linted.starved) 0 all
   pub arena : new.arena ≡ old.arena
 
--- The arena at hand is never touched. `before` and `after` are what was held, and is held then, of what shows that sources were starved.
--- No line is refused, since each input is sources.
+-- The arena isn't touched. `before` and `after` are what was held, and is then held, of what shows that sources were
+-- starved. No line is refused, since each input is sources.
 abbrev pub LintEnds : {C : Type 0} → (C → Source) → Status → Outside → Outside → List (ℕ × Starved C) → List (ℕ × Starved C) → Type 0
 LintEnds source Done old new before after =
     HasNoFault old new

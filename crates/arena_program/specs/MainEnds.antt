@@ -12,8 +12,8 @@ use Rattle.arena_program.specs.ScriptEnds.{ScriptEnds}
 use Rattle.arena_program.specs.LintEnds.{LintEnds}
 use Rattle.arena_program.specs.declared.tasks.Task.{Task}
 
--- The run ends as what the words ask for. Other words are none, and nothing is touched. Where neither scripts nor
--- sources are asked for, nothing is gained of what shows that they were starved.
+-- The run ends as the words ask. Other words are no command, and nothing is touched. Where neither scripts nor sources
+-- are asked for, nothing that shows starving is gained.
 pub record MainEnds {C : Type 0} (source : C → Source) (worked : List Command → Outcome → Type 0) (words : List (List ℕ))
     (status : Status) (old new : Outside) (before after : List (ℕ × Starved C)) : Type 0 where
   pub calls : AsksCalls words → Ends status old new

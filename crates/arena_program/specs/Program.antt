@@ -1,4 +1,4 @@
--- What the program prints and answers: for its words, for what came of them, and over how much memory.
+-- What the program prints and returns: for its words, for their results, and over how much memory.
 use Rattle.std.specs.Prelude.{◌≡◌, ◌≢◌, ℕ, List, [], ◌∷◌, ◌++◌, drop, map, Option, Result, Ok, Err, ◌⊎◌, codes, String, string_bytes}
 use Rattle.std.specs.Global.{Global}
 use Rattle.std.specs.IoError.{error_kind}
@@ -18,7 +18,7 @@ use Rattle.arena_program.specs.MainEnds.{MainEnds}
 use Rattle.arena_calls.specs.declared.status.Status.{Status}
 use Rattle.arena_calls.specs.declared.status.Status.TheVariants.{Done, Usage, OutOfMemory, WriteFault}
 
--- how many those of each arena that scripts run on may have: 64 MiB
+-- how many bytes the chunks of each arena of a pool may have: 64 MiB
 abbrev pub maker_budget : ℕ
 maker_budget = 67108864
 
@@ -26,11 +26,11 @@ maker_budget = 67108864
 abbrev pub Args : Type 0
 Args = IntoIter (String Global) Global
 
--- the words behind the program's name
+-- the words after the program's name
 abbrev pub words_of : Args → List (List ℕ)
 words_of args = drop 1 (map string_bytes (into_iter_items args))
 
--- how the program ends where it isn't told its words: memory ran out, or one is no text
+-- how the program ends where its words can't be read: memory ran out, or one is no text
 abbrev pub status_without : ErrorKind → Status
 status_without NoMemory = OutOfMemory
 status_without kind = Usage
@@ -55,7 +55,7 @@ pub record Serves {C : Type 0} (help_text version_text : List ℕ) (source : C �
   pub other : words ≢ codes "--help" ∷ [] → words ≢ codes "--version" ∷ []
       → MainEnds source worked words status old new before after
 
--- The words are served, unless they aren't told, or memory runs out for them.
+-- The words are served, unless they can't be read, or memory runs out for them.
 abbrev pub Answers : {C : Type 0} → List ℕ → List ℕ → (C → Source) → (List Command → Outcome → Type 0) → Result Args Error → Status
     → Outside → Outside → List (ℕ × Starved C) → List (ℕ × Starved C) → Type 0
 Answers help version source worked (Ok args) status old new before after =
@@ -64,6 +64,6 @@ Answers help version source worked (Ok args) status old new before after =
 Answers help version source worked (Err error) status old new before after =
     (status ≡ status_without (error_kind error)) × (new ≡ old) × (after ≡ before)
 
--- the line on standard error where the words ask for nothing that there is
+-- the line on standard error where the words are no command
 abbrev pub usage : List ℕ
 usage = codes "usage: arena_run calls | gen START COUNT | scripts WORKERS [fixed BYTES ARENAS | keep BYTES] | lint WORKERS" ++ 10 ∷ []

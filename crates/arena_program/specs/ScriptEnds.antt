@@ -25,7 +25,7 @@ kind_of Standard = kind.Standard
 kind_of (Keeping most) = kind.Standard
 kind_of (Fixed bytes arenas) = kind.FixedSize bytes
 
--- what came of each script
+-- the result of each script
 abbrev pub All : Type 0 → Type 0
 All C = List (Served Outcome C)
 
@@ -34,7 +34,7 @@ abbrev pub shown : {C : Type 0} → ℕ → Option (Starved C) → List (ℕ × 
 shown i None = []
 shown i (Some starved) = (i, starved) ∷ []
 
--- the same of each, the first of which has this number
+-- what shows that pieces of work were starved, the first of which has this number
 abbrev pub starved_of : {S C : Type 0} → (S → Option (Starved C)) → ℕ → List S → List (ℕ × Starved C)
 starved_of starved i [] = []
 starved_of starved i (served ∷ all) = shown i (starved served) ++ starved_of starved (i + 1) all
@@ -42,11 +42,12 @@ starved_of starved i (served ∷ all) = shown i (starved served) ++ starved_of s
 abbrev pub text_of_served : {C : Type 0} → All C → List ℕ
 text_of_served all = text_of_outcomes (map (λ served. served.outcome) all)
 
--- what is promised of one script and what came of it
+-- what is promised of one script and its result
 abbrev pub Promise : Type 0 → Type 1
 Promise C = List Command → Served Outcome C → Type 0
 
--- The whole input was read, its lines are scripts, and this came of each, in order. What shows that scripts were starved was gained.
+-- The whole input was read, its lines are scripts, and these are their results, in order. What shows that scripts were
+-- starved was gained.
 pub record RunsScripts {C : Type 0} (promise : Promise C) (old new : Outside) (before after : List (ℕ × Starved C)) (all : All C)
     : Type 0 where
   pub bytes : List ℕ
@@ -62,7 +63,8 @@ pub record IsUnrun {C : Type 0} (old new : Outside) (before after : List (ℕ ×
   pub untouched : IsUntouched old new
   pub gained : after ≡ before
 
--- The arena at hand is never touched. `before` and `after` are what was held, and is held then, of what shows that scripts were starved.
+-- The arena isn't touched. `before` and `after` are what was held, and is then held, of what shows that scripts were
+-- starved.
 abbrev pub EndsAsPromised : {C : Type 0} → Promise C → Status → Outside → Outside → List (ℕ × Starved C) → List (ℕ × Starved C) → Type 0
 EndsAsPromised promise Done old new before after =
     HasNoFault old new
@@ -80,7 +82,7 @@ EndsAsPromised promise WriteFault old new before after =
 EndsAsPromised promise InputTooLong old new before after =
     HasNoFault old new × IsUnrun old new before after × TakesFront old.left new.left (λ n. n ≡ limit + 1)
 
--- the same where each script is served as it is alone, over a pool of the kind that the words name
+-- each script is served as promised of it alone, over a pool of the kind that the words name
 abbrev pub ScriptEnds : {C : Type 0} → (C → Source) → (List Command → Outcome → Type 0) → Lender → Status → Outside → Outside
     → List (ℕ × Starved C) → List (ℕ × Starved C) → Type 0
 ScriptEnds source worked lender = EndsAsPromised (IsServedAlone source (kind_of lender) worked)

@@ -11,7 +11,7 @@ pub record IsWithin (least most n : ℕ) : Type 0 where
   pub low : least ≤ n
   pub high : n ≤ most
 
--- the words behind the number of workers, which name the pool
+-- the words after the number of workers, which name the pool
 abbrev pub lender_words : Lender → List (List ℕ)
 lender_words Standard = []
 lender_words (Keeping limit) = codes "keep" ∷ number limit ∷ []
@@ -23,31 +23,31 @@ IsLender Standard = Unit {0}
 IsLender (Keeping limit) = IsWithin 0 (2 ^ 64 - 1) limit
 IsLender (Fixed bytes arenas) = IsWithin 48 16777216 bytes × (bytes % 16 ≡ 0) × IsWithin 1 64 arenas
 
--- scripts on so many workers, on the arenas of such a pool
+-- scripts on this many workers, on the arenas of such a pool
 pub record AsksScripts (words : List (List ℕ)) (task : Task) : Type 0 where
   pub all : words ≡ codes "scripts" ∷ number task.workers ∷ lender_words task.lender
   pub some_workers : IsWithin 1 64 task.workers
   pub lends : IsLender task.lender
 
--- sources that so many workers lint
+-- sources that are linted on this many workers
 pub record AsksLint (words : List (List ℕ)) (workers : ℕ) : Type 0 where
   pub all : words ≡ codes "lint" ∷ number workers ∷ []
   pub some_workers : IsWithin 1 64 workers
 
--- how many workers lint, or that the words ask for no linting
+-- how many workers lint sources, or that the words don't ask for linting
 abbrev pub AsksLinters : List (List ℕ) → Option ℕ → Type 0
 AsksLinters words asked = MatchOption asked ((workers : ℕ) → AsksLint words workers → ⊥) (λ workers. AsksLint words workers)
 
--- what the words ask for, or that they ask for no scripts
+-- what the words ask for, or that they don't ask for scripts
 abbrev pub AsksTask : List (List ℕ) → Option Task → Type 0
 AsksTask words asked = MatchOption asked ((task : Task) → AsksScripts words task → ⊥) (λ task. AsksScripts words task)
 
--- the same of the words behind the number of workers
+-- the pool that the words after the number of workers name, or that they name none
 abbrev pub NamesLender : List (List ℕ) → Option Lender → Type 0
 NamesLender words named =
     MatchOption named ((l : Lender) → IsLender l → words ≢ lender_words l) (λ l. IsLender l × (words ≡ lender_words l))
 
--- the number of the first word, and the words behind it
+-- the number of the first word, and the words after it
 pub record ReadsFirst (least most : ℕ) (words : List (List ℕ)) (read : Option (ℕ × List (List ℕ))) : Type 0 where
   pub found : IfSome read (λ x. IsWithin least most x.0 × (words ≡ number x.0 ∷ x.1))
   pub only : (n : ℕ) (rest : List (List ℕ)) → IsWithin least most n → words ≡ number n ∷ rest → read ≡ Some (n, rest)

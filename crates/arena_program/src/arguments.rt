@@ -1,4 +1,4 @@
-// The words behind the program's name.
+// The words after the program's name.
 ghost use Rattle.std.specs.Prelude.{◌≡◌, IfOk};
 ghost use Rattle.std.specs.IoError.{error_kind};
 ghost use Rattle.arena_program.specs.Program.{words_of, status_without};
@@ -9,7 +9,7 @@ use std::alloc::{AllocError, Global};
 use std::env::Args;
 use std::io;
 
-/// All words but the first, which is the program's name.
+/// Returns all words but the first, which is the program's name.
 pub fn words(alloc: Global, args: Args) -> Result<Vec<Bytes>, AllocError>
     ensures { IfOk result (λ words. words.items ≡ words_of args) }
 {
@@ -27,7 +27,7 @@ pub fn words(alloc: Global, args: Args) -> Result<Vec<Bytes>, AllocError>
     }
 }
 
-/// How the program ends where it isn't told its words.
+/// Returns how the program ends where its words can't be read.
 pub fn without_words(error: &io::Error) -> Status
     ensures { result ≡ status_without (error_kind error.now) }
 {

@@ -1,4 +1,4 @@
-// How much memory the arenas may take that scripts run on.
+// How much memory the arenas of a pool may take.
 ghost use Rattle.std.specs.Prelude.{◌≡◌, ℕ};
 ghost use Rattle.arena_program.specs.Program.{maker_budget};
 
@@ -12,7 +12,7 @@ pub trait BudgetedMaker: ChunkMaker {
     // How many bytes each source may give.
     ghost each: { Self → ℕ };
 
-    /// How many bytes each source may give.
+    /// Returns how many bytes each source may give.
     fn bytes_each(&self) -> u64
         ensures { result ≡ each self.now };
 }
@@ -25,7 +25,7 @@ impl BudgetedMaker for MemoryMaker {
     }
 }
 
-/// The maker of the sources of the arenas that scripts run on: memory, up to 64 MiB for each arena.
+/// Returns the maker of the sources of the arenas that scripts run on: memory, up to 64 MiB for each arena.
 pub fn program_maker(alloc: Global) -> MemoryMaker
     ensures { result.budget ≡ maker_budget }
 {

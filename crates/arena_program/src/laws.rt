@@ -14,7 +14,7 @@ use arena_chunks::ChunkSource;
 use arena_script::Job;
 use script_rules::laws;
 
-/// Where nothing fails, the bytes of an input that tells them determine the status of a run of scripts, unless memory
+/// Where nothing fails, the bytes of an input that reports them determine the status of a run of scripts, unless memory
 /// runs out.
 pub fn one_script_status<C: ChunkSource, J: Job<C>>()
     ensures within { (lender : Lender) (status : Status) (old new : Outside) (before after : List (ℕ × Starved C)) (bytes : List ℕ)
@@ -30,7 +30,7 @@ pub fn one_script_status<C: ChunkSource, J: Job<C>>()
     laws::one_reading();
 }
 
-/// A read that failed is told as a read fault, and a write that failed as a write fault, whatever else ran out.
+/// A read that failed is reported as a read fault, and a write that failed as a write fault, whatever else ran out.
 pub fn told_script_faults<C: ChunkSource, J: Job<C>>()
     ensures reads { (lender : Lender) (status : Status) (old new : Outside) (before after : List (ℕ × Starved C))
         → ScriptEnds C.source J.worked lender status old new before after
@@ -51,7 +51,7 @@ pub fn one_lint_status<C: ChunkSource>()
         → (status ≡ Status.InputTooLong) ⊎ (status ≡ Status.OutOfMemory) }
 {}
 
-/// A fault is told as such there too.
+/// A failed read or write is reported as such when sources are linted, too.
 #[tactic(auto, using(crate::proofs::LintStatusLemmas::told_reads, crate::proofs::LintStatusLemmas::told_writes))]
 pub fn told_lint_faults<C: ChunkSource>()
     ensures reads { (status : Status) (old new : Outside) (before after : List (ℕ × Starved C))

@@ -1,4 +1,4 @@
-//! The program `arena_run` but for its streams: what it prints and answers for its words and its input.
+//! The program `arena_run` without its streams: what it prints and returns for its words and its input.
 #![tactic(auto)]
 
 mod arguments;

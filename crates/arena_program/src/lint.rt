@@ -23,7 +23,7 @@ use std::sync::Wait;
 use std::sync::ledger::Blank;
 use std::thread::Threads;
 
-// What came of each source, in order, by so many workers over a new pool of as many arenas that grow.
+// Lints sources on at most `workers` threads, over a new standard pool. The results are in order.
 fn lint_over_pool<R: Threads + Wait + Sync, K: ChunkMaker + Drop + Send>(
     rt: &R,
     alloc: Global,
@@ -40,7 +40,7 @@ fn lint_over_pool<R: Threads + Wait + Sync, K: ChunkMaker + Drop + Send>(
     lint_in_standard::<Brand, R, K>(rt, alloc, workers, maker, blank, sources)
 }
 
-// The pool is named by L, which stands in no type of the signature.
+// `L` names the pool; it occurs in no type of the signature.
 fn lint_in_standard<
     L: PoolName + Send + Sync,
     R: Threads + Wait + Sync,
@@ -76,8 +76,8 @@ fn sources_in<'a>(alloc: Global, bytes: &'a [u8]) -> Result<Vec<Source<'a>>, Out
     sources_of(alloc, bytes)
 }
 
-/// Reads all of the input as sources, lints each, and writes their reports. `starved` gains what shows that sources were
-/// starved, once nothing more can run out.
+/// Reads all of the input as sources, lints each, and writes their reports. `starved` gains what shows that sources
+/// were starved, once memory can no longer run out.
 pub fn run_sources<I: Input, O: Output, R: Threads + Wait + Sync, K: ChunkMaker + Drop + Send>(
     rt: &R,
     alloc: Global,
@@ -105,7 +105,7 @@ pub fn run_sources<I: Input, O: Output, R: Threads + Wait + Sync, K: ChunkMaker 
     let Ok(all) = lint_over_pool(rt, alloc, workers, maker, sources.as_slice()) else {
         return Status::OutOfMemory;
     };
-    // The input is let go before the text is made, which may need much memory.
+    // The input is freed before the text is made, which may need much memory.
     drop(sources);
     drop(bytes);
     let Ok(text) = report(alloc, all, starved) else {

@@ -18,11 +18,12 @@ use std::sync::Wait;
 use std::sync::ledger::Blank;
 use std::thread::Threads;
 
-/// What came of each script, in order, by so many workers over a new pool, as the task says. Waits at the pool's lock.
+/// Runs scripts over a new pool, as the task says. Returns what came of each script, in order. Waits at the pool's
+/// lock.
 ///
 /// # Errors
 ///
-/// Memory for the pool, the workers or their outcomes runs out.
+/// Out of memory for the pool, the workers or their outcomes.
 pub fn run_task<R: Threads + Wait + Sync, K: ChunkMaker + Drop + Send, J: Job<K::Chunks> + Sync>(
     rt: &R,
     alloc: Global,
@@ -54,7 +55,7 @@ pub fn run_task<R: Threads + Wait + Sync, K: ChunkMaker + Drop + Send, J: Job<K:
     }
 }
 
-// A pool is named by L, which stands in no type of these signatures.
+// `L` names the pool; it occurs in no type of these signatures.
 
 fn in_standard<
     L: PoolName + Send + Sync,

@@ -1,4 +1,4 @@
-// What the program prints and answers.
+// The program: what it prints and returns.
 ghost use Rattle.std.specs.Prelude.{◌≡◌, []};
 ghost use Rattle.std.specs.Process.{exit_status};
 ghost use Rattle.arena_rules.specs.Creation.{empty_state};
@@ -68,7 +68,7 @@ sources: separated by lines %%, each gets a report
 
 const VERSION: &str = "arena_run 0.1.0\n";
 
-// Prints a text in place of a run.
+// Prints a text instead of a run.
 fn print<O: Output>(output: &mut O, text: &str) -> Status
     ensures { Prints text.now result (O.written output.old) (O.faults output.old) (O.written output.new) (O.faults output.new) }
 {
@@ -116,9 +116,9 @@ fn serve<
     )
 }
 
-/// The program: does what its words ask for, over a new arena with a budget of 1 GiB, or, with scripts, over arenas with
-/// 64 MiB each, which `job` runs them on. It says on `messages` why it ends where all isn't well, and answers the exit status,
-/// which tells also where `messages` can't be written. `args` begins with the program's name.
+/// The program: does what its words ask for, over a new arena with a budget of 1 GiB, or, for scripts and sources, over
+/// arenas with 64 MiB each; `job` runs the scripts. If it fails, it writes the reason to `messages`. Returns the exit
+/// status, which is the same if `messages` can't be written. `args` begins with the program's name.
 pub fn run_program<
     C: Budgeted,
     I: Input,

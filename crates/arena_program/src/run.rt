@@ -16,8 +16,8 @@ use std::alloc::Global;
 use std::sync::Wait;
 use std::thread::Threads;
 
-/// Reads all of the input as scripts, runs each as the task says, and writes what they answered. `starved` gains what shows
-/// that scripts were starved, once nothing more can run out.
+/// Reads all of the input as scripts, runs each as the task says, and writes their outcomes. `starved` gains what shows
+/// that scripts were starved, once memory can no longer run out.
 pub fn run_lines_of_scripts<
     I: Input,
     O: Output,
@@ -57,7 +57,7 @@ pub fn run_lines_of_scripts<
     let Ok(all) = run_task(rt, alloc, task, maker, job, scripts.as_slice()) else {
         return Status::OutOfMemory;
     };
-    // The scripts are let go before the text is made, which needs much memory.
+    // The scripts are freed before the text is made, which needs much memory.
     drop(scripts);
     let Ok(text) = report(alloc, all, starved) else {
         return Status::OutOfMemory;

@@ -10,20 +10,20 @@ use line_parts::whole_number;
 pub enum Lender {
     /// Its arenas grow, and it keeps each that comes back.
     Standard,
-    /// Its arenas grow, and it keeps those of at most so many bytes.
+    /// Its arenas grow, and it keeps those of at most `limit` bytes.
     Keeping { limit: u64 },
-    /// So many arenas, each over so many bytes.
+    /// A number of arenas, each of `bytes` bytes.
     Fixed { bytes: u64, arenas: u32 },
 }
 
-/// Scripts that are to be run on so many workers.
+/// Over which pool scripts are to be run, and on how many workers.
 #[derive(Clone, Copy, Debug)]
 pub struct Task {
     pub workers: u32,
     pub lender: Lender,
 }
 
-// The words behind this one.
+// The words after this one.
 fn behind_word<'a>(words: &'a [Bytes], word: &[u8]) -> Option<&'a [Bytes]>
     ensures { MatchOption result
         ((rest : List (List ℕ)) → words.now ≢ word.now ∷ rest)
@@ -37,7 +37,7 @@ fn behind_word<'a>(words: &'a [Bytes], word: &[u8]) -> Option<&'a [Bytes]>
     }
 }
 
-// The number of the first word, and the words behind it.
+// The number of the first word, and the words after it.
 fn word_number(words: &[Bytes], least: u64, most: u64) -> Option<(u64, &[Bytes])>
     requires { 9 ≤ most }
     ensures { ReadsWord least most words.now result }
@@ -79,7 +79,7 @@ fn lender_of(words: &[Bytes]) -> Option<Lender>
     })
 }
 
-/// Which scripts the words ask for, if they ask for scripts.
+/// Returns how scripts are to be run, if the words ask for scripts.
 pub fn task_of(words: &[Bytes]) -> Option<Task>
     ensures { AsksTask words.now result }
 {
@@ -92,7 +92,7 @@ pub fn task_of(words: &[Bytes]) -> Option<Task>
     })
 }
 
-/// How many workers the words ask for to lint sources, if they ask for that.
+/// Returns on how many workers sources are to be linted, if the words ask for that.
 pub fn linters_of(words: &[Bytes]) -> Option<u32>
     ensures { AsksLinters words.now result }
 {

@@ -1,4 +1,4 @@
-// What the program tells of what came of scripts, or of sources.
+// What the program prints of the results of scripts, or of sources.
 ghost use Rattle.std.specs.Prelude.{◌≡◌, ◌++◌, ◌<◌, ◌^◌, length, IfOk, OnOk, OnErr};
 ghost use Rattle.arena_program.specs.ScriptEnds.{shown, starved_of};
 ghost use Rattle.arena_program.specs.Told.{text_from};
@@ -11,22 +11,22 @@ use script_lines::put_outcome;
 use script_rules::Outcome;
 use std::alloc::Global;
 
-/// What came of a piece of work, which has a text by its number, and may have what shows that it was starved.
+/// The result of a piece of work, which has a text by its number, and may have what shows that it was starved.
 pub trait Tells<C: ChunkSource> {
     ghost use Rattle.std.specs.Prelude.{ℕ, List, Option, ◌≡◌, ◌++◌, OnOk};
     ghost use Rattle.arena_workers.specs.declared.served.Starved.{Starved};
 
-    // The text of what came of the piece of this number.
+    // The text of the result of the piece of this number.
     ghost text: { ℕ → Self → List ℕ };
 
     // What shows that it was starved, if something does.
     ghost starved: { Self → Option (Starved C) };
 
-    /// Puts it at the end.
+    /// Appends its text.
     fn put(&self, out: &mut Vec<u8>, i: u64) -> Result<(), OutOfMemory>
         ensures { OnOk result (out.new.items ≡ out.old.items ++ text i self.now) };
 
-    /// What shows that it was starved; the rest is let go.
+    /// Returns what shows that it was starved; drops the rest.
     fn into_starved(self) -> Option<Starved<C>>
         ensures { result ≡ starved self };
 }
@@ -84,7 +84,7 @@ fn gain<C: ChunkSource + Drop>(
     Ok(starved.push((i, one))?)
 }
 
-// What is told of all pieces. Each goes straight into the text, and is let go once it is told.
+// The text of all pieces. Each is appended to the text and then dropped.
 fn tell<T: Tells<C> + Drop, C: ChunkSource + Drop>(
     alloc: Global,
     all: Vec<T>,
@@ -104,7 +104,11 @@ fn tell<T: Tells<C> + Drop, C: ChunkSource + Drop>(
     Ok(Told { text, starved })
 }
 
-/// The text of all pieces. `starved` gains what shows that work was starved, once nothing more can run out.
+/// Returns the text of all pieces. `starved` gains what shows that work was starved, once memory can no longer run out.
+///
+/// # Errors
+///
+/// Out of memory. `starved` is unchanged.
 pub fn report<T: Tells<C> + Drop, C: ChunkSource + Drop>(
     alloc: Global,
     all: Vec<T>,

@@ -15,10 +15,10 @@ use std::alloc::Global;
 use std::sync::Wait;
 use std::thread::Threads;
 
-/// Does what the words ask for: runs calls on the arena, as `arena_calls`, or runs scripts by `job` or lints sources, each on
-/// an arena of a pool with a source of `maker`, and writes what they answered. Nothing is written before all was run. With
-/// scripts and sources it waits at the pool's lock, and `starved` gains the number of each that ended refused, with what shows
-/// that it was starved.
+/// Does what the words ask for: runs calls on the arena, as `arena_calls` does, or runs scripts by `job` or lints
+/// sources, each on an arena of a pool with a source of `maker`. Then writes the replies, the outcomes or the reports;
+/// nothing is written before all was run. For scripts and sources it waits at the pool's lock, and `starved` gains the
+/// number of each that ended refused, with what shows that it was starved.
 #[tactic(auto, using(crate::proofs::MainLemmas::scripts_end, crate::proofs::MainLemmas::lint_end, crate::proofs::MainLemmas::calls_end))]
 pub fn arena_main<
     C: ChunkSource,

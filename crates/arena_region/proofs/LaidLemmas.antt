@@ -17,7 +17,7 @@ take_less (suc n) zero xs le = absurd (omega arith)
 take_less (suc n) (suc m) [] le = refl
 take_less (suc n) (suc m) (x ∷ xs) le = ap (λ l. x ∷ l) (take_less n m xs (omega arith))
 
--- of a list under another one, only the first bytes count
+-- only the first bytes of a list under another one count
 refilled : (n : ℕ) (ws xs : List ℕ) → take n (ws ++ drop (length ws) xs) ≡ take n (ws ++ drop (length ws) (take n xs))
 refilled n [] xs = sym (take_less n n xs (omega arith))
 refilled zero (w ∷ ws) xs = refl
@@ -33,14 +33,14 @@ written_first zero (suc i) xs ws le fits = absurd (omega arith)
 written_first (suc n) (suc i) [] ws le fits = absurd (omega arith)
 written_first (suc n) (suc i) (x ∷ xs) ws le fits = ap (λ l. x ∷ l) (written_first n i xs ws (omega arith) (omega arith))
 
--- what is written behind zeros
+-- what is written above zeros
 written_behind : (low k from : ℕ) (xs ws : List ℕ) → from ≡ low + k
     → replicate low 0 ++ written_from xs k ws ≡ written_from (replicate low 0 ++ xs) from ws
 written_behind zero k from xs ws e = let same : k ≡ from = omega arith in ap (λ i. written_from xs i ws) same
 written_behind (suc low) k zero xs ws e = absurd (omega arith)
 written_behind (suc low) k (suc from) xs ws e = ap (λ l. 0 ∷ l) (written_behind low k from xs ws (omega arith))
 
--- a region ends as it was, with what was written
+-- a region's final value, with what was written
 pub written_shown : (low n from : ℕ) (xs ws : List ℕ) → low ≤ from → from ≤ n → n ≤ low + length xs
     → take n (replicate low 0 ++ written_from xs (from - low) ws) ≡ written_from (take n (replicate low 0 ++ xs)) from ws
 written_shown low n from xs ws above within fits =
@@ -59,7 +59,7 @@ within_first zero (suc i) size xs le = absurd (omega arith)
 within_first (suc n) (suc i) size [] le = refl
 within_first (suc n) (suc i) size (x ∷ xs) le = within_first n i size xs (omega arith)
 
--- a part of what is ready is that part of the region
+-- a part of the ready bytes is that part of the region
 pub part_shown : (low n from size : ℕ) (xs : List ℕ) → low ≤ from → from + size ≤ n
     → take size (drop (from - low) xs) ≡ take size (drop from (take n (replicate low 0 ++ xs)))
 part_shown low n from size xs above le =
@@ -77,7 +77,7 @@ written_joined (suc i) zero xs us ws e fits = absurd (omega arith)
 written_joined (suc i) (suc k) [] us ws e fits = absurd (omega arith)
 written_joined (suc i) (suc k) (x ∷ xs) us ws e fits = ap (λ l. x ∷ l) (written_joined i k xs us ws (omega arith) (omega arith))
 
--- so are the parts of a list that are written from its end on
+-- the same for the parts of a list that are written from its end on
 pub written_part : (from start end : ℕ) (xs ws : List ℕ) → start ≤ end → end ≤ length ws → from + length ws ≤ length xs
     → written_from (written_from xs (from + end) (drop end ws)) (from + start) (take (end - start) (drop start ws)) ≡ written_from xs
     (from + start) (drop start ws)
@@ -91,6 +91,6 @@ written_part from start end xs ws below within fits =
     ∙ ap (written_from xs (from + start)) (ap (λ l. take (end - start) (drop start ws) ++ l) last
     ∙ take-append-drop (end - start) (drop start ws))
 
--- nothing written is no change
+-- writing nothing changes nothing
 pub written_nothing : (xs : List ℕ) (i : ℕ) → written_from xs i [] ≡ xs
 written_nothing xs i = ap (take (length xs)) (take-append-drop i xs) ∙ take-length xs

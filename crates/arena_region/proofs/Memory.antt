@@ -1,4 +1,4 @@
--- Room and bytes in a block are cut and joined. Assumes `Logic`.
+-- Room and bytes in a block are split and joined. Assumes `Logic`.
 use Rattle.std.proofs.Common.{◌≡◌, ℕ, zero, suc, ◌+◌, ◌≤◌, List, [], ◌∷◌, ◌++◌, length, take, refl, sym, ◌∙◌, subst, arith, length-append, length-take, length-take-le, length-drop, take_all}
 use lib.ListN.{drop, take-append-drop}
 use seplogic.Ra.Ura.{Ura}
@@ -19,7 +19,7 @@ use Rattle.arena_region.specs.Ownership.{block_of}
 abbrev pub byte : Ty
 byte = ty_int w8
 
--- where a list fits, it is written in the place of as many
+-- a list that fits replaces as many bytes
 pub written_as : (xs ws : List ℕ) (i : ℕ) → i + length ws ≤ length xs
     → written_from xs i ws ≡ take i xs ++ (ws ++ drop (length ws) (drop i xs))
 written_as xs ws i fits =
@@ -59,7 +59,7 @@ module _ {M : Type 1} {𝓤 : Ura M} (𝓛 : Logic 𝓤) where
       (𝓛.laws.room_uncons byte 0 b (past byte n o)) $ split ! $
       rewrite ! 0 (λ k. ‵ (froom byte b k)) {x = n + o} (past_bytes n o ∙ omega arith) refl $ keep ! (0 ∷ 2 ∷ []) $ done !
 
-  -- bytes behind room are room
+  -- bytes above room are room
   pub all_room : (n m : ℕ) (xs : List ℕ) (b o : ℕ) → n + length xs ≡ m
       → ent 𝓤 (sep 𝓤 (sem 𝓛 (bytes full_share xs b (o + n))) (H.room (block_of n) b o)) (H.room (block_of m) b o)
   all_room n m xs b o e =
@@ -87,7 +87,7 @@ module _ {M : Type 1} {𝓤 : Ura M} (𝓛 : Logic 𝓤) where
     seen_first (suc n) (x ∷ xs) o = mono_r 𝓤 (sem 𝓛 (shared_of u8 x b o κ)) (seen_first n xs (o + 1))
 
   module _ (b o : ℕ) (xs : List ℕ) (i k : ℕ) where
-    -- the bytes but for the n from the index i on
+    -- the bytes except the n from the index i on
     abbrev pub Around : ℕ → Fml
     Around n = fsep (bytes full_share (take i xs) b o) (bytes full_share (drop n (drop i xs)) b (k + n))
 

@@ -29,7 +29,7 @@ module _ {M : Type 1} {𝓤 : Ura M} (𝓛 : Logic 𝓤) (l : Lft) where
   Lends-bytes : (xs : List ℕ) (b o : ℕ) → Lends 𝓛 (bytes full_share xs b o) (elements_shared u8 xs b o) l
   Lends-bytes xs b o = λ κ ts. shares_each 𝓛 u8 (shared_of u8) l ((uint_Copied 𝓛 w8).shares full_share l) xs κ ts b o
 
-  -- the room is let go for the lifetime
+  -- the room is given up for the lifetime
   pub Lends-store : (p : Ptr) (n : ℕ) (xs : List ℕ) → Lends 𝓛 (store_owns p n xs) (store_lends p n xs) l
   Lends-store (block_ptr b o) n xs =
       let F = bytes full_share xs b (o + n) in let G = froom (block_of n) b o in let s = elements_shared u8 xs b (o + n) in

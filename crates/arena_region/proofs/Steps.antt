@@ -43,12 +43,12 @@ Nothing = Struct (shape [])
 abbrev pub Dd : (A : RattleType) → Ghosts A.Denot → RattleType
 Dd A g = D.the_row A g
 
--- what comes after a body's first statement
+-- what follows a body's first statement
 abbrev pub tail : Body → Body
 tail (seq s t) = t
 tail s = s
 
--- their machine values, and those of tuples
+-- the machine values of these, and those of tuples
 abbrev pub word : Ptr → Val
 word p = vstruct (vcons (ptr_val p) vnil)
 
@@ -74,7 +74,7 @@ flat [] = []
 flat (us ∷ uss) = us ++ flat uss
 
 module _ {M : Type 1} {𝓤 : Ura M} {𝓛 : Logic 𝓤} {K : Type 0} {Γ : List (Item 𝓤)} where
-  -- a function runs with the values that its parameters are known to have
+  -- a function runs with the known values of its parameters
   pub passed : K → (F : List Val → Goal 𝓤 𝓛.H) (uss vss : List (List Val)) → uss ≡ vss → Step K 𝓛 Γ (F (flat vss)) Γ (F (flat uss))
   passed t F uss vss e = step (λ s. subst (λ (g : Goal 𝓤 𝓛.H). Seq K 𝓛 Γ g) (ap (λ ws. F (flat ws)) (sym e)) s)
 

@@ -9,15 +9,15 @@ use denote.RawPtr.Bytes.{bytes}
 use denote.Sharing.{said, beside}
 use denote.Slice.{elements_shared}
 
--- n bytes, as the machine sees them
+-- n bytes, as a type of the machine
 abbrev pub block_of : ℕ → Ty
 block_of n = ty_array (ty_int w8) n
 
--- the room and the bytes behind it are fewer than 2 ^ 63
+-- the room and the bytes above it are fewer than 2 ^ 63
 abbrev pub fit : ℕ → List ℕ → Fml
 fit n xs = flt (n + length xs) (2 ^ 63)
 
--- room for n bytes, and behind it these bytes
+-- room for n bytes, and these bytes above it
 abbrev pub store_owns : Ptr → ℕ → List ℕ → Fml
 store_owns (block_ptr b o) n xs = fsep (fit n xs) (fsep (bytes full_share xs b (o + n)) (froom (block_of n) b o))
 store_owns null_ptr n xs = ffalse

@@ -1,10 +1,10 @@
-// How room is made ready. The loops write nothing else, so that they become one move of memory.
+// How room is made ready. The loops write nothing else, so that they compile to a fill or a copy of memory.
 ghost use Rattle.std.specs.Prelude.{◌≡◌, ◌-◌, ◌≤◌, ◌++◌, length, replicate};
 ghost use Rattle.std.specs.Vec.{vec_len, vec_capacity};
 
 use crate::store::{Base, Store};
 
-// Writes zeros down to an index.
+// Writes zeros from the end of the room down to an index.
 pub(crate) fn clear(store: &mut Store, base: Base, room: usize, from: usize)
     requires place { base.ptr ≡ store.old.at }
     requires room { store.old.room ≡ room }
@@ -20,7 +20,7 @@ pub(crate) fn clear(store: &mut Store, base: Base, room: usize, from: usize)
     }
 }
 
-// Writes these bytes into all the room.
+// Writes these bytes into the whole room.
 pub(crate) fn copy(store: &mut Store, base: Base, list: &[u8])
     requires place { base.ptr ≡ store.old.at }
     requires room { store.old.room ≡ length list.now }
@@ -35,7 +35,7 @@ pub(crate) fn copy(store: &mut Store, base: Base, list: &[u8])
     }
 }
 
-// A vector whose room is filled up with zeros.
+// Fills a vector's spare capacity with zeros.
 pub(crate) fn filled(list: Vec<u8>) -> Vec<u8>
     ensures full { vec_len result ≡ vec_capacity result }
     ensures items { result.items ≡ list.items ++ replicate (vec_capacity list - vec_len list) 0 }

@@ -106,7 +106,7 @@ is_granted state size align k e p valid growing power none at is =
       place = is_place e.0 (e.0 + e.1) size align m p (start_positive (with_chunk e state) grown) power valid.min_align found;
     }
 
--- ---- A block lies at the cursor, in the newest chunk
+-- ---- A block at the cursor, in the newest chunk
 
 abbrev pub IsNewest : Outcome → Type 0
 IsNewest outcome = MatchOption outcome.answer (Unit {0}) (λ p. (start_of outcome.state.chunks ≤ p) × (cursor_of outcome.state.chunks ≡ p))

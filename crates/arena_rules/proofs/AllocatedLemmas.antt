@@ -1,4 +1,4 @@
--- How many bytes the chunks of an arena that doesn't grow have: always the same.
+-- The number of bytes of the chunks of an arena that doesn't grow never changes.
 use Rattle.std.proofs.Common.{◌≡◌, ℕ, refl, subst, Some, None, Option, false, length}
 use Rattle.std.specs.Prelude.{slice_get, ◌==◌}
 use Rattle.std.proofs.lemmas.Option.{cond_some}

@@ -1,4 +1,4 @@
--- Where an arena that grows asks for a chunk for a block of any size: it holds few bytes, and its newest data end lies low.
+-- When a growing arena asks for a chunk for a block of any size: it has few bytes, and its newest data end is low.
 use Rattle.std.proofs.Common.{◌≡◌, ℕ, suc, ◌+◌, ◌-◌, ◌*◌, ◌^◌, ◌<◌, ◌≤◌, max, sym, refl, arith, IsTrue, Some, Option, List, [], ◌∷◌, length, map, sum, true}
 use Rattle.std.specs.Prelude.{nat_le}
 use Rattle.std.specs.List.{filter_map}
@@ -22,7 +22,7 @@ layout_16 n fits =
 layout_at : (align n : ℕ) → align ≡ 16 → n + 16 ≤ 2 ^ 63 → IsTrue (is_layout n align)
 layout_at align n is fits = rw is (layout_16 n fits)
 
--- a chunk of so many bytes is possible, below these addresses
+-- a chunk of this many bytes is possible, below these addresses
 can_be : (base size align m : ℕ) → align ≤ 16 → size ≤ m → 4096 ≤ m → m + 64 ≤ 2 ^ 63 → base ≤ 2 ^ 62 + 2 ^ 61 + 8192
     → (e : ℕ × ℕ) × (possible base size align m ≡ Some e)
 unfolding up
@@ -41,7 +41,7 @@ can_be base size align m small fits large few low =
     let sized = size_some m size align w n refl rounded layout in
     ((base, n), sym (possible_some base size align m n sized (omega (arith, below, whole, low))))
 
--- what is tried first and is possible is asked for
+-- what is tried first is asked for, if it is possible
 first_asked : (h : ℕ → Option (ℕ × ℕ)) (least n t : ℕ) (e : ℕ × ℕ) → least ≤ n → h n ≡ Some e
     → 0 < length (filter_map h (halves (suc t) n least))
 unfolding halves

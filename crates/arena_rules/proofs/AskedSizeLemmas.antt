@@ -20,7 +20,7 @@ use Rattle.arena_rules.proofs.UsedBytesLemmas.{unit_positive}
 
 -- ---- Lists
 
--- what a filter gives has what follows of what it was given
+-- a filter's results have what follows from its inputs
 all_filtered : {X Y : Type 0} (h : X → Option Y) (P : X → Type 0) (Q : Y → Type 0) → ((x : X) (y : Y) → P x → h x ≡ Some y → Q y)
     → (xs : List X) → AllByRecursion P xs → AllByRecursion Q (filter_map h xs)
 all_filtered h P Q follows [] all = tt
@@ -59,7 +59,7 @@ all_halves (suc t) n least most within = elim (cases_lt n least) [
 
 -- ---- Chunks that are asked for
 
--- a chunk of at least so many bytes, and of at most so many
+-- a chunk of at least `least` bytes, and of at most `most`
 abbrev IsBetween : ℕ → ℕ → ℕ × ℕ → Type 0
 IsBetween least most e = (least ≤ e.1) × (e.1 ≤ most)
 
@@ -101,7 +101,7 @@ newest_used state valid = go state.chunks valid.chunks
       fine.0.cursor_high,
     )
 
--- The newest chunk has fewer bytes than are in use and are wanted, with the padding.
+-- The newest chunk has fewer bytes than are in use and requested, with the padding.
 pub newest_short : (state : State) (size align : ℕ) → IsValid state → place state size align ≡ None
     → newest_size state.chunks < used_bytes state + size + (unit_of state align - 1)
 newest_short state size align valid none =
@@ -109,7 +109,7 @@ newest_short state size align valid none =
     let close = down_close (cursor_of state.chunks - size) (unit_of state align) (unit_positive state align valid) in
     omega (arith, low, close, newest_used state valid, unit_positive state align valid)
 
--- An arena that doesn't grow has no other.
+-- An arena that doesn't grow has one chunk.
 pub one_chunk : (state : State) → IsValid state → state.is_growing ≡ false → allocated_bytes state ≡ newest_size state.chunks
 one_chunk state valid still = go state.chunks (subst (λ (b : Bool). FitsKind b state.chunks) still valid.kind)
   where
@@ -138,7 +138,7 @@ all_asked state size align bytes valid none small fits = elim (cases_Bool state.
   | inr still ↦ rw still tt
 ]
 
--- Each request of an allocation is for at most so many bytes, at alignment 16.
+-- Each request of an allocation is for at most `most_asked bytes`, at alignment 16.
 pub all_requests : (state : State) (size align k bytes : ℕ) → IsValid state → align ≤ 16
     → used_bytes state + size + (unit_of state align - 1) ≤ bytes
     → AllByRecursion (IsRequestWithin (most_asked bytes)) (alloc_requests state size align k)
@@ -155,7 +155,7 @@ all_requests state size align k bytes valid small fits = go (place state size al
 
 -- ---- When something is asked for
 
--- where some tried size is possible, something is asked for
+-- if some tried size is possible, something is asked for
 some_possible : (h : ℕ → Option (ℕ × ℕ)) (least : ℕ) → ((m : ℕ) → least ≤ m → m < 2 * least → (e : ℕ × ℕ) × (h m ≡ Some e))
     → (t n : ℕ) → 0 < least → least ≤ n → n < 2 ^ t → 0 < length (filter_map h (halves t n least))
 unfolding halves
@@ -196,7 +196,7 @@ can_possible base size align least m small large fits bounded low from to =
     layout_at (max align 16) (n + 48) (chunk_align_small align small) (omega arith) in
     ((base, n), sym (possible_some base size align m n (size_some m size align w n refl rounded layout) (omega arith)))
 
--- So something is asked for by an arena that grows.
+-- So a growing arena asks for something.
 pub asks_some : (state : State) (size align : ℕ) → IsValid state → state.is_growing ≡ true → align ≤ 16 → size ≤ 2 ^ 60
     → top_of state.chunks ≤ 2 ^ 63 + 2 ^ 62 → 0 < length (asked state size align)
 unfolding asked asked_above entries

@@ -1,4 +1,4 @@
--- What calls ask for adds up over calls, and what says that the source refused.
+-- What calls ask for adds up over calls; and when the source refused.
 use Rattle.std.proofs.Common.{◌≡◌, ℕ, ◌+◌, ◌-◌, ◌^◌, ◌<◌, ◌≤◌, ap, sym, ◌∙◌, arith, Some, None, Option, List, [], ◌∷◌, ◌++◌, length, inl, inr, true, length-append, append-nil, append_assoc}
 use Rattle.std.specs.Prelude.{IfSome, IsSomeAnd}
 use Rattle.std.specs.List.{AllByRecursion}
@@ -8,7 +8,7 @@ use Rattle.arena_rules.specs.Source.{Source, IsAsked}
 use Rattle.arena_rules.specs.Asking.{IsRequestWithin, most_asked, AddsWithin, HasGrown, AsksWithin, IsRefusedBySource, IsStarved}
 use Rattle.arena_rules.proofs.GrownLemmas.{grown_not, grown_then}
 
--- ---- What was told
+-- ---- Reported requests
 
 told_map : (P Q : List (ℕ × ℕ) → List (ℕ × ℕ) → Type 0) → ((some all : List (ℕ × ℕ)) → P some all → Q some all)
     → (before after : Option (List (ℕ × ℕ))) → IfSome after (λ all. IsSomeAnd before (λ some. P some all))
@@ -91,7 +91,7 @@ asks_by bytes k made old new before after asked within grown = record {
 
 -- ---- The source refused
 
--- so many were refused, one at least, and some were made
+-- k requests were refused, at least one, and some were made
 pub refused_by : (k : ℕ) (made : List (ℕ × ℕ)) (before after : Source) → IsAsked before after k made → 0 < k → 0 < length made
     → IsRefusedBySource before after
 refused_by k made before after asked some more = record {
@@ -119,7 +119,7 @@ refused_after bytes old mid before between after asks refused = record {
 
 -- ---- Calls that were starved
 
--- A call for which this says why is starved.
+-- A call is starved if the source refused whenever the newest data end was at or below `far`.
 pub starved_by : (far : ℕ) (old new : State) (before after : Source) → old.is_growing ≡ true
     → (top_of old.chunks ≤ far → IsRefusedBySource before after) → IsStarved far old new before after
 starved_by far old new before after growing refused = record {
@@ -130,7 +130,7 @@ starved_by far old new before after growing refused = record {
   ];
 }
 
--- from a lesser end on
+-- for a lower limit
 pub starved_nearer : (far near : ℕ) (old new : State) (before after : Source) → near ≤ far → IsStarved far old new before after
     → IsStarved near old new before after
 starved_nearer far near old new before after le starved = record {
@@ -141,7 +141,7 @@ starved_nearer far near old new before after le starved = record {
   ];
 }
 
--- After other calls the end lies lower by 2 ^ 61, unless the arena holds much.
+-- After other calls the limit is lower by 2 ^ 61, unless the arena has at least 2 ^ 60 bytes.
 pub starved_after : (bytes far : ℕ) (old mid new : State) (before between after : Source) → old.is_growing ≡ true
     → AsksWithin bytes old mid before between → HasGrown mid new → IsStarved (far + 2 ^ 61) mid new between after
     → IsStarved far old new before after

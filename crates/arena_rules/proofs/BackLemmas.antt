@@ -1,4 +1,4 @@
--- What is left of a state that goes back to a mark.
+-- What remains of a state that goes back to a mark.
 use Rattle.std.proofs.Common.{◌≡◌, ℕ, zero, suc, ◌+◌, ◌-◌, ◌%◌, ◌<◌, ◌≤◌, max, refl, sym, ap, subst, arith, eqb-true, leb-true, List, [], ◌∷◌, IsTrue, Bool, true, false, sum, map, length, drop, inl, inr}
 use Rattle.std.specs.Prelude.{◌==◌, ◌&&◌, nat_le, if◌then◌else◌}
 use Rattle.std.proofs.lemmas.Bool.{and_parts, or_cases, or_left, or_right, cases_lt}
@@ -113,7 +113,7 @@ doubling_raised z c (newest ∷ older) double = double
 
 -- ---- Going back
 
--- what a mark that is accepted is
+-- what is true of an accepted mark
 pub record IsMark (mark : Point) (state : State) : Type 0 where
   pub aligned : (0 < mark.chunks) → mark.cursor % state.min_align ≡ 0
   pub high : (0 < mark.chunks) → mark.cursor ≤ top_of (first_chunks mark.chunks state.chunks)
@@ -163,7 +163,7 @@ none_left chunks n none = rw none (all_dropped chunks (length chunks - 0) (omega
     all_dropped (x ∷ l) zero fits = absurd (omega arith)
     all_dropped (x ∷ l) (suc k) fits = all_dropped l k (omega arith)
 
--- the oldest chunks make a valid state, too; of an arena that doesn't grow one is left
+-- the oldest chunks make a valid state, too, if an arena that doesn't grow keeps one
 pub first_valid : (n : ℕ) (state : State) → IsValid state → (n ≡ 0 → state.is_growing ≡ true)
     → IsValid (record state { chunks = first_chunks n state.chunks })
 first_valid n state valid growing = record {
@@ -240,7 +240,7 @@ back_doubling z mark state double = doubling_raised z mark.cursor (first_chunks 
 pub all_kept : (chunks : List Chunk) → first_chunks (length chunks) chunks ≡ chunks
 all_kept chunks = let none : length chunks - length chunks ≡ 0 = omega arith in rw none refl
 
--- To go back at once changes nothing.
+-- Going back at once changes nothing.
 pub back_at_once : (state : State) → back (mark_of state) state ≡ state
 back_at_once state = ap (λ (l : List Chunk). record state { chunks = l }) (rw (all_kept state.chunks) (same state.chunks))
   where

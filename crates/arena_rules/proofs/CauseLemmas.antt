@@ -2,7 +2,7 @@
 use Rattle.std.proofs.Common.{◌≡◌, ℕ, ◌+◌, arith, sym, ap, ◌∙◌, Option, Some, None, List, [], ◌++◌, append_assoc, append-nil}
 use Rattle.arena_rules.specs.Causes.{counted, TellsRequests}
 
--- A count that rises by none stays.
+-- A count that rises by 0 is unchanged.
 pub counted_none : (n : ℕ) → counted n 0 ≡ n
 counted_none n = omega arith
 
@@ -10,7 +10,7 @@ counted_none n = omega arith
 pub counted_more : (n k j : ℕ) → counted (counted n k) j ≡ counted n (k + j)
 counted_more n k j = omega arith
 
--- The same of three counts.
+-- The same equation for three counts.
 pub counted_on : (a b c k j : ℕ) → b ≡ counted a k → c ≡ counted b j → c ≡ counted a (k + j)
 counted_on a b c k j first second = second ∙ ap (λ (n : ℕ). counted n j) first ∙ counted_more a k j
 

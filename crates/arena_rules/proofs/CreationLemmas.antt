@@ -17,7 +17,7 @@ use Rattle.arena_rules.proofs.AllocLemmas.{valid_grown}
 pub growing_valid : (m : ℕ) → IsTrue (is_min_align m) → IsValid (empty_state m)
 growing_valid m min_align = record { min_align = min_align; chunks = tt; top = omega arith; kind = tt; generation = omega arith }
 
--- an arena with one chunk that it keeps
+-- a fixed arena with its one chunk
 pub fixed_valid : (m size : ℕ) → IsTrue (is_min_align m) → size % 16 ≡ 0 → size + 48 ≤ 2 ^ 63 - 16 → IsValid (fixed_state m size)
 fixed_valid m size min_align units fits = record {
   min_align = min_align;
@@ -38,7 +38,7 @@ fixed_valid m size min_align units fits = record {
   generation = omega arith;
 }
 
--- ---- With room for so many bytes
+-- ---- With a capacity
 
 -- what is true of the chunk that is asked for
 pub capacity_entry : (m capacity : ℕ) (e : ℕ × ℕ) → IsTrue (is_min_align m) → 0 < capacity → capacity_chunk capacity m ≡ Some e

@@ -42,7 +42,7 @@ top_units state valid = go state.chunks valid.chunks
 pub top_aligned : (state : State) → IsValid state → top_of state.chunks % state.min_align ≡ 0
 top_aligned state valid = min_align_multiple (top_of state.chunks) state.min_align valid.min_align (top_units state valid)
 
--- the newest chunk ends 48 addresses before the last one or earlier
+-- the newest chunk ends at least 48 addresses before the last one
 pub top_le : (state : State) → IsValid state → top_of state.chunks + 48 ≤ 2 ^ 64 - 1
 top_le state valid = go state.chunks valid.top
   where
@@ -107,7 +107,7 @@ pub top_set : (p : ℕ) → (chunks : List Chunk) → top_of (with_newest_cursor
 top_set p [] = refl
 top_set p (newest ∷ older) = refl
 
--- a cursor that moved down is where it moved to; without a chunk none moves
+-- a cursor that moved down is at its new address; without a chunk it doesn't move
 pub cursor_set : (p : ℕ) → (chunks : List Chunk) → start_of chunks ≤ p → p ≤ cursor_of chunks → cursor_of (with_newest_cursor p chunks) ≡ p
 cursor_set p [] low high = omega (arith, low, high)
 cursor_set p (newest ∷ older) low high = refl

@@ -48,25 +48,25 @@ doubled_sum z (newest ∷ older) double =
 one_less : (n : ℕ) → 2 ^ n ≡ 2 ^ n - 1 + 1
 one_less n = omega (arith, pow_pos n)
 
--- all chunks together have z bytes for each number below the power of two of how many they are, or more
+-- all chunks together have at least z bytes for each number below 2 ^ n, where n is their number
 pub doubling_sum : (z : ℕ) (state : State) → IsDoubling z state.chunks → z * (2 ^ length state.chunks - 1) ≤ allocated_bytes state
 doubling_sum z state double =
     let split : z * 2 ^ length state.chunks ≡ z * (2 ^ length state.chunks - 1) + z =
     omega (arith, ap (λ (p : ℕ). z * p) (one_less (length state.chunks))) in
     omega (arith, doubled_sum z state.chunks double, split)
 
--- chunks that double have at least the bytes of the one made first, each
+-- chunks that double have at least as many bytes each as the one made first
 oldest_doubling : (chunks : List Chunk) → IsDoubling 0 chunks → IsDoubling (oldest_size chunks) chunks
 oldest_doubling [] double = double
 oldest_doubling (only ∷ []) double = (omega arith, double.1)
 oldest_doubling (newest ∷ (next ∷ older)) double = (omega (arith, double.0, (oldest_doubling (next ∷ older) double.1).0), oldest_doubling (next ∷ older) double.1)
 
--- so all chunks together have its bytes for each number below the power of two of how many they are, or more
+-- so all chunks together have at least its bytes for each number below 2 ^ n
 pub doubling_oldest : (state : State) → IsDoubling 0 state.chunks
     → oldest_size state.chunks * (2 ^ length state.chunks - 1) ≤ allocated_bytes state
 doubling_oldest state double = doubling_sum (oldest_size state.chunks) state (oldest_doubling state.chunks double)
 
--- the newest chunk has half of all bytes or more
+-- the newest chunk has at least half of all bytes
 pub doubling_newest : (z : ℕ) (state : State) → IsDoubling z state.chunks → allocated_bytes state ≤ 2 * newest_size state.chunks
 doubling_newest z state double = go state.chunks double
   where
@@ -84,7 +84,7 @@ pub doubling_emptied : (z : ℕ) (chunks : List Chunk) → IsDoubling z chunks �
 doubling_emptied z [] double = tt
 doubling_emptied z (newest ∷ older) double = (omega (arith, double.0), tt)
 
--- it has half of all bytes or more
+-- it has at least half of all bytes
 pub doubling_kept : (z : ℕ) (state : State) → IsDoubling z state.chunks → allocated_bytes state ≤ 2 * allocated_bytes (reset state)
 doubling_kept z state double = omega (arith, reset_allocated state, doubling_newest z state double)
 
@@ -110,7 +110,7 @@ unfolding asked asked_above entries
 first_asked state size align e growing first =
     rw (growing, halves_first 63 (max (least_size size) (2 * newest_size state.chunks)) (least_size size) (omega arith), first) refl
 
--- a chunk that is made first has twice the newest one's bytes or more
+-- a chunk that is made first has at least twice the newest one's bytes
 made_first_ge : (z : ℕ) (state : State) (size align k : ℕ) (e : ℕ × ℕ) → z ≤ 16320 → place state size align ≡ None
     → slice_get (asked state size align) k ≡ Some e
     → IsTrue (is_made_first state size align k) → max z (2 * newest_size state.chunks) ≤ e.1
@@ -166,7 +166,7 @@ IsMadeFirst state k layout = IsTrue (is_anew_made_first state layout k)
 unasked_doubling : (z k : ℕ) (r outcome : Outcome) → Doubles z r → unasked k r ≡ Some outcome → Doubles z outcome
 unasked_doubling z k r outcome holds at = subst (Doubles z) (cond_some (k == 0) r outcome at).1 holds
 
--- a block that is given another size
+-- a block that is resized
 pub resize_doubling : (z : ℕ) (way : Resizing) (state : State) (p size align k : ℕ) (outcome : Outcome) → z ≤ 16320
     → IsDoubling z state.chunks
     → IsMadeFirst state k (anew way (size, align)) → resize way state p size align k ≡ Some outcome → Doubles z outcome

@@ -11,7 +11,7 @@ use Rattle.arena_rules.proofs.RoundingLemmas.{up_ge, up_mod, power_positive, pow
 use Rattle.arena_rules.proofs.SizeLemmas.{rounded_small, power_at_least_ge, power_at_least_le, power_at_least_power}
 use Rattle.arena_rules.proofs.SearchLemmas.{size_is}
 
--- what a filter gives stems from an element
+-- each result of a filter comes from an element
 filtered_at : {X Y : Type 0} (h : X → Option Y) (P : X → Type 0) → (xs : List X) (k : ℕ) (y : Y) → AllByRecursion P xs
     → slice_get (filter_map h xs) k ≡ Some y
     → (x : X) × P x × (h x ≡ Some y)
@@ -80,7 +80,7 @@ rounded_whole w n some is = elim (cases_lt w 4096) [
       (omega arith, omega arith, omega arith)
 ]
 
--- a possible chunk holds the block, and has its tried size or more
+-- a possible chunk has room for the block, and at least its tried size
 pub possible_entry : (base size align tried : ℕ) (e : ℕ × ℕ) → 0 < tried → IsTrue (is_power align) → possible base size align tried ≡ Some e
     → IsEntry base size align e
 possible_entry base size align tried e some power is =

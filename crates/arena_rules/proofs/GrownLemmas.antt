@@ -1,4 +1,4 @@
--- What becomes of the chunks in an allocation, and when it fails.
+-- What becomes of the chunks in an allocation, and when an allocation fails.
 use Rattle.std.proofs.Common.{◌≡◌, ℕ, ◌+◌, ◌-◌, ◌<◌, ◌≤◌, ap, refl, subst, arith, IsTrue, Some, None, Option, List, [], ◌∷◌, length, map, inl, inr, eqb-true}
 use Rattle.std.specs.Prelude.{slice_get, ◌==◌}
 use Rattle.std.specs.Option.{option_map}
@@ -31,7 +31,7 @@ cursor_grown p state = go state.chunks
     go [] = record { allocated = omega arith; top = omega arith }
     go (newest ∷ older) = record { allocated = omega arith; top = omega arith }
 
--- a further chunk
+-- one more chunk
 chunk_grown : (state : State) (e : ℕ × ℕ) → e.0 < floor_of state.chunks + 16 → 16320 ≤ e.1 → HasGrown state (with_chunk e state)
 chunk_grown state e near large = go state.chunks near
   where
@@ -50,7 +50,7 @@ dealloc_grown state p size = elim (cases_Bool (p == cursor_of state.chunks)) [
   | inr other ↦ rw other (grown_not state)
 ]
 
--- An allocation moves a cursor, perhaps in one chunk more, or fails.
+-- An allocation moves a cursor, perhaps in one more chunk, or fails.
 pub alloc_grown : (state : State) (size align k : ℕ) (outcome : Outcome) → IsValid state → IsTrue (is_power align) → align ≤ 16
     → alloc state size align k ≡ Some outcome → HasGrown state outcome.state
 unfolding alloc

@@ -14,7 +14,7 @@ use Rattle.arena_rules.specs.Moves.Resizing.{Stays, Moves, Anew, Refused}
 use Rattle.arena_rules.specs.Back.{Point, first_chunks, raised, back, accepts, KeepsMark}
 use Rattle.arena_rules.proofs.BackLemmas.{is_mark, all_kept}
 
--- ---- The oldest chunks as others come and go
+-- ---- The oldest chunks as newer ones come and go
 
 -- The oldest n chunks are as they were; or there are no others, and the cursor moved.
 abbrev StayBelow : ℕ → List Chunk → List Chunk → Type 0
@@ -243,7 +243,7 @@ back_below n mark chunks below within =
     ⊎ ((c : ℕ) × (length (raised mark.cursor kept) ≡ n) × (raised mark.cursor kept ≡ with_newest_cursor c l)))
     under moved
 
--- An older mark stands as a newer one is gone back to.
+-- Going back to a newer mark keeps an older one.
 pub back_keeps : (older newer : Point) (state : State) → older.chunks ≤ newer.chunks → IsTrue (accepts older state)
     → IsTrue (accepts newer state)
     → KeepsMark older state (back newer state)

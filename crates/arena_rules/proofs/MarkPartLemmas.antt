@@ -1,4 +1,4 @@
--- Which blocks in use lie in a mark's part.
+-- Which blocks in use are in a mark's part.
 use Rattle.std.proofs.Common.{ℕ, zero, suc, ◌+◌, ◌-◌, ◌<◌, ◌≤◌, max, inl, inr, refl, arith, leb-true, lt-ltb, le-leb, List, [], ◌∷◌, IsTrue, length, drop}
 use Rattle.std.specs.Prelude.{◌&&◌, ◌||◌, nat_le, nat_lt}
 use Rattle.std.proofs.lemmas.Bool.{and_parts, or_cases, or_left, or_right}
@@ -9,7 +9,7 @@ use Rattle.arena_rules.proofs.BackLemmas.{valid_after, floor_after}
 use Rattle.arena_rules.proofs.CursorLemmas.{top_floor}
 use Rattle.arena_rules.proofs.UsedLemmas.{used_under, used_beside}
 
--- a range in use by a chunk lies between its cursor and its data end
+-- a range in use by a chunk is between its cursor and its data end
 module _ (addr n : ℕ) (chunk : Chunk) (used : IsTrue (is_used_by addr n chunk)) where
   ends : IsTrue (nat_le chunk.cursor addr) × IsTrue (nat_le (addr + n) (data_end chunk))
   ends = and_parts (nat_le chunk.cursor addr) (nat_le (addr + n) (data_end chunk)) used
@@ -28,7 +28,7 @@ module _ (m addr n : ℕ) (some : 0 < n) where
     | inr there ↦ omega (arith, used_under m addr n older valid.2 some there, valid.1)
   ]
 
-  -- what lies below the data end of the older chunks is in use by one of them
+  -- what is below the data end of the older chunks is in use by one of them
   in_first : (k : ℕ) (chunks : List Chunk) → AreChunks m chunks → addr < top_of (drop k chunks) → IsTrue (is_range_used chunks addr n)
       → IsTrue (is_range_used (drop k chunks) addr n)
   in_first zero chunks valid below used = used
@@ -79,7 +79,7 @@ module _ (m addr n : ℕ) (some : 0 < n) where
         | inr there ↦ omega (arith, used_under m addr n older valid.2 some there, valid.1, valid.0.cursor_low, valid.0.cursor_high)
       ]
 
-  -- where the newest cursor lies in a part, so does all that is in use
+  -- if the newest cursor is in a part, so is everything in use
   past_cursor : (c k : ℕ) (chunks : List Chunk) → AreChunks m chunks → IsTrue (is_range_used chunks addr n)
       → cursor_of chunks < top_of (drop k chunks)
       → IsTrue (nat_lt (cursor_of chunks) (start_of (drop k chunks)) || nat_le c (cursor_of chunks))
@@ -99,7 +99,7 @@ module _ (m addr n : ℕ) (some : 0 < n) where
       ] in
       rw (lt-ltb _ _ under, inside) refl
 
--- What is in use and begins in a mark's part is left when the state goes back to it; and nothing else is.
+-- What is in use and begins in a mark's part stays in use when the state goes back to the mark; nothing else does.
 pub part_left : (mark : Point) (state : State) (addr n : ℕ) → IsValid state → 0 < n → IsTrue (is_range_used state.chunks addr n)
     → IsTrue (is_in_part mark state addr)
     → IsTrue (is_range_used (back mark state).chunks addr n)

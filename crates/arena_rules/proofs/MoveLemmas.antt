@@ -134,7 +134,7 @@ moved_anew state block size align k outcome valid power step =
       beside = λ addr n some used apart. is.beside addr n some used;
     }
 
--- what lies beside a block lies beside a part of it
+-- what is apart from a block is apart from each part of it
 beside_part : (state : State) (p size q n addr len : ℕ) → IsValid state → p ≤ q → q + n ≤ p + size → LieBeside state p size addr len
     → LieBeside state q n addr len
 beside_part state p size q n addr len valid low high apart =
@@ -156,7 +156,7 @@ moved_not state block size align valid is smaller aligned = record {
   beside = λ addr n some used apart. beside_part state block.addr block.size block.addr size addr n valid (omega arith) (omega arith) apart;
 }
 
--- a block at the cursor that moves with it
+-- a block at the cursor that moves together with it
 moved_cursor : (state : State) (block : Place) (size align q : ℕ) → IsValid state → IsBlock state block
     → block.addr ≡ cursor_of state.chunks → start_of state.chunks ≤ q
     → q + size ≤ block.addr + block.size → q % align ≡ 0 → q % state.min_align ≡ 0
@@ -179,7 +179,7 @@ moved_cursor state block size align q valid is at low fits aligned min_aligned =
       ];
     }
   where
-    -- what lies at the cursor or above it and apart from the block lies behind it
+    -- what is at or above the cursor and apart from the block is above it
     past : (addr n : ℕ) → 0 < n → cursor_of state.chunks ≤ addr → LieBeside state block.addr block.size addr n
         → up (block.addr + block.size) state.min_align ≤ addr
     past addr n some from apart = elim (cases_lt 0 (padded_size state.min_align block.addr block.size)) [

@@ -1,4 +1,4 @@
--- What an allocation gives: a new block, or the state as it was.
+-- What an allocation leaves: a new block, or the state as it was.
 use Rattle.std.proofs.Common.{◌≡◌, ℕ, ◌+◌, ◌-◌, ◌<◌, ◌≤◌, max, inl, inr, refl, sym, subst, ◌∙◌, arith, Some, None, Option, IsTrue, length}
 use Rattle.std.specs.Prelude.{MatchOption, slice_get, ◌==◌}
 use Rattle.std.proofs.lemmas.Option.{same_Some, cond_some}
@@ -13,7 +13,7 @@ use Rattle.arena_rules.proofs.CursorLemmas.{top_set, top_floor, start_positive, 
 use Rattle.arena_rules.proofs.AllocLemmas.{is_granted, growing_of}
 use Rattle.arena_rules.proofs.UsedLemmas.{used_set, used_grown, used_under, used_beside, used_from}
 
--- a block below the cursor, padded, lies apart from what was in use
+-- a padded block below the cursor is apart from what was in use
 beside : (state : State) (addr n p size : ℕ) → IsValid state → 0 < n → start_of state.chunks ≤ p → p + size ≤ cursor_of state.chunks
     → IsTrue (is_range_used state.chunks addr n)
     → LieBeside state p size addr n
@@ -104,7 +104,7 @@ pub alloc_valid : (state : State) (size align k : ℕ) (outcome : Outcome) → I
     → alloc state size align k ≡ Some outcome → IsValid outcome.state
 alloc_valid state size align k outcome valid power step = (is_allocated state size align k outcome valid power step).valid
 
--- An allocation that fails leaves the state.
+-- An allocation that fails leaves the state as it was.
 pub alloc_failed : (state : State) (size align k : ℕ) (new : State) → IsValid state → IsTrue (is_power align)
     → alloc state size align k ≡ Some (record { answer = None; state = new }) → new ≡ state
 alloc_failed state size align k new valid power step =

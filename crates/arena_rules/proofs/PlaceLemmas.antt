@@ -32,7 +32,7 @@ is_place start cursor size align m p positive power min_align found =
       is = sym tested.1;
     }
 
--- There is a place where the size fits behind an aligned base.
+-- There is a place if the size fits above an aligned base.
 pub place_found : (base cursor size align m : ℕ) → IsTrue (is_power align) → IsTrue (is_min_align m)
     → base % max align m ≡ 0 → base + size ≤ cursor → place_below base cursor size align m ≡ Some (down (cursor - size) (max align m))
 place_found base cursor size align m power min_align aligned fits =
@@ -42,7 +42,7 @@ place_found base cursor size align m power min_align aligned fits =
 
 -- ---- The bump step, test by test
 
--- a size past the cursor has no place
+-- a size greater than the cursor has no place
 pub past_none : (start cursor size align m : ℕ) → 0 < start → cursor < size → None ≡ place_below start cursor size align m
 past_none start cursor size align m positive past =
     let low = down_le (cursor - size) (max align m) in

@@ -1,4 +1,4 @@
--- Where a block lies that was just placed: at the cursor.
+-- Where a block is that was just placed: at the cursor.
 use Rattle.std.proofs.Common.{◌≡◌, ◌≢◌, ℕ, ◌<◌, ap, refl, sym, subst, ◌∙◌, arith, List, [], ◌∷◌, Option, Some, None, length}
 use Rattle.std.specs.Prelude.{◌==◌, slice_get}
 use Rattle.std.specs.Option.{option_map}
@@ -9,7 +9,7 @@ use Rattle.arena_rules.specs.Moves.{Outcome, Resizing, alloc, alloc_at, alloc_in
 use Rattle.arena_rules.specs.Moves.Resizing.{Stays, Moves, Anew, Refused}
 use Rattle.arena_rules.proofs.UsedResizeLemmas.{growing_stays}
 
--- What is answered is the cursor, where there is a chunk.
+-- What is returned is the cursor, if there is a chunk.
 abbrev pub IsAtCursor : Outcome → Type 0
 IsAtCursor outcome = (q : ℕ) → outcome.answer ≡ Some q → 0 < length outcome.state.chunks → q ≡ cursor_of outcome.state.chunks
 
@@ -49,7 +49,7 @@ moved_at_cursor (Moves q) state p size align k outcome other step = at_unasked k
 moved_at_cursor Anew state p size align k outcome other step = alloc_at_cursor state size align k outcome step
 moved_at_cursor Refused state p size align k outcome other step = at_unasked k (fails state) outcome (at_none state) step
 
--- A block that gets another size stays where it is, or lies at the cursor.
+-- A block that is resized stays where it is, or is at the cursor.
 pub resize_at_cursor : (way : Resizing) (state : State) (p size align k q : ℕ) (outcome : Outcome)
     → resize way state p size align k ≡ Some outcome → outcome.answer ≡ Some q
     → q ≢ p → 0 < length outcome.state.chunks → q ≡ cursor_of outcome.state.chunks
@@ -72,7 +72,7 @@ resize_at_cursor Refused state p size align k q outcome step is other some =
     refused : Refused ≡ Stays → ⊥
     refused same = cc
 
--- One that grows lies there.
+-- A block that grows is at the cursor.
 pub grow_at_cursor : (state : State) (p size align new_size new_align k : ℕ) (outcome : Outcome)
     → resize (growing state p size align new_size new_align) state p new_size new_align k ≡ Some outcome → IsAtCursor outcome
 grow_at_cursor state p size align new_size new_align k outcome step =

@@ -16,7 +16,7 @@ some_if : (b : Bool) (outcome : Outcome) → IsSome (if b then Some outcome else
 some_if true outcome = (λ h. refl, λ h. refl)
 some_if false outcome = (λ h. h, λ h. h)
 
--- nothing is asked for where there is a place
+-- nothing is asked for if there is a place
 pub step_in_place : (state : State) (size align p k : ℕ) → place state size align ≡ Some p → IsSome (alloc state size align k) ↔ (k ≡ 0)
 unfolding alloc
 step_in_place state size align p k found = rw found (
@@ -24,7 +24,7 @@ step_in_place state size align p k found = rw found (
   (λ none. (some_if (k == 0) (placed state p)).1 (eq-eqb k 0 none)),
 )
 
--- else any of the chunks may be granted, or none
+-- otherwise any of the chunks may be granted, or none
 pub step_in_new : (state : State) (size align k : ℕ) → IsValid state → IsTrue (is_power align) → place state size align ≡ None
     → IsSome (alloc state size align k) ↔ (k ≤ length (asked state size align))
 unfolding alloc
@@ -41,7 +41,7 @@ step_in_new state size align k valid power none = elim (slice_get_cases (asked s
   )
 ]
 
--- an allocation asks for 64 chunks at most
+-- an allocation asks for at most 64 chunks
 pub asked_most : (state : State) (size align : ℕ) → length (asked state size align) ≤ 64
 unfolding asked asked_above
 asked_most state size align =

@@ -57,7 +57,7 @@ reset_used state = go state.chunks
     go [] = refl
     go (newest ∷ older) = omega arith
 
--- The newest chunk is left, and it alone.
+-- Only the newest chunk remains.
 pub reset_newest : (state : State) → newest_size (reset state).chunks ≡ newest_size state.chunks
 reset_newest state = go state.chunks
   where

@@ -13,7 +13,7 @@ use Rattle.arena_rules.proofs.RoundingLemmas.{up_ge, up_mod, up_same, up_least, 
 use Rattle.arena_rules.proofs.CursorLemmas.{cursor_within, cursor_aligned, top_aligned, valid_set}
 use Rattle.arena_rules.proofs.UsedLemmas.{used_set, used_top, used_before}
 
--- Only a block at the cursor moves it.
+-- Only a block at the cursor moves the cursor.
 pub dealloc_at : (state : State) (p size : ℕ) → p ≡ cursor_of state.chunks
     → dealloc state p size ≡ with_cursor (up (p + size) state.min_align) state
 unfolding dealloc
@@ -23,7 +23,7 @@ pub dealloc_elsewhere : (state : State) (p size : ℕ) → (p ≡ cursor_of stat
 unfolding dealloc
 dealloc_elsewhere state p size other = rw (ne_eqb _ _ other) refl
 
--- A fact of states holds after a block was given back, if it held before and holds at the new cursor.
+-- A property of states holds after a block was given back, if it held before and holds at the new cursor.
 dealloc_by : (P : State → Type 0) (state : State) (p size : ℕ)
     → (p ≡ cursor_of state.chunks → P (with_cursor (up (p + size) state.min_align) state)) → P state → P (dealloc state p size)
 dealloc_by P state p size moved still = elim (cases_eq p (cursor_of state.chunks)) [
@@ -51,7 +51,7 @@ dealloc_allocated state p size =
     dealloc_by (λ (s : State). allocated_bytes s ≡ allocated_bytes state) state p size
     (λ at. allocated_moved (up (p + size) state.min_align) state.chunks) refl
 
--- A range in use that lies apart from the padded block stays in use.
+-- A range in use apart from the padded block stays in use.
 pub dealloc_keeps : (state : State) (p size addr n : ℕ) → 0 < n → IsTrue (is_range_used state.chunks addr n) → LieBeside state p size addr n
     → IsTrue (is_range_used (dealloc state p size).chunks addr n)
 dealloc_keeps state p size addr n some used apart =
@@ -61,7 +61,7 @@ dealloc_keeps state p size addr n some used apart =
       | inr none ↦ omega arith
     ]) used) used
 
--- Where a block at the cursor is given back.
+-- A block at the cursor is given back.
 pub record IsReturn (state : State) (p size q : ℕ) : Type 0 where
   pub valid : IsValid (with_cursor q state)
   pub step : dealloc state p size ≡ with_cursor q state
@@ -113,7 +113,7 @@ cursor_same : (chunks : List Chunk) → with_newest_cursor (cursor_of chunks) ch
 cursor_same [] = refl
 cursor_same (newest ∷ older) = refl
 
--- An empty block leaves no trace.
+-- Giving back an empty block changes nothing.
 pub dealloc_empty : (state : State) (p : ℕ) → IsValid state → dealloc state p 0 ≡ state
 dealloc_empty state p valid =
     let positive = min_align_positive state.min_align valid.min_align in

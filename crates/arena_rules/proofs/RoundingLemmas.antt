@@ -25,7 +25,7 @@ sum_multiple a b d first second = mod-eq-zero_of_dvd d (dvd-add d (dvd_of_mod-eq
 pub difference_multiple : (a b d : ℕ) → a % d ≡ 0 → b % d ≡ 0 → (a - b) % d ≡ 0
 difference_multiple a b d first second = mod-eq-zero_of_dvd d (dvd-sub d (dvd_of_mod-eq-zero d first) (dvd_of_mod-eq-zero d second))
 
--- two multiples lie apart by the divisor or more
+-- two multiples differ by at least the divisor
 pub multiples_apart : (m n d : ℕ) → m % d ≡ 0 → n % d ≡ 0 → m < n → m + d ≤ n
 multiples_apart m n d low high below =
     omega (arith, le_of_dvd {m = d} {n = n - m} (omega arith) (dvd-sub d (dvd_of_mod-eq-zero d high) (dvd_of_mod-eq-zero d low)))
@@ -101,7 +101,7 @@ exponent n power = power_among 64 n power
 pub pow_power : (k : ℕ) → k < 64 → IsTrue (is_power (2 ^ k))
 pow_power k below = among_power 64 k below
 
--- 64 powers are enough
+-- 64 powers are enough for 64-bit numbers
 pub power_from : (n : ℕ) → n < 2 ^ 64 → IsPowerOfTwo n → IsTrue (is_power n)
 power_from n small power = elim (cases_lt power.0 64) [
   | inl below ↦ subst (λ (m : ℕ). IsTrue (is_power m)) (sym power.1) (pow_power power.0 below)
@@ -114,7 +114,7 @@ power_small n power = let k = exponent n power in omega (arith, k.2, pow_mono {i
 pub power_positive : (n : ℕ) → IsTrue (is_power n) → 0 < n
 power_positive n power = let k = exponent n power in omega (arith, k.2, pow_pos k.0)
 
--- a number with one bit is that power of two
+-- a number with exactly one bit set is a power of two
 one_bit : (n : ℕ) → n < 2 ^ 64 → count_ones n ≡ 1 → IsPowerOfTwo n
 unfolding count_ones
 one_bit n small one =
@@ -168,7 +168,7 @@ min_align_positive m is = grind (arith, nat_tests)
 pub min_align_multiple : (x m : ℕ) → IsTrue (is_min_align m) → x % 16 ≡ 0 → x % m ≡ 0
 min_align_multiple x m is multiple = power_multiple x m 16 (min_align_power m is) (pow_power 4 (omega arith)) (min_align_le m is) multiple
 
--- The two masks.
+-- the masks that round down and give the remainder
 pub mask_down : (n d : ℕ) → IsTrue (is_power d) → n < 2 ^ 64 → bit_and n (2 ^ 64 - 1 - (d - 1)) ≡ down n d
 unfolding down
 mask_down n d power small =
@@ -215,7 +215,7 @@ layout_pads size align valid = omega (arith, layout_small size align valid, powe
 pub not_layout : (size align : ℕ) → (size + (align - 1) < 2 ^ 64 → ⊥) → false ≡ is_layout size align
 not_layout size align over = sym (false_from_ne_true (is_layout size align) (λ valid. over (layout_pads size align valid)))
 
--- a size that no 64 bits hold
+-- a size that doesn't fit in 64 bits has no layout
 pub not_layout_above : (size align : ℕ) → (size < 2 ^ 64 → ⊥) → false ≡ is_layout size align
 not_layout_above size align over = sym (false_from_ne_true (is_layout size align)
     (λ valid. over (omega (arith, layout_small size align valid))))

@@ -1,4 +1,4 @@
--- Worked rows of the rules, computed.
+-- Computed examples of the rules.
 use Rattle.std.proofs.Common.{◌≡◌, ℕ, ◌+◌, ◌-◌, ◌*◌, ◌^◌, refl, true, Option, Some, None, List, [], ◌∷◌, false, arith}
 use Rattle.arena_rules.specs.Rounding.{up, down, is_power_among}
 use Rattle.arena_rules.specs.State.{State, Chunk}
@@ -12,7 +12,7 @@ use Rattle.arena_rules.specs.Doubling.{IsDoubling, is_made_first}
 first_chunk : ℕ → State
 first_chunk p = record { min_align = 1; is_growing = true; generation = 0; chunks = record { base = 4096; size = 16320; cursor = p } ∷ [] }
 
--- what one allocation after another answers, where each first request is granted
+-- what a list of allocations returns, where each first request is granted
 follow : Option Outcome → (State → List (Option ℕ)) → List (Option ℕ)
 follow None next = []
 follow (Some outcome) next = outcome.answer ∷ next outcome.state
@@ -54,12 +54,12 @@ first_block : alloc (empty_state 1) 5 1 0 ≡ Some (placed (first_chunk 20416) 2
 unfolding alloc asked asked_above entries possible halves size_for is_power_among power_at_least doubled up down first_chunk
 first_block = refl
 
--- without a chunk, an empty block lies at 16
+-- without a chunk, an empty block is at 16
 empty_block : alloc (empty_state 1) 0 16 0 ≡ Some (stays (empty_state 1) 16)
 unfolding alloc down
 empty_block = refl
 
--- first more than twice the newest chunk is asked for, and then half of it
+-- first a chunk of more than twice the newest one's size is asked for, and then half of that
 second_chunk_asked : asked (first_chunk 20288) 16320 1 ≡ (20464, 32704) ∷ (20464, 16320) ∷ []
 unfolding asked asked_above entries possible halves size_for is_power_among power_at_least doubled up down first_chunk
 second_chunk_asked = refl
@@ -172,7 +172,7 @@ two_chunks_double : IsDoubling 16320 two_chunks
 unfolding two_chunks
 two_chunks_double = (omega arith, (omega arith, tt))
 
--- ---- What becomes of a block that is given another size
+-- ---- What becomes of a block that is resized
 
 -- a block that grows is placed again only where it has no room to grow in place
 grows_in_place : growing (first_chunk 20406) 20406 10 1 11 1 ≡ Moves 20405

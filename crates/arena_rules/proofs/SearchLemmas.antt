@@ -10,7 +10,7 @@ use Rattle.std.specs.Option.{option_and_then}
 use Rattle.arena_rules.specs.Rounding.{up, is_layout}
 use Rattle.arena_rules.specs.Search.{halves, possible, entries, asked_above, size_for, rounded_size, chunk_align}
 
--- the number of turns doesn't matter, if there are enough
+-- a larger limit gives the same sizes, if both limits are large enough
 halves_turns : (t u n least : ℕ) → 0 < least → n < 2 ^ t → n < 2 ^ u → halves t n least ≡ halves u n least
 unfolding halves
 halves_turns zero zero n least positive small below = refl
@@ -24,7 +24,7 @@ pub halves_first : (t n least : ℕ) → least ≤ n → halves (suc t) n least 
 unfolding halves
 halves_first t n least enough = let test : nat_le least n ≡ true = grind (arith, nat_tests) in rw test refl
 
--- 64 turns are enough: a size is followed by its half
+-- a limit of 64 is large enough: a size is followed by its half
 pub halves_more : (n least : ℕ) → n < 2 ^ 64 → 0 < least → least ≤ n → halves 64 n least ≡ n ∷ halves 64 (n / 2) least
 halves_more n least small positive enough =
     halves_first 63 n least enough ∙ ap (λ (l : List ℕ). n ∷ l) (halves_turns 63 64 (n / 2) least positive (omega arith) (omega arith))
@@ -66,7 +66,7 @@ pub entries_end : (base size align n least : ℕ) → n < least → entries base
 unfolding entries
 entries_end base size align n least small = rw (halves_none 64 n least small) refl
 
--- no chunk lies past the last address
+-- no chunk begins above the last address
 past_end : (base size align n : ℕ) → 2 ^ 64 ≤ base → possible base size align n ≡ None
 unfolding possible
 past_end base size align n high = go (size_for n size align)

@@ -39,7 +39,7 @@ doubled_least (suc turns) j n fits = elim (cases_lt (2 ^ j) n) [
   | inr enough ↦ let test : nat_le n (2 ^ j) ≡ true = grind (arith, nat_tests) in rw test (already j n enough)
 ]
 
--- 64 turns are enough
+-- a limit of 64 is large enough
 least_power : (n : ℕ) → n ≤ 2 ^ 64 → IsLeast n 0 (power_at_least n)
 unfolding power_at_least
 least_power n fits = doubled_least 64 0 n fits

@@ -47,7 +47,7 @@ used_at state p valid low high = go state.chunks valid.chunks low high
       fine.0.cursor_high,
     )
 
--- a further chunk has no used byte
+-- one more chunk has no used byte
 pub used_with_chunk : (state : State) (e : ℕ × ℕ) → used_bytes (with_chunk e state) ≡ used_bytes state
 used_with_chunk state e = omega (
   arith,
@@ -57,7 +57,7 @@ used_with_chunk state e = omega (
 
 -- ---- Bounds
 
--- no more bytes are used than there are
+-- at most as many bytes are used as the chunks have
 pub used_within : (state : State) → IsValid state → used_bytes state ≤ allocated_bytes state
 used_within state valid = go state.chunks valid.chunks
   where
@@ -71,7 +71,7 @@ used_within state valid = go state.chunks valid.chunks
       fine.0.cursor_low,
     )
 
--- and they lie between 4096 and the last address
+-- and those are between 4096 and the last address
 pub allocated_within : (state : State) → IsValid state → allocated_bytes state + 4096 < 2 ^ 64
 allocated_within state valid = omega (arith, go state.chunks valid.chunks, valid.top)
   where
@@ -91,7 +91,7 @@ pub record IsTaken (old new : State) (from size align : ℕ) : Type 0 where
   pub fits : size ≤ from
   pub used : used_bytes new ≡ used_bytes old + taken from size (unit_of old align)
 
--- so it is where the call answers a place
+-- the same, if the call returns a place
 abbrev pub TakesFrom : State → Option ℕ → ℕ → ℕ → Outcome → Type 0
 TakesFrom state spot size align outcome =
     MatchOption outcome.answer (Unit {0}) (λ p. IsTaken state outcome.state (placed_below spot state outcome.state) size align)
@@ -112,7 +112,7 @@ in_new state size align k e p granted =
     let moved = used_at (with_chunk e state) p granted.valid place.low (omega (arith, place.high)) in
     record { fits = omega (arith, place.high); used = omega (arith, moved, used_with_chunk state e, place.is, place.high) }
 
--- an allocation that answers moves a cursor down
+-- an allocation that succeeds moves a cursor down
 alloc_from : (state : State) (size align k : ℕ) (outcome : Outcome) → IsValid state → IsTrue (is_power align)
     → alloc state size align k ≡ Some outcome
     → TakesFrom state (place state size align) size align outcome
@@ -138,14 +138,14 @@ alloc_from state size align k outcome valid power step = by_place (place state s
         (in_newest state size align p valid spot)
     by_place None none at = by_chunk (slice_get (asked state size align) k) refl none at
 
--- the same of an allocation that answered p
+-- an allocation that returned p
 pub alloc_taken : (state new : State) (size align k p : ℕ) → IsValid state → IsTrue (is_power align)
     → alloc state size align k ≡ Some (record { answer = Some p; state = new })
     → IsTaken state new (placed_below (place state size align) state new) size align
 alloc_taken state new size align k p valid power step =
     alloc_from state size align k (record { answer = Some p; state = new }) valid power step
 
--- a new block takes its size or more
+-- a new block takes at least its size
 pub alloc_least : (state new : State) (size align k p : ℕ) → IsValid state → IsTrue (is_power align)
     → alloc state size align k ≡ Some (record { answer = Some p; state = new })
     → used_bytes state + size ≤ used_bytes new
@@ -170,7 +170,7 @@ alloc_most state new size align k p valid power step =
           (unit_positive state align valid) takes.fits,
     )
 
--- a block of whole units that is placed below a multiple takes no more than its size
+-- a block of whole units that is placed below a multiple takes exactly its size
 exact_below : (state new : State) (from size align : ℕ) → IsValid state → IsTaken state new from size align → from % unit_of state align ≡ 0
     → size % unit_of state align ≡ 0
     → used_bytes new ≡ used_bytes state + size
@@ -187,7 +187,7 @@ alloc_exact state new size align k p spot valid power found below by step =
     let takes = alloc_taken state new size align k p valid power step in
     exact_below state new (cursor_of state.chunks) size align valid (rw found at takes) below by
 
--- so it does in a new chunk, up to alignment 16
+-- so does one in a new chunk, up to alignment 16
 pub alloc_exact_in_new : (state new : State) (size align k p : ℕ) → IsValid state → IsTrue (is_power align) → place state size align ≡ None
     → align ≤ 16 → size % unit_of state align ≡ 0 → alloc state size align k ≡ Some (record { answer = Some p; state = new })
     → used_bytes new ≡ used_bytes state + size

@@ -1,4 +1,4 @@
--- Ranges in use: where they lie, and what a new cursor or a new chunk leaves of them.
+-- Ranges in use: where they are, and which remain with a new cursor or a new chunk.
 use Rattle.std.proofs.Common.{ℕ, ◌+◌, ◌^◌, ◌<◌, ◌≤◌, ◌⊎◌, inl, inr, arith, List, [], ◌∷◌, IsTrue}
 use Rattle.std.proofs.lemmas.Bool.{or_cases, or_left, or_right}
 use Rattle.std.proofs.lemmas.Bool.Decides.{nat_tests}
@@ -25,12 +25,12 @@ used_set q addr n (newest ∷ older) low used = elim (or_cases (is_used_by addr 
   | inr there ↦ or_right (is_used_by addr n (record newest { cursor = q })) (is_range_used older addr n) there
 ]
 
--- a further chunk leaves in use what was
+-- one more chunk leaves in use what was
 pub used_grown : (addr n : ℕ) (chunk : Chunk) (chunks : List Chunk) → IsTrue (is_range_used chunks addr n)
     → IsTrue (is_range_used (chunk ∷ chunks) addr n)
 used_grown addr n chunk chunks used = or_right (is_used_by addr n chunk) (is_range_used chunks addr n) used
 
--- what is in use lies below the floor of the next chunk
+-- what is in use is below the floor of the next chunk
 pub used_under : (m addr n : ℕ) → (chunks : List Chunk) → AreChunks m chunks → 0 < n → IsTrue (is_range_used chunks addr n)
     → addr + n ≤ floor_of chunks
 used_under m addr n [] valid some used = cc
@@ -44,7 +44,7 @@ pub floor_least : (m : ℕ) → (chunks : List Chunk) → AreChunks m chunks →
 floor_least m [] valid = omega arith
 floor_least m (newest ∷ older) valid = omega (arith, floor_least m older valid.2, valid.1)
 
--- what is in use lies at 4096 or above
+-- what is in use is at 4096 or above
 pub used_low : (state : State) (addr n : ℕ) → IsValid state → 0 < n → IsTrue (is_range_used state.chunks addr n) → 4096 ≤ addr
 used_low state addr n valid some = go state.chunks valid.chunks
   where
@@ -55,7 +55,7 @@ used_low state addr n valid some = go state.chunks valid.chunks
       | inr there ↦ go older fine.2 there
     ]
 
--- what is in use ends with the newest chunk's data or before
+-- what is in use ends at or below the newest chunk's data end
 pub used_high : (state : State) (addr n : ℕ) → IsValid state → 0 < n → IsTrue (is_range_used state.chunks addr n)
     → addr + n ≤ top_of state.chunks
 used_high state addr n valid some = go state.chunks valid.chunks
@@ -71,7 +71,7 @@ used_high state addr n valid some = go state.chunks valid.chunks
 pub used_below_last : (state : State) (addr n : ℕ) → IsValid state → 0 < n → IsTrue (is_range_used state.chunks addr n) → addr + n < 2 ^ 64
 used_below_last state addr n valid some used = omega (arith, used_high state addr n valid some used, top_le state valid)
 
--- what is in use lies at the cursor or above, or below the newest chunk
+-- what is in use is at or above the cursor, or below the newest chunk
 pub used_beside : (m addr n : ℕ) → (chunks : List Chunk) → AreChunks m chunks → 0 < n → IsTrue (is_range_used chunks addr n)
     → (cursor_of chunks ≤ addr) ⊎ (addr + n ≤ start_of chunks)
 used_beside m addr n [] valid some used = cc
@@ -80,7 +80,7 @@ used_beside m addr n (newest ∷ older) valid some used = elim (or_cases (is_use
   | inr there ↦ inr (omega (arith, used_under m addr n older valid.2 some there, valid.1))
 ]
 
--- from the cursor on all is in use
+-- everything from the cursor on is in use
 pub used_from : (p size : ℕ) → (chunks : List Chunk) → 0 < size → start_of chunks ≤ p → p + size ≤ top_of chunks
     → IsTrue (is_range_used (with_newest_cursor p chunks) p size)
 used_from p size [] some low high = absurd (omega arith)

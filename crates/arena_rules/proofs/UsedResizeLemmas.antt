@@ -1,4 +1,4 @@
--- How many bytes are used after a block was given another size or given back.
+-- How many bytes are used after a block was resized or given back.
 use Rattle.std.proofs.Common.{◌≡◌, ℕ, ◌+◌, ◌-◌, ◌*◌, ◌%◌, ◌<◌, ◌≤◌, max, refl, sym, ap, ◌∙◌, arith, Option, Some, None, IsTrue, eqb-true, leb-true, inl, inr}
 use Rattle.std.specs.Prelude.{◌==◌, ◌&&◌, nat_le, nat_lt}
 use Rattle.std.proofs.lemmas.Bool.{and_parts, cond_both, cases_lt}
@@ -17,15 +17,15 @@ use Rattle.arena_rules.proofs.CursorLemmas.{start_positive, cursor_within, curso
 use Rattle.arena_rules.proofs.ReturnLemmas.{block_end, is_return, dealloc_elsewhere}
 use Rattle.arena_rules.proofs.UsedBytesLemmas.{used_at, unit_positive, taken_most, taken_exact}
 
--- ---- What a call that gives another size leaves, by what becomes of the block
+-- ---- The state after a resize, by what becomes of the block
 
--- a block that moves leaves the cursor there
+-- a block that moves leaves the cursor at its new address
 pub resize_moves : (state : State) (way : Resizing) (p size align k q : ℕ) (outcome : Outcome) → way ≡ Moves q
     → resize way state p size align k ≡ Some outcome → outcome.state ≡ with_cursor q state
 resize_moves state way p size align k q outcome is step = let at : unasked k (placed state q) ≡ Some outcome = rw is at step in
     sym (ap (λ (o : Outcome). o.state) (cond_some (k == 0) (placed state q) outcome at).1)
 
--- a block that stays leaves the state
+-- a block that stays leaves the state as it was
 pub resize_stays : (state : State) (way : Resizing) (p size align k : ℕ) (outcome : Outcome) → way ≡ Stays
     → resize way state p size align k ≡ Some outcome → outcome.state ≡ state
 resize_stays state way p size align k outcome is step = let at : unasked k (stays state p) ≡ Some outcome = rw is at step in
@@ -42,9 +42,9 @@ pub resize_anew : (state : State) (way : Resizing) (p size align k : ℕ) → wa
     → resize way state p size align k ≡ alloc state size align k
 resize_anew state way p size align k is = rw is refl
 
--- ---- A block that grows where it is
+-- ---- A block that grows in place
 
--- It was the last one placed, and what it needs has a place below it.
+-- It was at the cursor, and what it needs has a place below it.
 pub record IsGrowth (state : State) (p size align new_size q : ℕ) : Type 0 where
   pub at : p ≡ cursor_of state.chunks
   pub place : IsPlace (start_of state.chunks) (cursor_of state.chunks) (growth state size new_size) align state.min_align q
@@ -85,7 +85,7 @@ grow_used state p size align new_size new_align k q outcome valid is step =
     let after = resize_moves state (growing state p size align new_size new_align) p new_size new_align k q outcome is step in
     rw after (omega (arith, moved, growth.at, growth.place.high))
 
--- how far: by what it needs, and what aligns its place
+-- the distance: what it needs, plus what aligns its place
 pub growth_taken : (state : State) (p size align new_size new_align q : ℕ) → IsValid state
     → growing state p size align new_size new_align ≡ Moves q
     → p - q ≡ taken p (growth state size new_size) (unit_of state align)
@@ -98,7 +98,7 @@ pub growth_lower : (state : State) (p size align new_size new_align q : ℕ) →
 growth_lower state p size align new_size new_align q valid is =
     let growth = is_growth state p size align new_size new_align q valid is in omega (arith, growth.at, growth.place.high)
 
--- by what it grows by or more
+-- by at least what it grows by
 pub growth_least : (state : State) (p size align new_size new_align q : ℕ) → IsValid state
     → growing state p size align new_size new_align ≡ Moves q
     → new_size - size ≤ p - q
@@ -127,7 +127,7 @@ unit_multiple state p align first second = elim (cases_lt align state.min_align)
   | inr more ↦ let same : unit_of state align ≡ align = omega arith in rw same first
 ]
 
--- a block that grows by whole units to a multiple of the least alignment takes no more than that
+-- a block that grows by whole units to a multiple of the least alignment takes exactly that
 pub growth_exact : (state : State) (p size align new_size new_align q : ℕ) → IsValid state
     → growing state p size align new_size new_align ≡ Moves q
     → p % align ≡ 0 → new_size % state.min_align ≡ 0 → (new_size - size) % unit_of state align ≡ 0 → p - q ≡ new_size - size
@@ -150,14 +150,14 @@ growth_exact_at_one state p size align new_size new_align q valid one is aligned
     let whole : new_size % state.min_align ≡ 0 = rw one (omega arith) in
     growth_exact state p size align new_size new_align q valid is aligned whole (rw unit by)
 
--- a block that doesn't grow where it is is an allocation
+-- a block that doesn't grow in place is an allocation
 pub grow_anew : (state : State) (p size align new_size new_align k : ℕ) → growing state p size align new_size new_align ≡ Anew
     → grow state p size align new_size new_align k ≡ alloc state new_size new_align k
 unfolding grow
 grow_anew state p size align new_size new_align k is =
     resize_anew state (growing state p size align new_size new_align) p new_size new_align k is
 
--- or refused, with as many bytes used
+-- or is refused, with as many bytes used
 pub grow_refused : (state : State) (p size align new_size new_align k : ℕ) (outcome : Outcome)
     → growing state p size align new_size new_align ≡ Refused
     → grow state p size align new_size new_align k ≡ Some outcome → used_bytes outcome.state ≡ used_bytes state
@@ -179,9 +179,9 @@ growing_stays state p size align new_size new_align =
     go None is = cc
     go (Some q) is = cc
 
--- ---- A block that shrinks where it is
+-- ---- A block that shrinks in place
 
--- It was the last one placed, and moves up by half of it or more.
+-- It was at the cursor, and moves up by at least half of its size.
 pub record IsShrinkage (state : State) (p size new_size new_align q : ℕ) : Type 0 where
   pub at : p ≡ cursor_of state.chunks
   pub is : q ≡ p + shrink_step state size new_size new_align
@@ -204,7 +204,7 @@ pub shrinkage_higher : (state : State) (p size align new_size new_align q : ℕ)
     → p ≤ q
 shrinkage_higher state p size align new_size new_align q is = omega (arith, is_shrinkage state p size align new_size new_align q is)
 
--- by half of it or more
+-- by at least half of its size
 pub shrinkage_half : (state : State) (p size align new_size new_align q : ℕ) → shrinking state p size align new_size new_align ≡ Moves q
     → size ≤ 2 * (q - p)
 shrinkage_half state p size align new_size new_align q is = let moves = is_shrinkage state p size align new_size new_align q is in
@@ -255,14 +255,14 @@ shrink_used state block size align k q outcome valid used is step =
     in
     rw after (omega (arith, moved, moves))
 
--- a block that shrinks to a greater alignment that its place doesn't suit is an allocation
+-- a block whose address doesn't suit a greater alignment is an allocation
 pub shrink_anew : (state : State) (p size align new_size new_align k : ℕ) → shrinking state p size align new_size new_align ≡ Anew
     → shrink state p size align new_size new_align k ≡ alloc state new_size new_align k
 unfolding shrink
 shrink_anew state p size align new_size new_align k is =
     resize_anew state (shrinking state p size align new_size new_align) p new_size new_align k is
 
--- a block that stays leaves as many bytes used
+-- a block that stays leaves the number of used bytes
 pub shrink_stays : (state : State) (p size align new_size new_align k : ℕ) (outcome : Outcome)
     → shrinking state p size align new_size new_align ≡ Stays
     → shrink state p size align new_size new_align k ≡ Some outcome → used_bytes outcome.state ≡ used_bytes state
@@ -297,12 +297,12 @@ dealloc_used state block valid used at =
       up_ge (block.addr + block.size) state.min_align (min_align_positive state.min_align valid.min_align),
     ))
 
--- a block away from the cursor leaves as many
+-- a block away from the cursor leaves the number of used bytes
 pub dealloc_used_elsewhere : (state : State) (p size : ℕ) → (p ≡ cursor_of state.chunks → ⊥)
     → used_bytes (dealloc state p size) ≡ used_bytes state
 dealloc_used_elsewhere state p size other = ap (λ (s : State). used_bytes s) (dealloc_elsewhere state p size other)
 
--- a padded block has its size or more
+-- a padded block has at least its size
 pub padded_least : (m p size : ℕ) → 0 < m → size ≤ padded_size m p size
 padded_least m p size positive = omega (arith, up_ge (p + size) m positive)
 

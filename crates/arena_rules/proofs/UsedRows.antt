@@ -1,4 +1,4 @@
--- Worked rows of the used bytes, computed.
+-- Computed examples of the used bytes.
 use Rattle.std.proofs.Common.{◌≡◌, ℕ, refl, true, Option, Some, [], ◌∷◌}
 use Rattle.std.specs.Option.{option_map}
 use Rattle.arena_rules.specs.Rounding.{up, down, is_power_among}

@@ -10,34 +10,35 @@ pub record Point : Type 0 where
 abbrev pub mark_of : State → Point
 mark_of state = record { chunks = length state.chunks; cursor = cursor_of state.chunks }
 
--- the oldest chunks, so many
+-- the n oldest chunks
 abbrev pub first_chunks : ℕ → List Chunk → List Chunk
 first_chunks n chunks = drop (length chunks - n) chunks
 
--- the newest cursor is at this address or above
+-- the newest cursor, raised to this address if it is lower
 abbrev pub raised : ℕ → List Chunk → List Chunk
 raised c [] = []
 raised c (newest ∷ older) = record newest { cursor = max newest.cursor c } ∷ older
 
--- The chunks that there were, and the cursor where it was or above.
+-- The chunks that there were at the mark, with the newest cursor raised to the mark's.
 abbrev pub back : Point → State → State
 back mark state = record state { chunks = raised mark.cursor (first_chunks mark.chunks state.chunks) }
 
--- The state has as many chunks, and the mark's cursor lies in the last of them at a multiple of the least alignment; or the
--- mark is that of a growing arena with no chunk.
+-- The state has at least as many chunks as the mark, and the mark's cursor is in the last of those, at a multiple of
+-- the least alignment; or the mark is that of a growing arena without a chunk.
 abbrev pub accepts : Point → State → Bool
 accepts mark state =
     if mark.chunks == 0 then mark.cursor == 16 && state.is_growing
     else nat_le mark.chunks (length state.chunks) && nat_le (start_of (first_chunks mark.chunks state.chunks)) mark.cursor
     && nat_le mark.cursor (top_of (first_chunks mark.chunks state.chunks)) && mark.cursor % state.min_align == 0
 
--- the mark's part: the addresses of the chunks that there were, of the newest of them those from the mark's cursor on
+-- the mark's part: the addresses of the mark's chunks, in the newest of them those from the mark's cursor on
 abbrev pub is_in_part : Point → State → ℕ → Bool
 is_in_part mark state addr =
     nat_lt addr (top_of (first_chunks mark.chunks state.chunks))
     && (nat_lt addr (start_of (first_chunks mark.chunks state.chunks)) || nat_le mark.cursor addr)
 
--- A mark that was accepted still is, in the same generation, with the same part, and what is in use lies in it, if it did.
+-- An accepted mark still is accepted, in the same generation, with the same part, and what is in use before and after
+-- stays in the part, if it was there.
 pub record KeepsMark (mark : Point) (old new : State) : Type 0 where
   pub generation : new.generation ≡ old.generation
   pub accepted : IsTrue (accepts mark new)

@@ -1,4 +1,4 @@
--- Sets of numbers, which sets of bits mean.
+-- Sets of numbers, the values of bit sets.
 use Rattle.std.specs.Prelude.{ℕ, ◌+◌, ◌-◌, ◌/◌, List, Bool, false, not, ◌&&◌, ◌||◌, ◌==◌, nat_lt}
 use Rattle.std.specs.List.{filter, range_with_len}
 
@@ -10,7 +10,7 @@ Set = ℕ → Bool
 abbrev pub nothing : Set
 nothing n = false
 
--- a set with one number more, and one without a number
+-- a set with one more number, and one without a number
 abbrev pub with_bit : Set → ℕ → Set
 with_bit set bit n = set n || n == bit
 
@@ -25,10 +25,10 @@ joined one other n = one n || other n
 abbrev pub below : ℕ → Set → Set
 below limit set n = nat_lt n limit && set n
 
--- the numbers of a set from one number on that are below another, ascending
+-- the members of a set at or above one number and below another, ascending
 unfoldable pub members : Set → ℕ → ℕ → List ℕ
 members set from to = filter set (range_with_len from (to - from))
 
--- how many words of 64 bits have so many bits
+-- how many 64-bit words hold this many bits
 abbrev pub words_for : ℕ → ℕ
 words_for bits = (bits + 63) / 64

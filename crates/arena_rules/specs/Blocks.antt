@@ -1,4 +1,4 @@
--- What a block that was just placed, or that shrank or grew, is to the states before and after.
+-- How a block that was just placed, grown or shrunk relates to the states before and after.
 use Rattle.std.specs.Prelude.{◌≡◌, ℕ, ◌+◌, ◌-◌, ◌%◌, ◌<◌, ◌≤◌, IsTrue, Option}
 use Rattle.arena_rules.specs.Rounding.{up, is_layout}
 use Rattle.arena_rules.specs.State.{State, is_range_used, top_of, AreApart, is_place_used}
@@ -9,11 +9,12 @@ use Rattle.arena_rules.specs.declared.place.Place.{Place}
 abbrev pub padded_size : ℕ → ℕ → ℕ → ℕ
 padded_size min_align p size = up (p + size) min_align - p
 
--- n addresses from this one on lie apart from a block at p, padded
+-- the n addresses from this one on are apart from the padded block at p
 abbrev pub LieBeside : State → ℕ → ℕ → ℕ → ℕ → Type 0
 LieBeside state p size addr n = AreApart p (padded_size state.min_align p size) addr n
 
--- The block is aligned and in use, at or below the newest data end, which never falls; what was in use still is, and lies beside the block.
+-- The block is aligned and in use, at or below the newest data end, which never falls. What was in use stays in use,
+-- and is apart from the block.
 pub record IsNewBlock (old : State) (size align p : ℕ) (new : State) : Type 0 where
   pub min_align : new.min_align ≡ old.min_align
   pub is_growing : new.is_growing ≡ old.is_growing
@@ -26,14 +27,15 @@ pub record IsNewBlock (old : State) (size align p : ℕ) (new : State) : Type 0 
   pub keeps : (addr n : ℕ) → IsTrue (is_range_used old.chunks addr n) → IsTrue (is_range_used new.chunks addr n)
   pub beside : (addr n : ℕ) → 0 < n → IsTrue (is_range_used old.chunks addr n) → LieBeside old p size addr n
 
--- A block that a caller holds: its layout is one, and it is aligned, and in use or empty.
+-- A block that a caller holds: its layout is valid, it is aligned, and it is in use or empty.
 pub record IsBlock (state : State) (block : Place) : Type 0 where
   pub layout : IsTrue (is_layout block.size block.align)
   pub aligned : block.addr % block.align ≡ 0
   pub min_aligned : block.addr % state.min_align ≡ 0
   pub used : IsTrue (is_place_used state block)
 
--- A block in place of an old one is aligned and in use, and what was in use beside the old block still is, and lies beside the new one.
+-- A block in place of an old one is aligned and in use. What was in use apart from the old block stays in use, and is
+-- apart from the new one.
 pub record IsMovedBlock (old : State) (block : Place) (size align p : ℕ) (new : State) : Type 0 where
   pub min_align : new.min_align ≡ old.min_align
   pub is_growing : new.is_growing ≡ old.is_growing
@@ -46,7 +48,7 @@ pub record IsMovedBlock (old : State) (block : Place) (size align p : ℕ) (new 
   pub beside : (addr n : ℕ) → 0 < n → IsTrue (is_range_used old.chunks addr n) → LieBeside old block.addr block.size addr n
       → LieBeside old p size addr n
 
--- ---- A block that is given another size
+-- ---- A block that is resized
 
 -- what becomes of it, and the move
 abbrev pub growing_block : State → Place → ℕ → ℕ → Resizing

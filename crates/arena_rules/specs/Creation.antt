@@ -14,12 +14,12 @@ abbrev pub fixed_state : ℕ → ℕ → State
 fixed_state m size =
     record { min_align = m; is_growing = false; generation = 0; chunks = record { base = 4096; size = size; cursor = 4096 + size } ∷ [] }
 
--- the one chunk that is asked for where an arena is made with room for so many bytes
+-- the one chunk that is asked for when an arena is created with this capacity
 unfoldable pub capacity_chunk : ℕ → ℕ → Option (ℕ × ℕ)
 capacity_chunk capacity align =
     if is_layout capacity align then possible (next_base 4096 align) capacity align capacity else None
 
--- With no chunk to ask for there is no arena. Else the request is granted, or it is refused, and then there is none.
+-- Without a chunk to ask for there is no arena. Otherwise there is one if the request is granted, and none if not.
 abbrev pub create_at : Option (ℕ × ℕ) → ℕ → ℕ → Option (Option State)
 create_at None m zero = Some None
 create_at None m (suc k) = None
@@ -27,7 +27,7 @@ create_at (Some entry) m zero = Some (Some (with_chunk entry (empty_state m)))
 create_at (Some entry) m (suc zero) = Some None
 create_at (Some entry) m (suc (suc k)) = None
 
--- A new arena with room for so many bytes, or none, where k requests are refused. There is no step where more are refused than asked for.
+-- A new arena with this capacity, or none, where k requests are refused. No step has more refusals than requests.
 unfoldable pub create : ℕ → ℕ → ℕ → Option (Option State)
 create m capacity k =
     if capacity == 0 then (if k == 0 then Some (Some (empty_state m)) else None) else create_at (capacity_chunk capacity m) m k

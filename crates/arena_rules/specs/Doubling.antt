@@ -5,7 +5,7 @@ use Rattle.arena_rules.specs.State.{State, Chunk, newest_size, floor_of}
 use Rattle.arena_rules.specs.Search.{place, possible, next_base, least_size, asked}
 use Rattle.arena_rules.specs.Moves.{Resizing, anew}
 
--- Each chunk has at least z bytes, and at least twice those of the one made before it. With 0 for z it is plain doubling.
+-- Each chunk has at least z bytes, and at least twice those of the one made before it. For z = 0: plain doubling.
 abbrev pub IsDoubling : ℕ → List Chunk → Type 0
 IsDoubling z [] = Unit {0}
 IsDoubling z (newest ∷ older) = (max z (2 * newest_size older) ≤ newest.size) × IsDoubling z older
@@ -26,10 +26,10 @@ abbrev pub is_made_first : State → ℕ → ℕ → ℕ → Bool
 is_made_first state size align k =
     is_some (place state size align) || is_none (slice_get (asked state size align) k) || (k == 0 && is_some (first_entry state size align))
 
--- so does the allocation of this layout, if there is one
+-- the same for an allocation of this layout, if there is one
 abbrev pub is_anew_made_first : State → Option (ℕ × ℕ) → ℕ → Bool
 is_anew_made_first state layout k = option_map_or (λ (l : ℕ × ℕ). is_made_first state l.0 l.1 k) layout true
 
--- so does a call that gives a block this layout
+-- the same for a call that resizes a block to this layout
 abbrev pub is_resize_made_first : Resizing → State → ℕ → ℕ → ℕ → Bool
 is_resize_made_first way state size align k = is_anew_made_first state (anew way (size, align)) k

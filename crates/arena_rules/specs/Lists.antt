@@ -1,4 +1,4 @@
--- Lists.
+-- Operations on lists.
 use Rattle.std.specs.Prelude.{ℕ, ◌+◌, List, ◌++◌, length, take, drop}
 
 -- a list with new items in place of those from this index on

@@ -1,27 +1,27 @@
--- What each call does with the places, where the source refuses k requests in it.
+-- What each call does to the chunks, where the source refuses k requests during the call.
 use Rattle.std.specs.Prelude.{ℕ, ◌+◌, ◌-◌, ◌*◌, ◌%◌, ◌^◌, min, max, nat_le, nat_lt, ◌==◌, ◌&&◌, if◌then◌else◌, Option, Some, None, List, [], ◌∷◌, length, slice_get}
 use Rattle.std.specs.Option.{option_map}
 use Rattle.arena_rules.specs.Rounding.{down, up, is_layout}
 use Rattle.arena_rules.specs.State.{State, Chunk, cursor_of, data_end, with_cursor, with_newest_cursor}
 use Rattle.arena_rules.specs.Search.{place, asked, alloc_requests}
 
--- What a call answers, an address or none where it fails, and the state that it leaves.
+-- What a call returns (an address, or none if it fails), and the state that it leaves.
 pub record Outcome : Type 0 where
   pub answer : Option ℕ
   pub state : State
 
--- the block lies at p, and so does the cursor
+-- the block is at p, and so is the cursor
 abbrev pub placed : State → ℕ → Outcome
 placed state p = record { answer = Some p; state = with_cursor p state }
 
--- the block lies at p, and no cursor moved
+-- the block is at p, and no cursor moved
 abbrev pub stays : State → ℕ → Outcome
 stays state p = record { answer = Some p; state = state }
 
 abbrev pub fails : State → Outcome
 fails state = record { answer = None; state = state }
 
--- a call that asks for nothing has a step only where k is 0
+-- a call that makes no request has a step only where k is 0
 abbrev pub unasked : ℕ → Outcome → Option Outcome
 unasked k outcome = if k == 0 then Some outcome else None
 
@@ -30,7 +30,7 @@ abbrev pub with_chunk : ℕ × ℕ → State → State
 with_chunk entry state =
     record state { chunks = record { base = entry.0; size = entry.1; cursor = entry.0 + entry.1 } ∷ state.chunks }
 
--- in a new chunk, or nowhere where all were refused
+-- in a new chunk, or a failure if all requests were refused
 abbrev pub alloc_in_new : Option (ℕ × ℕ) → State → ℕ → ℕ → ℕ → Option Outcome
 alloc_in_new (Some entry) state size align k =
     option_map (placed (with_chunk entry state)) (place (with_chunk entry state) size align)
@@ -44,43 +44,43 @@ alloc_at None state size align k = alloc_in_new (slice_get (asked state size ali
 unfoldable pub alloc : State → ℕ → ℕ → ℕ → Option Outcome
 alloc state size align k = alloc_at (place state size align) state size align k
 
--- A block at p of so many bytes is given back: only where it is the last one placed does the cursor move.
+-- Gives back a block at p of this size. The cursor moves only if the block is at it.
 unfoldable pub dealloc : State → ℕ → ℕ → State
 dealloc state p size = if p == cursor_of state.chunks then with_cursor (up (p + size) state.min_align) state else state
 
--- ---- A block that is given another size
+-- ---- A block that is resized
 
--- What becomes of it: it stays where it is, it and the cursor move to an address, it is placed again by an allocation, or
--- the call is refused with no request.
+-- What becomes of it: it stays where it is, it moves to an address together with the cursor, it is allocated again, or
+-- the call is refused without a request.
 pub data Resizing : Type 0 where
   Stays : Resizing
   Moves : ℕ → Resizing
   Anew : Resizing
   Refused : Resizing
 
--- how many addresses more a block needs below it, to grow where it is
+-- how many more addresses a block needs below it to grow in place
 abbrev pub growth : State → ℕ → ℕ → ℕ
 growth state size new_size = up new_size state.min_align - size
 
--- down to this place, if there is one
+-- down to this place, if there is one, and otherwise a new allocation
 abbrev pub down_to : Option ℕ → Resizing
 down_to (Some q) = Moves q
 down_to None = Anew
 
--- A block grows in place, downwards, only where it is the last one placed and its alignment doesn't rise, if there is room
--- below it; any other is placed again. What is more than a layout can be is refused at once.
+-- A block grows in place, downwards, only if it is at the cursor, its alignment doesn't rise and there is room below
+-- it; any other is allocated again. A growth that isn't a valid layout is refused at once.
 abbrev pub growing : State → ℕ → ℕ → ℕ → ℕ → ℕ → Resizing
 growing state p size align new_size new_align =
     if nat_le new_align align && p == cursor_of state.chunks
     then (if is_layout (growth state size new_size) align then down_to (place state (growth state size new_size) align) else Refused)
     else Anew
 
--- how far a block moves up as it shrinks
+-- how far a block moves up when it shrinks
 abbrev pub shrink_step : State → ℕ → ℕ → ℕ → ℕ
 shrink_step state size new_size new_align = down (size - new_size) (max new_align state.min_align)
 
--- A block that shrinks is placed again only where its address doesn't suit a greater alignment. Else it stays, unless it is
--- the last one placed and half of it or more can be given back: then it moves up.
+-- A block that shrinks is allocated again only if its address isn't a multiple of a greater alignment. Otherwise it
+-- stays, unless it is at the cursor and at least half of it can be given back: then it moves up.
 abbrev pub shrinking : State → ℕ → ℕ → ℕ → ℕ → ℕ → Resizing
 shrinking state p size align new_size new_align =
     if nat_lt align new_align
@@ -88,7 +88,7 @@ shrinking state p size align new_size new_align =
     else (if p == cursor_of state.chunks && nat_le size (2 * shrink_step state size new_size new_align)
     then Moves (p + shrink_step state size new_size new_align) else Stays)
 
--- The move of the block at p to a layout.
+-- Resizes the block at p to a layout.
 abbrev pub resize : Resizing → State → ℕ → ℕ → ℕ → ℕ → Option Outcome
 resize Stays state p size align k = unasked k (stays state p)
 resize (Moves q) state p size align k = unasked k (placed state q)
@@ -103,7 +103,7 @@ unfoldable pub grow : State → ℕ → ℕ → ℕ → ℕ → ℕ → ℕ → 
 grow state p size align new_size new_align k =
     resize (growing state p size align new_size new_align) state p new_size new_align k
 
--- the layout that is placed again by an allocation, if it is
+-- the layout that is allocated again, if the block is
 abbrev pub anew : Resizing → ℕ × ℕ → Option (ℕ × ℕ)
 anew Anew layout = Some layout
 anew Stays layout = None
@@ -120,7 +120,7 @@ emptied (newest ∷ older) = record newest { cursor = data_end newest } ∷ []
 abbrev pub reset : State → State
 reset state = record state { generation = min (state.generation + 1) (2 ^ 64 - 1); chunks = emptied state.chunks }
 
--- the newest chunk's cursor is at this address, and what was placed before counts as an older generation
+-- the newest chunk's cursor is at this address, and a new generation begins
 abbrev pub set_cursor : ℕ → State → State
 set_cursor p state = record state { generation = min (state.generation + 1) (2 ^ 64 - 1); chunks = with_newest_cursor p state.chunks }
 
@@ -131,6 +131,6 @@ abbrev pub requests_anew : Option (ℕ × ℕ) → State → ℕ → List (ℕ �
 requests_anew None state k = []
 requests_anew (Some layout) state k = alloc_requests state layout.0 layout.1 k
 
--- the requests of a call that gives a block this layout
+-- the requests of a call that resizes a block to this layout
 abbrev pub resize_requests : Resizing → State → ℕ → ℕ → ℕ → List (ℕ × ℕ)
 resize_requests way state size align k = requests_anew (anew way (size, align)) state k

@@ -9,12 +9,12 @@ down n d = n / d * d
 unfoldable pub up : ℕ → ℕ → ℕ
 up n d = (n + (d - 1)) / d * d
 
--- n is one of the first so many powers of two
+-- n is one of the k smallest powers of two
 unfoldable pub is_power_among : ℕ → ℕ → Bool
 is_power_among zero n = false
 is_power_among (suc k) n = n == 2 ^ k || is_power_among k n
 
--- n is a power of two of 64 bits
+-- n is a power of two below 2 ^ 64
 abbrev pub is_power : ℕ → Bool
 is_power n = is_power_among 64 n
 

@@ -1,4 +1,4 @@
-// Where a block lies, and the error of what takes memory.
+// The place of a block, and the out-of-memory error.
 use std::alloc::{AllocError, AllocFailed};
 
 /// The address, the size and the alignment of a block.

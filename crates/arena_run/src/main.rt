@@ -1,4 +1,4 @@
-//! Runs calls or scripts on bump arenas, or lints sources, and prints what came of them.
+//! Runs calls or scripts on bump arenas, or lints sources, and prints the results.
 #![tactic(auto)]
 
 use arena_calls::{StdInput, StdOutput, program_chunks};

@@ -92,7 +92,7 @@ module _ {X : Type 0} (old new : View) (block : Block) (size align : ℕ) (f : X
     },
   )
 
--- ---- One of whatever kind: what is refused leaves no block
+-- ---- A request of any kind: where it is refused, it leaves no block
 
 module _ (old new : View) (blocks : List Block) (e : AllocError) where
   room_alone : (size align : ℕ) → AsksFor (Room size align ∷ []) old new blocks (Some e)

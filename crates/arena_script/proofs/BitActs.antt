@@ -105,7 +105,7 @@ made_given things m name capacity none = rw (none, bits_none (bits_end capacity)
 set_layout : (capacity : ℕ) → capacity < 2 ^ 32 → IsTrue (is_layout (words_for capacity * 8) 8)
 set_layout capacity small = row_is_layout (words_for capacity) 8 8 plain_8 (omega arith) (omega arith)
 
--- whatever command it is that gives a name a set
+-- any command that gives a name a set
 module _ {command : Command} {things : Things} {old new : View} {name capacity : ℕ} {set : Set}
     (taken : IsTrue (takes_room command)) (none : get things name ≡ None) (small : capacity < 2 ^ 32) (one : old.memory.state.min_align ≡ 1)
     (given : effect command (seen old.memory things) ≡ Gives name (ASet capacity (bits_below (bits_end capacity) set)) Done
@@ -137,14 +137,14 @@ module _ {command : Command} {things : Things} {old new : View} {name capacity :
 
 -- ---- Two sets
 
--- the first is none, where the other name holds something
+-- the first isn't a set, and the other name holds something
 pub first_wrong : (things : Things) (m : Memory) (name other : ℕ) (y : Thing) {reply : ScriptReply} → get things other ≡ Some y
     → ((m : Memory) (go : ℕ → Bits → Effect) → effects.held (seen m things name) (λ o. effects.a_set o go) ≡ Tells reply)
     → effect (Union name other) (seen m things) ≡ Tells reply
 unfolding effect
 first_wrong things m name other y there wrong = rw there (wrong m _)
 
--- the second is none
+-- the second isn't a set
 pub second_wrong : {things : Things} {m : Memory} {name : ℕ} {s : BitSet} {reply : ScriptReply} → Holds things m name (thing.Bits s)
     → (other : ℕ)
     → ((m : Memory) (go : ℕ → Bits → Effect) → effects.held (seen m things other) (λ o. effects.a_set o go) ≡ Tells reply)
@@ -152,7 +152,7 @@ pub second_wrong : {things : Things} {m : Memory} {name : ℕ} {s : BitSet} {rep
 unfolding effect
 second_wrong {things} {m} h other wrong = rw h.found (wrong m _)
 
--- The sets of two names lie apart, and those of one name are one.
+-- The sets of two names are apart, and those of one name are equal.
 pub one_or_apart : {m : Memory} {things : Things} {name other : ℕ} {s t : BitSet} → AreThings m things
     → Holds things m name (thing.Bits s) → Holds things m other (thing.Bits t) → AreOneOrApart t.words.block s.words.block
 one_or_apart {m} {things} {name} {other} {s} {t} are h there = by (name == other) refl
@@ -162,7 +162,7 @@ one_or_apart {m} {things} {name} {other} {s} {t} are h there = by (name == other
         (sym there.found ∙ ap (get things) (sym (eqb-true name other test)) ∙ h.found))
     by false test = inr (rw (there.found, h.found) at (are.apart other name (λ e. other_name name other test (sym e))))
 
--- How far both have words is how far both go.
+-- The end of the words that both have is the lower of their ends.
 pub both_limits : (a b p q : ℕ) → a ≡ p → b ≡ q → 64 * min a b ≡ min (64 * p) (64 * q)
 both_limits a b p q first second = omega (arith, first, second)
 

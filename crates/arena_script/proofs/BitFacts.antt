@@ -17,7 +17,7 @@ some_mark : (b : Bool) → is_some (mark b) ≡ b
 some_mark true = refl
 some_mark false = refl
 
--- there is just one value to stand at a bit
+-- an entry of a bit has just one possible value
 marked : (o : Option (Unit {0})) → o ≡ mark (is_some o)
 marked None = refl
 marked (Some u) = refl

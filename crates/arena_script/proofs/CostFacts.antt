@@ -38,7 +38,7 @@ pub nothing_given : (cost before after : ℕ) (old new : View) → SamePlaces ol
     old new
 nothing_given cost before after old new same le = costs_nothing far cost before after old new tt same le
 
--- A credit beside stays, and of the credit afterwards some may be forgotten.
+-- An unrelated credit stays, and some of the credit afterwards may be dropped.
 pub costs_beside : {X : Type 0} (near cost before after more later rest : ℕ) (old new : View) (result : Result X AllocError)
     → before + rest ≡ more → later ≤ after + rest → Costs near cost before after old new result → Costs near cost more later old new result
 costs_beside near cost before after more later rest old new result sum less costs = record {
@@ -48,7 +48,7 @@ costs_beside near cost before after more later rest old new result sum less cost
   full = λ stays k is. let short = costs.full stays k is in record { still = short.still; short = omega (arith, short.short, sum) };
 }
 
--- What was written before moved no cursor.
+-- Writes before it moved no cursor.
 pub costs_from : {X : Type 0} (near cost before after : ℕ) (old start new : View) (result : Result X AllocError) → SamePlaces old start
     → Costs near cost before after start new result → Costs near cost before after old new result
 costs_from near cost before after old start new result written costs =
@@ -69,14 +69,14 @@ costs_from near cost before after old start new result written costs =
 
 -- ---- A call that is refused
 
--- Why a call gives nothing that would have had its cost and its credit: not for an overflow, and nothing came into use.
+-- A call gives nothing though its cost and credit would pay: not for an overflow, and nothing came into use.
 pub record IsRefused (cost before : ℕ) (old new : View) (e : AllocError) : Type 0 where
   pub fits : e ≢ CapacityOverflow
   pub costs : CostsRefused cost before before old new e
   pub denied : (k : ℕ) → e ≡ AllocErr k → HasNoPlace (used old + (cost + before)) new
   pub same : new.memory.state ≡ old.memory.state
 
--- What was refused is handed on.
+-- A refusal is passed on.
 pub not_given : {command : Command} {things : Things} {old new : View} {e : AllocError} (result : Result Act AllocError)
     → IsErrAnd result (λ x. x ≡ e) → GivesNothing command things old new e → Acts command things old new result
 not_given (Ok act) is gives = absurd is

@@ -34,7 +34,7 @@ use Rattle.arena_script.proofs.RunningLemmas.{cost_more, stopped_costs, stopped_
 use Rattle.arena_script.proofs.ServeLemmas.{no_place_within}
 use Rattle.arena_script.proofs.NeedLemmas.{needed}
 
--- what came, once the replies, the ending and the bytes are known
+-- the outcome with these replies, this ending and these bytes
 abbrev pub came : List ScriptReply → Ended → ℕ → Outcome
 came replies ended bytes = record { replies = replies; ended = ended; used = bytes }
 

@@ -22,7 +22,7 @@ untied_below x y l = grind (arith, nat_tests)
 later : (x y : ℕ) → x < y → is_lt (nat_cmp x y) ≡ true
 later x y l = grind (arith, nat_tests)
 
--- an entry is passed by who looks for another key
+-- a look-up of another key skips an entry
 passed : {X : Type 0} (o : Option X) (k q : ℕ) (rest : Entries X) → eq_by_cmp nat_cmp q k ≡ false
     → get (entry_then k o rest) q ≡ get rest q
 passed None k q rest other = refl
@@ -35,7 +35,7 @@ module _ {X : Type 0} (f : ℕ → Option X) where
   get_low zero from q h = refl
   get_low (suc n) from q h = passed (f from) from q _ (untied_below q from h) ∙ get_low n (from + 1) q (omega arith)
 
-  -- Among the keys there is what the function gives,
+  -- At the keys there is what the function gives,
   pub get_at : (n from q : ℕ) → from ≤ q → q < from + n → get (entries_from n from f) q ≡ f q
   unfolding entries_from
   get_at zero from q low high = absurd (omega arith)
@@ -51,7 +51,7 @@ module _ {X : Type 0} (f : ℕ → Option X) where
           (ap (λ k. eq_by_cmp nat_cmp q k) (sym same) ∙ tied q)
           ∙ sym is ∙ ap f (sym same)
 
-  -- and past them none.
+  -- and beyond them nothing.
   pub get_past : (n from q : ℕ) → from + n ≤ q → get (entries_from n from f) q ≡ None
   unfolding entries_from
   get_past zero from q h = refl

@@ -16,7 +16,7 @@ use Rattle.arena_script.specs.declared.thing.Thing.{Thing}
 use Rattle.arena_script.proofs.CostFacts.{IsRefused}
 use Rattle.arena_script.proofs.ThingLemmas.{Holds}
 
--- A thing takes the place of what there was, if anything, at a cost and with its credit.
+-- A thing replaces the one before, if any, at a cost and with its credit.
 pub record IsGiven (cost : ℕ) (old new : View) (o : Option Thing) (w : Thing) : Type 0 where
   pub held : IsThingIn new.memory w
   pub least : used old + size_of w ≤ used new + size_held o

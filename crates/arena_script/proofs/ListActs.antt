@@ -41,7 +41,7 @@ module _ {things : Things} {m : Memory} {name : ℕ} {v : Vec ℕ} (h : Holds th
   counted : length items ≡ v.raw.len
   counted = length-elements 4 short.decoded v.raw.len _
 
-  -- ---- What the plain machine refuses, and what it tells
+  -- ---- What the plain machine refuses, and what it reports
 
   pub push_full : (value : ℕ) → most_items ≤ v.raw.len → effect (Push name value) (seen m things) ≡ Tells CapacityOverflow
   unfolding effect

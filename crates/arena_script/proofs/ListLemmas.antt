@@ -9,8 +9,8 @@ use Rattle.arena_vec.specs.Credit.{asked_by, credit_of}
 use Rattle.arena_vec.specs.Growth.{amortised, amortised_growth, growth_to, new_growth}
 use Rattle.arena_script.proofs.CostFacts.{IsPaid}
 
--- What is known of growth: where there is room nothing grows, and else what fits is no overflow. It is paid ahead, and the
--- capacity never falls.
+-- How lists grow: not at all where there is room, and otherwise without overflow if the numbers fit. Growth is paid
+-- ahead, and the capacity never falls.
 pub record GrowthRule : Type 0 where
   pub stays : (size cap required wanted : ℕ) → required ≤ cap → growth_to size cap required wanted ≡ Stays
   pub grows : (size cap required wanted : ℕ) → cap < required → required < 2 ^ 32 → required * size < 2 ^ 32
@@ -44,7 +44,7 @@ one_paid rule paid len cap within few =
           ))
     ]
 
--- A list of its own is paid by what a copy costs.
+-- A new list is paid by the cost of a copy.
 pub all_paid : GrowthRule → (len : ℕ) → len ≤ 2 ^ 29
     → IsPaid 4 4 0 (new_growth 4 len) (24 * len) 0 (credit_of 4 len (capacity_after (new_growth 4 len) 0))
 all_paid rule len few = elim (zero_or_more len) [

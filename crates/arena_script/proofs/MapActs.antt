@@ -121,7 +121,7 @@ unbind_gives {things} {old} {new} {name} {h} {w} {key} {old_value} holds small o
     fewer there is_there = rw holds.held.count (sym (length_unbind (es holds) key (rising (is holds))
         ∙ ap (λ b. cond b (length (es holds) - 1) (length (es holds))) is_there))
 
--- what a table of so many bytes takes
+-- the layout of a table of `size` bytes
 pub slots_layout : (size : ℕ) → size ≤ 2 ^ 62 → IsTrue (is_layout size 8)
 unfolding is_power_among
 slots_layout size bounded =

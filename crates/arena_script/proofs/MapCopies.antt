@@ -40,7 +40,7 @@ Map = HashMap ℕ ℕ FxHasher
 abbrev map_kind : Kind Map
 map_kind = map_of pairs Rattle.hash_ring.specs.contracts.hasher.FxHasherDefault.TheImpl.ghosts.is_default plain plain
 
--- numbers are held wherever they are
+-- numbers are held in any memory
 plain_all : (m : Memory) (ps : List (ℕ × ℕ)) → (row_of (pair_of (plain {T = ℕ}) (plain {T = ℕ}))).is_held m ps
 plain_all m [] = tt
 plain_all m (p ∷ ps) = ((tt, tt), plain_all m ps)
@@ -56,7 +56,7 @@ value_is : (o : Option (ℕ × ℕ)) → of_some (λ (p : ℕ × ℕ). p.1) o �
 value_is None = refl
 value_is (Some p) = refl
 
--- what a new table for so many pairs takes
+-- what a new table for n pairs takes
 abbrev IsTableBound : Type 0
 IsTableBound = (ps slots : ℕ) → 0 < ps → IsSlotsFor ps slots → slots * slot_size 4 4 + (table_align 4 4 - 1) ≤ unit_of pairs * ps
 
@@ -140,7 +140,7 @@ module _ (old new : View) (other : ℕ) {things : Things} {name : ℕ} {h : Map}
     map_copy_gives = copy_gives holds none (ap (λ k. 256 * k) (sym holds.held.count)) (thing.Map copy) (ap AMap same_pairs)
         (by_len h.len refl (table_asked copies.blocks None copies.placed.asked))
 
-  -- Why there is no copy.
+  -- Why a map isn't copied.
   map_denied : (blocks : List Block) (e : AllocError) (n : ℕ) → h.len ≡ n → AsksFor (table_ask pairs n ∷ []) old new blocks (Some e)
       → IsRefused cost 0 old new e
   map_denied blocks e zero none (b, rest, empty, is, (last, empties, same)) = absurd (let no = last in cc)

@@ -37,7 +37,7 @@ module _ (is : Finite ℕ ℕ) where
   pub rising : IsTrue (are_rising (pairs_of is))
   rising = rising_from (λ key. value_of (is (content key))) (2 ^ 32) 0
 
-  -- what stands at a key
+  -- the value of a key
   pub get_pair : (key : ℕ) → key < 2 ^ 32 → get (pairs_of is) key ≡ value_of (is (content key))
   get_pair key low = get_at (λ key. value_of (is (content key))) (2 ^ 32) 0 key (omega arith) (omega arith)
 

@@ -40,7 +40,7 @@ pub none_replied : [] ≡ (run []).replies
 unfolding run_from
 none_replied = refl
 
--- Before the first command nothing is there.
+-- Before the first command there are no things.
 pub after_none : (script : List Command) (start : View) → used start ≡ 0 → IsAfter script start start [] 0
 unfolding run_from
 after_none script start unused = record {
@@ -57,7 +57,7 @@ kind_then old mid new one two = record {
   allocated = λ stays. two.allocated (one.is_growing ∙ stays) ∙ one.allocated stays;
 }
 
--- how far up the newest data end may lie for a run not to be starved of itself
+-- how far up the newest data end may be for a run not to be starved by itself
 abbrev pub run_far : ℕ
 run_far = 2 ^ 62
 
@@ -93,7 +93,7 @@ module _ {script : List Command} {start now : View} {things : Things} {i : ℕ} 
   reply_more are serves =
       (λ p. are p ++ (serves.reply_is ∙ ap (λ o. (step c o).reply) after.objects) p ∷ []) ∙ sym more.replies
 
-  -- A command that wasn't served costs what it would have with those before it.
+  -- What a command that wasn't served costs, with those before it.
   module _ {next : View} {e : AllocError} (stops : Stops c now next things e) where
     pub stopped_costs : Costs {X = Unit {0}} run_far (cost_of (take (i + 1) script)) 0 0 start next (Err e)
     stopped_costs = subst (λ n. Costs {X = Unit {0}} run_far n 0 0 start next (Err e)) cost_more

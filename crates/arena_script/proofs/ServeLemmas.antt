@@ -43,7 +43,7 @@ no_place_within le denied = record {
   none = denied.none;
 }
 
--- What was given costs as much where memory runs out then.
+-- What was given costs as much if memory runs out afterwards.
 costs_exhausted : {cost before after : ℕ} {old new : View} → CostsGiven cost before after old new
     → CostsRefused cost before after old new OutOfMemory
 costs_exhausted costs = record {
@@ -55,7 +55,7 @@ costs_exhausted costs = record {
 
 -- ---- One name holds another thing, or none
 
--- All other things stay, and the name holds this.
+-- All other things are unchanged, and the name holds this.
 record IsChanged (things later : Things) (old new : Memory) (name : ℕ) (o : Option Thing) : Type 0 where
   are : AreThings old things
   held : IfSome o (IsThingIn new)
@@ -74,7 +74,7 @@ module _ {things later : Things} {old new : Memory} {name : ℕ} {o : Option Thi
             seen_again old new (blocks_of o) (get things q) (is.stay q (other_name q name test)) ∙ sym (get_mapped old things q)
       ] refl
 
-  -- They mean the objects that are like those before at all other names.
+  -- They represent the objects as before at all other names.
   objects_are : (os : Objects) → IsTrue (are_rising os)
       → ((q : ℕ) → get os q ≡ (if q == name then option_map (object_in new) o else get (objects_in old things) q))
       → objects_in new later ≡ os
@@ -126,7 +126,7 @@ module _ {command : Command} {things : Things} {old new : View} {name : ℕ} {t 
   abbrev later : Things
   later = bind things name t
 
-  -- what the plain machine answers
+  -- the plain machine's answer
   answer_is : step command before ≡ record { reply = reply; cost = gives.cost; objects = bind before name (object_in new.memory t) }
   answer_is = ap (settle before) (effect_seen command old.memory things ∙ gives.effect_is)
 
@@ -168,7 +168,7 @@ module _ {command : Command} {things : Things} {old new : View} {name : ℕ} {t 
     kind = kind_stays;
   }
 
-  -- Where memory for the name runs out, it is a new one.
+  -- If memory runs out for the name, it is a new one.
   pub given_stops : get things name ≡ None → Stops command old new things OutOfMemory
   given_stops none =
       let costs = costs_all 0 (omega arith) in record {
@@ -181,7 +181,7 @@ module _ {command : Command} {things : Things} {old new : View} {name : ℕ} {t 
         kind = kind_stays;
       }
 
--- ---- Nothing changes, or a name is let go
+-- ---- Nothing changes, or a name is removed
 
 module _ (command : Command) (a : View) {things : Things} (are : AreThings a.memory things) where
   abbrev here : Objects
@@ -251,7 +251,7 @@ nothing_stops {command} {things} {old} {new} {e} gives =
       kind = rw gives.same (record { is_growing = refl; allocated = λ stays. refl });
     }
 
--- Where memory ran out for what was to be told, nothing changed.
+-- If memory ran out for the reply, nothing changed.
 untold_stops : {command : Command} {things : Things} {old : View} → IsTrue (tells_much command) → Stops command old old things OutOfMemory
 untold_stops {command} {things} {old} much = record {
   fits = λ no. cc;
@@ -263,7 +263,7 @@ untold_stops {command} {things} {old} much = record {
   kind = same_kind old;
 }
 
--- ---- What was done, and noted
+-- ---- The names after a command
 
 pub acted_settled : (command : Command) (things after : Things) (old new : View) (act : Act) (result : Result ScriptReply AllocError)
     → AreThings old.memory things → Acts command things old new (Ok act) → Settles act things after result

@@ -18,7 +18,7 @@ use Rattle.arena_clone.specs.Asks.{Takes, Follows, AsksFor}
 use Rattle.arena_script.specs.Acts.{used, far, CostsGiven, HasNoPlace}
 use Rattle.arena_script.proofs.CostFacts.{IsRefused, still, same_used, costs_from, block_given, block_refused}
 
--- One block is one block, in whatever order.
+-- A list of one block is a permutation only of itself.
 pub one_block : (b c : Block) → IsPermutation (b ∷ []) (c ∷ []) → c ≡ b
 one_block b c same = let P : Block → Type 0 = λ x. x ≡ b in
     (recursion_from_All P (c ∷ []) (All-permutation P (b ∷ []) (c ∷ []) same (All-from_recursion P (b ∷ []) (refl, tt)))).0

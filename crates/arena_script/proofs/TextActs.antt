@@ -44,7 +44,7 @@ joins_all : (more : List ℕ) (len : ℕ) (go : Effect) → list_any not_ascii m
 joins_all more len go low fits =
     let test : nat_lt most_bytes (len + length more) ≡ false = grind (arith, nat_tests) in rw (low, test) refl
 
--- A command that puts bytes, where it is put into the text so.
+-- A command that adds bytes to a text, and the text after it.
 pub record Puts {things : Things} {m : Memory} {name : ℕ} {t : StringBuilder} (h : Holds things m name (thing.Text t))
     (command : Command) (more list : List ℕ) : Type 0 where
   pub taken : IsTrue (takes_room command)
@@ -114,7 +114,7 @@ module _ (rule : GrowthRule) (old new : View) (u : StringBuilder) {things : Thin
 
 -- ---- One byte
 
--- To put a byte at the end is to put the text of it there.
+-- Adding a byte at the end is adding the text of that byte there.
 pub byte_acts : (name byte : ℕ) (things : Things) (old new : View) (result : Result Act AllocError)
     → Acts (Append name (byte ∷ [])) things old new result → Acts (Byte name byte) things old new result
 unfolding effect

@@ -16,7 +16,7 @@ use Rattle.arena_script.specs.Things.{IsWordsIn, credit_of}
 use Rattle.arena_script.specs.declared.thing.Thing.TheVariants as thing
 use Rattle.arena_script.proofs.CostFacts.{IsPaid}
 
--- What is known of growth: where there is room nothing grows, and else a text grows by what is added, by as much again or by 8.
+-- How texts grow: not at all where there is room, and otherwise by what is added, by as much again or by 8.
 pub record GrowthRule : Type 0 where
   pub stays : (cap len n : ℕ) → len + n ≤ cap → amortised_growth cap len n ≡ Stays
   pub grows : (cap len n : ℕ) → cap < len + n → len ≤ cap → cap + max n (max cap 8) < 2 ^ 63
@@ -29,7 +29,7 @@ bytes_layout n few =
     let fits : nat_le n (2 ^ 63 - 1) ≡ true = grind (arith, nat_tests) in
     rw (same, fits) refl
 
--- More bytes are paid by four for each and the credit, and there is room for no more than twice the bytes and eight.
+-- More bytes are paid by four for each and the credit, and the room is at most twice the bytes and eight.
 module _ (rule : GrowthRule) {m : Memory} (t : StringBuilder) (n : ℕ) (held : IsWordsIn m t) (small : t.len + n < 2 ^ 32) where
   abbrev pub growth : Growth
   growth = amortised_growth t.cap t.len n

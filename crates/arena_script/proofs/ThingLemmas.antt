@@ -1,4 +1,4 @@
--- Things beside a call on another block, and under names.
+-- Things that a call on another block doesn't touch, and things under names.
 use Rattle.std.proofs.Common.{◌≡◌, ℕ, refl, sym, ap, ◌∙◌, subst, true, false, cond, arith, ◌&&◌, Option, Some, None, List, [], ◌∷◌, map, nat_cmp, is_lt}
 use Rattle.std.specs.Prelude.{IfSome, ◌==◌, ◌≢◌}
 use Rattle.std.specs.Option.{option_map}
@@ -21,14 +21,14 @@ use Rattle.arena_script.specs.ThingLaws.{thing_readable, same_object, thing_agai
 use Rattle.arena_script.specs.declared.thing.Thing.{Thing}
 use Rattle.arena_script.specs.declared.thing.Thing.TheVariants as thing
 
--- ---- Beside a call
+-- ---- Calls on other blocks
 
 -- the keys of a map have no texts
 texts_apart : (ps : List (ℕ × ℕ)) (others : List Block) → AreAllApart (map (λ (p : ℕ × ℕ). pairs.key.text p.0) ps) others
 texts_apart [] others = tt
 texts_apart (p ∷ ps) others = (apart_empty 1 0 others refl, texts_apart ps others)
 
--- so a thing's blocks lie apart where its own does
+-- so a thing's blocks are apart where its own is
 all_apart : (m : Memory) (t : Thing) (others : List Block) → IsApart (block_of t).addr (block_of t).size others
     → AreAllApart (blocks_in m t) others
 all_apart m (thing.List v) others apart = (apart, tt)
@@ -45,7 +45,7 @@ own_apart m (thing.Bits s) others all = all.0
 own_apart m (thing.Map h) others all = all.0
 own_apart m (thing.Value b) others all = all.0
 
--- After a call on other blocks a thing is what it was, and lies apart from the blocks that the call has then.
+-- After a call on other blocks a thing is unchanged, and apart from the blocks that the call then has.
 pub record StaysThing (old new : Memory) (after : List Block) (t : Thing) : Type 0 where
   pub held : IsThingIn new t
   pub means : object_in new t ≡ object_in old t
@@ -85,7 +85,7 @@ pub rising_mapped : (m : Memory) (things : Things) → are_rising (objects_in m 
 rising_mapped m [] = refl
 rising_mapped m (e ∷ es) = λ i. below_mapped m es e.0 i && rising_mapped m es i
 
--- ---- What stays beside a call on the thing of one name
+-- ---- What a call on the thing of one name leaves unchanged
 
 module _ (old new : Memory) (things : Things) (name : ℕ) (after : List Block) (frame : Frame old new (blocks_of (get things name)) after)
     (held : (n : ℕ) → IfSome (get things n) (IsThingIn old)) (apart : (n k : ℕ) → n ≢ k → AreHeldApart (get things n) (get things k)) where
@@ -100,7 +100,7 @@ module _ (old new : Memory) (things : Things) (name : ℕ) (after : List Block) 
       by None is lies = tt
       by (Some t) is lies = thing_stays old new (blocks_of (get things name)) after t frame is (apart_from t (get things name) lies)
 
--- what stays is seen as it was
+-- an unchanged thing represents the same object
 pub seen_again : (old new : Memory) (after : List Block) (o : Option Thing) → IfSome o (StaysThing old new after)
     → option_map (object_in new) o ≡ option_map (object_in old) o
 seen_again old new after None stays = refl

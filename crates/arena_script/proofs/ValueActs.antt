@@ -56,7 +56,7 @@ pub made_given : (things : Things) (m : Memory) (name value : ℕ) → get thing
 unfolding effect
 made_given things m name value none = rw none refl
 
--- whatever command it is that gives a new name a value
+-- any command that gives a new name a value
 layout : IsTrue (is_layout 8 8)
 layout = row_is_layout 1 8 8 plain_8 (omega arith) (omega arith)
 

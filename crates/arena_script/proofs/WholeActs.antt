@@ -1,4 +1,4 @@
--- What commands on things of any kind tell.
+-- What commands on things of any kind report.
 use Rattle.std.proofs.Common.{◌≡◌, ℕ, ap, sym, length}
 use Rattle.arena_chunks.specs.Memory.{Memory}
 use Rattle.arena_items.proofs.Layers.{length-elements}

@@ -23,11 +23,11 @@ use Rattle.arena_script.specs.declared.act.Act.TheVariants.{Tells, Gives, LetsGo
 abbrev pub used : View → ℕ
 used a = used_in a
 
--- a command's calls are starved only where the newest data end lay this far up, or for their source
+-- a command's calls are starved only if the newest data end is at least this far up, or because of their source
 abbrev pub far : ℕ
 far = 2 ^ 62 + 2 ^ 61
 
--- A block within so many bytes has no place: it, its padding and what is in use are no more.
+-- A block has no place, though its size, its padding and the bytes in use are at most `bytes` together.
 pub record HasNoPlace (bytes : ℕ) (a : View) : Type 0 where
   pub size : ℕ
   pub align : ℕ
@@ -42,8 +42,9 @@ CostsGiven cost before after old new = Costs {X = Unit {0}} far cost before afte
 abbrev pub CostsRefused : (cost before after : ℕ) (old new : View) → AllocError → Type 0
 CostsRefused cost before after old new e = Costs {X = Unit {0}} far cost before after old new (Err e)
 
--- A call does what the plain machine does: a name gets a thing that stands for the object, in a block of its own that takes the place of
--- the one before. Its bytes come into use, and with its credit no more than the cost and the credit before. A new name takes room.
+-- A call does what the plain machine does: a name gets a thing that represents the object, in a block of its own that
+-- replaces the one before. Its bytes come into use, and with its credit they are at most the cost and the credit
+-- before. A new name takes room.
 pub record GivesThing (command : Command) (things : Things) (old new : View) (name : ℕ) (thing : Thing) (reply : ScriptReply) : Type 0 where
   pub cost : ℕ
   pub effect_is : effect command (seen old.memory things) ≡ effects.Gives name (object_in new.memory thing) reply cost
@@ -53,9 +54,9 @@ pub record GivesThing (command : Command) (things : Things) (old new : View) (na
   pub costs : CostsGiven cost (credit_held (get things name)) (credit_of thing) old new
   pub frame : Frame old.memory new.memory (blocks_of (get things name)) (block_of thing ∷ [])
 
--- A call gives nothing, where the plain machine would give an object at a cost: the arena was asked for the command's block, which
--- the cost and the credit would have paid, and refused it, or memory ran out. No collection overflows, since the plain machine
--- refuses before.
+-- A call gives nothing where the plain machine would give an object at a cost: the arena was asked for the command's
+-- block, for which the cost and the credit would have paid, and refused it, or memory ran out. No collection overflows,
+-- since the plain machine refuses before that.
 pub record GivesNothing (command : Command) (things : Things) (old new : View) (e : AllocError) : Type 0 where
   pub name : ℕ
   pub object : Object
@@ -69,7 +70,7 @@ pub record GivesNothing (command : Command) (things : Things) (old new : View) (
   pub denied : (k : ℕ) → e ≡ AllocErr k → HasNoPlace (used old + (cost + credit_held (get things name))) new
   pub same : new.memory.state ≡ old.memory.state
 
--- Memory ran out for what a command was to tell. Nothing changed.
+-- Memory ran out for the reply of a command. Nothing changed.
 pub record TellsNothing (command : Command) (old new : View) (e : AllocError) : Type 0 where
   pub much : IsTrue (tells_much command)
   pub exhausted : e ≡ OutOfMemory

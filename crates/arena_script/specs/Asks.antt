@@ -18,7 +18,7 @@ use Rattle.arena_script.specs.Things.{Things, content}
 use Rattle.arena_script.specs.declared.thing.Thing.{Thing}
 use Rattle.arena_script.specs.declared.thing.Thing.TheVariants as thing
 
--- what a list asks for, to hold one number more; a text, so many bytes more; and a map, this key
+-- what a list asks for to hold one more number; a text to hold `n` more bytes; and a map to hold this key
 abbrev pub longer_list : Option Thing → Ask
 longer_list (Some (thing.List v)) = ask_by 4 4 (vectors.amortised_growth 4 v.raw.cap (v.raw.len + 1))
 longer_list other = NoBytes
@@ -32,7 +32,7 @@ larger_map m key (Some (thing.Map h)) =
     ask_by (slot_size 4 4) (table_align 4 4) (growth_for (has (map_in pairs m h) (content key)) h.table.slots h.len)
 larger_map m key other = NoBytes
 
--- what an equal thing asks for
+-- what a copy of a thing asks for
 abbrev pub copy_ask : Option Thing → Ask
 copy_ask None = NoBytes
 copy_ask (Some (thing.List v)) = vector_ask 4 4 v.raw.len

@@ -1,4 +1,4 @@
--- What running a script on an arena of which nothing is used promises.
+-- What is promised of running a script on an arena of which nothing is used.
 use Rattle.std.specs.Prelude.{◌≡◌, ◌≢◌, ℕ, ◌+◌, ◌≤◌, ◌⊎◌, Some, List, [], ◌∷◌, length, take, slice_get, IsSomeAnd, IsTrue}
 use Rattle.arena_chunks.specs.Memory.{Memory}
 use Rattle.arena_chunks.specs.Source.{View}
@@ -17,33 +17,33 @@ use Rattle.arena_script.specs.Acts.{used, HasNoPlace}
 use Rattle.arena_script.specs.Serves.{KeepsKind, IsAfter}
 use Rattle.arena_script.specs.Wants.{takes_memory}
 
--- There are things in the arena, one for each name, that share no memory and mean these objects.
+-- The arena has things, one for each name, that share no memory and represent these objects.
 pub record HoldsObjects (memory : Memory) (objects : Objects) : Type 0 where
   pub things : Things
   pub are : AreThings memory things
   pub mean : objects_in memory things ≡ objects
 
--- The replies are the first ones of the plain machine, and all where the script ended done.
+-- The replies are the first ones of the plain machine, and all of them if the script ended done.
 pub record Replies (script : List Command) (outcome : Outcome) : Type 0 where
   pub first : outcome.replies ≡ take (length outcome.replies) (run script).replies
   pub all : outcome.ended ≡ ended.Done → outcome.replies ≡ (run script).replies
 
--- what the commands up to the one behind the last reply cost
+-- the cost of the commands up to the one after the last reply
 abbrev pub cost_with_next : List Command → Outcome → ℕ
 cost_with_next script outcome = cost_of_first (length outcome.replies + 1) script
 
--- No command was served, since memory ran out for the replies. Nothing was used.
+-- No command was served, since memory ran out for the replies. Nothing changed.
 pub record IsUnbegun (old new : View) (outcome : Outcome) : Type 0 where
   pub exhausted : outcome.ended ≡ ended.OutOfMemory
   pub none : outcome.replies ≡ []
   pub same : new ≡ old
 
--- The command behind the last reply takes memory: it is the one that couldn't be served.
+-- The command after the last reply takes memory: it is the one that couldn't be served.
 abbrev pub IsStoppedAt : List Command → Outcome → Type 0
 IsStoppedAt script outcome = IsSomeAnd (slice_get script (length outcome.replies)) (λ c. IsTrue (takes_memory c))
 
--- The commands that were answered left things in the arena, and the one behind them asked it for its block: the arena refused, after
--- so many requests that its source refused, and granted none.
+-- The commands that were served left things in the arena, and the next one asked it for its block: the arena refused,
+-- after its source refused `k` requests and granted none.
 pub record IsDenied (script : List Command) (outcome : Outcome) (old new : View) : Type 0 where
   pub before : View
   pub things : Things

@@ -1,4 +1,4 @@
--- What serving commands leaves: things that stand for the plain machine's objects, and bytes within their cost.
+-- What serving commands leaves: things that represent the plain machine's objects, and bytes within their cost.
 use Rattle.std.specs.Prelude.{◌≡◌, ◌≢◌, ℕ, ◌+◌, ◌≤◌, false, Result, Ok, Err, Some, None, IsTrue, List, [], ◌∷◌, take}
 use Rattle.arena_rules.specs.State.{allocated_bytes}
 use Rattle.arena_chunks.specs.Memory.{Memory}
@@ -26,13 +26,13 @@ sizes_of things = total (λ (e : ℕ × Thing). size_of e.1) things
 abbrev pub credits_of : Things → ℕ
 credits_of things = total (λ (e : ℕ × Thing). credit_of e.1) things
 
--- An arena stays one that grows, or one that doesn't and has as many bytes.
+-- An arena that grows still does, and one that doesn't keeps its number of bytes.
 pub record KeepsKind (old new : Memory) : Type 0 where
   pub is_growing : new.state.is_growing ≡ old.state.is_growing
   pub allocated : old.state.is_growing ≡ false → allocated_bytes new.state ≡ allocated_bytes old.state
 
--- A command was served as the plain machine does. The bytes that came into use are those of its block at least, and with all credits
--- no more than there was and its cost.
+-- A command was served as by the plain machine. At least the bytes of its block came into use, and with all credits
+-- they are at most the credits before and its cost.
 pub record Serves (command : Command) (old new : View) (things later : Things) (reply : ScriptReply) : Type 0 where
   pub reply_is : reply ≡ (step command (objects_in old.memory things)).reply
   pub objects : objects_in new.memory later ≡ (step command (objects_in old.memory things)).objects
@@ -41,8 +41,8 @@ pub record Serves (command : Command) (old new : View) (things later : Things) (
   pub costs : CostsGiven (step command (objects_in old.memory things)).cost (credits_of things) (credits_of later) old new
   pub kind : KeepsKind old.memory new.memory
 
--- A command wasn't served: the arena was asked for its block, which the credits and the cost would have paid, and refused it; or memory
--- ran out, and it is one that takes some.
+-- A command that takes memory wasn't served: the arena was asked for its block, for which the credits and the cost
+-- would have paid, and refused it; or memory ran out.
 pub record Stops (command : Command) (old new : View) (things : Things) (e : AllocError) : Type 0 where
   pub fits : e ≢ CapacityOverflow
   pub taken : IsTrue (takes_memory command)
@@ -56,15 +56,15 @@ abbrev pub ServesOrStops : Command → View → View → Things → Things → R
 ServesOrStops command old new things later (Ok reply) = Serves command old new things later reply
 ServesOrStops command old new things later (Err e) = Stops command old new things e
 
--- What was done is noted under names. Memory can run out for a name that holds nothing.
+-- The names after a command. Memory can run out for a name that held nothing.
 abbrev pub Settles : Act → Things → Things → Result ScriptReply AllocError → Type 0
 Settles (Tells reply) old new result = (result ≡ Ok reply) × (new ≡ old)
 Settles (Gives name thing reply) old new (Ok told) = (told ≡ reply) × (new ≡ bind old name thing)
 Settles (Gives name thing reply) old new (Err e) = (e ≡ OutOfMemory) × (get old name ≡ None)
 Settles (LetsGo name) old new result = (result ≡ Ok Done) × (new ≡ unbind old name)
 
--- After the first commands of a script things stand for the plain machine's objects. Their bytes are in use, and what is in use and the
--- credits are at most what the commands cost.
+-- After the first `i` commands of a script, things represent the plain machine's objects. Their bytes are in use, and
+-- the bytes in use and the credits are at most what the commands cost.
 pub record IsAfter (script : List Command) (start now : View) (things : Things) (i : ℕ) : Type 0 where
   pub are : AreThings now.memory things
   pub objects : objects_in now.memory things ≡ (run (take i script)).objects

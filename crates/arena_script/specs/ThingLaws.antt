@@ -1,4 +1,4 @@
--- A thing is what it is by the bytes of its blocks alone.
+-- A thing depends on the bytes of its blocks alone.
 use Rattle.std.specs.Prelude.{◌≡◌, ℕ, refl, List, take, length}
 use Rattle.std.specs.Int.{w32, w64, from_le_bytes}
 use Rattle.std.proofs.Common.{ap, ◌∙◌}

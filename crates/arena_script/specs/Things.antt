@@ -1,4 +1,4 @@
--- What stands for objects in an arena.
+-- What represents objects in an arena.
 use Rattle.std.specs.Int.{w32, to_le_bytes}
 use Rattle.std.specs.Prelude.{◌≡◌, ◌≢◌, ℕ, zero, suc, ◌+◌, ◌-◌, ◌*◌, ◌^◌, ◌<◌, length, if◌then◌else◌, Option, Some, None, List, [], ◌∷◌, map, IsTrue, IfSome}
 use Rattle.std.specs.Option.{option_map, option_map_or}
@@ -63,7 +63,7 @@ pairs_of is = entries_below (2 ^ 32) (λ key. value_of (is (content key)))
 
 -- ---- A thing in an arena
 
--- a text is held, and has room for no more than twice its bytes and eight
+-- a text is held, and its room is at most twice its bytes and eight
 pub record IsWordsIn (m : Memory) (t : StringBuilder) : Type 0 where
   pub held : IsBuilderIn m t
   pub room : IsRoomFor t.len t.cap
@@ -86,7 +86,7 @@ IsThingIn m (thing.Bits s) = IsBitsIn m s
 IsThingIn m (thing.Map h) = IsPairsIn m h
 IsThingIn m (thing.Value b) = IsBoxIn long m b
 
--- the object that it is there
+-- the object that it represents
 abbrev pub object_in : Memory → Thing → Object
 object_in m (thing.List v) = AList (vec_list short m v)
 object_in m (thing.Text t) = AText (builder_bytes m t)
@@ -94,8 +94,8 @@ object_in m (thing.Bits s) = ASet s.capacity (bits_below (bits_end s.capacity) (
 object_in m (thing.Map h) = AMap (pairs_of (map_in pairs m h))
 object_in m (thing.Value b) = AValue (box_value long m b)
 
--- What of its cost is left for the blocks that growths will take: of a list what a vector of numbers saves up; of a text what it
--- cost, less twice its room; of a map what it saves up itself.
+-- The part of its cost that is left for the blocks of later growth: of a list, what a vector of numbers saves up; of a
+-- text, its cost less twice its room; of a map, what it saves up itself.
 abbrev pub credit_of : Thing → ℕ
 credit_of (thing.List v) = vectors.credit_of 4 v.raw.len v.raw.cap
 credit_of (thing.Text t) = (32 + 4 * t.len) - 2 * t.cap
@@ -116,7 +116,7 @@ blocks_in m (thing.Value b) = b.block ∷ []
 abbrev pub Things : Type 0
 Things = Entries Thing
 
--- the objects that they are there
+-- the objects that they represent
 abbrev pub objects_in : Memory → Things → Objects
 objects_in m things = map (λ (e : ℕ × Thing). (e.0, object_in m e.1)) things
 
@@ -142,7 +142,7 @@ credit_held o = option_map_or credit_of o 0
 abbrev pub AreHeldApart : Option Thing → Option Thing → Type 0
 AreHeldApart one other = IfSome one (λ t. IfSome other (λ u. AreBlocksApart (block_of t) (block_of u)))
 
--- Under each name a thing is well formed, things of two names share no memory, and they are objects.
+-- The thing of each name is well formed, things of two names share no memory, and they represent objects.
 pub record AreThings (m : Memory) (things : Things) : Type 0 where
   pub rising : IsTrue (are_rising things)
   pub held : (n : ℕ) → IfSome (get things n) (IsThingIn m)

@@ -3,7 +3,7 @@ use Rattle.std.specs.Prelude.{Bool, true, false, ◌||◌}
 use Rattle.script_rules.specs.declared.commands.Command.{Command}
 use Rattle.script_rules.specs.declared.commands.Command.TheVariants.{MakeList, MakeText, MakeBits, MakeMap, MakeValue, Push, Insert, Byte, Front, Append, Ones, Bind, Show, CopyTo}
 
--- it tells a list
+-- its reply takes memory
 abbrev pub tells_much : Command → Bool
 tells_much (Ones name) = true
 tells_much (Show name) = true

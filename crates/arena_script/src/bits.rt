@@ -198,7 +198,7 @@ pub(crate) fn printed_of<C: ChunkSource>(
     }
 }
 
-// A new set with the numbers of another, for as many bits.
+// Copies a set into a new one of the same capacity.
 #[tactic(auto)]
 fn copy_of<C: ChunkSource>(a: &mut Allocator<C>, set: BitSet) -> Grown<BitSet>
     requires { IsSetIn a.old.memory set }

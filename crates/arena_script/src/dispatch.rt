@@ -1,4 +1,5 @@
-// Each command by its own function. These stand out of line, so that a command clears the room of its own values and no others.
+// Each command in a function of its own. They aren't inlined, so that a command clears the stack space of its own
+// values and no others.
 ghost use Rattle.std.specs.Prelude.{◌≡◌};
 ghost use Rattle.arena_script.specs.Things.{AreThings};
 ghost use Rattle.arena_script.specs.Acts.{Acts};
@@ -11,7 +12,7 @@ use arena_items::Grown;
 use script_rules::{Command, Names};
 use std::alloc::Global;
 
-/// Does what a command says to the things under names.
+/// Performs a command on the things under names.
 #[inline(never)]
 pub(crate) fn act<C: ChunkSource>(
     alloc: Global,

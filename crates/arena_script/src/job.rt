@@ -8,13 +8,13 @@ use arena_chunks::{Allocator, ChunkSource};
 use script_rules::{Outcome, Script};
 use std::alloc::Global;
 
-/// Runs a script on an arena of which nothing is used, as `run_script` does, and promises something of its own beside.
+/// Runs a script on an arena of which nothing is used, as `run_script` does. May promise more than that.
 pub trait Job<C: ChunkSource> {
     ghost use Rattle.std.specs.Prelude.{List};
     ghost use Rattle.script_rules.specs.declared.commands.Command.{Command};
     ghost use Rattle.script_rules.specs.declared.outcome.Outcome.{Outcome as Came};
 
-    // What it promises of a script and its outcome. Nothing else is known of it.
+    // What it promises of a script and its outcome: any relation.
     ghost worked: { List Command → Came → Type 0 };
 
     /// Runs the script.

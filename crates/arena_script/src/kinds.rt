@@ -1,4 +1,4 @@
-// The thing of a name, where it is of a kind.
+// The thing of a name, if it is of a kind.
 ghost use Rattle.std.specs.Prelude.{◌≡◌, ℕ, Some, List, MatchResult};
 ghost use Rattle.arena_chunks.specs.Memory.{Memory};
 ghost use Rattle.script_rules.specs.Objects.{get, Bits, Entries};
@@ -13,7 +13,7 @@ use arena_text::StringBuilder;
 use arena_vec::Vec;
 use script_rules::{Names, ScriptReply};
 
-/// The list of a name.
+/// Returns the list of a name.
 ///
 /// # Errors
 ///
@@ -34,7 +34,7 @@ pub(crate) fn list_of(things: &Names<Thing>, name: u32) -> Result<Vec<u32>, Scri
     }
 }
 
-/// The value of a name.
+/// Returns the value of a name.
 ///
 /// # Errors
 ///
@@ -55,7 +55,7 @@ pub(crate) fn value_of(things: &Names<Thing>, name: u32) -> Result<Box<u64>, Scr
     }
 }
 
-/// The text of a name.
+/// Returns the text of a name.
 ///
 /// # Errors
 ///
@@ -76,7 +76,7 @@ pub(crate) fn text_of(things: &Names<Thing>, name: u32) -> Result<StringBuilder,
     }
 }
 
-/// The set of a name.
+/// Returns the set of a name.
 ///
 /// # Errors
 ///
@@ -97,7 +97,7 @@ pub(crate) fn set_of(things: &Names<Thing>, name: u32) -> Result<BitSet, ScriptR
     }
 }
 
-/// The map of a name.
+/// Returns the map of a name.
 ///
 /// # Errors
 ///

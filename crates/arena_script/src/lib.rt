@@ -1,8 +1,8 @@
 //! The engine of scripts: the objects of a script live in an arena, one block each.
 //!
-//! `run_script` is what others call; `CALLING.md` says what it promises and how to use that. Each kind of object has a
-//! module of its own, and each command there says by one record what it does (`specs/Acts.antt`). What that leaves of all
-//! names, and what it sums up to, stands once (`serve.rt`, `run.rt`).
+//! The entry point is `run_script`; `CALLING.md` says what it promises and how to use that. Each kind of object has a
+//! module of its own, where one record says what each command does (`specs/Acts.antt`). What that leaves of all names,
+//! and what it sums up to, is proved once (`serve.rt`, `run.rt`).
 #![tactic(auto)]
 
 mod act;

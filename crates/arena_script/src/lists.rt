@@ -51,7 +51,7 @@ pub(crate) fn push<C: ChunkSource>(
 {
     growth_rule();
     growth_costs();
-    // So the least alignment is known to be 1.
+    // Provides that the least alignment is 1.
     a.known();
     let mut list = match list_of(things, name) {
         Ok(list) => list,
@@ -229,8 +229,8 @@ pub(crate) fn numbers_of<C: ChunkSource>(
     Ok(Numbers::from_vec(numbers))
 }
 
-// Copies the list of a name to another that holds nothing. What a split at the start gives is a list of all its numbers, in a block of
-// its own, and the old block is as it was.
+// Copies the list of a name to another that holds nothing. A split at the start returns a list of all its numbers, in a
+// block of its own, and leaves the old block unchanged.
 #[inline(never)]
 pub(crate) fn copied<C: ChunkSource>(
     a: &mut Allocator<C>,

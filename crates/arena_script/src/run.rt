@@ -12,7 +12,7 @@ use arena_items::AllocError;
 use script_rules::{Command, Ended, Names, Outcome, Replies, Script, ScriptReply};
 use std::alloc::Global;
 
-// How a script ends for which the arena refused a block.
+// How a script ends when the arena refuses a block.
 fn refused<C: ChunkSource>(a: &Allocator<C>) -> Ended
     ensures { result ≡ (if a.now.memory.state.is_growing then Ended.Refused else Ended.Full) }
 {
@@ -51,17 +51,17 @@ fn serve_all<C: ChunkSource>(
     Ended::Done
 }
 
-/// Runs a script on an arena of which nothing is used. Its objects live in the arena, each in a block of its own, and
-/// only their names and what is told lie beside it. The replies are those of the plain machine, as far as the script
-/// is served:
+/// Runs a script on an arena of which nothing is used. Its objects live in the arena, each in a block of its own; only
+/// their names and the replies are elsewhere. The replies are those of the plain machine, as far as the script is
+/// served:
 ///
 /// - `Done`: to the end. The arena uses at least what the last objects need, and at most what the script costs.
 /// - `Full`: the arena doesn't grow, and has fewer bytes than the commands up to the next one cost.
 /// - `Refused`: the arena grows, and was starved with that cost as its bound.
-/// - `OutOfMemory`: memory ran out beside the arena's chunks. No command that takes none ends so; where there is none for
-///   the replies, no command is served.
+/// - `OutOfMemory`: memory outside the arena's chunks ran out, at a command that takes some. If it ran out for the
+///   replies, no command is served.
 ///
-/// In an arena that is reset another script can be run.
+/// After a reset, the arena can run another script.
 pub fn run_script<C: ChunkSource>(alloc: Global, a: &mut Allocator<C>, script: &Script) -> Outcome
     requires { used a.old ≡ 0 }
     ensures { IsRun script.now a.old a.new result }

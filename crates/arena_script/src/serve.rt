@@ -11,7 +11,7 @@ use arena_items::AllocError;
 use script_rules::{Command, Names, ScriptReply};
 use std::alloc::Global;
 
-// Notes what a command did.
+// Updates the names after a command.
 fn settle(things: &mut Names<Thing>, act: Act) -> Result<ScriptReply, AllocError>
     ensures { Settles act things.old things.new result }
 {
@@ -32,7 +32,7 @@ fn settle(things: &mut Names<Thing>, act: Act) -> Result<ScriptReply, AllocError
 ///
 /// # Errors
 ///
-/// The arena refused a block, or memory runs out.
+/// The arena refused a block, or memory ran out.
 pub(crate) fn serve<C: ChunkSource>(
     alloc: Global,
     a: &mut Allocator<C>,

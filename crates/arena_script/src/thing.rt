@@ -1,4 +1,4 @@
-// What stands for an object in an arena.
+// What represents an object in an arena.
 ghost use Rattle.script_rules.specs.Objects.{Object};
 ghost use Rattle.arena_script.specs.Things.{blocks_in, IsThingIn, object_in};
 ghost use Rattle.arena_script.specs.ThingLaws.{thing_readable, same_blocks, same_object, thing_again};
@@ -9,7 +9,7 @@ use arena_items::{Box, InArena};
 use arena_text::StringBuilder;
 use arena_vec::Vec;
 
-/// The handle of what stands for an object in an arena.
+/// The handle of an object in an arena.
 #[derive(Clone, Copy)]
 pub enum Thing {
     /// A list of numbers.

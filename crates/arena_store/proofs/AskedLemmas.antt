@@ -1,4 +1,4 @@
--- What a source shows of calls that ask for nothing, and of calls one after another.
+-- What is visible of a source in calls that ask for nothing, and in calls one after another.
 use Rattle.std.proofs.Common.{ℕ, ◌+◌, inl, inr, arith, sym, List, [], ◌++◌}
 use Rattle.std.proofs.lemmas.Bool.{cases_lt}
 use Rattle.arena_rules.proofs.CauseLemmas.{counted_none, counted_on, tells_none, tells_more}

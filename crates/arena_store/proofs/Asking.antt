@@ -1,4 +1,4 @@
--- The search after some refusals: what is left to ask for, and what the source tells.
+-- The search after some refusals: what remains to ask for, and what the source reports.
 use Rattle.std.proofs.Common.{◌≡◌, ℕ, suc, ◌+◌, ◌≤◌, arith, refl, sym, ap, ◌∙◌, Some, List, [], ◌∷◌, ◌++◌, length, take, drop, max, zero, length-drop, drop-drop, take_all}
 use Rattle.std.proofs.lemmas.List.{map-append}
 use Rattle.std.proofs.Math.Seq.{take-add}
@@ -63,7 +63,7 @@ asking_granted all rest base size align refused before mid now left asked same t
     rw none at (asked_next all rest base size align refused 0 before mid now left asked
     (record { refusals = same ∙ sym (counted_none mid.refusals); bounded = λ some. absurd (omega arith); requests = told }))
 
--- where nothing is left, all were refused
+-- if nothing remains, all were refused
 pub asking_over : (all : List (ℕ × ℕ)) (align refused : ℕ) (before now : Source) → Asking all [] align refused before now
     → (refused ≡ length all) × IsAsked before now refused (requests align (take (refused + 1) all))
 asking_over all align refused before now asking =

@@ -1,4 +1,4 @@
--- Where an address lies among bases.
+-- Which of a table's bases is the last at or below an address.
 use Rattle.std.proofs.Common.{◌≡◌, ℕ, zero, suc, ◌+◌, ◌-◌, ◌*◌, ◌^◌, ◌≤◌, ◌<◌, ◌/◌, arith, List, length, inl, inr, ap, ◌∙◌, Bool, true, false, refl, leb-true, leb-false}
 use Rattle.std.specs.Prelude.{slice_index, nat_le}
 use Rattle.std.specs.List.Sorted.{IsStrictlyIncreasing}
@@ -6,7 +6,7 @@ use Rattle.std.proofs.lemmas.Bool.{cases_lt}
 use Rattle.std.proofs.Math.Nat.{mul-le-mul_left, add-mul, mul-add, two-pow-succ}
 use Rattle.arena_store.specs.Table.{IsSplit}
 
--- numbers that rise
+-- numbers that increase
 pub rises : (xs : List ℕ) (i j : ℕ) → IsStrictlyIncreasing xs → i ≤ j → j < length xs → slice_index xs i ≤ slice_index xs j
 rises xs i zero up le below = let same : i ≡ 0 = omega arith in rw same (omega arith)
 rises xs i (suc j) up le below = elim (cases_lt j i) [
@@ -15,7 +15,7 @@ rises xs i (suc j) up le below = elim (cases_lt j i) [
       in omega (arith, rises xs i j up less (omega arith), step)
 ]
 
--- one step more, where at most half of what was left is left
+-- one more step, where at most half of what remained remains
 pub record IsCost (s m n : ℕ) : Type 0 where
   pub steps : 2 ^ s ≤ 2 * n + 1
   pub left : 2 ^ s * m ≤ n
@@ -32,7 +32,7 @@ cost_more s t m half n next some part is =
     let parts : 2 ^ t * half ≡ 2 ^ s * half + 2 ^ s * half = ap (λ (k : ℕ). k * half) power ∙ add-mul (2 ^ s) (2 ^ s) half in
     record { steps = omega (arith, once, is.left, power); left = omega (arith, twice, both, parts, is.left) }
 
--- A search by halves: what lies below is at most the address, what lies above isn't, and so many steps were taken.
+-- A binary search: the bases below `low` are at most the address, those from `high` on aren't, and s steps were taken.
 pub record IsSearch (bases : List ℕ) (addr low high s : ℕ) : Type 0 where
   pub order : low ≤ high
   pub within : high ≤ length bases
@@ -83,7 +83,7 @@ search_done bases addr low high s is done = (
   is.cost.steps,
 )
 
--- What is known of the first bases.
+-- The split of the first i bases: n of them are at most the address.
 pub record IsSplitBelow (bases : List ℕ) (addr i n : ℕ) : Type 0 where
   pub within : n ≤ i
   pub low : (k : ℕ) → k < n → slice_index bases k ≤ addr
@@ -96,7 +96,7 @@ split_first bases addr first = record {
   above = λ k from below. absurd (omega arith);
 }
 
--- one more that begins below
+-- one more base, which is at most the address
 pub split_more : (bases : List ℕ) (addr i n : ℕ) → IsStrictlyIncreasing bases → i < length bases → slice_index bases i ≤ addr
     → IsSplitBelow bases addr i n → IsSplitBelow bases addr (i + 1) (n + 1)
 split_more bases addr i n up below under is = elim (cases_lt n i) [
@@ -113,7 +113,7 @@ split_more bases addr i n up below under is = elim (cases_lt n i) [
   | inl some ↦ absurd (omega (arith, is.above n (omega arith) (omega arith), rises bases n i up (omega arith) below))
 ]
 
--- one that begins above
+-- one more base, which is above the address
 pub split_past : (bases : List ℕ) (addr i n : ℕ) → addr < slice_index bases i → IsSplitBelow bases addr i n
     → IsSplitBelow bases addr (i + 1) n
 split_past bases addr i n over is = record {
@@ -125,7 +125,7 @@ split_past bases addr i n over is = record {
   ];
 }
 
--- the last is looked at first
+-- the last base is read first
 pub split_last : (bases : List ℕ) (addr n b : ℕ) → IsStrictlyIncreasing bases → 0 < length bases → n ≡ length bases
     → b ≡ slice_index bases (n - 1) → b ≤ addr → IsSplit bases addr n
 split_last bases addr n b up some all at under = record {
@@ -134,7 +134,7 @@ split_last bases addr n b up some all at under = record {
   above = λ k from below. absurd (omega (arith, all));
 }
 
--- the last begins above, and all before it were looked at
+-- the last base is above the address, and all before it were read
 pub split_all : (bases : List ℕ) (addr i n : ℕ) → addr < slice_index bases (length bases - 1) → length bases - 1 ≤ i → i ≤ length bases
     → IsSplitBelow bases addr i n → IsSplit bases addr n
 split_all bases addr i n over reach within is = record {
@@ -146,7 +146,7 @@ split_all bases addr i n over reach within is = record {
   ];
 }
 
--- the next one is looked at
+-- the next base is read
 pub split_next : (bases : List ℕ) (addr i n b : ℕ) → IsStrictlyIncreasing bases → i < length bases → b ≡ slice_index bases i
     → IsSplitBelow bases addr i n → IsSplitBelow bases addr (i + 1) (n + mir.Val.bool_byte (nat_le b addr))
 split_next bases addr i n b up below at is = go (nat_le b addr) refl

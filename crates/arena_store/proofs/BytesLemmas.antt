@@ -1,4 +1,4 @@
--- Bytes that stand one after another, and a range of a list replaced.
+-- Consecutive bytes, and a range of a list replaced.
 use Rattle.std.proofs.Common.{◌≡◌, ℕ, zero, suc, ◌+◌, ◌-◌, ◌<◌, ◌≤◌, ap, sym, refl, ◌∙◌, arith, List, [], false, length, take, drop, get_or, inl, inr, replicate}
 use Rattle.std.specs.Prelude.{nat_le, nat_lt, ◌&&◌, slice_index, if◌then◌else◌}
 use Rattle.std.proofs.lemmas.Bool.{cases_lt, cases_Bool}
@@ -57,12 +57,12 @@ splice_index old new k j fits = elim (cases_Bool (nat_le k j && nat_lt j (k + le
   | inr beside ↦ rw beside (splice_beside old new k j fits beside)
 ]
 
--- beside what is written the bytes are the same
+-- outside the written range the bytes are the same
 pub written_beside : (f : ℕ → ℕ) (from a : ℕ) (list : List ℕ) → (nat_le from a && nat_lt a (from + length list)) ≡ false
     → written f from list a ≡ f a
 written_beside f from a list beside = rw beside refl
 
--- nothing is written where there are no bytes
+-- writing no bytes changes nothing
 pub written_none : (f : ℕ → ℕ) (from a : ℕ) (list : List ℕ) → length list ≡ 0 → written f from list a ≡ f a
 written_none f from a list none = written_beside f from a list (grind (arith, nat_tests))
 

@@ -15,7 +15,7 @@ use Rattle.arena_store.proofs.KeptLemmas.{index_below, kept_part}
 
 -- ---- Copies
 
--- a part is where its chunk's bytes have it
+-- a part is found in its chunk's bytes
 pub kept_bytes : (bases : List ℕ) (kept lent : List Kept) (items : List StoredChunk) (i addr base n : ℕ) → length bases ≡ length kept
     → chunks_of bases kept ≡ items → lent ≡ kept
     → base ≡ slice_index bases i → HasPart items i addr n → HasBytes lent i (addr - base) n
@@ -71,9 +71,9 @@ copied_down kept low high i j s t new from to n parts sized below at_s at_t is =
       edited = rw is refl;
     }
 
--- ---- What a copy leaves
+-- ---- The result of a copy
 
--- the target's bytes are as many as before
+-- the target has as many bytes as before
 copied_length : (t s : Kept) (to from n : ℕ) → to + n ≤ length t.bytes.items → from + n ≤ length s.bytes.items
     → length (splice t.bytes.items to (take n (drop from s.bytes.items))) ≡ length t.bytes.items
 copied_length t s to from n fits there =
@@ -98,7 +98,7 @@ copied_table bases kept lent new items i j from to base base_to n table view len
       used = All-set IsKept kept j copies.copied copied table.used;
     })
 
--- the chunk in the place of another
+-- one chunk in place of another
 pub chunks_set : (bases : List ℕ) (kept : List Kept) (j : ℕ) (k : Kept) → length bases ≡ length kept → j < length kept
     → chunks_of bases (slice_set kept j k) ≡ slice_set (chunks_of bases kept) j (chunk_of (slice_index bases j) k)
 chunks_set [] [] j k same below = absurd (omega arith)

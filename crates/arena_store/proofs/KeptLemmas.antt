@@ -44,14 +44,14 @@ chunks_push (b ∷ bases) [] base k same = absurd (omega (arith, same))
 chunks_push (b ∷ bases) (x ∷ kept) base k same =
     ap (λ (l : List StoredChunk). chunk_of b x ∷ l) (chunks_push bases kept base k (omega (arith, same)))
 
--- a chunk whose cursor lies within it is what its parts say
+-- a chunk whose cursor is within it is given by its parts
 pub chunk_kept : (c : StoredChunk) (used : ℕ) → IsOrdered c → used ≡ used_length (stored_chunk c)
     → c ≡ chunk_of c.base (record { bytes = c.bytes; used = used })
 chunk_kept c used ordered is =
     let cursor : c.cursor ≡ c.base + (length c.bytes.items - used) = omega (arith, is, ordered.low, ordered.high) in
     λ i. record { base = c.base; cursor = cursor i; bytes = c.bytes }
 
--- ---- Where an address lies
+-- ---- The chunk that has an address
 
 pub split_last : (bases : List ℕ) (kept : List Kept) (addr n : ℕ) → IsTable bases kept
     → IsTrue (list_any (λ c. nat_le c.base addr) (chunks_of bases kept)) → IsSplit bases addr n
@@ -74,7 +74,7 @@ split_last bases kept addr n table some is =
     past : (k : ℕ) → n ≤ k → k < length bases → nat_le (slice_index bases k) addr ≡ false
     past k from less = let high = is.above k from less in grind (arith, nat_tests)
 
--- in a table that can be searched there is a first base, at or below the address
+-- in a table that can be searched the first base is at or below the address
 pub first_below : (bases : List ℕ) (kept : List Kept) (addr : ℕ) → IsTable bases kept → IsSearchable (chunks_of bases kept) addr
     → (0 < length bases) × (slice_index bases 0 ≤ addr)
 first_below [] kept addr table search_in = absurd (none search_in.some)
@@ -136,7 +136,7 @@ kept_part bases kept items i addr n k same view at part =
       chunk = chunk;
     }
 
--- the item at an index, whatever stands in for one that is none
+-- the item at an index, whatever the default is
 pub item_at : {X : Type 0} (xs : List X) (i : ℕ) (d : X) → i < length xs → get_or xs i d ≡ get_or xs i (get_or xs i d)
 item_at {X} xs i d below = default_at xs i d (get_or xs i d) below
   where

@@ -13,11 +13,11 @@ use Rattle.arena_store.proofs.BytesLemmas.{length-splice}
 abbrev pub moved : List ℕ → ℕ → ℕ → ℕ → List ℕ
 moved xs from to n = splice xs to (take n (drop from xs))
 
--- A part that lies in a list has its length.
+-- A part within a list has its full length.
 length-part : (xs : List ℕ) (from n : ℕ) → from + n ≤ length xs → length (take n (drop from xs)) ≡ n
 length-part xs from n fits = grind (arith, common_steps)
 
--- What stands below, in and past a range that was replaced, and in a part, by index.
+-- The items below, in and after a replaced range, and in a part, by index.
 spliced_below : (xs new : List ℕ) (at i : ℕ) → at + length new ≤ length xs → i < at → get_or (splice xs at new) i 0 ≡ get_or xs i 0
 spliced_below xs new at i fits below = grind (arith, common_steps)
 
@@ -40,18 +40,18 @@ length-moved xs from to n source target =
     let sized = length-part xs from n source in
     length-splice xs (take n (drop from xs)) to (omega (arith, sized))
 
--- A vector that is stored replaces a range.
+-- Storing a vector replaces a range.
 stored : (xs new : List ℕ) (at : ℕ) → at + length new ≤ length xs → put_chunk at xs new ≡ splice xs at new
 stored xs new at fits = grind (arith, common_steps, put_chunk_is)
 
--- One that is read and stored is moved.
+-- Reading a vector and storing it moves its bytes.
 pub moved_part : (xs : List ℕ) (from to n : ℕ) → from + n ≤ length xs → to + n ≤ length xs
     → put_chunk to xs (chunk from n xs) ≡ moved xs from to n
 moved_part xs from to n source target =
     let sized = length-part xs from n source in
     stored xs (take n (drop from xs)) to (omega (arith, sized))
 
--- Two vectors, of the first and of the last bytes, move all that they cover, if both are read before one is stored.
+-- Two vectors, of the first and of the last bytes, move all that they cover, if both are read before either is stored.
 pub moved_ends : (xs : List ℕ) (from to n k : ℕ) → from + n ≤ length xs → to + n ≤ length xs → k ≤ n → n ≤ k + k
     → put_chunk (to + (n - k)) (put_chunk to xs (chunk from k xs)) (chunk (from + (n - k)) k xs) ≡ moved xs from to n
 moved_ends xs from to n k source target part covered =
@@ -67,7 +67,7 @@ moved_ends xs from to n k source target part covered =
     ∙ same_number_lists (splice ys (to + last) back) (moved xs from to n) (both ∙ sized ∙ sym whole) (λ i below.
     grind (arith, cases_lt i to, cases_lt i (to + last), cases_lt i (to + n), by_index))
 
--- Downwards, a move and then that of the part past it are one.
+-- Downwards, a move and then that of the part after it are one.
 pub moved_on : (xs : List ℕ) (from to n k : ℕ) → from + (n + k) ≤ length xs → to ≤ from
     → moved (moved xs from to n) (from + n) (to + n) k ≡ moved xs from to (n + k)
 moved_on xs from to n k source down =
@@ -89,18 +89,18 @@ moved_back xs from to n m l k target up some part is =
     same_number_lists (moved ys (from + l) (to + l) k) (moved xs (from + l) (to + l) (n - l)) (last ∙ sized ∙ sym whole) (λ i below.
     grind (arith, cases_lt i (to + l), cases_lt i (to + m), by_index))
 
--- The same, where that part is all that was left.
+-- The same, where that part is all that remained.
 pub moved_first : (xs : List ℕ) (from to n m : ℕ) → to + n ≤ length xs → from ≤ to → m ≤ n
     → moved (moved xs (from + m) (to + m) (n - m)) from to m ≡ moved xs from to n
 moved_first xs from to n m target up some = simp unary_clauses at (moved_back xs from to n m 0 m target up some (omega arith) (omega arith))
 
 -- ---- A move in the last part of a list
 
--- a list that is written over the last part stands there
+-- writing a list over the last part replaces that part
 last_written : (xs new : List ℕ) (k : ℕ) → k + length new ≡ length xs → written_from xs k new ≡ splice xs k new
 last_written xs new k whole = grind (arith, common_steps)
 
--- That is a move in the list.
+-- So a move in the last part is a move in the list.
 pub moved_in_last : (xs part new : List ℕ) (k from to n : ℕ) → part ≡ take (length xs - k) (drop k xs) → new ≡ moved part from to n
     → k + from + n ≤ length xs → k + to + n ≤ length xs → written_from xs k new ≡ moved xs (k + from) (k + to) n
 moved_in_last xs part new k from to n is moves source target =

@@ -26,7 +26,7 @@ bytes_in chunks a = byte_in (map stored_chunk chunks) (map stored_bytes chunks) 
 
 -- ---- The binary search
 
--- the chunk before the place that the search gives
+-- the chunk before the position that the search returns
 pub last_below : (older : List StoredChunk) (addr p : ℕ)
     → IsPartitionPoint (λ c. nat_le c.base addr ≡ true) (λ c. nat_le c.base addr ≡ false) older p → p ≤ length older
     → IsTrue (list_any (λ c. nat_le c.base addr) older) → (1 ≤ p) × IsLastBelow older addr (p - 1)
@@ -52,7 +52,7 @@ last_below (x ∷ xs) addr (suc j) parts within some = (
   },
 )
 
--- the table, oldest first, rises
+-- the bases of the table, oldest first, increase
 pub table_rises : (m : ℕ) (chunks : List StoredChunk) → AreChunks m (chunks_in chunks) → IsNonDecreasingBy (λ c. c.base) (reverse chunks)
 table_rises m [] valid = IsNonDecreasingBy-short (λ (c : StoredChunk). c.base) [] (omega arith)
 table_rises m (newest ∷ older) valid =
@@ -71,7 +71,7 @@ table_rises m (newest ∷ older) valid =
         ∙ ap (λ (l : List StoredChunk). get_or l (length (reverse zs)) d) shape ∙ get_or-append_seam (reverse zs) z [] d in
         rw at (omega arith)
 
--- the last of a table begins below what the table leaves room for
+-- the last of a table begins below any base that is at or above the table's floor
 pub last_under : (older : List StoredChunk) (p : ℕ) → floor_of (chunks_in older) ≤ p → (d : StoredChunk) → 0 < length (reverse older)
     → (get_or (reverse older) (length (reverse older) - 1) d).base < p
 last_under [] p above d some = absurd (omega arith)
@@ -119,14 +119,14 @@ range_held m addr n (x ∷ xs) chunk rest valid some above low used =
       | inr there ↦ range_held m addr n xs chunk rest valid.2 some above.1 low there
     ]
 
--- newer chunks lie above
+-- newer chunks are above
 ends_under : (m : ℕ) (newer : List StoredChunk) (chunk : StoredChunk) (rest : List StoredChunk)
     → AreChunks m (chunks_in (newer ++ chunk ∷ rest))
     → chunk.base + length chunk.bytes.items + 48 ≤ floor_of (chunks_in (newer ++ chunk ∷ rest))
 ends_under m [] chunk rest valid = omega arith
 ends_under m (x ∷ xs) chunk rest valid = omega (arith, ends_under m xs chunk rest valid.2, valid.1)
 
--- the byte at a chunk's address is the chunk's
+-- the byte at an address in a chunk is the chunk's
 byte_held : (m a : ℕ) (newer : List StoredChunk) (chunk : StoredChunk) (rest : List StoredChunk)
     → AreChunks m (chunks_in (newer ++ chunk ∷ rest))
     → chunk.base ≤ a → a < chunk.base + length chunk.bytes.items
@@ -148,7 +148,7 @@ range_bytes m addr n newer chunk rest valid low high =
 
 -- ---- A range replaced
 
--- the new chunk differs from the old one in these bytes alone
+-- the new chunk differs from the old one only in these bytes
 pub record IsSplice (old new : StoredChunk) (from : ℕ) (list : List ℕ) : Type 0 where
   pub base : new.base ≡ old.base
   pub cursor : new.cursor ≡ old.cursor

@@ -1,4 +1,4 @@
--- What is noted is what is told.
+-- What is noted is what is reported.
 use Rattle.std.proofs.Common.{ℕ, Some, None, Option, [], ◌∷◌}
 use Rattle.std.specs.Global.{Vec}
 use Rattle.arena_rules.specs.Causes.{TellsRequests}

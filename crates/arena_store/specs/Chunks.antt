@@ -1,8 +1,8 @@
--- What contracts see of the table of older chunks.
+-- How contracts see the table of older chunks.
 use Rattle.std.specs.Prelude.{ℕ, List}
 use Rattle.arena_store.specs.declared.chunk.StoredChunk.{StoredChunk}
 
--- the chunks, oldest first, and for how many more there is room
+-- the chunks, oldest first, and the spare capacity
 pub record Chunks : Type 0 where
   pub items : List StoredChunk
   pub spare : ℕ

@@ -1,4 +1,4 @@
--- What a chunk and the bytes of chunks end as, once a `&mut` into their bytes has ended.
+-- The final values of a chunk and of the bytes of chunks, once a `&mut` into their bytes has ended.
 use Rattle.std.specs.Prelude.{ℕ, zero, suc, ◌-◌, ◌==◌, nat_le, if◌then◌else◌, List, [], ◌∷◌}
 use Rattle.std.specs.Borrow.{Fml, MutBor, Array, Lends, u8}
 use Rattle.arena_rules.specs.State.{Chunk}
@@ -14,7 +14,7 @@ use Rattle.arena_store.specs.contracts.table.Table as table
 abbrev pub with_part : StoredChunk → ℕ → List ℕ → StoredChunk
 with_part c addr list = record c { bytes = bytes (written_from c.bytes.items (addr - c.base) list) c.bytes.low }
 
--- the chunk has the last bytes that were written through r
+-- the chunk has the final bytes written through r
 abbrev pub LendsPart : MutBor StoredChunk → ℕ → MutBor (List ℕ) → Fml
 LendsPart c addr r = Lends chunk.the_row (Array u8 0) c r (with_part c.now addr)
 
@@ -24,7 +24,7 @@ with_part_in [] i addr list = []
 with_part_in (c ∷ chunks) zero addr list = with_part c addr list ∷ chunks
 with_part_in (c ∷ chunks) (suc i) addr list = c ∷ with_part_in chunks i addr list
 
--- the table has the last bytes that were written through r
+-- the table has the final bytes written through r
 abbrev pub LendsPartIn : MutBor Chunks → ℕ → ℕ → MutBor (List ℕ) → Fml
 LendsPartIn t i addr r =
     Lends table.the_row (Array u8 0) t r (λ list. record { items = with_part_in t.now.items i addr list; spare = t.now.spare })
@@ -36,7 +36,7 @@ bytes_with (newest ∷ older) [] addr list = []
 bytes_with (newest ∷ older) (part ∷ bytes) addr list =
     if nat_le newest.base addr then written_from part (addr - newest.base) list ∷ bytes else part ∷ bytes_with older bytes addr list
 
--- a memory with a list written over a block's bytes; none is written over an empty block
+-- a memory with a list written over a block's bytes; nothing is written over an empty block
 abbrev pub with_block : Memory → Block → List ℕ → Memory
 with_block memory block list =
     record memory { bytes = if block.size == 0 then memory.bytes else bytes_with memory.state.chunks memory.bytes block.addr list }

@@ -5,7 +5,7 @@ use Rattle.arena_rules.specs.Statistics.{Statistics}
 use Rattle.arena_rules.specs.declared.place.Place.{Place}
 use Rattle.arena_store.specs.declared.block.Block.{Block}
 
--- The bytes stand newest chunk first, each list from its chunk's base on.
+-- The lists of bytes are in order, newest chunk first, each from its chunk's base on.
 pub record Memory : Type 0 where
   pub state : State
   pub statistics : Statistics
@@ -18,12 +18,12 @@ byte_in (newest ∷ older) [] addr = 0
 byte_in (newest ∷ older) (list ∷ bytes) addr =
     if nat_le newest.base addr then slice_index list (addr - newest.base) else byte_in older bytes addr
 
--- where a further chunk may begin; 16 where there is none
+-- 48 addresses past the newest data end; 16 without a chunk
 abbrev pub end_of : List Chunk → ℕ
 end_of [] = 16
 end_of (newest ∷ older) = data_end newest + 48
 
--- The image of an arena: what stands at each address.
+-- The image of an arena: the byte at each address.
 abbrev pub image : Memory → ℕ → ℕ
 image memory addr = byte_in memory.state.chunks memory.bytes addr
 
@@ -36,7 +36,7 @@ bytes_from bytes addr (suc n) = bytes addr ∷ bytes_from bytes (addr + 1) n
 abbrev pub block_at : ℕ → Place → Block
 block_at generation place = record { generation = generation; addr = place.addr; size = place.size; align = place.align }
 
--- A block may be read where it is empty, or of this generation with its bytes in one chunk's used part.
+-- A block may be read if it is empty, or of this generation with its bytes in one chunk's used part.
 abbrev pub is_readable : State → Block → Bool
 is_readable state block =
     block.size == 0 || (block.generation == state.generation && is_range_used state.chunks block.addr block.size)
@@ -57,6 +57,6 @@ pub record KeepsUsed (old new : Memory) : Type 0 where
 abbrev pub written : (ℕ → ℕ) → ℕ → List ℕ → ℕ → ℕ
 written bytes from list addr = if nat_le from addr && nat_lt addr (from + length list) then slice_index list (addr - from) else bytes addr
 
--- every address holds the same byte but for the written range
+-- every address has the same byte, except in the written range
 abbrev pub Writes : Memory → Memory → ℕ → List ℕ → Type 0
 Writes old new from list = (addr : ℕ) → image new addr ≡ written (image old) from list addr

@@ -1,4 +1,4 @@
--- What an error says.
+-- The text of an error.
 use Rattle.std.specs.Prelude.{ℕ, List, codes}
 use Rattle.arena_store.specs.declared.block.ArenaErr.{ArenaErr}
 use Rattle.arena_store.specs.declared.block.ArenaErr.TheVariants.{AllocErr, OutOfMemory}

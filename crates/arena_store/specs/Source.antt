@@ -2,7 +2,7 @@
 use Rattle.arena_store.specs.Memory.{Memory}
 pub use Rattle.arena_rules.specs.Source.{Source, IsAsked}
 
--- An arena with its source, as the contracts of calls that take memory see them.
+-- An arena with its source, as seen by the contracts of calls that take memory.
 pub record View : Type 0 where
   pub memory : Memory
   pub source : Source

@@ -23,7 +23,7 @@ floor_in c = c.base + c.bytes.low
 abbrev pub IsReady : StoredChunk → Type 0
 IsReady c = floor_in c ≤ c.cursor
 
--- all chunks, newest first: none where the newest begins at 16, which stands for no chunk
+-- all chunks, newest first: none if the newest begins at 16, which means that there is no chunk
 abbrev pub all_chunks : StoredChunk → List StoredChunk → List StoredChunk
 all_chunks newest older = if newest.base == 16 then [] else newest ∷ reverse older
 
@@ -39,30 +39,30 @@ memory_of min_align is_growing generation allocations reallocations newest older
   bytes = map stored_bytes (all_chunks newest older);
 }
 
--- what stands for no chunk has no bytes, and no older ones
+-- the value that means "no chunk" has no bytes, and there are no older chunks
 pub record IsNone (newest : StoredChunk) (table : List StoredChunk) : Type 0 where
   pub cursor : newest.cursor ≡ 16
   pub bytes : newest.bytes.items ≡ []
   pub older : table ≡ []
 
--- the fields stand for a valid state, and what is used in each chunk is ready
+-- the fields represent a valid state, and what is used in each chunk is ready
 pub record IsStored (memory : Memory) (newest : StoredChunk) (older : List StoredChunk) : Type 0 where
   pub valid : IsValid memory.state
   pub none : newest.base ≡ 16 → IsNone newest older
   pub ready : IsReady newest
   pub older_ready : All IsReady older
 
--- the cursor lies in the chunk's ready part, and the chunk below 2 ^ 64
+-- the cursor is in the chunk's ready part, and the chunk is below 2 ^ 64
 pub record IsOrdered (chunk : StoredChunk) : Type 0 where
   pub low : IsReady chunk
   pub high : chunk.cursor ≤ chunk.base + length chunk.bytes.items
   pub fits : chunk.base + length chunk.bytes.items < 2 ^ 64
 
--- all these chunks begin below the address: so does the last
+-- the last of these chunks begins below the address, and so do all
 abbrev pub IsTopmost : ℕ → List StoredChunk → Type 0
 IsTopmost base chunks = (d : StoredChunk) → 0 < length chunks → (get_or chunks (length chunks - 1) d).base < base
 
--- what a search in the table asks: it rises, and some chunk begins at or below the address
+-- the precondition of a search in the table: the bases are sorted, and some chunk begins at or below the address
 pub record IsSearchable (chunks : List StoredChunk) (addr : ℕ) : Type 0 where
   pub sorted : IsNonDecreasingBy (λ (c : StoredChunk). c.base) chunks
   pub some : IsTrue (list_any (λ (c : StoredChunk). nat_le c.base addr) chunks)
@@ -95,21 +95,21 @@ pub record IsEdited (old new : StoredChunk) (addr n : ℕ) (list : List ℕ) : T
 abbrev pub part_of : StoredChunk → ℕ → ℕ → List ℕ
 part_of c addr n = take n (drop (addr - c.base) c.bytes.items)
 
--- the same by a change of the bytes there, of which this list may stand there afterwards
+-- the same by a change of the bytes there, of which this list is a possible result
 pub record EditsPart (old new : StoredChunk) (addr n : ℕ) (relates : List ℕ → List ℕ → Type 0) : Type 0 where
   pub list : List ℕ
   pub related : relates (part_of old addr n) list
   pub edited : IsEdited old new addr n list
 
--- the chunk at this index is ready from its cursor on, and has n bytes from an address on that are used
+-- the chunk at this index is ready from its cursor on, and its n bytes from this address on are used
 pub record HasPart (chunks : List StoredChunk) (i addr n : ℕ) : Type 0 where
   pub within : i < length chunks
   pub ready : (c : StoredChunk) → c ≡ get_or chunks i c → IsReady c
   pub low : (c : StoredChunk) → c ≡ get_or chunks i c → c.cursor ≤ addr
   pub high : (c : StoredChunk) → c ≡ get_or chunks i c → addr + n ≤ c.base + length c.bytes.items
 
--- The chunk at the index j holds, from the address `to` on, the n bytes that the one at i had from the address `from` on. The
--- table is otherwise as it was.
+-- The chunk at the index j has, from the address `to` on, the n bytes that the one at i had from the address `from` on.
+-- The table is otherwise as it was.
 pub record CopiesPart (old new : List StoredChunk) (i j from to n : ℕ) : Type 0 where
   pub source : StoredChunk
   pub target : StoredChunk
@@ -119,7 +119,7 @@ pub record CopiesPart (old new : List StoredChunk) (i j from to n : ℕ) : Type 
   pub table : new ≡ slice_set old j copied
   pub edited : IsEdited target copied to n (part_of source from n)
 
--- what is left of a walk: the newest chunk, if it is still to come, and the others, newest first
+-- what remains of a walk: the newest chunk, if it is still to come, and the others, newest first
 abbrev pub chunks_left : Option (Bor StoredChunk) → List StoredChunk → List StoredChunk
 chunks_left None older = reverse older
 chunks_left (Some newest) older = newest.now ∷ reverse older

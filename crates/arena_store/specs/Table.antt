@@ -1,4 +1,4 @@
--- The table of the chunks but the newest: where each begins stands apart from its bytes.
+-- The table of the chunks but the newest: the bases are stored apart from the bytes.
 use Rattle.std.specs.Prelude.{◌≡◌, ◌⊎◌, nat_le, if◌then◌else◌, Option, Some, None, ℕ, ◌+◌, ◌-◌, ◌<◌, ◌≤◌, List, [], ◌∷◌, length, min, get_or, slice_index}
 use Rattle.std.specs.List.{All, AllByRecursion}
 use Rattle.arena_bases.specs.Bases.{Numbers}
@@ -19,7 +19,7 @@ chunks_of (base ∷ bases) (k ∷ kept) = chunk_of base k ∷ chunks_of bases ke
 abbrev pub table_of : Numbers → List Kept → ℕ → Chunks
 table_of bases kept room = record { items = chunks_of bases.items kept; spare = min bases.spare room }
 
--- no more bytes are used than there are
+-- at most as many bytes are used as there are
 abbrev pub IsKept : Kept → Type 0
 IsKept k = k.used ≤ length k.bytes.items
 
@@ -38,8 +38,8 @@ pub record IsSplit (bases : List ℕ) (addr n : ℕ) : Type 0 where
 abbrev pub IsPartIn : List StoredChunk → ℕ → ℕ → ℕ → List ℕ → Type 0
 IsPartIn chunks i addr n list = (c : StoredChunk) → c ≡ get_or chunks i c → list ≡ part_of c addr n
 
--- What the table answers of an address: none, where all chunks begin above it; else the number of the last that doesn't, if it
--- reaches so far.
+-- What the table returns for an address: none, if all chunks begin above it; otherwise the number of the last that
+-- doesn't, if it reaches that far.
 abbrev pub IsNumberIn : List StoredChunk → ℕ → Option ℕ → Type 0
 IsNumberIn chunks addr answer =
     (AllByRecursion (λ (c : StoredChunk). addr < c.base) chunks × (answer ≡ None))

@@ -1,4 +1,4 @@
-// Where an address lies among bases.
+// Which of a table's bases is the last at or below an address.
 ghost use Rattle.std.specs.Prelude.{◌≡◌, ◌+◌, ◌-◌, ◌*◌, ◌^◌, ◌<◌, ◌≤◌, length, slice_index};
 ghost use Rattle.arena_bases.specs.Bases.{IsBlankOf};
 ghost use Rattle.arena_store.specs.Table.{IsSplit};
@@ -7,10 +7,10 @@ use arena_bases::{Bases, Steps};
 use std::marker::Brand;
 use std::sync::ledger::{Blank, Ledger};
 
-// How many bases are few.
+// Up to this many bases are counted one by one.
 const FEW: u64 = 64;
 
-// How many of the bases are at most an address, by halves, and the last of them.
+// Returns how many of the bases are at most an address, by binary search, and the last of them.
 pub(crate) fn search<L: Ledger>(bases: &Bases, addr: u64, steps: &mut Steps<L>) -> (u64, u64)
     ensures split { IsSplit bases.now.items addr result.0 }
     ensures last { 0 < result.0 → result.1 ≡ slice_index bases.now.items (result.0 - 1) }
@@ -33,7 +33,8 @@ pub(crate) fn search<L: Ledger>(bases: &Bases, addr: u64, steps: &mut Steps<L>) 
     (low, last)
 }
 
-// The same of bases of which the first is and the last isn't, by a look at each between them. No branch depends on the address.
+// Returns how many of the bases are at most an address, by reading each one but the first and the last: the first is at
+// most the address, and the last isn't. No branch depends on the address.
 fn count<L: Ledger>(bases: &Bases, addr: u64, steps: &mut Steps<L>) -> u64
     requires some { 0 < length bases.now.items }
     requires first { slice_index bases.now.items 0 ≤ addr }
@@ -47,8 +48,9 @@ fn count<L: Ledger>(bases: &Bases, addr: u64, steps: &mut Steps<L>) -> u64
     n
 }
 
-// The same of bases of which the first is. The last begins the largest chunk, so it is looked at first: the chunk's bytes are then
-// fetched before the address is known. In few bases a count is faster than a search, each branch of which may be mispredicted.
+// Returns how many of the bases are at most an address, the first of which is. The last base is that of the largest
+// chunk, so it is read first: the chunk's bytes are then fetched before the address is known. For few bases a count is
+// faster than a search, each branch of which may be mispredicted.
 fn split_of<L: Ledger>(bases: &Bases, addr: u64, blank: Blank) -> u64
     requires blank { IsBlankOf L.name L.parts blank }
     requires some { 0 < length bases.now.items }
@@ -66,7 +68,7 @@ fn split_of<L: Ledger>(bases: &Bases, addr: u64, blank: Blank) -> u64
     }
 }
 
-// The same, over a counter of its own.
+// Does what `split_of` does, with its own step counter.
 #[inline(always)]
 pub(crate) fn split(bases: &Bases, addr: u64) -> u64
     requires some { 0 < length bases.now.items }
@@ -85,7 +87,7 @@ fn base_of<L: Ledger>(bases: &Bases, i: u64, blank: Blank) -> u64
     bases.base_at(i, &mut steps)
 }
 
-// A base, over a counter of its own.
+// Returns a base, with its own step counter.
 #[inline(always)]
 pub(crate) fn base(bases: &Bases, i: u64) -> u64
     requires { i < length bases.now.items }

@@ -1,11 +1,11 @@
-// Blocks, and why there is none.
+// Blocks, and why a call places none.
 ghost use Rattle.std.specs.Prelude.{◌≡◌};
 
 use std::error::Error;
 use std::fmt;
 
-/// A block of an arena: the generation that it was placed in, its first address, its size and its alignment. It says
-/// nothing of whether the block is held.
+/// A block of an arena: the generation that it was placed in, its first address, its size and its alignment. It doesn't
+/// say whether the block is still held.
 #[derive(Clone, Copy, PartialEq, Eq, Debug)]
 pub struct Block {
     pub generation: u64,
@@ -15,7 +15,7 @@ pub struct Block {
 }
 
 impl Block {
-    /// A block of no bytes, of generation 0, at the address that is its alignment.
+    /// Returns a block of no bytes, of generation 0, whose address is its alignment.
     pub fn empty(align: u64) -> Block
         ensures { result ≡ record { generation = 0; addr = align; size = 0; align = align } }
     {
@@ -31,9 +31,9 @@ impl Block {
 /// Why a call placed no block.
 #[derive(Clone, Copy, PartialEq, Eq, Debug)]
 pub enum ArenaErr {
-    /// There is no place for the block: all requests for a chunk, so many, were refused.
+    /// There is no place for the block: all requests for a chunk were refused, `refused` of them.
     AllocErr { refused: u32 },
-    /// Memory for the table of chunks runs out. The source wasn't asked.
+    /// There is no memory for the table of chunks. The source wasn't asked.
     OutOfMemory,
 }
 

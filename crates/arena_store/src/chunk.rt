@@ -13,20 +13,19 @@ use arena_region::Region;
 use std::alloc::Global;
 use std::mem;
 
-/// Where what stands for no chunk begins and ends.
+/// The base and the data end of the value that means "no chunk".
 pub const NOWHERE: u64 = 16;
 
-// As many bytes as are made ready at once: an eighth of those that are, but at least a page, so that this is rare, and no
-// more than stay in the fastest cache until they are written.
+// How many bytes are made ready at once: an eighth of those that are already, at least a page, so that this is rare,
+// and at most as many as stay in the fastest cache until they are written.
 const SHARE: usize = 8;
 
 const LEAST_STEP: usize = 4096;
 
 const LARGEST_STEP: usize = 16384;
 
-/// A chunk with its bytes, which stand from its base on. Those from the cursor on are used, and are ready.
-// What begins at 16 stands for no chunk: no chunk does, since the lowest base is 4096, and a cursor there has room for
-// nothing.
+/// A chunk with its bytes. Those from the cursor on are used, and are ready.
+// A base of 16 means that there is no chunk: a chunk's base is at least 4096, and a cursor at 16 has room for nothing.
 #[derive(Drop)]
 pub struct StoredChunk {
     /// Its lowest address.
@@ -38,7 +37,7 @@ pub struct StoredChunk {
 }
 
 impl StoredChunk {
-    /// What stands for no chunk.
+    /// Returns the value that means "no chunk".
     pub fn none(alloc: Global) -> StoredChunk
         ensures base { result.base ≡ 16 }
         ensures cursor { result.cursor ≡ 16 }
@@ -51,13 +50,13 @@ impl StoredChunk {
         }
     }
 
-    /// A chunk with nothing used.
+    /// Returns a chunk with nothing used.
     pub fn unused(base: u64, bytes: Region) -> StoredChunk
         requires { base + length bytes.items < 2 ^ 64 }
         ensures chunk { result ≡ record { base = base; cursor = base + length bytes.items; bytes = bytes } }
         ensures ready { floor_in result ≤ result.cursor }
     {
-        // That what is ready of a region begins within it is known by this call.
+        // This call gives the fact that the ready bytes of a region begin within it.
         let _ = bytes.low();
         let cursor = base + bytes.len() as u64;
         StoredChunk {
@@ -67,14 +66,14 @@ impl StoredChunk {
         }
     }
 
-    /// How many bytes it has.
+    /// Returns the number of its bytes.
     pub fn size(&self) -> u64
         ensures { result ≡ length self.now.bytes.items }
     {
         self.bytes.len() as u64
     }
 
-    /// The lowest address whose byte is ready.
+    /// Returns the lowest address whose byte is ready.
     pub fn floor(&self) -> u64
         requires { floor_in self.now ≤ self.now.cursor }
         ensures { result ≡ floor_in self.now }
@@ -97,7 +96,7 @@ impl StoredChunk {
         }
     }
 
-    /// Makes the bytes from an address on ready, and puts these there.
+    /// Makes the bytes from an address on ready, and writes these there.
     pub fn make_ready_with(&mut self, addr: u64, list: &[u8])
         requires low { self.old.base ≤ addr }
         requires high { addr - self.old.base + length list.now ≤ length self.old.bytes.items }
@@ -111,7 +110,7 @@ impl StoredChunk {
             .make_ready_with((addr - self.base) as usize, list);
     }
 
-    /// The data end, if there is a chunk.
+    /// Returns the data end, or `None` if there is no chunk.
     pub fn end(&self) -> Option<u64>
         requires { IsOrdered self.now }
         ensures { let end = self.now.base + length self.now.bytes.items in
@@ -124,7 +123,7 @@ impl StoredChunk {
         }
     }
 
-    /// How many bytes are used.
+    /// Returns the number of used bytes.
     pub fn used(&self) -> u64
         requires { IsOrdered self.now }
         ensures { result ≡ used_length (stored_chunk self.now) }
@@ -132,7 +131,7 @@ impl StoredChunk {
         self.base + self.size() - self.cursor
     }
 
-    /// Whether the block's bytes lie in the used part.
+    /// Returns whether the block's bytes are in the used part.
     pub fn has(&self, block: Block) -> bool
         requires { IsOrdered self.now }
         ensures { result ≡ is_used_by block.addr block.size (stored_chunk self.now) }
@@ -142,8 +141,8 @@ impl StoredChunk {
     }
 }
 
-/// A granted chunk becomes the newest, with nothing used in it. What was the newest, if there was one, goes into the
-/// table, which has room for it.
+/// Makes a granted chunk the newest, with nothing used in it. The previous newest chunk, if there was one, is added to
+/// the table, which must have room for it.
 pub fn install(newest: &mut StoredChunk, older: &mut Table, base: u64, bytes: Region)
     requires room { 1 ≤ older.old.spare }
     requires ordered { IsOrdered newest.old }
@@ -161,7 +160,7 @@ pub fn install(newest: &mut StoredChunk, older: &mut Table, base: u64, bytes: Re
     older.push(last);
 }
 
-/// The part of a chunk's bytes at these addresses, which are ready.
+/// Returns the chunk's bytes at these addresses, which must be ready.
 pub fn part_at(chunk: &StoredChunk, addr: u64, size: u64) -> &[u8]
     requires low { floor_in chunk.now ≤ addr }
     requires high { addr - chunk.now.base + size ≤ length chunk.now.bytes.items }
@@ -172,7 +171,8 @@ pub fn part_at(chunk: &StoredChunk, addr: u64, size: u64) -> &[u8]
         .part((addr - chunk.base) as usize, size as usize)
 }
 
-/// The same, to be written. The chunk then has what was written there.
+/// Returns the chunk's bytes at these addresses, which must be ready, for writing. What is written there is in the
+/// chunk afterwards.
 pub fn part_at_mut(chunk: &mut StoredChunk, addr: u64, size: u64) -> &mut [u8]
     requires low { floor_in chunk.old ≤ addr }
     requires high { addr - chunk.old.base + size ≤ length chunk.old.bytes.items }

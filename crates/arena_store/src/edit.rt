@@ -1,4 +1,4 @@
-// Changes of the bytes that stand in one place.
+// Changes of bytes in place.
 ghost use Rattle.std.specs.Prelude.{◌≡◌, ℕ, ◌+◌, ◌-◌, ◌≤◌, List, length, take, drop, replicate};
 ghost use Rattle.arena_rules.specs.Lists.{splice};
 ghost use Rattle.arena_store.specs.Stored.{floor_in, IsEdited, EditsPart, part_of};
@@ -6,13 +6,13 @@ ghost use Rattle.arena_store.specs.Stored.{floor_in, IsEdited, EditsPart, part_o
 use crate::chunk::StoredChunk;
 use crate::shift::shift;
 
-/// A change of the bytes of a place, which keeps their number. What is written there may be encoded straight into the place,
-/// and a loop may work in it.
+/// A change of bytes in place that keeps their number. An implementation may encode straight into the place, or change
+/// it in a loop.
 pub trait Edit {
-    // Whether it suits a place with these bytes.
+    // Whether the change may be applied to these bytes.
     ghost suits: { Self → List ℕ → Type 0 };
 
-    // Whether, of the bytes that stood there, these may come. A function is the case of `λ s old new. new ≡ f s old`.
+    // Whether the first bytes may become the second. A function is the case of `λ s old new. new ≡ f s old`.
     ghost relates: { Self → List ℕ → List ℕ → Type 0 };
 
     /// Changes the bytes.
@@ -21,7 +21,7 @@ pub trait Edit {
         ensures { relates self.now place.old place.new };
 }
 
-/// Changes the part of a chunk's bytes at these addresses, which are ready.
+/// Changes the chunk's bytes at these addresses, which must be ready.
 pub fn edit_at<E: Edit>(chunk: &mut StoredChunk, addr: u64, size: u64, e: &E)
     requires low { floor_in chunk.old ≤ addr }
     requires high { addr - chunk.old.base + size ≤ length chunk.old.bytes.items }
@@ -32,7 +32,7 @@ pub fn edit_at<E: Edit>(chunk: &mut StoredChunk, addr: u64, size: u64, e: &E)
     e.edit(chunk.bytes.part_mut(from, size as usize));
 }
 
-/// Puts a list in the place of a chunk's bytes at these addresses, which are ready.
+/// Replaces the chunk's bytes at these addresses, which must be ready, by a list.
 #[tactic(auto, using(crate::proofs::EditLemmas::put_edited, crate::proofs::EditLemmas::part_length))]
 pub fn put_at(target: &mut StoredChunk, to: u64, bytes: &[u8])
     requires low { floor_in target.old ≤ to }
@@ -42,7 +42,7 @@ pub fn put_at(target: &mut StoredChunk, to: u64, bytes: &[u8])
     edit_at(target, to, bytes.len() as u64, &Put { bytes });
 }
 
-/// Moves bytes of a chunk to another place in it. The two may overlap.
+/// Moves bytes of a chunk to another place in its used part. The two ranges may overlap.
 #[inline(always)]
 pub fn shift_in(chunk: &mut StoredChunk, from: u64, to: u64, size: u64)
     requires ready { floor_in chunk.old ≤ chunk.old.cursor }
@@ -58,7 +58,7 @@ pub fn shift_in(chunk: &mut StoredChunk, from: u64, to: u64, size: u64)
     shift(place, start, target, size as usize);
 }
 
-/// Puts these bytes in the place of others.
+/// Replaces all bytes of the place by these.
 #[derive(Drop)]
 pub struct Put<'a> {
     pub bytes: &'a [u8],
@@ -74,7 +74,7 @@ impl Edit for Put<'_> {
     }
 }
 
-/// Sets all bytes of the place.
+/// Sets all bytes of the place to a value.
 #[derive(Drop)]
 pub struct Fill {
     pub value: u8,

@@ -1,6 +1,6 @@
 //! Chunks with their bytes, as an arena stores them, and the sources that grant them.
 //!
-//! A chunk is a region of bytes at a virtual address. `table` holds the older chunks, and nothing above opens it.
+//! A chunk is a region of bytes at a virtual address. `table` has the older chunks, and hides how it stores them.
 #![tactic(auto)]
 
 mod below;

@@ -1,4 +1,4 @@
-// A source that refuses when it is told to, for tests of what an arena does then.
+// A source that refuses chosen requests, for tests.
 ghost use Rattle.std.specs.Prelude.{◌≡◌, ℕ, ◌+◌, ◌-◌, ◌^◌, ◌<◌, List, [], ◌∷◌, Option, Some, None, IsTrue, IsSome, IsNone, IfSome, IfNone, OnSome, false, replicate};
 ghost use Rattle.std.specs.List.{Contains};
 ghost use Rattle.arena_rules.specs.Causes.{counted, TellsRequests};
@@ -9,8 +9,8 @@ use crate::source::zeros;
 use arena_region::Region;
 use std::alloc::Global;
 
-/// Chunks from memory, but for the requests whose numbers, from 1, are listed: these it refuses. It tells its
-/// requests. One that it can't note for lack of memory it refuses, and from then on it tells none.
+/// Chunks from memory, except for the requests whose numbers are listed, counted from 1: it refuses those. It reports
+/// its requests. If there is no memory to note a request, it refuses it and reports no requests from then on.
 #[derive(Drop)]
 pub struct RefusingChunks {
     alloc: Global,
@@ -20,12 +20,12 @@ pub struct RefusingChunks {
     pub count: u64,
     /// How many requests were refused, up to 2^64 - 1.
     pub refused: u64,
-    /// All requests so far, as size and alignment, or none where one couldn't be noted.
+    /// All requests so far, as size and alignment, or `None` if one couldn't be noted.
     pub notes: Option<Vec<(u64, u64)>>,
 }
 
 impl RefusingChunks {
-    /// A source that refuses the listed requests, and has had none. Takes no memory.
+    /// Returns a source that refuses the listed requests, and has had none. Doesn't allocate.
     pub fn new(alloc: Global, refuse: Vec<u64>) -> RefusingChunks
         ensures source { ⟦<RefusingChunks as ChunkSource>⟧.source result
             ≡ record { refusals = 0; asked = Some [] } }
@@ -41,7 +41,7 @@ impl RefusingChunks {
         }
     }
 
-    /// All requests so far, as size and alignment, or none where one couldn't be noted.
+    /// Returns all requests so far, as size and alignment, or `None` if one couldn't be noted.
     pub fn requests(&self) -> Option<&[(u64, u64)]>
         ensures told { IfSome result (λ all. told self.now.notes ≡ Some all.now) }
         ensures untold { IfNone result (self.now.notes ≡ None) }
@@ -52,7 +52,7 @@ impl RefusingChunks {
         }
     }
 
-    // Notes a request, and answers whether it is to be served.
+    // Notes a request, and returns whether to serve it.
     #[tactic(auto, using(crate::proofs::TellingLemmas::notes_tell))]
     fn notes_and_serves(&mut self, size: u64, align: u64) -> bool
         ensures refused { self.new.refused ≡ self.old.refused }
@@ -83,7 +83,7 @@ impl ChunkSource for RefusingChunks {
         ensures refused { IfNone result (self.new.refused ≡ counted self.old.refused 1) }
         ensures bounded { IfNone result (self.new.refused < 2 ^ 64) }
         ensures told { TellsRequests (told self.old.notes) (told self.new.notes) ((size, align) ∷ []) }
-        // The request is noted, unless there is no room for it: then it is refused.
+        // The request is noted; if there is no room for it, it is refused.
         ensures notes { Notes self.old.notes self.new.notes (size, align) }
         ensures noted { OnSome result (IsSome self.old.notes → IsSome self.new.notes) }
         ensures listed { Contains self.old.refuse.items (counted self.old.count 1) → IsNone result }
@@ -105,7 +105,7 @@ impl ChunkSource for RefusingChunks {
         ensures refused { IfNone result (self.new.refused ≡ counted self.old.refused 1) }
         ensures bounded { IfNone result (self.new.refused < 2 ^ 64) }
         ensures told { TellsRequests (told self.old.notes) (told self.new.notes) ((size, align) ∷ []) }
-        // The request is noted, unless there is no room for it: then it is refused.
+        // The request is noted; if there is no room for it, it is refused.
         ensures notes { Notes self.old.notes self.new.notes (size, align) }
         ensures noted { OnSome result (IsSome self.old.notes → IsSome self.new.notes) }
         ensures listed { Contains self.old.refuse.items (counted self.old.count 1) → IsNone result }

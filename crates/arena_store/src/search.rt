@@ -12,7 +12,7 @@ use arena_place::{
 };
 use arena_region::Region;
 
-/// The data size for a tried size, where such a chunk ends below the last address.
+/// Returns the data size for a tried size, or `None` if such a chunk doesn't end below the last address.
 pub fn possible_size(base: u64, tried: u64, layout: Layout) -> Option<u64>
     ensures value { option_map (λ size. (base, size)) result ≡ possible base layout.size layout.align tried }
     ensures fits { IfSome result (λ size. IsTrue (is_layout (size + 48) (max layout.align 16))) }
@@ -25,18 +25,18 @@ pub fn possible_size(base: u64, tried: u64, layout: Layout) -> Option<u64>
     }
 }
 
-/// What the source gave for one possible chunk after another.
+/// The result of asking the source for one possible chunk after another.
 #[derive(Drop)]
 pub struct Granted {
     /// The base of the chunk, if one was granted.
     pub base: u64,
-    /// The first chunk that was granted. None where all requests were refused.
+    /// The chunk that was granted, or `None` if all requests were refused.
     pub chunk: Option<Region>,
     /// How many requests were refused.
     pub refused: u32,
 }
 
-// Asks for one possible chunk after another, from the first tried size on.
+// Asks for one possible chunk after another, from the first tried size on, until one is granted.
 fn ask<C: ChunkSource>(chunks: &mut C, base: u64, first: u64, least: u64, layout: Layout) -> Granted
     requires { 0 < least }
     ensures granted { let all = entries base layout.size layout.align first least in
@@ -70,7 +70,8 @@ fn ask<C: ChunkSource>(chunks: &mut C, base: u64, first: u64, least: u64, layout
     }
 }
 
-/// The same above what is there, where the newest chunk ends there and has that size.
+/// Asks for one possible chunk after another above the newest one, until one is granted. The newest chunk has this data
+/// end and size; without a chunk `end` is `None`.
 pub fn ask_above<C: ChunkSource>(
     chunks: &mut C,
     end: Option<u64>,

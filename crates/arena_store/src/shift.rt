@@ -1,15 +1,15 @@
-// Bytes moved within a slice, whole vectors at a time.
+// Moves bytes within a slice, by whole vectors.
 ghost use Rattle.std.specs.Prelude.{◌≡◌, ◌+◌, ◌-◌, ◌≤◌, ◌<◌, length, take, drop};
 ghost use Rattle.arena_rules.specs.Lists.{splice};
 
 use std::simd::Simd;
 
-// Moves bytes to another place of the slice. The two may overlap.
+// Moves bytes to another place of the slice. The two ranges may overlap.
 //
-// std's `copy_within` is a loop over the bytes, which is compiled to steps of 32, of 8 or 4 and of 1, with tests before
-// each kind, and to single bytes alone where the two places are one. That is most of the time of a short move, as when
-// a block grows a little. Here up to 64 bytes are two reads and then two writes. In a longer move each part is read
-// whole before any of it is written, and those that are read later lie past it.
+// std's `copy_within` is a loop over the bytes. It is compiled to steps of 32, of 8 or 4, and of 1, with tests before
+// each kind, and to single bytes alone if both ranges are the same. That is most of the time of a short move, as when a
+// block grows a little. Here up to 64 bytes are two reads and then two writes. In a longer move each part is read whole
+// before it is written, and no part is overwritten before it is read.
 #[inline(always)]
 pub(crate) fn shift(bytes: &mut [u8], from: usize, to: usize, n: usize)
     requires source { from + n ≤ length bytes.old }
@@ -25,7 +25,7 @@ pub(crate) fn shift(bytes: &mut [u8], from: usize, to: usize, n: usize)
     }
 }
 
-// Two parts that cover all of it and may overlap.
+// Moves two parts that cover all the bytes and may overlap.
 #[inline(always)]
 fn shift_short(bytes: &mut [u8], from: usize, to: usize, n: usize)
     requires short { n ≤ 64 }
@@ -48,7 +48,7 @@ fn shift_short(bytes: &mut [u8], from: usize, to: usize, n: usize)
     }
 }
 
-// Parts from the first byte on, until two hold the rest.
+// Moves parts from the first byte on, and the rest as two.
 #[inline(never)]
 #[tactic(auto, using(crate::proofs::ShiftLemmas::moved_on))]
 fn shift_down<const W: usize>(bytes: &mut [u8], from: usize, to: usize, n: usize)
@@ -66,7 +66,7 @@ fn shift_down<const W: usize>(bytes: &mut [u8], from: usize, to: usize, n: usize
     move_ends::<W>(bytes, from + done, to + done, n - done);
 }
 
-// Parts from the last byte back, until two hold the rest.
+// Moves parts from the last byte back, and the rest as two.
 #[inline(never)]
 #[tactic(auto, using(crate::proofs::ShiftLemmas::moved_back, crate::proofs::ShiftLemmas::moved_first))]
 fn shift_up<const W: usize>(bytes: &mut [u8], from: usize, to: usize, n: usize)
@@ -94,7 +94,7 @@ fn move_part<const W: usize>(bytes: &mut [u8], from: usize, to: usize)
     Simd::<u8, W>::from_slice(&bytes[from..]).copy_to_slice(&mut bytes[to..]);
 }
 
-// Both are read before one is written.
+// Moves the first and the last W bytes. Both are read before either is written.
 #[inline(always)]
 #[tactic(auto, using(crate::proofs::ShiftLemmas::moved_ends))]
 fn move_ends<const W: usize>(bytes: &mut [u8], from: usize, to: usize, n: usize)

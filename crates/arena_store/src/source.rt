@@ -7,14 +7,14 @@ ghost use Rattle.arena_rules.specs.Source.{Source};
 use arena_region::Region;
 use std::alloc::{AllocError, Global};
 
-/// A source of chunks. It may refuse a request, and counts that: its count stands where it grants, and rises by exactly
-/// one where it refuses, up to 2^64 - 1, which it doesn't pass.
+/// A source of chunks. It may refuse requests, and counts the refusals: a granted request leaves the count, and a
+/// refused one adds 1, up to 2^64 - 1.
 pub trait ChunkSource {
-    // What it shows: how often it has refused, and its requests, if it tells them.
+    // What contracts see of the source: how often it has refused, and its requests, if it reports them.
     ghost source: { Self → Source };
 
-    /// A chunk of `size` zeros for an address that is a multiple of `align`, or none, which is a refusal. With 48
-    /// bytes more the two are still a layout.
+    /// Returns a chunk of `size` zeros for an address that is a multiple of `align`, or `None`, which is a refusal.
+    /// `size` plus 48 and `align` must be a valid layout.
     fn request(&mut self, size: u64, align: u64) -> Option<Vec<u8>>
         requires { IsTrue (is_layout (size + 48) align) }
         ensures zeros { IfSome result (λ chunk. chunk.items ≡ replicate size 0) }
@@ -23,7 +23,8 @@ pub trait ChunkSource {
         ensures bounded { IfNone result ((source self.new).refusals < 2 ^ 64) }
         ensures told { TellsRequests (source self.old).asked (source self.new).asked ((size, align) ∷ []) };
 
-    /// The same as a region. A source that can answer one whose memory isn't touched yet does so here.
+    /// Requests a chunk as `request` does, and returns it as a region. A source that can grant memory that wasn't
+    /// touched yet does so here.
     fn request_region(&mut self, size: u64, align: u64) -> Option<Region>
         requires { IsTrue (is_layout (size + 48) align) }
         ensures zeros { IfSome result (λ chunk. chunk.items ≡ replicate size 0) }
@@ -37,8 +38,8 @@ pub trait ChunkSource {
     }
 }
 
-/// Chunks from memory, up to a budget of bytes. It doesn't tell its requests. Chunks that an arena gives up aren't
-/// returned to the budget.
+/// Chunks from memory, up to a budget of bytes. It doesn't report its requests. Chunks that an arena frees don't return
+/// to the budget.
 #[derive(Drop)]
 pub struct MemoryChunks {
     alloc: Global,
@@ -49,7 +50,7 @@ pub struct MemoryChunks {
 }
 
 impl MemoryChunks {
-    /// A source of at most `budget` bytes. Takes no memory.
+    /// Returns a source of at most `budget` bytes. Doesn't allocate.
     pub fn new(alloc: Global, budget: u64) -> MemoryChunks
         ensures source { ⟦<MemoryChunks as ChunkSource>⟧.source result
             ≡ record { refusals = 0; asked = None } }
@@ -124,7 +125,7 @@ impl ChunkSource for MemoryChunks {
     }
 }
 
-// A vector of zeros.
+// Returns a vector of zeros.
 pub(crate) fn zeros(alloc: Global, size: usize) -> Result<Vec<u8>, AllocError>
     ensures { IfOk result (λ v. v.items ≡ replicate size 0) }
 {

@@ -1,4 +1,4 @@
-// The chunks but the newest.
+// The table of the older chunks: all but the newest.
 ghost use Rattle.std.specs.Prelude.{◌≡◌, ◌+◌, ◌-◌, ◌*◌, ◌^◌, ◌<◌, ◌≤◌, [], ◌∷◌, ◌++◌, length, get_or, take, drop, IsOk, OnOk, nat_le, ◌&&◌};
 ghost use Rattle.std.specs.Borrow.{sem};
 ghost use Rattle.std.specs.List.{All, list_any, sum_by};
@@ -19,14 +19,14 @@ use std::alloc::Global;
 use std::marker::Model;
 use std::sync::ledger::Ledger;
 
-/// A chunk's bytes, and how many of them are used: the last ones.
+/// A chunk's bytes, and how many of them are used, at the end.
 #[derive(Drop)]
 pub struct Kept {
     bytes: Region,
     used: u64,
 }
 
-/// Where a chunk begins and where its used part does, and the bytes of that.
+/// The base of a chunk, and the address and the bytes of its used part.
 #[derive(Drop)]
 pub struct Used<'a> {
     pub base: u64,
@@ -34,7 +34,7 @@ pub struct Used<'a> {
     pub bytes: &'a [u8],
 }
 
-/// The chunks but the newest, oldest first. Contracts see them as chunks, and for how many more there is room.
+/// The chunks but the newest, oldest first. Contracts see them as a list, with the spare capacity.
 #[derive(Drop)]
 pub struct Table {
     bases: Bases,
@@ -58,7 +58,7 @@ impl Table {
     ghost use Rattle.arena_store.specs.Table.{IsPartIn, IsNumberIn};
     ghost use Rattle.arena_store.specs.Lends.{LendsPartIn};
 
-    /// No chunk. Takes no memory.
+    /// Returns an empty table. Doesn't allocate.
     pub fn new(alloc: Global) -> Table
         ensures { result.items ≡ [] }
     {
@@ -68,7 +68,7 @@ impl Table {
         }
     }
 
-    /// Makes room for one more. Succeeds where there is room already.
+    /// Makes room for one more chunk. Fails only if there is no room yet and memory runs out.
     pub fn reserve(&mut self) -> Result<(), OutOfMemory>
         ensures items { self.new.items ≡ self.old.items }
         ensures room { OnOk result (1 ≤ self.new.spare) }
@@ -80,7 +80,7 @@ impl Table {
         Ok(self.kept.reserve(1)?)
     }
 
-    /// Adds a chunk that begins above all others, for which there is room.
+    /// Adds a chunk that begins above all others. There must be room for it.
     pub fn push(&mut self, chunk: StoredChunk)
         requires room { 1 ≤ self.old.spare }
         requires ordered { IsOrdered chunk }
@@ -97,7 +97,7 @@ impl Table {
         self.kept.push_reserved(Kept { bytes, used });
     }
 
-    /// Gives all chunks up.
+    /// Removes and frees all chunks.
     pub fn clear(&mut self)
         ensures { self.new.items ≡ [] }
     {
@@ -105,12 +105,12 @@ impl Table {
         self.kept.clear();
     }
 
-    /// The allocator.
+    /// Returns the allocator.
     pub fn alloc(&self) -> Global {
         *self.kept.allocator()
     }
 
-    /// Gives up all but the first chunks, so many, and hands the last of those out.
+    /// Frees all but the first `n` chunks, and returns the last of those, which leaves the table.
     pub fn back_to(&mut self, n: usize) -> StoredChunk
         requires some { 0 < n }
         requires within { n ≤ length self.old.items }
@@ -129,7 +129,7 @@ impl Table {
         }
     }
 
-    /// How many there are.
+    /// Returns the number of chunks.
     pub fn len(&self) -> usize
         ensures value { result ≡ length self.now.items }
         ensures bound { result < 2 ^ 63 }
@@ -137,7 +137,7 @@ impl Table {
         self.kept.len()
     }
 
-    /// The last chunk that begins at or below the address.
+    /// Returns the index of the last chunk that begins at or below the address.
     #[inline]
     pub fn last_below(&self, addr: u64) -> usize
         requires { IsSearchable self.now.items addr }
@@ -146,7 +146,8 @@ impl Table {
         (split(&self.bases, addr) - 1) as usize
     }
 
-    /// The same, kept out of the callers, so that a write in the newest chunk is small enough to be inlined.
+    /// Returns what `last_below` does. It is kept out of line, so that a write in the newest chunk is small enough to
+    /// be inlined.
     #[cold]
     #[inline(never)]
     pub fn find(&self, addr: u64) -> usize
@@ -156,7 +157,8 @@ impl Table {
         self.last_below(addr)
     }
 
-    /// The number of the chunk that has an address, from its base to its end, and a step for each look at a base.
+    /// Returns the index of the chunk that has an address, from its base to its data end, or `None`. Each read of a
+    /// base counts one step.
     pub fn number_of<L: Ledger>(&self, addr: u64, steps: &mut Steps<L>) -> Option<u64>
         ensures number { IsNumberIn self.now.items addr result }
         ensures rises { steps.old ≤ steps.new }
@@ -174,7 +176,7 @@ impl Table {
         }
     }
 
-    /// The part of a chunk's bytes at these addresses, which are ready.
+    /// Returns a chunk's bytes at these addresses, which must be used.
     #[inline]
     pub fn part(&self, i: usize, addr: u64, size: u64) -> &[u8]
         requires { HasPart self.now.items i addr size }
@@ -184,7 +186,8 @@ impl Table {
         self.kept[i].bytes.part(from, size as usize)
     }
 
-    /// The same, to be written. The chunk then has what was written there.
+    /// Returns a chunk's bytes at these addresses, which must be used, for writing. What is written there is in the
+    /// chunk afterwards.
     #[inline]
     pub fn part_mut(&mut self, i: usize, addr: u64, size: u64) -> &mut [u8]
         requires { HasPart self.old.items i addr size }
@@ -195,7 +198,7 @@ impl Table {
         self.kept[i].bytes.part_mut(from, size as usize)
     }
 
-    /// Copies bytes of a chunk into another or the same. The two ranges may overlap.
+    /// Copies used bytes of a chunk into the used part of another or the same. The two ranges may overlap.
     pub fn copy_within(&mut self, i: usize, j: usize, from: u64, to: u64, n: u64)
         requires source { HasPart self.old.items i from n }
         requires target { HasPart self.old.items j to n }
@@ -206,7 +209,7 @@ impl Table {
         copy_kept(&mut self.kept, i, j, source, target, n as usize);
     }
 
-    /// The used part of a chunk.
+    /// Returns the used part of a chunk.
     pub fn used_part(&self, i: usize) -> Used<'_>
         requires index { i < length self.now.items }
         requires ordered { All IsOrdered self.now.items }
@@ -225,7 +228,7 @@ impl Table {
         }
     }
 
-    /// Where a chunk begins and ends.
+    /// Returns the base and the data end of a chunk.
     pub fn ends(&self, i: usize) -> (u64, u64)
         requires index { i < length self.now.items }
         requires ordered { All IsOrdered self.now.items }
@@ -238,7 +241,7 @@ impl Table {
         (start, start + len)
     }
 
-    /// Whether the block's bytes lie in the used part of one of the chunks.
+    /// Returns whether the block's bytes are in the used part of one of the chunks.
     pub fn has(&self, block: Block) -> bool
         requires { All IsOrdered self.now.items }
         ensures { result ≡ list_any (λ c. is_used_by block.addr block.size (stored_chunk c)) self.now.items }
@@ -263,7 +266,7 @@ impl Table {
         lies_in(end - kept.used, end, block)
     }
 
-    /// How many bytes are used, and how many there are.
+    /// Returns how many bytes of the older chunks are used.
     pub fn used(&self) -> u64
         requires { sum_by (λ c. used_length (stored_chunk c)) self.now.items < 2 ^ 64 }
         ensures { result ≡ sum_by (λ c. used_length (stored_chunk c)) self.now.items }
@@ -275,7 +278,7 @@ impl Table {
         used
     }
 
-    /// How many bytes the older chunks have together.
+    /// Returns how many bytes the older chunks have.
     pub fn size(&self) -> u64
         requires { sum_by (λ c. length c.bytes.items) self.now.items < 2 ^ 64 }
         ensures { result ≡ sum_by (λ c. length c.bytes.items) self.now.items }
@@ -288,7 +291,7 @@ impl Table {
     }
 }
 
-// Keeps the first of them, but for the last of these, which is handed out.
+// Removes all but the first `n` items, and then the last of those, which it returns.
 fn last_of(kept: &mut Vec<Kept>, n: usize) -> Kept
     requires some { 0 < n }
     requires within { n ≤ length kept.old.items }
@@ -302,14 +305,14 @@ fn last_of(kept: &mut Vec<Kept>, n: usize) -> Kept
     }
 }
 
-// Whether the block's bytes lie between two addresses.
+// Returns whether the block's bytes are between two addresses.
 fn lies_in(start: u64, end: u64, block: Block) -> bool
     ensures { result ≡ (nat_le start block.addr && nat_le (block.addr + block.size) end) }
 {
     start <= block.addr && block.addr <= end && block.size <= end - block.addr
 }
 
-// Copies bytes of one of these into another or the same. The two ranges may overlap.
+// Copies bytes of one item into another or the same. The two ranges may overlap.
 fn copy_kept(kept: &mut [Kept], i: usize, j: usize, from: usize, to: usize, n: usize)
     requires source { HasBytes kept.old i from n }
     requires target { HasBytes kept.old j to n }

@@ -31,7 +31,7 @@ more_asked less size align asks = record {
   layout = asks.layout;
 }
 
--- A block of so many values, or none.
+-- A block of this many values, or none.
 abbrev IsRow : (most value_size value_align size align : ℕ) → Type 0
 IsRow most value_size value_align size align = (n : ℕ) × (n ≤ most) × Only (n * value_size) value_align size align
 

@@ -26,13 +26,13 @@ pub record VecStays {T : Type 0} (old new : Memory) (after : List Block) (item :
   pub list_is : vec_list item new v ≡ vec_list item old v
   pub apart : IsApart v.raw.block.addr v.raw.block.size after
 
--- and texts may be read, with their contents.
+-- and texts are readable, with their contents.
 pub record TextsStay (old new : Memory) (after : List Block) (list : List Str) : Type 0 where
   pub readable : AreReadable new.state (blocks_of list)
   pub contents : contents_of new list ≡ contents_of old list
   pub apart : AreAllApart (blocks_of list) after
 
--- The footprint of a map of numbers lies apart where its table does: its keys have no texts.
+-- The footprint of a map of numbers is apart if its table is: its keys have no texts.
 pub plain_apart : (memory : Memory) (m : HashMap ℕ ℕ FxHasher) (others : List Block) → IsApart m.table.block.addr m.table.block.size others
     → AreAllApart (footprint id_kind memory m) others
 plain_apart memory m others apart = (apart, go (pairs_in id_kind memory m))

@@ -29,7 +29,7 @@ use Rattle.arena_symbols.specs.declared.names.Names.{Names}
 use Rattle.arena_symbols.proofs.NamedLemmas.{scopes_moved, texts_moved, moves_then}
 use Rattle.arena_symbols.proofs.PayLemmas.{told, told_err, pays_nothing, pays_places, pays_more, pays_told}
 
--- ---- Answers
+-- ---- Replies
 
 outer_is : (scopes : List (List (ℕ × ℕ))) → has_outer scopes ≡ nat_le 2 (length scopes)
 outer_is [] = refl
@@ -65,7 +65,7 @@ may_answer s call (Err (AllocErr k)) adds full = adds
 may_answer s call (Err OutOfMemory) adds full = inl adds
 
 module _ {X : Type 0} {old new : View} {n m : Names} {call : Call} where
-  -- One that moved the names, by what it answers.
+  -- A call that moved the names, by its result.
   serves_told : (f : X → Reply) (result : Result X AllocError) → Moves old.memory new.memory n m
       → IfOk result (λ x. f x ≡ answer (state_in old.memory n) call)
       → OnOk result (state_in new.memory m ≡ after (state_in old.memory n) call)

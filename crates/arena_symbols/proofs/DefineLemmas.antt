@@ -1,4 +1,4 @@
--- What `define` does, in each of its ways.
+-- What `define` does, in each case.
 use Rattle.std.proofs.Common.{◌≡◌, ℕ, ◌+◌, ◌*◌, ◌^◌, ◌<◌, ◌≤◌, List, [], ◌∷◌, length, reverse, refl, sym, ap, subst, ◌∙◌, arith, Some, None, Option, Ok, Err, Bool, true, false, cond}
 use Rattle.std.specs.Prelude.{Result, OnOk, OnErr, is_some, if◌then◌else◌}
 use Rattle.std.specs.Int.{w32, to_le_bytes}
@@ -38,7 +38,7 @@ module _ {item : Ghosts Entry} (old : View) (s : Scopes) (id value : ℕ) (held 
   abbrev scopes : List (List (ℕ × ℕ))
   scopes = scopes_in item old.memory s
 
-  -- A pair may come to the list's end, and its place into the map.
+  -- A pair may be appended to the list, and its place inserted into the map.
   pub can_define : (item.SIZE ≡ 16) × (item.ALIGN ≡ 4) → s.pairs.raw.len < most_pairs → CanList item id_kind old.memory s.newest s.pairs id
   can_define size few =
       let beside = plain_apart old.memory s.newest (s.pairs.raw.block ∷ []) (held.apart.0.0, tt) in
@@ -55,7 +55,7 @@ module _ {item : Ghosts Entry} (old : View) (s : Scopes) (id value : ℕ) (held 
     in_last : {there : Bool} → stands_from hid s.start ≡ there → is_in_last scopes id ≡ there
     in_last stands = in_last_is held id hid fits (rw bytes at found) ∙ stands
 
-    -- Nothing is put: the id is there, or there are as many pairs as there may be.
+    -- Nothing is put: the id is there, or there are as many pairs as there can be.
     pub define_not : (there : Bool) → stands_from hid s.start ≡ there
         → (there ≡ false → most_pairs ≤ s.pairs.raw.len)
         → Defines item old old s s id value (if there then Ok false else Err CapacityOverflow)
@@ -72,12 +72,12 @@ module _ {item : Ghosts Entry} (old : View) (s : Scopes) (id value : ℕ) (held 
       abbrev Puts : Result ℕ AllocError → Type 0
       Puts result = Lists item id_kind old new s.newest s.pairs id (id, (value, hid)) n v result
 
-      -- whether some map has the id, as the table's own map tells
+      -- whether some map has the id, as the table's own map says
       is_there : has (map_in id_kind old.memory s.newest) (to_le_bytes w32 id) ≡ is_some (lookup scopes id)
       is_there = sym (looked_is held id _ fits refl ∙ some_value (map_in id_kind old.memory s.newest (to_le_bytes w32 id)))
 
       module _ {result : Result ℕ AllocError} (lists : Puts result) where
-        -- The list of starts is as it was, and the three blocks lie apart.
+        -- The list of starts is unchanged, and the three blocks are apart.
         starts : VecStays old.memory new.memory (n.table.block ∷ v.raw.block ∷ []) place_item s.starts
         starts = vec_beside lists.frame place_item s.starts held.starts (
           blocks_turned s.newest.table.block s.starts.raw.block held.apart.0.1.0,
@@ -91,7 +91,7 @@ module _ {item : Ghosts Entry} (old : View) (s : Scopes) (id value : ℕ) (held 
         apart = pairwise_both (n.table.block ∷ v.raw.block ∷ []) (s.starts.raw.block ∷ []) ((lists.apart, tt), (tt, tt)) (tt, tt)
             (all_apart s.starts.raw.block (n.table.block ∷ v.raw.block ∷ []) starts.apart)
 
-      -- The table has the pair then, or is as it was.
+      -- The table has the pair then, or is unchanged.
       after : (result : Result ℕ AllocError) → Puts result → IsTableIn item new.memory now
           × OnOk result (scopes_in item new.memory now ≡ with_pair scopes id value)
           × OnErr result (scopes_in item new.memory now ≡ scopes)

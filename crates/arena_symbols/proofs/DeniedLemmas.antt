@@ -1,4 +1,4 @@
--- Where the arena refuses a block, that has no place.
+-- If the arena refuses a block, the block has no place.
 use Rattle.std.proofs.Common.{◌≡◌, ℕ, ◌*◌, refl, ap, ◌∙◌, Option, Some, None, Err, Bool, true, false}
 use Rattle.std.specs.Prelude.{◌==◌, Result}
 use Rattle.std.proofs.lemmas.Option.{cond_some}
@@ -48,7 +48,7 @@ block_denied old between new size align k places same = record {
       (no_place old.memory.state old.memory.state size align places.0 places.1.outcome.1.step);
 }
 
--- The block of a growth that is placed anew.
+-- The block of a growth from no capacity, which is newly placed.
 pub room_denied : {X : Type 0} (size align : ℕ) (old new : View) (block : Block) (f : X → Block) (k : ℕ) (growth : Growth)
     → MakesRoom size align old new block 0 growth f (Err (AllocErr k)) → IsDenied (RoomFor size align growth) new
 room_denied size align old new block f k Stays made = absurd made.0
@@ -56,7 +56,7 @@ room_denied size align old new block f k Overflows made = absurd (let no = made.
 room_denied size align old new block f k (GrowsTo more) made =
     block_denied old made.between new (more * size) align k (made.took.placed refl) made.places
 
--- A new key asks for no less than one that is there.
+-- A new key asks for no less than a key that is there.
 pub new_key : (size align slots len : ℕ) (is_there : Bool) (s a : ℕ) → RoomFor size align (growth_for is_there slots len) s a
     → RoomFor size align (growth_for false slots len) s a
 new_key size align slots len true s a room = absurd room

@@ -1,4 +1,4 @@
--- What `intern` does, in each of its ways.
+-- What `intern` does, in each case.
 use Rattle.std.proofs.Common.{◌≡◌, ℕ, ◌+◌, ◌^◌, ◌<◌, ◌≤◌, List, [], ◌∷◌, ◌++◌, length, refl, sym, ap, ◌∙◌, arith, inl, inr, Bool, false, Some, None, Ok, Err, append-nil}
 use Rattle.std.specs.Prelude.{Result, ◌↔◌}
 use Rattle.std.proofs.lemmas.Slice.Eq.{bytes_eq-Decides}
@@ -47,7 +47,7 @@ module _ (old : View) (s : Symbols) (text : List ℕ) (held : IsInternerIn old.m
       ([], record { blocks = sym (append-nil (blocks_of list)); frame = frame_reflexive _ _ }) in
       grind (arith, is, pays, texts)
 
-  -- Refused, it names the texts that it named.
+  -- If refused, it has the blocks of its texts from before.
   interns_not : (new : View) (u : Symbols) (e : AllocError) → number_of names text ≡ None → IsInternerIn new.memory u
       → texts_in new.memory u ≡ list → names_in new.memory u ≡ names
       → ◌≡◌ {A = Result ℕ AllocError} (Err e) (Err CapacityOverflow) ↔ (most_texts ≤ length names)
@@ -61,7 +61,7 @@ module _ (old : View) (s : Symbols) (text : List ℕ) (held : IsInternerIn old.m
       ([], record { blocks = ap blocks_of same ∙ sym (append-nil (blocks_of list)); frame = frame }) in
       grind (arith, none, still, kept, full, denied, pays, texts)
 
-  -- There are as many as there may be.
+  -- There are as many texts as there can be.
   pub interns_full : number_of names text ≡ None → most_texts ≤ s.texts.raw.len → Interns old old s s text (Err CapacityOverflow)
   interns_full none full =
       let pays = pays_nothing {X = ℕ} far_up (1024 + length text) (names_credit s) old (Err CapacityOverflow) (λ k no. cc) in
@@ -92,7 +92,7 @@ module _ (old : View) (s : Symbols) (text : List ℕ) (held : IsInternerIn old.m
 
     module _ (mid : View) (t : Str) (places : PlacesBlock old mid (length text) 1 (Placed t.block))
         (bytes : bytes_of mid.memory t.block ≡ text) where
-      -- It is, and the texts are as they were,
+      -- It is, and the texts are unchanged,
       stays : InternerStays old.memory mid.memory (t.block ∷ []) s
       stays = interner_beside s places.1.outcome.frame held (all_from_none (names_footprint old.memory s))
 
@@ -126,7 +126,7 @@ module _ (old : View) (s : Symbols) (text : List ℕ) (held : IsInternerIn old.m
         one_more is_there size align (inl long) = inl long
         one_more is_there size align (inr larger) = inr (new_key _ _ n.table.slots n.len is_there size align larger)
 
-        -- and then it is put at the end, or not.
+        -- and then it is appended, or not.
         pub interns_placed : (result : Result ℕ AllocError)
             → ((memory : Memory) (m : HashMap Str ℕ FxHasher) → IsMapIn name_kind memory m → AreTexts memory m)
             → Lists name_kind.keys name_kind mid new s.numbers s.texts t t n v result → Interns old new s now text result

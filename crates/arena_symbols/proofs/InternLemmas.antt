@@ -34,7 +34,7 @@ use Rattle.arena_symbols.proofs.NumberLemmas.{number_push, distinct_push}
 pub blocks_push : (list : List Str) (t : Str) → blocks_of (list ++ t ∷ []) ≡ blocks_of list ++ t.block ∷ []
 blocks_push list t = map-append (λ (t : Str). t.block) list (t ∷ [])
 
--- the contents of a text that stands in a list, which may be read with the others
+-- the contents of a text in a list, which is readable with the others
 pub name_at : (m : Memory) (list : List Str) (n : ℕ) (t : Str) → slice_get list n ≡ Some t
     → slice_get (contents_of m list) n ≡ Some (bytes_of m t.block)
 name_at m list n t there = slice_get-map (λ (t : Str). bytes_of m t.block) list n ∙ rw there refl
@@ -53,7 +53,7 @@ length_names memory s = simp length-map (length-elements _ _ _ _)
 -- for automatic proof
 pub ruleset text_laws = (length_names, name_at, text_readable)
 
--- what its map tells of a text is its number
+-- the number that its map has for a text is the text's number
 pub number_is : {memory : Memory} {s : Symbols} {o : Option ℕ} (text : List ℕ) → IsInternerIn memory s
     → o ≡ value_of (map_in name_kind memory s.numbers text) → number_of (names_in memory s) text ≡ o
 number_is text held told = sym (told ∙ held.places text)
@@ -62,9 +62,9 @@ pub value_if : {K V : Type 0} (here : Bool) (one other : Option (K × V))
     → value_of (if here then one else other) ≡ (if here then value_of one else value_of other)
 value_if here one other = grind arith
 
--- ---- Beside a call on other blocks
+-- ---- A call on other blocks
 
--- An interner whose blocks lie apart is held, and means the same.
+-- An interner whose blocks are apart is held, and means the same.
 pub record InternerStays (old new : Memory) (after : List Block) (s : Symbols) : Type 0 where
   pub held : IsInternerIn new s
   pub texts : texts_in new s ≡ texts_in old s
@@ -80,15 +80,15 @@ interner_beside {old = old} {new = new} {before = before} {after = after} s fram
     let again = names_held_again old new s agree held (stays_readable old new after blocks stays) in
     grind (arith, again, texts_same old new s agree, names_same old new s agree, stays_apart old new after blocks stays)
 
--- ---- A text at the end
+-- ---- An appended text
 
--- a text that an interner doesn't have: it may be read, and lies apart from its own blocks
+-- a text that an interner doesn't have: it is readable, and apart from the interner's own blocks
 pub record IsNewText (memory : Memory) (s : Symbols) (t : Str) : Type 0 where
   pub readable : IsTrue (is_readable memory.state t.block)
   pub apart : IsApart t.block.addr t.block.size (own_blocks s)
   pub new : number_of (names_in memory s) (bytes_of memory t.block) ≡ None
 
--- It may come to the vector's end and into the map.
+-- It may be appended to the vector and inserted into the map.
 pub can_append : {memory : Memory} {s : Symbols} {t : Str} → IsInternerIn memory s → s.texts.raw.len < most_texts → IsNewText memory s t
     → CanList name_kind.keys name_kind memory s.numbers s.texts t
 can_append {memory = memory} {s = s} held few fresh =
@@ -98,12 +98,12 @@ can_append {memory = memory} {s = s} held few fresh =
     let keys = all_each (map_texts name_kind memory s.numbers) own (λ b among. all_among list own b apart (held.keys b among)) in
     grind (arith, held.numbers, held.texts, held.apart, held.count, keys, fresh.readable, fresh.apart, few)
 
--- A map's texts are those of the keys that stand in it.
+-- A map's texts are those of its keys.
 abbrev pub AreTexts : Memory → HashMap Str ℕ FxHasher → Type 0
 AreTexts memory m = (b : Block) → Contains (map_texts name_kind memory m) b
     ↔ ((q : List ℕ) × (p : Str × ℕ) × (map_in name_kind memory m q ≡ Some p) × (p.0.block ≡ b))
 
--- Where a pair was put under a new content, a key of the map was one before, or is this text.
+-- If a pair was put under a new content, a key of the map was one before, or is this text.
 key_before : (before : Finite Str ℕ) (q at : List ℕ) (key : Str) (n : ℕ) (p : Str × ℕ) → before q ≡ None
     → with_pair before q key n at ≡ Some p → (before at ≡ Some p) ⊎ (key.block ≡ p.0.block)
 key_before before q at key n p none is = grind (arith, none, is)

@@ -1,5 +1,5 @@
--- The lemmas that a layer above cites: numbers of texts, values in scopes, blocks apart the other way round, and what a call on an
--- interner leaves of a table beside it, and a call on a table of an interner; and what refused calls asked for.
+-- The lemmas that a layer above cites: numbers of texts, values in scopes, blocks apart in the other direction, what a
+-- call on an interner leaves of a table in the same arena, and the reverse, and what refused calls asked for.
 pub use Rattle.arena_symbols.proofs.NumberLemmas.{number_push, number_there}
 pub use Rattle.arena_symbols.proofs.ScopeLemmas.{value_push, lookup_put}
 pub use Rattle.arena_symbols.proofs.InternLemmas.{InternerStays, interner_beside}

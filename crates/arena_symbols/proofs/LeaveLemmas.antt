@@ -44,7 +44,7 @@ module _ {item : Ghosts Entry} (old : View) (s : Scopes) (v : Vec ℕ) (k : ℕ)
   begin : AreStarts (length (recent_in item old.memory s)) (s.start ∷ starts_in old.memory outer)
   begin = subst (AreStarts (length (recent_in item old.memory s))) starts_are held.begins
 
-  -- Without the innermost map's start it is a table still, whose pairs from there on are one map's.
+  -- Without the innermost map's start it is still a table, whose pairs from there on are one map's.
   pub outer_held : IsTableIn item old.memory outer
   outer_held =
       let begins = less_starts s.start (length (recent_in item old.memory s)) (starts_in old.memory outer)
@@ -57,7 +57,7 @@ module _ {item : Ghosts Entry} (old : View) (s : Scopes) (v : Vec ℕ) (k : ℕ)
   pub start_low : s.start ≤ s.pairs.raw.len
   start_low = omega (arith, begin.0, length_recent item old.memory s)
 
-  -- They go too.
+  -- They are removed too.
   pub left : (new : View) (t : Scopes) → Cuts item old new outer t s.start → Leaves item old new s t true
   left new t cuts =
       let less = credit_less 4 v.raw.len s.starts.raw.len s.starts.raw.cap v.raw.cap fewer (omega (arith, cut.cap)) in

@@ -1,4 +1,4 @@
--- A value at a list's end, and its place in a map.
+-- A value appended to a list, and its place in a map.
 use Rattle.std.proofs.Common.{◌≡◌, ℕ, ◌+◌, ◌*◌, ◌^◌, ◌<◌, ◌≤◌, List, [], ◌∷◌, ◌++◌, length, take, refl, sym, ap, subst, ◌∙◌, arith, inl, inr, Bool, Option, Ok, Err, length-append}
 use Rattle.std.specs.Prelude.{Result, OnErr, if◌then◌else◌}
 use Rattle.std.proofs.lemmas.List.{length-take, take_at}
@@ -36,20 +36,20 @@ use Rattle.arena_symbols.proofs.BesideLemmas.{vec_beside}
 use Rattle.arena_symbols.proofs.DeniedLemmas.{err_same, denied_more}
 use Rattle.arena_symbols.proofs.PayLemmas.{Paid, pays_as, pays_more, pays_told, pays_then, pays_push, denied_push, pays_insert, denied_insert, insert_fits, credit_less}
 
--- so many values, and their bytes, fit 32 bits
+-- this many values, and their bytes, fit 32 bits
 pub fits_both : (n size : ℕ) → 4 ≤ size → n * (2 * size) ≤ 2 ^ 32 → (n < 2 ^ 32) × (n * size < 2 ^ 32)
 fits_both n size some few = (omega (arith, mul-le-mul_left n some, few), omega (arith, few))
 
 module _ {K T : Type 0} {item : Ghosts T} {k : Kind K ℕ FxHasher} {old mid : Memory} {m : HashMap K ℕ FxHasher} {v : Vec T} {key : K}
     {after : List Block} (can : CanList item k old m v key) (frame : Frame old mid (v.raw.block ∷ []) after) where
-  -- Beside a push the map is as it was, and so is the key's text.
+  -- A push leaves the map and the key's text unchanged.
   pub stays : StaysMap k old mid after m
   stays = map_stays k m frame can.map can.beside
 
   pub text : Stays old mid after (k.key.text key)
   text = frame_keeps old mid (v.raw.block ∷ []) after (k.key.text key) frame can.readable can.apart.1
 
-  -- A search for it ends where it did.
+  -- A search for the key ends where it did.
   pub look_stays : (look : Look) → IsLookIn k old m (content_in k.key old key) look → IsLookIn k mid m (content_in k.key mid key) look
   look_stays look is = subst (λ (q : List ℕ). IsLookIn k mid m q look) (ap (k.key.content key) (sym text.bytes)) (stays.looks _ look is)
 
@@ -91,7 +91,7 @@ module _ {K T : Type 0} (paid : Paid) {item : Ghosts T} (plain : IsItemLayout it
       grind (arith, stays can grows.frame, grows.held, same, fits, pays, denied, frame)
 
   module _ (grows : Pushes (Ok tt)) (new : View) (n : HashMap K ℕ FxHasher) where
-    -- A push, and then an insert, after which some of the credit may be gone.
+    -- A push, and then an insert, after which some of the credit may be lost.
     both : {after : ℕ} (result : Result (Option ℕ) AllocError)
         → Costs farthest (2 * unit_of k) (credit_of k m) (credit_of k n) mid new result → Puts k mid new m key v.raw.len is_value n result
         → after ≤ saved w + credit_of k n → OnErr result (after ≤ saved v + credit_of k m)

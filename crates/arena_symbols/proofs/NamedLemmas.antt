@@ -1,4 +1,4 @@
--- An interner and a scoped table side by side.
+-- An interner and a scoped table in one arena.
 use Rattle.std.proofs.Common.{◌≡◌, ℕ, List, [], ◌∷◌, ◌++◌, refl, sym, ap, ◌∙◌, inl, inr, Some, Ok, Err, Bool, true, false, ◌<◌, ◌≤◌, length, arith, None, ◌+◌, ◌-◌, ◌^◌}
 use Rattle.std.specs.Prelude.{if◌then◌else◌, not, Result, IfOk, ◌↔◌, ◌⊎◌}
 use Rattle.std.proofs.lemmas.Result.{IfOk-weaker}
@@ -30,7 +30,7 @@ use Rattle.arena_symbols.proofs.PayLemmas.{pays_as, pays_more}
 use Rattle.arena_symbols.proofs.ScopeLemmas.{lookup_put}
 use Rattle.arena_symbols.proofs.TableLemmas.{depth_is}
 
--- Blocks that lie apart from others: so do the others from them.
+-- If blocks are apart from others, the others are apart from them.
 pub all_turned : (bs cs : List Block) → AreAllApart bs cs → AreAllApart cs bs
 all_turned [] cs apart = all_from_none cs
 all_turned (b ∷ bs) cs apart = (all_from_both cs (b ∷ []) bs).1 (all_apart b cs apart.0, all_turned bs cs apart.1)
@@ -88,7 +88,7 @@ unnamed {old = old} {mid = mid} {n = n} {t = t} {name = name} {e = e} held inter
     λ k is. inl (interns.denied k (cc)) in
     grind (arith, moved, interns.overflows, interns.kept, interns.fresh, denied, spent {n = n} {m = record n { symbols = t }} pays)
 
--- One that overflows at the pairs, as the name has its number.
+-- A declaration that overflows at the pairs, after the name has its number.
 overflows_at : {P : Type 0} {maps scopes : List (List (ℕ × ℕ))} {id : ℕ} (texts now : List (List ℕ)) (name : List ℕ) → maps ≡ scopes
     → number_of now name ≡ Some id → ((number_of texts name ≡ None) × (most_texts ≤ length texts) → ⊥)
     → (P ↔ ((is_in_last maps id ≡ false) × (most_pairs ≤ pair_count maps))) → P ↔ IsFullFor texts now scopes name
@@ -129,13 +129,13 @@ bound {old = old} {mid = mid} {new = new} {n = n} {t = t} {u = u} {name = name} 
     record { costs = costs; told = grind (arith, second.told, first.costs.asks.refusals) } in
     grind (arith, moves, two.1, interns.names, put, one.1, defines.kept, overflows, denied, spends)
 
--- the outer maps where a pair was put
+-- the outer maps after a pair was put
 outer_put : (scopes : List (List (ℕ × ℕ))) (id value : ℕ) → outer_of (with_pair scopes id value) ≡ outer_of scopes
 outer_put [] id value = refl
 outer_put (scope ∷ outer) id value = refl
 
 module _ {old new : Memory} {n m : Names} {name : List ℕ} {value : ℕ} where
-  -- A name that was put means its value,
+  -- A name that was declared has its value,
   pub means_value : (result : Result Bool AllocError) → Declares old new n m name value result → result ≡ Ok true
       → meaning new m name ≡ Some value
   means_value result declares is =
@@ -143,7 +143,7 @@ module _ {old new : Memory} {n m : Names} {name : List ℕ} {value : ℕ} where
       (λ i. meant (put.3 i) (put.1 i))
       ∙ grind (arith, depth_is entry_item old n.scopes, lookup_put (scopes_in entry_item old n.scopes) put.0 value put.0)
 
-  -- as it is in an empty scope.
+  -- as it does in an empty scope.
   pub not_there : (result : Result Bool AllocError) → Declares old new n m name value result
       → innermost (scopes_in entry_item old n.scopes) ≡ [] → result ≡ Ok false → ⊥
   not_there result declares none is = grind (arith, (rw is at declares).put.2, none)
@@ -163,7 +163,7 @@ outer_long (scope ∷ outer) some = omega (arith, some)
 -- ---- A scope of its own
 
 module _ {X Y : Type 0} {old new : View} {n m : Names} {name : List ℕ} where
-  -- It doesn't matter what is answered beside a refusal.
+  -- The value of a successful result doesn't matter.
   pub within_ok : {x : X} (y : Y) → DeclaresWithin old new n m name (Ok x) → DeclaresWithin old new n m name (Ok y)
   within_ok y within =
       record {

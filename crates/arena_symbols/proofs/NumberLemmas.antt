@@ -20,12 +20,12 @@ push_position text (x ∷ xs) q i none =
     let is = bytes_eq-Decides in
     grind (arith, none, push_position text xs q (i + 1), (is q x).0, (is q text).0, (is text x).1)
 
--- A new text at the end has the next number, and the others have theirs.
+-- A new text at the end has the next number, and the others keep theirs.
 pub number_push : (texts : List (List ℕ)) (text q : List ℕ) → number_of texts text ≡ None
     → number_of (texts ++ text ∷ []) q ≡ (if bytes_eq q text then Some (length texts) else number_of texts q)
 number_push texts text q none = grind (arith, push_position text texts q 0 none)
 
--- a text that none equals has no number
+-- a text that equals none has no number
 none_any : {X : Type 0} (p : X → Bool) → (xs : List X) (i : ℕ) → position_from p i xs ≡ None → list_any p xs ≡ false
 none_any p [] i none = refl
 none_any p (x ∷ xs) i none = grind (arith, none, none_any p xs (i + 1))
@@ -41,7 +41,7 @@ pub distinct_push : (texts : List (List ℕ)) (text : List ℕ) → IsDistinct b
 distinct_push texts text distinct none =
     IsDistinct-push nat_list_eq_equiv texts text distinct (none_any (bytes_eq text) texts 0 none)
 
--- Where a text's number is, the text stands.
+-- The text with a number is at that place.
 pub number_there : (text : List ℕ) (texts : List (List ℕ)) (n : ℕ) → number_of texts text ≡ Some n → slice_get texts n ≡ Some text
 number_there text texts n is =
     let at = position-Some (bytes_eq text) texts n [] (position_from-zero (bytes_eq text) texts ∙ is) in

@@ -1,5 +1,5 @@
--- What calls pay, by what they are made of: nothing, a text that is placed, a value at a vector's end, a pair in a map; and one after
--- another.
+-- What calls pay, by their parts: nothing, a text that is placed, a value appended to a vector, a pair in a map; and
+-- one after another.
 use Rattle.std.proofs.Common.{◌≡◌, ℕ, ◌+◌, ◌-◌, ◌*◌, ◌^◌, ◌<◌, ◌≤◌, refl, arith, inl, inr, false, IsTrue, Ok, Err, Option, List, length}
 use Rattle.std.specs.Prelude.{Result, OnErr}
 use Rattle.std.proofs.lemmas.Bool.{cases_Bool}
@@ -41,7 +41,7 @@ use Rattle.arena_symbols.specs.Asks.{LongerList, LargerMap}
 use Rattle.arena_symbols.specs.Paying.{Pays}
 use Rattle.arena_symbols.proofs.DeniedLemmas.{block_denied, room_denied}
 
--- A call's answer, told as another's.
+-- A result with another value.
 abbrev pub told : {X Y : Type 0} → (X → Y) → Result X AllocError → Result Y AllocError
 told f (Ok x) = Ok (f x)
 told f (Err e) = Err e
@@ -52,7 +52,7 @@ told_err f (Err d) is = cc
 
 -- ---- No memory
 
--- Nothing is done, and the answer is no refusal of the arena's.
+-- Nothing is done, and the result is no refusal by the arena.
 pub pays_nothing : {X : Type 0} (far bytes credit : ℕ) (old : View) (result : Result X AllocError)
     → ((k : ℕ) → result ≡ Err (AllocErr k) → ⊥) → Pays far bytes credit credit old old result
 pays_nothing far bytes credit old result none =
@@ -68,7 +68,8 @@ pays_places {far = far} {bytes = bytes} {before = before} {after = after} old ne
 
 -- ---- More, and together
 
--- A call that is refused only as another is pays as that one. A credit beside stays, and of the credit afterwards some may be forgotten.
+-- A call that is refused only if another is pays as that one does. A further credit stays, and some of the credit
+-- afterwards may be ignored.
 pub pays_as : {X Y : Type 0} {far near few many before after more later : ℕ} {old new : View} {first : Result X AllocError}
     {result : Result Y AllocError} (rest : ℕ) → ((e : AllocError) → result ≡ Err e → first ≡ Err e) → far ≤ near → few ≤ many
     → before + rest ≡ more → later ≤ after + rest → Pays near few before after old new first → Pays far many more later old new result
@@ -84,7 +85,7 @@ pub pays_more : {X : Type 0} {far near few many before after more later : ℕ} {
     → Pays far many more later old new result
 pays_more rest close le sum less pays = pays_as rest (λ e is. is) close le sum less pays
 
--- It doesn't matter what is answered beside a refusal.
+-- The value of a successful result doesn't matter.
 pub pays_told : {X Y : Type 0} {far bytes before after : ℕ} {old new : View} (f : X → Y) (result : Result X AllocError)
     → Pays far bytes before after old new result → Pays far bytes before after old new (told f result)
 pays_told f result pays = pays_as 0 (λ e is. grind (arith, is)) (omega arith) (omega arith) (omega arith) (omega arith) pays
@@ -100,7 +101,7 @@ pays_then x growing still err first more =
 
 -- ---- What the arena refuses
 
--- A refusal of room is the arena's, and tells how many requests were refused.
+-- A refusal of room is the arena's, and reports how many requests were refused.
 room_told : {X : Type 0} (size align : ℕ) (old new : View) (block : Block) (cap : ℕ) (f : X → Block) (k : ℕ) (growth : Growth)
     → MakesRoom size align old new block cap growth f (Err (AllocErr k)) → IsCounted k old new
 room_told size align old new block cap f k Stays made = absurd made.0
@@ -126,7 +127,7 @@ pays_room {X} size align old new block cap more f bytes before after result one 
 abbrev nowhere : Block
 nowhere = record { generation = 0; addr = 1; size = 0; align = 1 }
 
--- what is placed again is room that is taken where there was none
+-- placing a text is taking room where there was none
 pub pays_text : {X : Type 0} (f : X → Block) (old new : View) (n : ℕ) (result : Result X AllocError) → old.memory.state.min_align ≡ 1
     → n < 2 ^ 32 → RoomAnswer f result (PlacesBlock old new n 1) → Pays farthest n 0 0 old new result
 pays_text f old new n result one short places =
@@ -136,9 +137,9 @@ pays_text f old new n result one short places =
     (grind (arith, short, row_is_layout n 1 1 plain_1 short (omega arith))) (grind arith)
     (record { between = new; took = grind (arith, taken, places); places = record { state = refl; statistics = refl; source = refl } })
 
--- ---- A value at a vector's end
+-- ---- A value appended to a vector
 
--- What is known of growth, by the vectors' law: it is paid ahead, and the capacity never falls.
+-- What is known of growth, by the vectors' law: it is paid for in advance, and the capacity never falls.
 pub record Paid : Type 0 where
   pub keeps : (size cap required : ℕ) → cap ≤ capacity_after (amortised_growth size cap required) cap
   pub asks : (size cap len n : ℕ) → len ≤ cap → 0 < size → (len + n) * (2 * size) ≤ 2 ^ 32
@@ -146,7 +147,7 @@ pub record Paid : Type 0 where
       (capacity_after (amortised_growth size cap (len + n)) cap)
       ≤ list_credit size len cap + 4 * n * size
 
--- A vector's credit falls with its length, and where its capacity rises.
+-- A vector's credit falls with its length, and if its capacity rises.
 pub credit_less : (s few many low high : ℕ) → few ≤ many → low ≤ high → list_credit s few high ≤ list_credit s many low
 credit_less s few many low high less more =
     mul-le-mul_left (2 * s) (let h : 2 * few - high ≤ 2 * many - low = omega (arith, less, more) in h)
@@ -207,7 +208,7 @@ module _ {T : Type 0} (paid : Paid) (item : Ghosts T) (plain : IsItemLayout item
       (paid.keeps item.SIZE v.raw.cap (v.raw.len + 1))
       (omega (arith, paid.asks item.SIZE v.raw.cap v.raw.len 1 held.within (omega (arith, some)) few)) fits grows
 
-  -- Refused, the list is as it was, and what it asks for has no place.
+  -- If refused, the list is unchanged, and the block that it asks for has no place.
   pub denied_push : {X : Type 0} (k : ℕ)
       → Grows {X = X} item old new v (amortised_growth item.SIZE v.raw.cap (v.raw.len + 1)) list w (Err (AllocErr k))
       → IsDenied (LongerList item w) new
@@ -227,13 +228,13 @@ module _ {X K V S : Type 0} (k : Kind K V S) (tells : Option V → X → Type 0)
         room_told _ _ old new m.table.block 0 (λ (x : X). w.table.block) j _ (rw is at puts.made) in
         grind (arith, costs, puts.costs.refused, told)
 
-    -- Refused, the map is as it was, and what it asks for has no place.
+    -- If refused, the map is unchanged, and the block that it asks for has no place.
     pub denied_insert : (j : ℕ) → Puts {X = X} k old new m key value tells w (Err (AllocErr j))
         → IsDenied (LargerMap k (has (map_in k old.memory m) (content_in k.key old.memory key)) w) new
     denied_insert j puts = rw puts.err.0 (room_denied _ _ old new m.table.block (λ (x : X). w.table.block) j
         (growth_for (has (map_in k old.memory m) (content_in k.key old.memory key)) m.table.slots m.len) puts.made)
 
-    -- It fits where there are fewer pairs than a map can have.
+    -- It fits if there are fewer pairs than a map can have.
     pub insert_fits : (result : Result X AllocError) → m.len < 2 ^ 32 - 1 → Puts k old new m key value tells w result
         → result ≡ Err CapacityOverflow → ⊥
     insert_fits result few puts is =

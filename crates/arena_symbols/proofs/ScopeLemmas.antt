@@ -16,7 +16,7 @@ use Rattle.arena_symbols.specs.Tables.{Entry, pairs_of, newest, first_count}
 
 -- ---- What is seen
 
--- pairs behind others are seen first
+-- later pairs are seen first
 value_append : (older newer : List (ℕ × ℕ)) (id : ℕ) → value_in (older ++ newer) id ≡ seen (value_in newer id) (value_in older id)
 value_append [] newer id = grind arith
 value_append (p ∷ ps) newer id = rw (value_append ps newer id) (grind arith)
@@ -59,7 +59,7 @@ pub newest_within : (es : List Entry) (id at : ℕ) → newest es id ≡ Some at
 newest_within [] id at is = absurd (cc)
 newest_within (e ∷ older) id at is = grind (arith, is, newest_within older id at)
 
--- what the entry says that stands at a place
+-- what the entry at a place says
 abbrev pub told : List Entry → Option ℕ → Option ℕ
 told entries None = None
 told entries (Some at) = option_map (λ (e : Entry). e.1.0) (slice_get entries at)
@@ -78,7 +78,7 @@ value_told (e ∷ older) id =
     rw (arrived_cons older e, value_push (arrived older) e.0 e.1.0 id, reverse-append (e ∷ []) older)
     (grind (arith, nat_tests, value_told older id, get_push (reverse older) e, newest_within older id, length-reverse older))
 
--- The pairs from a place on have an id where its newest entry stands there.
+-- The pairs from a place on have an id if its newest entry is among them.
 pub stands_there : (es : List Entry) (k id : ℕ) → is_some (value_in (drop k (arrived es)) id) ≡ stands_from (newest es id) k
 stands_there [] zero id = refl
 stands_there [] (suc k) id = refl
@@ -91,7 +91,7 @@ stands_there (e ∷ older) k id = elim (cases_lt k (length (e ∷ older))) [
       (grind (arith, nat_tests, past, newest_within (e ∷ older) id))
 ]
 
--- Where this is the last of some, it comes first when they are turned.
+-- The last of a list comes first in the reversed list.
 pub reverse_last : {X : Type 0} (xs : List X) (n : ℕ) (x : X) → length xs ≡ n + 1 → slice_get xs n ≡ Some x
     → reverse xs ≡ x ∷ reverse (take n xs)
 reverse_last {X} xs n x long there =
@@ -146,7 +146,7 @@ pub first_most : (es : List Entry) → first_count es ≤ length es
 first_most [] = omega arith
 first_most (e ∷ older) = grind (arith, first_most older)
 
--- Two ids have one byte form exactly where they are equal.
+-- Two ids have the same byte form exactly if they are equal.
 pub ids_equal : (q id : ℕ) → q < 2 ^ 32 → id < 2 ^ 32 → bytes_eq (to_le_bytes w32 q) (to_le_bytes w32 id) ≡ (id == q)
 ids_equal q id fits also = same_from_decides _ _ (bytes_eq-Decides (to_le_bytes w32 q) (to_le_bytes w32 id)) (
   λ same. ap (to_le_bytes w32) (sym (eqb-true id q same)),

@@ -45,7 +45,7 @@ module _ (paid : Paid) {item : Ghosts Entry} (old new : View) {s : Scopes} (v : 
   Pushes result = Grows place_item old new s.starts (amortised_growth 4 s.starts.raw.cap (s.starts.raw.len + 1))
       (vec_list place_item old.memory s.starts ++ s.pairs.raw.len ∷ []) v result
 
-  -- the handle then
+  -- the handle after the call
   abbrev entered : Result (Unit {0}) AllocError → Scopes
   entered (Ok x) = record s { starts = v; start = n }
   entered (Err e) = record s { starts = v }

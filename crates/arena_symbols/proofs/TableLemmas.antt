@@ -33,7 +33,7 @@ module _ (item : Ghosts Entry) (memory : Memory) (s : Scopes) where
 
 module _ {item : Ghosts Entry} {memory : Memory} {s : Scopes} (held : IsTableIn item memory s) (id : ℕ) (o : Option ℕ) (fits : id < 2 ^ 32)
     (is : o ≡ value_of (map_in id_kind memory s.newest (to_le_bytes w32 id))) where
-  -- What the map tells of an id is where its newest entry stands,
+  -- The map has the place of an id's newest entry,
   pub newest_is : o ≡ newest (recent_in item memory s) id
   newest_is = is ∙ held.places id fits
 
@@ -46,7 +46,7 @@ module _ {item : Ghosts Entry} {memory : Memory} {s : Scopes} (held : IsTableIn 
   looked_up = lookup_whole (pairs_of (entries_in item memory s)) (starts_in memory s) id
       ∙ (rw (reverse-reverse (entries_in item memory s), ← newest_is) at (value_told (recent_in item memory s) id))
 
-  -- so some map has one where this tells of one,
+  -- so some map has an id if this one has it,
   pub looked_is : is_some (lookup (scopes_in item memory s) id) ≡ is_some o
   looked_is = ap is_some looked_up ∙ by o refl
     where
@@ -56,7 +56,7 @@ module _ {item : Ghosts Entry} {memory : Memory} {s : Scopes} (held : IsTableIn 
           let within : at < length (entries_in item memory s) = simp length-elements (stands at found) in
           rw (slice_get-get_or (entries_in item memory s) at (0, (0, None)) within) refl
 
-  -- and is of the innermost map where it stands from that one's start on.
+  -- and the entry is of the innermost map if it is at or after that map's start.
   pub in_last_is : is_in_last (scopes_in item memory s) id ≡ stands_from o s.start
   in_last_is = rw (held.start, innermost_is (pairs_of (entries_in item memory s)) (starts_in memory s))
       (rw (reverse-reverse (entries_in item memory s), ← newest_is)

@@ -1,4 +1,4 @@
--- The newest pair is taken away.
+-- The newest pair is removed.
 use Rattle.std.proofs.Common.{◌≡◌, ℕ, ◌+◌, ◌^◌, ◌<◌, ◌≤◌, List, [], ◌∷◌, length, take, reverse, refl, sym, ap, subst, ◌∙◌, arith, Some, None, Option, Ok, Err, true, cond}
 use Rattle.std.specs.Prelude.{slice_get, Result}
 use Rattle.std.specs.Int.{w32, to_le_bytes}
@@ -31,7 +31,7 @@ use Rattle.arena_symbols.proofs.ScopeLemmas.{less_starts, ids_equal, reverse_las
 
 module _ {old new : View} {m w : HashMap ℕ ℕ FxHasher} {id : ℕ}
     (there : has (map_in id_kind old.memory m) (to_le_bytes w32 id) ≡ true) where
-  -- A key that is there was put again.
+  -- A key that is there was inserted again.
   pub unhide_some : (at : ℕ) (result : Result (Option ℕ) AllocError) → Puts id_kind old new m id at is_value w result
       → Unhides old new m id (Some at) w
   unhide_some at (Ok before) puts = record {
@@ -44,7 +44,7 @@ module _ {old new : View} {m w : HashMap ℕ ℕ FxHasher} {id : ℕ}
   }
   unhide_some at (Err error) puts = absurd (let no = (puts.costs.there there).0 in cc)
 
-  -- One that hid none was removed.
+  -- The key of a pair that hid none was removed.
   pub unhide_none : (result : Option ℕ) → TakesOut id_kind old new m id is_value w result → Unhides old new m id None w
   unhide_none result takes = record {
     held = takes.becomes.held;
@@ -63,7 +63,7 @@ module _ {item : Ghosts Entry} (old : View) {s : Scopes} (n : ℕ) {e : Entry} (
   abbrev older : List Entry
   older = reverse (take n (entries_in item old.memory s))
 
-  -- it stands for the last entry and the ones before it
+  -- the entries are the last one and the ones before it
   recent_are : recent_in item old.memory s ≡ e ∷ older
   recent_are = reverse_last entries n e (length-elements _ _ _ _ ∙ last) there
 
@@ -76,7 +76,7 @@ module _ {item : Ghosts Entry} (old : View) {s : Scopes} (n : ℕ) {e : Entry} (
   pub is_there : has (map_in id_kind old.memory s.newest) (to_le_bytes w32 e.0) ≡ true
   is_there = grind (arith, nat_tests, was.places e.0 fits)
 
-  -- The list's end is cut off, and its id tells what was hidden.
+  -- The list's end is cut off, and its id gets what was hidden.
   pub undone : (new : View) (w : HashMap ℕ ℕ FxHasher) (u : Vec Entry) → s.start < s.pairs.raw.len
       → Becomes item old old s.pairs (take n entries) u → Unhides old new s.newest e.0 e.1.1 w
       → Cuts item old new s (record s { newest = w; pairs = u }) n

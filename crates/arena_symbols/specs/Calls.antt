@@ -1,4 +1,5 @@
--- Calls on the names of a program, with no arena: what each answers, and what it leaves, of a list of texts and a list of maps.
+-- Calls on the names of a program, without an arena: the reply to each, and its effect on a list of texts and a list of
+-- maps.
 use Rattle.std.specs.Prelude.{◌≡◌, ℕ, ◌+◌, ◌^◌, ◌<◌, ◌≤◌, ◌⊎◌, List, [], ◌∷◌, None, Bool, true, false, not, length, slice_get, if◌then◌else◌}
 use Rattle.arena_items.specs.declared.room.AllocError.{AllocError}
 use Rattle.arena_items.specs.declared.room.AllocError.TheVariants.{AllocErr, CapacityOverflow, OutOfMemory}
@@ -19,7 +20,7 @@ abbrev pub has_outer : List (List (ℕ × ℕ)) → Bool
 has_outer (scope ∷ (next ∷ outer)) = true
 has_outer scopes = false
 
--- What a call answers,
+-- The reply to a call,
 abbrev pub answer : State → Call → Reply
 answer s (Intern text) = Number (number_of (with_text s.texts text.now) text.now)
 answer s (Find text) = Number (number_of s.texts text.now)
@@ -32,7 +33,7 @@ answer s (Lookup id) = Number (lookup s.scopes id)
 answer s (InLast id) = Said (is_in_last s.scopes id)
 answer s Depth = Count (length s.scopes)
 
--- and what it leaves.
+-- and the state after it.
 abbrev pub after : State → Call → State
 after s (Intern text) = record s { texts = with_text s.texts text.now }
 after s Enter = record s { scopes = [] ∷ s.scopes }
@@ -40,7 +41,7 @@ after s Leave = if has_outer s.scopes then record s { scopes = outer_of s.scopes
 after s (Define id value) = if is_in_last s.scopes id then s else record s { scopes = with_pair s.scopes id value }
 after s call = s
 
--- What calls answer that are made one after another, and what they leave.
+-- The replies to calls made one after another, and the state after them.
 abbrev pub answers : State → List Call → List Reply
 answers s [] = []
 answers s (call ∷ calls) = answer s call ∷ answers (after s call) calls
@@ -49,14 +50,14 @@ abbrev pub after_all : State → List Call → State
 after_all s [] = s
 after_all s (call ∷ calls) = after_all (after s call) calls
 
--- a call that comes where there are as many texts, maps or pairs as there may be, or whose text is too long
+-- a call that would exceed the maximum number of texts, maps or pairs, or whose text is too long
 abbrev pub IsFull : State → Call → Type 0
 IsFull s (Intern text) = (2 ^ 32 ≤ length text.now) ⊎ ((number_of s.texts text.now ≡ None) × (most_texts ≤ length s.texts))
 IsFull s Enter = most_scopes ≤ length s.scopes
 IsFull s (Define id value) = (is_in_last s.scopes id ≡ false) × (most_pairs ≤ pair_count s.scopes)
 IsFull s call = ⊥
 
--- Calls that come one after another, none of which is full.
+-- Calls made one after another, none of which is full.
 abbrev pub HaveRoom : State → List Call → Type 0
 HaveRoom s [] = Unit {0}
 HaveRoom s (call ∷ calls) = (IsFull s call → ⊥) × HaveRoom (after s call) calls
@@ -75,18 +76,19 @@ abbrev pub Changes : State → Call → Type 0
 Changes s Leave = has_outer s.scopes ≡ true
 Changes s call = Adds s call
 
--- a call that has a text copied
+-- a call that copies a text
 abbrev pub Copies : State → Call → Type 0
 Copies s (Text id) = id < length s.texts
 Copies s call = ⊥
 
--- What a call may be refused with: it is full, the arena has no place for what it adds, or there is no memory for that or for a copy.
+-- The errors that a call may return: it is full; the arena has no place for what it adds; or there is no memory for
+-- that or for a copy.
 abbrev pub MayAnswer : State → Call → AllocError → Type 0
 MayAnswer s call CapacityOverflow = IsFull s call
 MayAnswer s call (AllocErr k) = Adds s call
 MayAnswer s call OutOfMemory = Adds s call ⊎ Copies s call
 
--- the bytes that a call may bring into use, and many
+-- the most bytes that a call may bring into use, and that several calls may
 abbrev pub bytes_for : Call → ℕ
 bytes_for (Intern text) = 1024 + length text.now
 bytes_for Enter = 64

@@ -13,18 +13,18 @@ use Rattle.arena_symbols.specs.Interner.{number_of, with_text, most_texts}
 use Rattle.arena_symbols.specs.Names.{IsInternerIn, name_kind, names_in, texts_in, blocks_of, own_blocks, names_footprint, names_credit}
 use Rattle.arena_symbols.specs.declared.symbols.Symbols.{Symbols}
 
--- The interner names the texts that it named, and these; only its own blocks were written.
+-- The interner has the blocks of its texts from before, and these; only its own blocks were written.
 pub record KeepsTexts (old new : View) (s t : Symbols) (more : List Block) : Type 0 where
   pub blocks : blocks_of (texts_in new.memory t) ≡ blocks_of (texts_in old.memory s) ++ more
   pub frame : Frame old.memory new.memory (own_blocks s) (own_blocks t ++ more)
 
--- Why the arena refuses a new text: its bytes have no place, and nothing was placed; or the list of texts is full then, or the map, and what
--- that asks for has none.
+-- Why the arena refuses a new text: its bytes have no place, and nothing was placed; or the list of texts or the map is
+-- full, and the block that it asks for has no place.
 abbrev pub IsTextDenied : View → View → Symbols → List ℕ → Type 0
 IsTextDenied old new t text = (IsDenied (TextOf (length text)) new × (new.memory ≡ old.memory))
     ⊎ IsDenied (OneMore name_kind.keys name_kind false t.texts t.numbers) new
 
--- A text is given its number: the one that it has, or the next one. Refused, the texts are as they were.
+-- A text is given its number: the one that it has, or the next one. If refused, the texts are unchanged.
 pub record Interns (old new : View) (s t : Symbols) (text : List ℕ) (result : Result ℕ AllocError) : Type 0 where
   pub held : IsInternerIn new.memory t
   pub names : OnOk result (names_in new.memory t ≡ with_text (names_in old.memory s) text)
@@ -38,7 +38,7 @@ pub record Interns (old new : View) (s t : Symbols) (text : List ℕ) (result : 
   pub pays : Pays far_up (1024 + length text) (names_credit s) (names_credit t) old new result
   pub texts : (more : List Block) × KeepsTexts old new s t more
 
--- An interner with no text, which places nothing: it is one in every arena, apart from all.
+-- An interner without texts, and without bytes in the arena: it is held in every arena, and apart from all blocks.
 pub record IsNewInterner (s : Symbols) : Type 0 where
   pub held : (memory : Memory) → IsInternerIn memory s
   pub names : (memory : Memory) → names_in memory s ≡ []

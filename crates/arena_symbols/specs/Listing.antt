@@ -1,4 +1,4 @@
--- A list of values, and a map that tells under each key where one of them stands.
+-- A list of values, and a map from keys to places in the list.
 use Rattle.std.specs.Prelude.{◌≡◌, ℕ, ◌+◌, ◌-◌, ◌*◌, ◌^◌, ◌<◌, ◌≤◌, [], ◌∷◌, ◌++◌, if◌then◌else◌, Result, Err, IfOk, OnOk, OnErr, IsTrue}
 use Rattle.arena_chunks.specs.Memory.{Memory, is_readable}
 use Rattle.arena_chunks.specs.Source.{View}
@@ -19,14 +19,15 @@ use Rattle.arena_hash.specs.declared.map.HashMap.{HashMap}
 use Rattle.arena_symbols.specs.Asks.{OneMore}
 use Rattle.arena_symbols.specs.Paying.{Pays, far_up}
 
--- the byte form of a place, and what the types of a map to places tell
+-- the byte form of a place, and the types of a map to places
 abbrev pub place_item : Ghosts ℕ
 place_item = Rattle.arena_items.specs.contracts.numbers.unsigned.U32Item.TheImpl.ghosts
 
 abbrev pub place_kind : {K : Type 0} → Ghosts K → Key K → Kind K ℕ FxHasher
 place_kind keys key = kind keys key place_item Rattle.hash_ring.specs.contracts.hasher.FxHasherKeyHasher.TheImpl.ghosts.hash_of
 
--- A value may come to the list's end, and its place under a key into the map. Both lie apart, and the key's text from both.
+-- A value may be appended to the list, and its place inserted into the map under a key. List and map are apart from
+-- each other, and the key's text from both.
 pub record CanList {K T : Type 0} (item : Ghosts T) (k : Kind K ℕ FxHasher) (memory : Memory) (m : HashMap K ℕ FxHasher) (v : Vec T)
     (key : K) : Type 0 where
   pub some : 4 ≤ item.SIZE
@@ -41,8 +42,9 @@ pub record CanList {K T : Type 0} (item : Ghosts T) (k : Kind K ℕ FxHasher) (m
   pub few : (v.raw.len + 1) * (2 * item.SIZE) ≤ 2 ^ 32
   pub few_keys : m.len < 2 ^ 32 - 1
 
--- It came there. Refused, both are as they were, though the list's block may be another; the arena refuses where the list is full then,
--- or the map, and what that asks for has no place.
+-- The value was appended, and its place inserted. If refused, list and map have the same contents as before, though the
+-- list's block may be another; the arena refuses only if the list or the map is full, and the block that it asks for
+-- has no place.
 pub record Lists {K T : Type 0} (item : Ghosts T) (k : Kind K ℕ FxHasher) (old new : View) (m : HashMap K ℕ FxHasher) (v : Vec T) (key : K)
     (value : T) (n : HashMap K ℕ FxHasher) (w : Vec T) (result : Result ℕ AllocError) : Type 0 where
   pub map : IsMapIn k new.memory n

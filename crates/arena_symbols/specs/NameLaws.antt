@@ -24,7 +24,7 @@ all_of P [] each = tt
 all_of P (x ∷ xs) each =
     (each x (0, omega arith, refl), all_of P xs (λ y among. each y (suc among.0, omega (arith, among.1), among.2)))
 
--- What two arenas that agree on texts have there, and what an interner is made of.
+-- The contents of texts in two arenas that agree on them, and an interner from its parts.
 pub contents_agree : (a c : Memory) (list : List Str) → Agree a c (blocks_of list) → contents_of a list ≡ contents_of c list
 contents_agree a c [] agree = refl
 contents_agree a c (t ∷ ts) agree = (λ i. agree.0 i ∷ contents_agree a c ts agree.1 i)
@@ -34,7 +34,7 @@ pub interner_of : (memory : Memory) (s : Symbols) (list : List Str) (names : Lis
 interner_of memory s list names is named of = subst (λ (l : List Str). IsInternerOf memory s l (contents_of memory l)) (sym is)
     (subst (IsInternerOf memory s list) (sym named) of)
 
--- lists that are the same are the same behind their first
+-- equal lists have equal tails
 pub behind_same : (x y : Block) (xs ys : List Block) → x ∷ xs ≡ y ∷ ys → xs ≡ ys
 behind_same x y xs ys same = ap behind same
   where
@@ -42,7 +42,7 @@ behind_same x y xs ys same = ap behind same
     behind [] = []
     behind (b ∷ bs) = bs
 
--- Its footprint may be read.
+-- Its footprint is readable.
 pub names_readable : (m : Memory) (s : Symbols) → IsInternerIn m s → AreReadable m.state (names_footprint m s)
 names_readable m s held = (held.numbers.handle.place.readable, (held.texts.place.readable, held.readable))
 
@@ -50,7 +50,7 @@ module _ (a c : Memory) (s : Symbols) (agree : Agree a c (names_footprint a s)) 
   pub texts_same : texts_in a s ≡ texts_in c s
   texts_same = ap (elements name_kind.keys.SIZE name_kind.keys.decoded s.texts.raw.len) agree.1.0
 
-  -- It names the same blocks,
+  -- It has the same footprint,
   pub names_same_footprint : names_footprint a s ≡ names_footprint c s
   names_same_footprint = ap (λ (l : List Str). own_blocks s ++ blocks_of l) texts_same
 
@@ -58,7 +58,7 @@ module _ (a c : Memory) (s : Symbols) (agree : Agree a c (names_footprint a s)) 
   pub names_same : names_in a s ≡ names_in c s
   names_same = contents_agree a c (texts_in a s) agree.1.1 ∙ ap (contents_of c) texts_same
 
-  -- and is held where its footprint may be read: what its map reads is of it.
+  -- and is held if its footprint is readable, which includes what its map reads.
   pub names_held_again : IsInternerIn a s → AreReadable c.state (names_footprint a s) → IsInternerIn c s
   names_held_again held readable =
       let within : (P : Block → Type 0) → AllByRecursion P (blocks_of (texts_in a s)) → AllByRecursion P (map_texts name_kind a s.numbers) =

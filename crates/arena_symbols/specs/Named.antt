@@ -1,4 +1,4 @@
--- The names of a program: an interner and a scoped table side by side in an arena.
+-- The names of a program: an interner and a scoped table in one arena.
 use Rattle.std.specs.Prelude.{◌≡◌, ℕ, ◌+◌, ◌-◌, ◌^◌, ◌≤◌, ◌⊎◌, ◌↔◌, List, [], ◌∷◌, ◌++◌, length, Bool, false, not, Option, Some, None, Result, Err, IfOk, OnOk, OnErr, IsErr, if◌then◌else◌}
 use Rattle.arena_chunks.specs.Memory.{Memory}
 use Rattle.arena_chunks.specs.Source.{View}
@@ -17,13 +17,13 @@ use Rattle.arena_symbols.specs.TableCalls.{IsNewTable, IsPairDenied}
 use Rattle.arena_symbols.specs.Tables.{entry_item, IsTableIn, scopes_in, table_blocks, table_credit}
 use Rattle.arena_symbols.specs.declared.names.Names.{Names}
 
--- Both stand there, and their blocks lie apart.
+-- Both are held in the arena, and their blocks are apart.
 pub record AreNames (memory : Memory) (n : Names) : Type 0 where
   pub symbols : IsInternerIn memory n.symbols
   pub scopes : IsTableIn entry_item memory n.scopes
   pub apart : AreAllApart (table_blocks n.scopes) (names_footprint memory n.symbols)
 
--- No name, in one scope: both are new, and stand in every arena.
+-- No names, in one scope: both are new, and held in every arena.
 pub record AreNewNames (n : Names) : Type 0 where
   pub held : (memory : Memory) → AreNames memory n
   pub symbols : IsNewInterner n.symbols
@@ -33,16 +33,16 @@ pub record AreNewNames (n : Names) : Type 0 where
 abbrev pub all_blocks : Memory → Names → List Block
 all_blocks memory n = table_blocks n.scopes ++ names_footprint memory n.symbols
 
--- the bytes that both saved up for their next blocks
+-- the bytes that both have saved up for their next blocks
 abbrev pub all_credit : Names → ℕ
 all_credit n = names_credit n.symbols + table_credit n.scopes
 
--- Both stand there after a call, and nothing else in the arena was written.
+-- Both are held after a call, and nothing else in the arena was written.
 pub record Moves (old new : Memory) (n m : Names) : Type 0 where
   pub held : AreNames new m
   pub frame : Frame old new (all_blocks old n) (all_blocks new m)
 
--- the value of a number, if a text has one
+-- the value of a number, if there is a number
 abbrev pub meant : List (List (ℕ × ℕ)) → Option ℕ → Option ℕ
 meant scopes None = None
 meant scopes (Some id) = lookup scopes id
@@ -51,12 +51,12 @@ meant scopes (Some id) = lookup scopes id
 abbrev pub meaning : Memory → Names → List ℕ → Option ℕ
 meaning memory n name = meant (scopes_in entry_item memory n.scopes) (number_of (names_in memory n.symbols) name)
 
--- A text more has a number, or was refused one.
+-- The texts are unchanged, or have this one too.
 abbrev pub MayHave : List (List ℕ) → List ℕ → List (List ℕ) → Type 0
 MayHave texts text after = (after ≡ texts) ⊎ (after ≡ with_text texts text)
 
--- A name has a number, and with that a value in the innermost scope, unless it had one there. Refused, the scopes are as they were, and
--- the name may have its number.
+-- A name has a number, and the number a value in the innermost scope, unless it had one there. If refused, the scopes
+-- are unchanged, and the name may have its number.
 pub record Declares (old new : Memory) (n m : Names) (name : List ℕ) (value : ℕ) (result : Result Bool AllocError) : Type 0 where
   pub moves : Moves old new n m
   pub texts : OnOk result (names_in new m.symbols ≡ with_text (names_in old n.symbols) name)
@@ -67,18 +67,18 @@ pub record Declares (old new : Memory) (n m : Names) (name : List ℕ) (value : 
   pub refused : OnErr result (MayHave (names_in old n.symbols) name (names_in new m.symbols))
   pub kept : OnErr result (scopes_in entry_item new m.scopes ≡ scopes_in entry_item old n.scopes)
 
--- There is no room for a name: there are as many texts as there may be, and it was none of them; or as many pairs, and it has a number by
--- now that the innermost scope doesn't have.
+-- There is no room for a name: it is a new text, and there are as many texts as there can be; or there are as many
+-- pairs as there can be, and the name has a number that the innermost scope doesn't have.
 abbrev pub IsFullFor : List (List ℕ) → List (List ℕ) → List (List (ℕ × ℕ)) → List ℕ → Type 0
 IsFullFor texts texts_now scopes name = ((number_of texts name ≡ None) × (most_texts ≤ length texts))
     ⊎ (((id : ℕ) × (number_of texts_now name ≡ Some id) × (is_in_last scopes id ≡ false)) × (most_pairs ≤ pair_count scopes))
 
--- What a call costs by both credits together, and what it tells where the arena refuses.
+-- What a call costs, given both credits together, and what it reports if the arena refuses.
 pub record Spends {X : Type 0} (far bytes : ℕ) (old new : View) (n m : Names) (result : Result X AllocError) : Type 0 where
   pub costs : Costs far bytes (all_credit n) (all_credit m) old new result
   pub told : (k : ℕ) → result ≡ Err (AllocErr k) → IsCounted k old new
 
--- When a declaration overflows, where the arena refuses it, and what it costs.
+-- When a declaration overflows, when the arena refuses it, and what it costs.
 pub record DeclaresWithin {X : Type 0} (old new : View) (n m : Names) (name : List ℕ) (result : Result X AllocError) : Type 0 where
   pub overflows : (result ≡ Err CapacityOverflow) ↔ IsFullFor (names_in old.memory n.symbols) (names_in new.memory m.symbols)
       (scopes_in entry_item old.memory n.scopes) name
@@ -86,8 +86,8 @@ pub record DeclaresWithin {X : Type 0} (old new : View) (n m : Names) (name : Li
       ⊎ ((id : ℕ) × (number_of (names_in new.memory m.symbols) name ≡ Some id) × IsPairDenied entry_item old new n.scopes m.scopes id)
   pub spends : Spends (far_up - 2 ^ 61) (1536 + length name) old new n m result
 
--- When a declaration in a scope of its own overflows, and what it costs: where there are as many scopes as there may be; and where there is
--- no room for the name, unless the arena refuses the scope first.
+-- When a declaration in a scope of its own overflows, and what it costs. It overflows if there are as many scopes as
+-- there can be, or if there is no room for the name, unless the arena refuses the scope first.
 pub record OwnScopeWithin {X : Type 0} (old new : View) (n m : Names) (name : List ℕ) (result : Result X AllocError) : Type 0 where
   pub deepest : most_scopes ≤ length (scopes_in entry_item old.memory n.scopes) → result ≡ Err CapacityOverflow
   pub overflows : result ≡ Err CapacityOverflow → (most_scopes ≤ length (scopes_in entry_item old.memory n.scopes))

@@ -1,4 +1,4 @@
--- Interners in an arena, and the texts that they are.
+-- Interners in an arena, and their texts.
 use Rattle.std.specs.Prelude.{◌≡◌, ℕ, ◌+◌, List, [], ◌∷◌, ◌++◌, map}
 use Rattle.std.specs.List.{Contains}
 use Rattle.arena_chunks.specs.Memory.{Memory}
@@ -18,7 +18,7 @@ use Rattle.arena_symbols.specs.Interner.{number_of, AreDistinct}
 use Rattle.arena_symbols.specs.Listing.{place_kind}
 use Rattle.arena_symbols.specs.declared.symbols.Symbols.{Symbols}
 
--- what the types of its map tell: texts are keys, and numbers values
+-- the types of an interner's map: texts are keys, and numbers are values
 abbrev pub name_kind : Kind Str ℕ FxHasher
 name_kind = place_kind Rattle.arena_items.specs.contracts.handles.StrItem.TheImpl.ghosts
     Rattle.arena_table.specs.contracts.key.StrArenaKey.TheImpl.ghosts.key
@@ -37,15 +37,15 @@ texts_in memory s = vec_list name_kind.keys memory s.texts
 abbrev pub names_in : Memory → Symbols → List (List ℕ)
 names_in memory s = contents_of memory (texts_in memory s)
 
--- the blocks that its calls write, and all that it reads
+-- the blocks that calls on an interner write, and all blocks that it reads
 abbrev pub own_blocks : Symbols → List Block
 own_blocks s = s.numbers.table.block ∷ s.texts.raw.block ∷ []
 
 abbrev pub names_footprint : Memory → Symbols → List Block
 names_footprint memory s = own_blocks s ++ blocks_of (texts_in memory s)
 
--- The handle stands for an interner of these texts, which are distinct: a map and a vector of them, in which the map has each one's
--- place. Their blocks and the texts lie apart.
+-- The handle stands for an interner of these texts, which are distinct: a vector of them, and a map with the place of
+-- each. The blocks of the two are apart from each other and from the texts.
 pub record IsInternerOf (memory : Memory) (s : Symbols) (list : List Str) (names : List (List ℕ)) : Type 0 where
   pub numbers : IsMapIn name_kind memory s.numbers
   pub texts : IsVecIn name_kind.keys memory s.texts
@@ -57,10 +57,10 @@ pub record IsInternerOf (memory : Memory) (s : Symbols) (list : List Str) (names
   pub places : (q : List ℕ) → value_of (map_in name_kind memory s.numbers q) ≡ number_of names q
   pub distinct : AreDistinct names
 
--- It stands for an interner.
+-- The handle stands for an interner.
 abbrev pub IsInternerIn : Memory → Symbols → Type 0
 IsInternerIn memory s = IsInternerOf memory s (texts_in memory s) (names_in memory s)
 
--- the bytes that it saved up for its next blocks
+-- the bytes that an interner has saved up for its next blocks
 abbrev pub names_credit : Symbols → ℕ
 names_credit s = list_credit 32 s.texts.raw.len s.texts.raw.cap + credit_of name_kind s.numbers

@@ -1,4 +1,4 @@
--- What calls do to the names of a program that stand in an arena.
+-- What calls do to the names of a program in an arena.
 use Rattle.std.specs.Prelude.{◌≡◌, ℕ, ◌+◌, ◌-◌, ◌^◌, ◌⊎◌, List, ◌++◌, take, slice_get, ◌↔◌, Some, Result, Ok, Err, IfOk, IfErr, OnOk, OnErr}
 use Rattle.arena_chunks.specs.Memory.{Memory}
 use Rattle.arena_chunks.specs.Source.{View}
@@ -20,20 +20,20 @@ use Rattle.arena_symbols.specs.declared.calls.Call.TheVariants.{Intern, Enter, D
 use Rattle.arena_symbols.specs.declared.calls.Reply.{Reply}
 use Rattle.arena_symbols.specs.declared.names.Names.{Names}
 
--- the texts and the maps that stand there
+-- the texts and the maps of names in an arena
 abbrev pub state_in : Memory → Names → State
 state_in memory n = record { texts = names_in memory n.symbols; scopes = scopes_in entry_item memory n.scopes }
 
--- why the arena refuses a call: a block that what the call adds asks for has no place
+-- why the arena refuses a call: a block that it asks for to add something has no place
 abbrev pub IsCallDenied : View → View → Names → Names → Call → Type 0
 IsCallDenied old new n m (Intern text) = IsTextDenied old new m.symbols text.now
 IsCallDenied old new n m Enter = IsDenied (LongerList place_item m.scopes.starts) new
 IsCallDenied old new n m (Define id value) = IsPairDenied entry_item old new n.scopes m.scopes id
 IsCallDenied old new n m call = ⊥
 
--- A call is answered as the texts and the maps say, and leaves what they say. Refused, for one of its causes, they are as they were. One
--- that changes nothing of them changes nothing at all. The arena refuses it only where a block that it asks for has no
--- place, and it was starved of the call's bytes, or is short of them.
+-- The reply to a call and the state after it are those of `Calls`. If it is refused, for one of its causes, texts and
+-- maps are unchanged. A call that changes none of them changes nothing at all. The arena refuses a call only if a block
+-- that it asks for has no place, and it was starved of the call's bytes, or has fewer.
 pub record Serves (old new : View) (n m : Names) (call : Call) (result : Result Reply AllocError) : Type 0 where
   pub moves : Moves old.memory new.memory n m
   pub answer : IfOk result (λ reply. reply ≡ answer (state_in old.memory n) call)
@@ -45,7 +45,7 @@ pub record Serves (old new : View) (n m : Names) (call : Call) (result : Result 
   pub still : (Changes (state_in old.memory n) call → ⊥) → (new ≡ old) × (m ≡ n)
   pub pays : Pays far_up (bytes_for call) (all_credit n) (all_credit m) old new result
 
--- So do calls one after another, whose replies stand behind the earlier ones.
+-- Calls were served one after another, each as in `Serves`, and their replies follow the earlier ones.
 pub record Ran (old new : View) (n m : Names) (calls : List Call) (earlier replies : List Reply) : Type 0 where
   pub moves : Moves old.memory new.memory n m
   pub told : replies ≡ earlier ++ answers (state_in old.memory n) calls
@@ -53,8 +53,8 @@ pub record Ran (old new : View) (n m : Names) (calls : List Call) (earlier repli
   pub room : HaveRoom (state_in old.memory n) calls
   pub costs : Costs {X = Unit {0}} (far_up - 2 ^ 61) (bytes_for_all calls) (all_credit n) (all_credit m) old new (Ok tt)
 
--- So do the calls before one that is refused, from `mid` on: by `serve`, or as there is no memory for its reply. What is left is what
--- those before it leave.
+-- Calls were served up to one that is refused, at `mid`: by `serve`, or because there is no memory for its reply. The
+-- state is the one after the calls before it.
 pub record Stops (old new : View) (n m : Names) (calls : List Call) (earlier replies : List Reply) (e : AllocError) : Type 0 where
   pub at : ℕ
   pub call : Call

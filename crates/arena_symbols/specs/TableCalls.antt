@@ -22,14 +22,15 @@ use Rattle.arena_symbols.specs.Scoping.{lookup, with_pair, outer_of, is_in_last,
 use Rattle.arena_symbols.specs.Tables.{Entry, id_kind, IsTableIn, entries_in, starts_in, scopes_in, table_blocks, table_credit}
 use Rattle.arena_symbols.specs.declared.scopes.Scopes.{Scopes}
 
--- One empty map, which places nothing: it is a table in every arena, apart from all.
+-- One empty map, without bytes in the arena: it is held in every arena, and apart from all blocks.
 pub record IsNewTable (item : Ghosts Entry) (s : Scopes) : Type 0 where
   pub held : (memory : Memory) → IsTableIn item memory s
   pub scopes : (memory : Memory) → scopes_in item memory s ≡ [] ∷ []
   pub apart : (others : List Block) → AreAllApart (table_blocks s) others
   pub credit : table_credit s ≡ 0
 
--- An empty map more, innermost. The arena refuses it where the list of their places is full, and what that asks for has no place.
+-- A new innermost map, which is empty. The arena refuses it only if the list of starts is full, and the block that it
+-- asks for has no place.
 pub record Enters (item : Ghosts Entry) (old new : View) (s t : Scopes) (result : Result (Unit {0}) AllocError) : Type 0 where
   pub held : IsTableIn item new.memory t
   pub scopes : OnOk result (scopes_in item new.memory t ≡ [] ∷ scopes_in item old.memory s)
@@ -39,7 +40,8 @@ pub record Enters (item : Ghosts Entry) (old new : View) (s t : Scopes) (result 
   pub pays : Pays far_up 64 (table_credit s) (table_credit t) old new result
   pub frame : Frame old.memory new.memory (table_blocks s) (table_blocks t)
 
--- A map in which an id has what was hidden, or nothing, and each other id has what it had. No memory is taken.
+-- An id has the place that was hidden, or is removed if none was, and every other id has what it had. No memory is
+-- taken.
 pub record Unhides (old new : View) (m : HashMap ℕ ℕ FxHasher) (id : ℕ) (hidden : Option ℕ) (w : HashMap ℕ ℕ FxHasher) : Type 0 where
   pub held : IsMapIn id_kind new.memory w
   pub values : (q : ℕ) → q < 2 ^ 32 → value_of (map_in id_kind new.memory w (to_le_bytes w32 q))
@@ -49,7 +51,8 @@ pub record Unhides (old new : View) (m : HashMap ℕ ℕ FxHasher) (id : ℕ) (h
   pub credit : credit_of id_kind w ≤ credit_of id_kind m
   pub frame : Frame old.memory new.memory (m.table.block ∷ []) (w.table.block ∷ [])
 
--- All but the first n pairs are gone, and those that they hid are the newest of their ids. No memory is taken, and nothing is refused.
+-- All pairs but the first n are removed, and those that they hid are the newest of their ids again. No memory is taken,
+-- and nothing is refused.
 pub record Cuts (item : Ghosts Entry) (old new : View) (s t : Scopes) (n : ℕ) : Type 0 where
   pub held : IsTableIn item new.memory t
   pub entries : entries_in item new.memory t ≡ take n (entries_in item old.memory s)
@@ -59,7 +62,7 @@ pub record Cuts (item : Ghosts Entry) (old new : View) (s t : Scopes) (n : ℕ) 
   pub credit : table_credit t ≤ table_credit s
   pub frame : Frame old.memory new.memory (table_blocks s) (table_blocks t)
 
--- The innermost map is gone, where there is another. No memory is taken, and nothing is refused.
+-- The innermost map is removed, if there is another. No memory is taken, and nothing is refused.
 pub record Leaves (item : Ghosts Entry) (old new : View) (s t : Scopes) (result : Bool) : Type 0 where
   pub held : IsTableIn item new.memory t
   pub left : result ≡ true → scopes_in item new.memory t ≡ outer_of (scopes_in item old.memory s)
@@ -69,12 +72,13 @@ pub record Leaves (item : Ghosts Entry) (old new : View) (s t : Scopes) (result 
   pub credit : table_credit t ≤ table_credit s
   pub frame : Frame old.memory new.memory (table_blocks s) (table_blocks t)
 
--- why the arena refuses a pair: the list of pairs is full then, or the map of the newest, and what that asks for has no place
+-- why the arena refuses a pair: the list of pairs or the map of the newest is full, and the block that it asks for has
+-- no place
 abbrev pub IsPairDenied : Ghosts Entry → View → View → Scopes → Scopes → ℕ → Type 0
 IsPairDenied item old new s t id =
     IsDenied (OneMore item id_kind (is_some (lookup (scopes_in item old.memory s) id)) t.pairs t.newest) new
 
--- The innermost map has the pair, unless it has the id.
+-- The innermost map has the pair, unless it had the id.
 pub record Defines (item : Ghosts Entry) (old new : View) (s t : Scopes) (id value : ℕ) (result : Result Bool AllocError) : Type 0 where
   pub held : IsTableIn item new.memory t
   pub says : IfOk result (λ b. b ≡ not (is_in_last (scopes_in item old.memory s) id))

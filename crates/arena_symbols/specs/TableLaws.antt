@@ -23,7 +23,7 @@ all_empty : (P : Block → Type 0) → P (record { generation = 0; addr = 1; siz
 all_empty P one [] = tt
 all_empty P one (p ∷ ps) = (one, all_empty P one ps)
 
--- what a table is made of
+-- a table, from its parts
 pub table_of : {item : Ghosts Entry} {memory : Memory} {s : Scopes} {es : List Entry} {ks : List ℕ} → recent_in item memory s ≡ es
     → starts_in memory s ≡ ks → IsTableOf item memory s es ks → IsTableIn item memory s
 table_of {item = item} {memory = memory} {s = s} {ks = ks} es-are ks-are of =
@@ -31,7 +31,7 @@ table_of {item = item} {memory = memory} {s = s} {ks = ks} es-are ks-are of =
     (sym es-are) of)
 
 module _ (item : Ghosts Entry) where
-  -- Its blocks may be read.
+  -- Its blocks are readable.
   pub table_readable : (m : Memory) (s : Scopes) → IsTableIn item m s → AreReadable m.state (table_blocks s)
   table_readable m s held = (held.ids.handle.place.readable, (held.pairs.place.readable, (held.starts.place.readable, tt)))
 
@@ -42,11 +42,11 @@ module _ (item : Ghosts Entry) where
     starts_same : starts_in a s ≡ starts_in c s
     starts_same = ap (λ (bs : List ℕ). reverse (elements place_item.SIZE place_item.decoded s.starts.raw.len bs)) agree.1.1.0
 
-    -- It is the same maps,
+    -- It stands for the same maps,
     pub table_same : scopes_in item a s ≡ scopes_in item c s
     table_same = (λ i. scopes_of (pairs_of (entries_same i)) (starts_same i))
 
-    -- and is held where its blocks may be read.
+    -- and is held if its blocks are readable.
     pub table_held_again : IsTableIn item a s → AreReadable c.state (table_blocks s) → IsTableIn item c s
     table_held_again held readable =
         let none : bytes_from (image a) 1 0 ≡ bytes_from (image c) 1 0 = no_bytes (image a) 1 0 refl ∙ sym (no_bytes (image c) 1 0 refl) in

@@ -1,4 +1,4 @@
--- Scoped tables in an arena, and the maps that they are.
+-- Scoped tables in an arena, and their maps.
 use Rattle.std.specs.Prelude.{◌≡◌, ◌==◌, ℕ, ◌+◌, ◌^◌, ◌<◌, List, [], ◌∷◌, map, reverse, length, Option, Some, None, is_some, if◌then◌else◌}
 use Rattle.std.specs.Int.{w32, to_le_bytes}
 use Rattle.arena_chunks.specs.Memory.{Memory}
@@ -28,23 +28,23 @@ pairs_of entries = map (λ (e : Entry). (e.0, e.1.0)) entries
 abbrev pub entry_item : Ghosts Entry
 entry_item = pair_item place_item (pair_item place_item (option_item place_item))
 
--- what the types of the map tell
+-- the types of the map of newest pairs
 abbrev pub id_kind : Kind ℕ ℕ FxHasher
 id_kind = place_kind place_item (whole_key place_item)
 
 -- ---- Entries, the newest first
 
--- the place of the newest with an id: how many came before it
+-- the place of the newest entry with an id: the number of entries before it
 abbrev pub newest : List Entry → ℕ → Option ℕ
 newest [] id = None
 newest (e ∷ older) id = if e.0 == id then Some (length older) else newest older id
 
--- Each entry tells the newest before it with its id.
+-- Each entry has the place of the newest entry before it with its id.
 abbrev pub TellHidden : List Entry → Type 0
 TellHidden [] = Unit {0}
 TellHidden (e ∷ older) = (e.1.1 ≡ newest older e.0) × TellHidden older
 
--- how many entries hid none: there are as many ids
+-- the number of entries that hid none, which is the number of ids
 abbrev pub first_count : List Entry → ℕ
 first_count [] = 0
 first_count (e ∷ older) = (if is_some e.1.1 then 0 else 1) + first_count older
@@ -64,12 +64,13 @@ starts_in memory s = reverse (vec_list place_item memory s.starts)
 abbrev pub scopes_in : Ghosts Entry → Memory → Scopes → List (List (ℕ × ℕ))
 scopes_in item memory s = scopes_of (pairs_of (entries_in item memory s)) (starts_in memory s)
 
--- the blocks that its calls write, which are all that it reads: its ids have no texts
+-- the blocks that calls on a table write, which are all that it reads: its ids have no texts
 abbrev pub table_blocks : Scopes → List Block
 table_blocks s = s.newest.table.block ∷ s.pairs.raw.block ∷ s.starts.raw.block ∷ []
 
--- The handle stands for these entries, the newest first, and these starts of maps, the innermost first: a map from ids to their newest
--- entries, a list of entries with what each hid, and a list of where maps begin, whose blocks lie apart.
+-- The handle stands for these entries, the newest first, and these starts of maps, the innermost first: a map from ids
+-- to their newest entries, a list of entries with what each hid, and a list of where maps begin. The three blocks are
+-- apart.
 pub record IsTableOf (item : Ghosts Entry) (memory : Memory) (s : Scopes) (es : List Entry) (ks : List ℕ) : Type 0 where
   pub ids : IsMapIn id_kind memory s.newest
   pub pairs : IsVecIn item memory s.pairs
@@ -82,7 +83,7 @@ pub record IsTableOf (item : Ghosts Entry) (memory : Memory) (s : Scopes) (es : 
   pub depth : s.starts.raw.len < 2 ^ 29
   pub count : s.newest.len ≡ first_count es
 
--- It stands for a scoped table.
+-- The handle stands for a scoped table.
 abbrev pub IsTableIn : Ghosts Entry → Memory → Scopes → Type 0
 IsTableIn item memory s = IsTableOf item memory s (recent_in item memory s) (starts_in memory s)
 

@@ -1,4 +1,4 @@
-// Any list of calls on an interner and a scoped table that stand side by side.
+// Calls on an interner and a scoped table in one arena, one by one or as a list.
 ghost use Rattle.std.specs.Prelude.{◌≡◌, ◌<◌, [], ◌∷◌, ◌++◌, OnOk, IfErr, vec_len, vec_capacity};
 ghost use Rattle.arena_symbols.specs.Named.{AreNames};
 ghost use Rattle.arena_symbols.specs.Serving.{Serves, Ran, Stops};
@@ -34,16 +34,16 @@ pub enum Call<'a> {
     Depth,
 }
 
-/// What a call answers.
+/// The reply to a call.
 #[derive(Drop, PartialEq, Eq, Debug)]
 pub enum Reply {
     /// The number or the value, if there is one.
     Number(Option<u32>),
     /// The text, if there is one.
     Name(Option<Bytes>),
-    /// How many there are.
+    /// A count.
     Count(u32),
-    /// Whether it is so, or was done.
+    /// Whether something is so, or was done.
     Said(bool),
     /// The call was done.
     Done,
@@ -65,12 +65,13 @@ impl Names {
         }
     }
 
-    /// Serves a call.
+    /// Serves a call, and returns its reply.
     ///
     /// # Errors
     ///
-    /// As of `intern`, `enter` and `define`; `CapacityOverflow` for a text of more than 4,294,967,295 bytes; `OutOfMemory` where
-    /// there is none for the text that is asked for. Texts and maps are as they were. No other call is refused.
+    /// As for `intern`, `enter` and `define`; `CapacityOverflow` for a text of more than 4,294,967,295 bytes;
+    /// `OutOfMemory` if there is no memory for a copy of the text that `Text` asks for. Texts and maps are unchanged.
+    /// No other call is refused.
     pub fn serve<C: ChunkSource>(
         &mut self,
         alloc: Global,
@@ -106,13 +107,13 @@ impl Names {
         }
     }
 
-    /// Serves calls, one after another, and puts the reply of each behind the others. It ends at the first that is refused:
-    /// there are as many replies more as calls were served.
+    /// Serves calls one after another, and appends the reply of each to `replies`. It stops at the first call that is
+    /// refused: one reply is appended for each call served.
     ///
     /// # Errors
     ///
-    /// As of `serve` for the first call that it refuses, and `OutOfMemory` where there is none for the replies. The names are as
-    /// after the calls before.
+    /// As for `serve`, for the first call that it refuses; `OutOfMemory` if there is no memory for a reply. The names
+    /// are as the calls before left them.
     pub fn run<C: ChunkSource>(
         &mut self,
         alloc: Global,

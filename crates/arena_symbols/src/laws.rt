@@ -1,4 +1,5 @@
-// What numbers of texts and values of ids say. A law is a call that does nothing: made in a body, it gives its facts there.
+// Laws of the numbers of texts and the values of ids. Each is a function that does nothing: a call in a body makes its
+// facts available there.
 ghost use Rattle.std.specs.Prelude.{◌≡◌, ◌==◌, ℕ, ◌<◌, List, Some, slice_get, length, if◌then◌else◌};
 ghost use Rattle.arena_chunks.specs.Memory.{Memory};
 ghost use Rattle.arena_symbols.specs.Interner.{number_of, AreDistinct};
@@ -6,8 +7,9 @@ ghost use Rattle.arena_symbols.specs.Scoping.{lookup, with_pair};
 ghost use Rattle.arena_symbols.specs.Tables.{entry_item, IsTableIn, scopes_in};
 ghost use Rattle.arena_symbols.specs.declared.scopes.Scopes.{Scopes};
 
-/// Of distinct texts, as an interner's are, two have one number exactly where they are equal: a number is that of the text at its
-/// place (`there`), each text has its place (`place`), and the numbers are those below the number of texts (`below`).
+/// In a list of distinct texts, as an interner's is, two texts have the same number exactly if they are equal: the text
+/// with a number is at that place (`there`), each text has its place as its number (`place`), numbers are below the
+/// number of texts (`below`), and texts with the same number are equal (`one`).
 #[tactic(auto, using(crate::proofs::NumberLemmas::number_there, crate::proofs::NumberLemmas::number_place))]
 pub fn numbers_law()
     ensures there { (texts : List (List ℕ)) (text : List ℕ) (n : ℕ) → number_of texts text ≡ Some n
@@ -19,7 +21,8 @@ pub fn numbers_law()
         → number_of texts other ≡ Some n → text ≡ other }
 {}
 
-/// A scoped table has a map. Where a pair is put into the innermost one its id has that value, and each other id has what it had.
+/// A scoped table has at least one map. After a pair is put into the innermost map, its id has that value, and every
+/// other id has the value that it had.
 #[tactic(auto, using(crate::proofs::ScopeLemmas::lookup_put))]
 pub fn scopes_law()
     ensures some { (memory : Memory) (s : Scopes) → IsTableIn entry_item memory s

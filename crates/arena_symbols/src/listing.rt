@@ -1,4 +1,4 @@
-// A list of values, and a map that tells under each key where one of them stands.
+// A list of values, and a map from keys to places in the list.
 ghost use Rattle.arena_hash.specs.Contents.{content_in};
 ghost use Rattle.arena_hash.specs.Maps.{IsLookIn};
 ghost use Rattle.arena_symbols.specs.Listing.{CanList, Lists, place_kind};
@@ -9,8 +9,8 @@ use arena_items::{Grown, Item};
 use arena_vec::Vec;
 use arena_vec::laws::{growth_costs, vector_costs};
 
-// Puts a value at the list's end, and its place under a key into the map, where the search for that ended. Refused, both are as
-// they were.
+// Appends a value to the list, inserts its place into the map under a key, where the search for the key ended, and
+// returns the place. On an error the list and the map have the same contents as before.
 #[inline(always)]
 pub(crate) fn put_listed<K: ArenaKey, T: Item, C: ChunkSource>(
     map: &mut HashMap<K, u32>,
@@ -27,7 +27,7 @@ pub(crate) fn put_listed<K: ArenaKey, T: Item, C: ChunkSource>(
     insert_law::<K, u32, FxHasher>();
     growth_costs();
     vector_costs::<T, ()>();
-    // So the least alignment is known to be 1.
+    // This shows the proof that the least alignment is 1.
     let _ = a.min_align();
     let at = list.len();
     list.push(a, value)?;

@@ -14,7 +14,7 @@ use crate::symbols::Symbols;
 use arena_chunks::{Allocator, ChunkSource};
 use arena_items::{AllocError, Grown};
 
-/// The names of a program: what number each has, and what the numbers stand for in scopes.
+/// The names of a program: the number of each name, and the values of numbers in scopes.
 #[derive(Clone, Copy)]
 pub struct Names {
     /// The number of each name.
@@ -24,7 +24,7 @@ pub struct Names {
 }
 
 impl Names {
-    /// No name, in one scope. It places nothing.
+    /// Returns an empty set of names, with one scope. Nothing is placed.
     pub fn new_in() -> Names
         ensures { AreNewNames result }
     {
@@ -34,7 +34,7 @@ impl Names {
         }
     }
 
-    /// What a name means in the innermost scope that declares it.
+    /// Returns the value of a name in the innermost scope that declares it.
     pub fn resolve<C: ChunkSource>(&self, a: &Allocator<C>, name: &str) -> Option<u32>
         requires { AreNames a.now.memory self.now }
         ensures { result ≡ meaning a.now.memory self.now name.now }
@@ -45,12 +45,13 @@ impl Names {
         }
     }
 
-    /// Declares a name in the innermost scope, unless it is declared there.
+    /// Declares a name in the innermost scope, unless it is declared there, and returns whether it did.
     ///
     /// # Errors
     ///
-    /// `CapacityOverflow` where a new name comes at 67,108,864 names, or a new pair at 134,217,728 pairs; else as of the arena's
-    /// `alloc_layout` and `grow`. The scopes are as they were; the name may have its number.
+    /// `CapacityOverflow` for a new name if there are 67,108,864 names, or for a new pair if there are 134,217,728
+    /// pairs; otherwise as for the arena's `alloc_layout` and `grow`. The scopes are unchanged; the name may have been
+    /// given its number.
     #[tactic(auto, using(crate::proofs::NamedLemmas::declarations))]
     pub fn declare<C: ChunkSource>(
         &mut self,
@@ -115,7 +116,7 @@ impl Names {
         let _ = self.scopes.leave(a);
     }
 
-    // Declares a name in an empty scope, and tells what it means then.
+    // Declares a name in an empty scope, and returns its value there.
     fn declared<C: ChunkSource>(
         &mut self,
         a: &mut Allocator<C>,
@@ -139,13 +140,14 @@ impl Names {
         Ok(self.resolve(a, name))
     }
 
-    /// What a name means in a scope of its own, in which it has this value. Then that scope has ended, and the others are as they
-    /// were, whatever they say of the name. The name has a number from then on, and no other name gains one.
+    /// Declares a name with this value in a scope of its own, ends that scope, and returns the name's value in it. The
+    /// other scopes are unchanged, whatever they say of the name. The name has a number from then on, and no other name
+    /// gains one.
     ///
     /// # Errors
     ///
-    /// `CapacityOverflow` at 536,870,912 scopes; else as of the arena's `alloc_layout` and `grow` for the scope, and then as of
-    /// `declare`. The scopes are as they were; the name may have its number.
+    /// `CapacityOverflow` if there are 536,870,912 scopes; otherwise as for the arena's `alloc_layout` and `grow` for
+    /// the scope, and then as for `declare`. The scopes are unchanged; the name may have been given its number.
     pub fn in_own_scope<C: ChunkSource>(
         &mut self,
         a: &mut Allocator<C>,

@@ -17,30 +17,30 @@ use arena_items::{AllocError, Grown, Item};
 use arena_vec::Vec;
 use arena_vec::laws::{growth_costs, vector_costs};
 
-/// How many maps a scoped table may have.
+/// The maximum number of maps in a scoped table.
 pub const MOST_SCOPES: u32 = 536_870_912;
 
-/// How many pairs its maps may have together.
+/// The maximum number of pairs in its maps together.
 pub const MOST_PAIRS: u32 = 134_217_728;
 
 /// A pair with what it hid: the id, the value, and the place of the newest pair before it with that id.
 pub type Entry = (u32, (u32, Option<u32>));
 
-/// Maps from ids to values, one in another. It is a name: two of them may name one table.
+/// Maps from ids to values, one inside another. It is a handle: two of them may refer to the same table.
 #[derive(Clone, Copy)]
 pub struct Scopes {
     /// The place of the newest pair of each id.
     pub newest: HashMap<u32, u32>,
     /// The pairs of all maps, the outermost map's first.
     pub pairs: Vec<Entry>,
-    /// Where the pairs of each map begin, but for the outermost.
+    /// Where the pairs of each map begin, except the outermost.
     pub starts: Vec<u32>,
-    /// Where the pairs of the innermost map begin: the last of those places, or 0.
+    /// Where the pairs of the innermost map begin: the last item of `starts`, or 0.
     pub start: u32,
 }
 
 impl Scopes {
-    /// One empty map. It places nothing.
+    /// Returns a table with one empty map. Nothing is placed.
     pub fn new_in() -> Scopes
         ensures { IsNewTable entry_item result }
     {
@@ -52,7 +52,7 @@ impl Scopes {
         }
     }
 
-    /// How many maps there are.
+    /// Returns the number of maps.
     pub fn depth(&self) -> u32
         ensures { (memory : Memory) → IsTableIn entry_item memory self.now
             → result ≡ length (scopes_in entry_item memory self.now) }
@@ -60,7 +60,7 @@ impl Scopes {
         self.starts.len().saturating_add(1)
     }
 
-    /// The value of an id in the innermost map that has it.
+    /// Returns the value of an id in the innermost map that has it.
     #[inline(always)]
     #[tactic(auto, using(crate::proofs::TableLemmas::entry_size))]
     pub fn lookup<C: ChunkSource>(&self, a: &Allocator<C>, id: u32) -> Option<u32>
@@ -76,7 +76,7 @@ impl Scopes {
         }
     }
 
-    /// Whether the innermost map has an id.
+    /// Returns whether the innermost map has an id.
     pub fn in_last<C: ChunkSource>(&self, a: &Allocator<C>, id: u32) -> bool
         requires { IsTableIn entry_item a.now.memory self.now }
         ensures { result ≡ is_in_last (scopes_in entry_item a.now.memory self.now) id }
@@ -95,11 +95,12 @@ impl Scopes {
         }
     }
 
-    /// Begins a map inside the others.
+    /// Begins a new innermost map, inside the others.
     ///
     /// # Errors
     ///
-    /// `CapacityOverflow` at 536,870,912 maps; else as of the arena's `alloc_layout` and `grow`. Nothing changes.
+    /// `CapacityOverflow` if there are 536,870,912 maps; otherwise as for the arena's `alloc_layout` and `grow`. The
+    /// maps are unchanged.
     #[inline]
     pub fn enter<C: ChunkSource>(&mut self, a: &mut Allocator<C>) -> Grown<()>
         requires { IsTableIn entry_item a.old.memory self.old }
@@ -107,7 +108,7 @@ impl Scopes {
     {
         growth_costs();
         vector_costs::<u32, ()>();
-        // So the least alignment is known to be 1.
+        // This shows the proof that the least alignment is 1.
         let _ = a.min_align();
         if self.starts.len() >= MOST_SCOPES - 1 {
             return Err(AllocError::CapacityOverflow);
@@ -118,12 +119,12 @@ impl Scopes {
         Ok(())
     }
 
-    /// Puts a pair into the innermost map, unless that has the id.
+    /// Puts a pair into the innermost map, unless that has the id, and returns whether it did.
     ///
     /// # Errors
     ///
-    /// `CapacityOverflow` where a new pair comes at 134,217,728 pairs; else as of the arena's `alloc_layout` and `grow`. The
-    /// maps are as they were.
+    /// `CapacityOverflow` for a new pair if there are 134,217,728 pairs; otherwise as for the arena's `alloc_layout`
+    /// and `grow`. The maps are unchanged.
     #[inline(always)]
     pub fn define<C: ChunkSource>(
         &mut self,
@@ -141,8 +142,8 @@ impl Scopes {
         }
     }
 
-    // The same where the list of pairs is full. It stands apart, so that a pair that there is room for writes no more of the
-    // list's handle than its length.
+    // `define` if the list of pairs is full. A separate function, so that a `define` with room in the list writes no
+    // more of the list's handle than its length.
     #[cold]
     #[inline(never)]
     fn define_growing<C: ChunkSource>(
@@ -157,7 +158,7 @@ impl Scopes {
         self.define_pair(a, id, value)
     }
 
-    // The same, inlined into both.
+    // `define`, inlined into both paths.
     #[inline(always)]
     fn define_pair<C: ChunkSource>(
         &mut self,
@@ -168,7 +169,7 @@ impl Scopes {
         requires { IsTableIn entry_item a.old.memory self.old }
         ensures { Defines entry_item a.old a.new self.old self.new id value result }
     {
-        // So the least alignment is known to be 1.
+        // This shows the proof that the least alignment is 1.
         let _ = a.min_align();
         let content = id.to_le_bytes();
         let (hidden, look) = self.newest.search(a, &content);
@@ -189,8 +190,8 @@ impl Scopes {
         Ok(true)
     }
 
-    // Takes the newest pair away, so that the one that it hid is the newest of its id. It takes no memory: a key that is
-    // there is put again, or removed.
+    // Removes the newest pair, so that the one that it hid is the newest of its id again. It takes no memory: the id's
+    // place in `newest` is replaced, or removed.
     #[inline(always)]
     #[tactic(auto, using(crate::proofs::TableLemmas::entry_size))]
     fn undo<C: ChunkSource>(&mut self, a: &mut Allocator<C>)
@@ -205,7 +206,7 @@ impl Scopes {
         self.unhide(a, entry.0, entry.1.1);
     }
 
-    // Takes the pairs away from a place on, the newest first.
+    // Removes the pairs from a place on, the newest first.
     #[inline(always)]
     fn cut<C: ChunkSource>(&mut self, a: &mut Allocator<C>, start: u32)
         requires held { IsTableIn entry_item a.old.memory self.old }
@@ -218,7 +219,7 @@ impl Scopes {
         }
     }
 
-    // Makes an id that is there tell what was hidden, or nothing.
+    // Restores the place that an id's pair hid, or removes the id if it hid none.
     #[inline(always)]
     fn unhide<C: ChunkSource>(&mut self, a: &mut Allocator<C>, id: u32, hidden: Option<u32>)
         requires held { IsMapIn id_kind a.old.memory self.old.newest }
@@ -236,7 +237,7 @@ impl Scopes {
         }
     }
 
-    /// Ends the innermost map, unless it is the only one.
+    /// Ends the innermost map, unless it is the only one, and returns whether it did.
     pub fn leave<C: ChunkSource>(&mut self, a: &mut Allocator<C>) -> bool
         requires { IsTableIn entry_item a.old.memory self.old }
         ensures { Leaves entry_item a.old a.new self.old self.new result }
@@ -251,7 +252,7 @@ impl Scopes {
         true
     }
 
-    // Where the innermost map begins, as the list of places tells.
+    // Where the innermost map begins, as read from the list of starts.
     #[inline(always)]
     #[tactic(auto, using(crate::proofs::ScopeLemmas::start_laws))]
     fn last_start<C: ChunkSource>(&self, a: &Allocator<C>) -> u32

@@ -15,10 +15,10 @@ use arena_hash::{FxHasher, HashMap, Look, texts_law};
 use arena_items::{AllocError, Grown, grown};
 use arena_vec::Vec;
 
-/// How many texts an interner may have.
+/// The maximum number of texts in an interner.
 pub const MOST_TEXTS: u32 = 67_108_864;
 
-/// Texts, each with a number: its place among them. It is a name: two of them may name one interner.
+/// Texts, each with a number: its place among them. It is a handle: two of them may refer to the same interner.
 #[derive(Clone, Copy)]
 pub struct Symbols {
     /// The number of each text.
@@ -28,7 +28,7 @@ pub struct Symbols {
 }
 
 impl Symbols {
-    /// No text. It places nothing.
+    /// Returns an interner without texts. Nothing is placed.
     pub fn new_in() -> Symbols
         ensures { IsNewInterner result }
     {
@@ -38,7 +38,7 @@ impl Symbols {
         }
     }
 
-    /// How many texts there are.
+    /// Returns the number of texts.
     #[tactic(auto, using(crate::proofs::InternLemmas::length_names))]
     pub fn len(&self) -> u32
         ensures { (memory : Memory) → result ≡ length (names_in memory self.now) }
@@ -46,7 +46,7 @@ impl Symbols {
         self.texts.len()
     }
 
-    /// The number of a text, if it has one.
+    /// Returns the number of a text, if it has one.
     #[inline(always)]
     pub fn find<C: ChunkSource>(&self, a: &Allocator<C>, text: &str) -> Option<u32>
         requires { IsInternerIn a.now.memory self.now }
@@ -55,7 +55,7 @@ impl Symbols {
         self.search(a, text).0
     }
 
-    // The same, and where the search for the text ended.
+    // The number of a text, if it has one, and where the search for the text ended.
     #[inline(always)]
     #[tactic(auto, using(crate::proofs::InternLemmas::number_is))]
     fn search<C: ChunkSource>(&self, a: &Allocator<C>, text: &str) -> (Option<u32>, Look)
@@ -66,7 +66,7 @@ impl Symbols {
         self.numbers.search(a, text.as_bytes())
     }
 
-    /// The text with a number.
+    /// Returns the text with a number.
     #[tactic(auto, using(crate::proofs::InternLemmas::text_laws))]
     pub fn text<C: ChunkSource>(&self, a: &Allocator<C>, id: u32) -> Str
         requires held { IsInternerIn a.now.memory self.now }
@@ -79,12 +79,12 @@ impl Symbols {
         self.texts.get(a, id)
     }
 
-    /// The number of a text: the one that it has, or the next one. A new text is placed, and is read from then on.
+    /// Returns the number of a text: the one that it has, or the next one. A new text is copied into the arena.
     ///
     /// # Errors
     ///
-    /// `CapacityOverflow` where a new text comes at 67,108,864 texts; `AllocErr` and `OutOfMemory` as of the arena's
-    /// `alloc_layout` and `grow`. The texts are as they were; what was placed is dead.
+    /// `CapacityOverflow` for a new text if there are 67,108,864 texts; `AllocErr` and `OutOfMemory` as for the arena's
+    /// `alloc_layout` and `grow`. The texts are unchanged; what was placed for the new one is unused.
     #[tactic(auto, using(crate::proofs::InternCalls::interns_known, crate::proofs::InternCalls::interns_full))]
     pub fn intern<C: ChunkSource>(&mut self, a: &mut Allocator<C>, text: &str) -> Grown<u32>
         requires held { IsInternerIn a.old.memory self.old }
@@ -92,7 +92,7 @@ impl Symbols {
         ensures { Interns a.old a.new self.old self.new text.now result }
     {
         texts_law::<Str, u32, FxHasher>();
-        // So the least alignment is known to be 1.
+        // This shows the proof that the least alignment is 1.
         let _ = a.min_align();
         let (known, look) = self.search(a, text);
         if let Some(id) = known {

@@ -1,4 +1,4 @@
--- A value in a table in an arena that was replaced.
+-- A table in an arena with a value that was replaced.
 use Rattle.std.proofs.Common.{◌≡◌, ℕ, ◌^◌, ◌<◌, ◌≤◌, inl, inr, set, refl, sym, ap, subst, ◌∙◌, Some}
 use Rattle.std.specs.Prelude.{slice_get, slice_index}
 use Rattle.arena_chunks.specs.Memory.{Memory}

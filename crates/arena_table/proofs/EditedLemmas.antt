@@ -55,7 +55,7 @@ module _ {K V S : Type 0} (k : Kind K V S) (old new : Memory) (hasher : S) (t : 
         r.1,
       )
 
--- ---- What stands behind a gap
+-- ---- The pair after a gap
 
 module _ {K V S : Type 0} (k : Kind K V S) (memory : Memory) (hasher : S) (t : Table K V) (held : IsTableIn k memory hasher t)
     (some : 0 < t.slots)
@@ -64,7 +64,7 @@ module _ {K V S : Type 0} (k : Kind K V S) (memory : Memory) (hasher : S) (t : T
   homes : (p : K × V) → home_of t.slots (pair_hash k memory hasher p) < t.slots
   homes p = mod-lt (pair_hash k memory hasher p) some
 
-  -- It is away from its home, and has its mark.
+  -- The pair after a gap is away from its home, and has its mark.
   pub back-away : (d : ℕ) × IsAway (λ p. home_of t.slots (pair_hash k memory hasher p)) t.slots (slots_in k.keys k.values memory t) from x
       (d + 1)
       × (mark ≡ mark_of (pair_hash k memory hasher x) (d + 1))

@@ -43,7 +43,7 @@ module _ {K V S : Type 0} (k : Kind K V S) (old new : Memory) (hasher : S) (t : 
     homes : (p : K × V) → home p < t.slots
     homes p = mod-lt (pair_hash k old hasher p) some
 
-    -- what stands in the slots, and what does afterwards
+    -- the pairs in the slots, before and after
     abbrev slots : List (Option (K × V))
     slots = slots_in k.keys k.values old t
 
@@ -53,7 +53,7 @@ module _ {K V S : Type 0} (k : Kind K V S) (old new : Memory) (hasher : S) (t : 
     next-is : next ≡ spot t.slots gap 1
     next-is = is ∙ next-spot t.slots gap within
 
-    -- What stands behind the gap was written into it.
+    -- The pair after the gap was written into it.
     module _ (x : K × V) (d mark : ℕ) (away : IsAway home t.slots slots next x (d + 1))
         (marked : mark ≡ mark_of (pair_hash k old hasher x) d)
         (edits : EditsBlock old new t.block 0 t.block.size (λ xs ys. CopiesSlot k.keys k.values t.slots xs ys next gap mark)) where
@@ -94,7 +94,7 @@ module _ {K V S : Type 0} (k : Kind K V S) (old new : Memory) (hasher : S) (t : 
           closing-agree home (λ p. home_of t.slots (pair_hash k new hasher p)) t.slots start from (steps + 1) after next
           (λ y h. ap (home_of t.slots) (hash-stays k old new hasher t.block edits.writes.frame y (texts y h))) on
 
-    -- Nothing moves back from behind the gap: its mark was cleared.
+    -- No pair moves back from after the gap: its mark was cleared.
     module _ (low : slice_index (bytes_of old t.block) next < 32)
         (edits : EditsBlock old new t.block gap 1 (λ xs ys. ys ≡ replicate (length xs) 0)) where
       cleared : SetsSlot k.keys k.values t.slots (bytes_of old t.block) (bytes_of new t.block) gap 0 None

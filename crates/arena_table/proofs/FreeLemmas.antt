@@ -30,7 +30,7 @@ unfolding slots_of
 free-slots keys values n bytes zeros = rw zeros (marked-none n _
     (length-elements (keys.SIZE + values.SIZE) (pair_of keys values) n (drop n bytes)))
 
--- Where a table's marks were cleared, its slots are free.
+-- If a table's marks were cleared, its slots are free.
 pub freed-slots : {K V : Type 0} (keys : Ghosts K) (values : Ghosts V) (old new : Memory) (t : Table K V) → IsTableHandle keys values old t
     → WritesBlock old new t.block 0 (replicate t.slots 0) → slots_in keys values new t ≡ replicate t.slots None
 freed-slots keys values old new t handle writes =

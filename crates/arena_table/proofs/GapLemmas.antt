@@ -19,9 +19,9 @@ use Rattle.arena_table.proofs.TableLemmas.{table-put, table-free}
 below_next : (e k : ℕ) → e < k + 1 → (e < k) ⊎ (e ≡ k)
 below_next e k h = grind arith
 
--- ---- Marks behind a slot
+-- ---- Marks after a slot
 
--- so far no mark behind the slot is far
+-- so far no mark after the slot is far
 pub record NearTo (n : ℕ) (bytes : List ℕ) (start k gap : ℕ) : Type 0 where
   pub place : gap ≡ spot n start k
   pub near : (e : ℕ) → e < k → e + 1 < n → get_or bytes (spot n start (e + 1)) 0 < 240
@@ -71,7 +71,7 @@ module _ (n : ℕ) (bytes : List ℕ) (start : ℕ) (begun : start < n) where
 -- ---- The gap
 
 module _ {K V : Type 0} (keys : Ghosts K) (values : Ghosts V) (n start : ℕ) (from : List ℕ) where
-  -- After so many steps from the slot `start` on: the gap is at `gap` now.
+  -- After some steps from the slot `start` on: the gap is at `gap` now.
   pub record Gap (k : ℕ) (bytes : List ℕ) (gap : ℕ) : Type 0 where
     pub shape : IsShape keys values n bytes
     pub within : gap < n
@@ -114,7 +114,7 @@ module _ {K V : Type 0} (keys : Ghosts K) (values : Ghosts V) (n start : ℕ) (f
       next-within : next < n
       next-within = subst (λ w. w < n) (sym is) (mod-lt (gap + 1) some)
 
-      -- What is behind the gap moves into it.
+      -- The pair after the gap moves into it.
       pub gap-on : 32 ≤ get_or bytes next 0 → get_or bytes next 0 < 240 → IsShape keys values n new
           → CopiesSlot keys values n bytes new next gap (get_or bytes next 0 - 16) → Gap (k + 1) new next
       gap-on high low shape copies =

@@ -53,7 +53,7 @@ pub given-whole : (memory : Memory) (b : Block) (P : List ℕ → Type 0) → P 
     → P (bytes_from (image memory) (b.addr + 0) b.size)
 given-whole memory b P h = let first : b.addr ≡ b.addr + 0 = omega arith in subst (λ p. P (bytes_from (image memory) p b.size)) first h
 
--- a table is one by another hash that is the same for its pairs
+-- a table by one hash is a table by another that is the same for its pairs
 pub table-agree : {K V : Type 0} (keys : Ghosts K) (values : Ghosts V) (one other : K × V → ℕ) (n : ℕ) (bytes : List ℕ)
     → ((x : K × V) → Has (slots_of keys values n bytes) x → other x ≡ one x) → IsTable keys values one n bytes
     → IsTable keys values other n bytes
@@ -66,7 +66,7 @@ table-agree keys values one other n bytes same table = record {
       table.marks i d x back ∙ ap (λ h. mark_of h d) (sym (same x (i, a.there)));
 }
 
--- a key whose text lies beside a block that was changed has the same hash
+-- a key whose text is apart from a block that was changed has the same hash
 pub hash-stays : {K V S : Type 0} (k : Kind K V S) (old new : Memory) (hasher : S) (block : Block)
     → Frame old new (block ∷ []) (block ∷ []) → (x : K × V)
     → IsTextBeside k.key old block x.0 → pair_hash k new hasher x ≡ pair_hash k old hasher x
@@ -74,7 +74,7 @@ hash-stays k old new hasher block frame x text =
     ap (λ bs. k.hash hasher (k.key.content x.0 bs)) (frame_keeps old new (block ∷ []) (block ∷ []) (k.key.text x.0) frame text.readable
     (text.apart, tt)).bytes
 
--- A table whose block was changed: its keys' texts are as they were.
+-- A table whose block was changed: its keys' texts are unchanged.
 pub in-edited : {K V S : Type 0} (k : Kind K V S) (old new : Memory) (hasher : S) (t : Table K V) → IsTableIn k old hasher t
     → Frame old new (t.block ∷ []) (t.block ∷ []) → new.state ≡ old.state
     → IsTable k.keys k.values (pair_hash k old hasher) t.slots (bytes_of new t.block)

@@ -17,7 +17,7 @@ table-align k v ka va keys values =
     let both = pair_layout k ka v va keys values in
     (pair_layout 8 8 _ (max ka va) plain_8 both).is_align
 
--- a table of so many slots has a layout
+-- a table of n slots has a layout
 pub table-layout : (k v ka va slots : ℕ) → IsItemLayout k ka → IsItemLayout v va → k ≤ 2 ^ 24 → v ≤ 2 ^ 24 → slots ≤ 2 ^ 33
     → IsTrue (is_layout (slots * slot_size k v) (table_align ka va))
 table-layout k v ka va slots keys values small small' few =

@@ -15,7 +15,7 @@ use Rattle.arena_table.proofs.SlotLemmas.{slots-long}
 use Rattle.arena_table.proofs.TableLemmas.{table-put}
 
 module _ {K V : Type 0} (keys : Ghosts K) (values : Ghosts V) (hash : K × V → ℕ) (n : ℕ) where
-  -- After so many steps from the slot `start` on: this pair is carried, and goes to the slot i with this mark.
+  -- After some steps from the slot `start` on: this pair is carried, and goes to the slot i with this mark.
   pub record Putting (start : ℕ) (from : List ℕ) (first : K × V) (steps : ℕ) (bytes : List ℕ) (x : K × V) (i mark : ℕ) : Type 0 where
     pub distance : ℕ
     pub settling : Settling (λ p. home_of n (hash p)) n start (slots_of keys values n from) first steps (slots_of keys values n bytes) x i
@@ -52,7 +52,7 @@ module _ {K V : Type 0} (keys : Ghosts K) (values : Ghosts V) (hash : K × V →
     module _ (start : ℕ) (from : List ℕ) (first : K × V) (steps : ℕ) (old new : List ℕ) (x : K × V) (i mark : ℕ) (begun : start < n)
         (room : length (items (slots_of keys values n from)) < n) (shape : IsShape keys values n old) (within : i < n)
         (s : Putting start from first steps old x i mark) (sets : SetsSlot keys values n old new i mark (Some x)) where
-      -- what stood there is carried from here
+      -- the pair that was there is carried from here on
       pub putting-on : (y : K × V) (k : K) (v : V) (next more : ℕ) → slice_get (slots_of keys values n old) i ≡ Some (Some y) → k ≡ y.0
           → v ≡ y.1
           → next ≡ (i + 1) % n → ((e : ℕ) → get_or old i 0 ≡ mark_of (hash y) e → more ≡ mark_of (hash y) (e + 1))

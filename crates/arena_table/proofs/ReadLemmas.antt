@@ -11,7 +11,7 @@ use Rattle.arena_table.specs.Tables.{slots_of, slots_in, IsReadBeside, IsTableIn
 use Rattle.arena_table.specs.declared.table.Table.{Table}
 
 module _ {K V S : Type 0} (k : Kind K V S) (old new : Memory) (block : Block) (t : Table K V) where
-  -- It stays as it was while the block is written.
+  -- It is unchanged while the block is written.
   module _ (frame : Frame old new (block ∷ []) (block ∷ [])) (beside : IsReadBeside k old block t) where
     own : Stays old new (block ∷ []) t.block
     own = frame_keeps old new (block ∷ []) (block ∷ []) t.block frame beside.handle.place.readable (beside.apart, tt)
@@ -35,7 +35,7 @@ module _ {K V S : Type 0} (k : Kind K V S) (old new : Memory) (block : Block) (t
           record { readable = stays.readable; apart = stays.apart.0 };
     }
 
-  -- A block that was placed lies beside all that could be read.
+  -- A block that was placed is apart from all that could be read.
   module _ (hasher : S) (frame : Frame old new [] (block ∷ [])) (held : IsTableIn k old hasher t) where
     kept : Stays old new (block ∷ []) t.block
     kept = frame_keeps old new [] (block ∷ []) t.block frame held.handle.place.readable tt

@@ -17,7 +17,7 @@ use Rattle.arena_table.proofs.SlotLemmas.{slot-taken}
 use Rattle.arena_table.proofs.TableLemmas.{table-marked}
 
 module _ {K V : Type 0} (keys : Ghosts K) (values : Ghosts V) (n : ℕ) (bytes : List ℕ) (hash : ℕ) where
-  -- A search for a hash is so many slots from its home.
+  -- A search for a hash is this many slots from its home.
   pub record Seeking (k at mark : ℕ) : Type 0 where
     pub within : at < n
     pub place : at ≡ spot n (home_of n hash) k
@@ -57,7 +57,7 @@ module _ {K V : Type 0} (keys : Ghosts K) (values : Ghosts V) (n : ℕ) (bytes :
             (subst (λ m. m / 16 * 16 ≤ slice_index bytes at) s.mark_is high));
       }
 
-      -- what was passed has another content where its mark is another, or its content was seen to be another
+      -- a pair that was passed has another content: its mark is another, or its content was compared
       pub seeking-other : mark / 16 * 16 ≤ slice_index bytes at → (h : K × V → ℕ) → IsTable keys values h n bytes
           → (content : K × V → List ℕ) (q : List ℕ)
           → ((x : K × V) → content x ≡ q → h x ≡ hash)

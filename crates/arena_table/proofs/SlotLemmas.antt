@@ -18,7 +18,7 @@ use Rattle.hash_ring.specs.Marks.{marked}
 use Rattle.arena_table.specs.Edits.{SetsSlot}
 use Rattle.arena_table.specs.Tables.{pair_of, slots_of, IsShape}
 
--- ---- Marks beside a list
+-- ---- A list with its marks
 
 -- what a slot with this mark holds
 abbrev held : {X : Type 0} → ℕ → X → Option X
@@ -78,7 +78,7 @@ module _ {X : Type 0} where
 pub length-splice : (bs : List ℕ) (at : ℕ) (ys : List ℕ) → at + length ys ≤ length bs → length (splice bs at ys) ≡ length bs
 length-splice bs at ys h = grind (arith, common_steps)
 
--- what stands in the front of a list
+-- the bytes in the front of a list
 front-get : (xs ys : List ℕ) (i : ℕ) → i < length xs → get_or (xs ++ ys) i 0 ≡ get_or xs i 0
 front-get xs ys i h = grind (arith, common_steps)
 
@@ -92,7 +92,7 @@ set-take (suc n) [] i y h = refl
 set-take (suc n) (x ∷ xs) zero y h = refl
 set-take (suc n) (x ∷ xs) (suc i) y h = ap (λ zs. x ∷ zs) (set-take n xs i y (omega arith))
 
--- the same write in the words of a part that was lent
+-- the same write, as a write to a part that was borrowed
 pub mid-splice : (at n : ℕ) (xs ys : List ℕ) → length ys ≡ n → put_mid at (at + n - at) xs ys ≡ splice xs at ys
 mid-splice at n xs ys h =
     let k : at + n - at ≡ n = omega arith in
@@ -109,7 +109,7 @@ splice-split n at xs ys =
     ∙ (append_assoc (take n xs) (take at (drop n xs) ++ ys) (drop (n + at + length ys) xs)
     ∙ ap (λ zs. take n xs ++ ((take at (drop n xs) ++ ys) ++ zs)) rest))
 
--- and one that begins earlier, with what stands there
+-- and one that begins earlier, with the bytes that are there
 splice-behind : (at n : ℕ) (xs ys : List ℕ) → at + n ≤ length xs → splice xs (at + n) ys ≡ splice xs at (take n (drop at xs) ++ ys)
 splice-behind at n xs ys h =
     let front : List ℕ = take n (drop at xs) in
@@ -121,11 +121,11 @@ splice-behind at n xs ys h =
 
 -- ---- Slots of bytes
 
--- a slot's bytes lie within
+-- a slot's bytes are within
 pub slot-within : (i n key value : ℕ) → i < n → n + i * (key + value) + (key + value) ≤ n * slot_size key value
 slot-within i n key value h = omega (arith, rows_before i n (key + value) h)
 
--- of any bytes there are no more slots than marks
+-- in any bytes there are no more slots than marks
 pub slots-most : {K V : Type 0} (keys : Ghosts K) (values : Ghosts V) (n : ℕ) (bytes : List ℕ) → length (slots_of keys values n bytes) ≤ n
 unfolding slots_of
 slots-most keys values n bytes =
@@ -136,7 +136,7 @@ slots-most keys values n bytes =
           bytes,
     )
 
--- the bytes of a pair give it back
+-- the bytes of a pair decode to the pair
 pub pair-back : {K V : Type 0} (keys : Ghosts K) (values : Ghosts V) (k : K) (v : V) → length (keys.encoded k) ≡ keys.SIZE
     → keys.decoded (keys.encoded k) ≡ k → values.decoded (values.encoded v) ≡ v
     → pair_of keys values (keys.encoded k ++ values.encoded v) ≡ (k, v)
@@ -156,7 +156,7 @@ module _ {K V : Type 0} (keys : Ghosts K) (values : Ghosts V) (n : ℕ) (bytes :
   pairs-fit : n * (keys.SIZE + values.SIZE) ≤ length (drop n bytes)
   pairs-fit = omega (arith, shape.long, length-drop n bytes)
 
-  -- what stands in the bytes of a slot
+  -- the pair in the bytes of a slot
   pair_at : ℕ → K × V
   pair_at i = pair_of keys values (take (keys.SIZE + values.SIZE) (drop (i * (keys.SIZE + values.SIZE)) (drop n bytes)))
 
@@ -176,7 +176,7 @@ module _ {K V : Type 0} (keys : Ghosts K) (values : Ghosts V) (n : ℕ) (bytes :
       (elements-get (keys.SIZE + values.SIZE) (pair_of keys values) n (drop n bytes) i h)
       ∙ ap (λ m. Some (held m (pair_at i))) mark
 
-  -- a slot that holds something has a mark, and what it holds stands in its bytes
+  -- a slot that holds a pair has a mark, and the pair is in its bytes
   holds : (i : ℕ) (x : K × V) → i < n → slice_get (slots_of keys values n bytes) i ≡ Some (Some x)
       → (0 < get_or bytes i 0) × (pair_at i ≡ x)
   holds i x h s = held-is (get_or bytes i 0) (pair_at i) x (same_Some (held (get_or bytes i 0) (pair_at i)) (Some x)
@@ -245,7 +245,7 @@ module _ {K V : Type 0} (keys : Ghosts K) (values : Ghosts V) (n : ℕ) (bytes :
             ∙ (get_or-set_other (take n bytes) i j m 0 (λ q. e q) ∙ front-take n bytes j l);
       }
 
-  -- a value is written behind its key
+  -- a value is written after its key
   pub value-set : (i : ℕ) (ys : List ℕ) (x : K × V) (v : V) → slice_get (slots_of keys values n bytes) i ≡ Some (Some x)
       → length ys ≡ values.SIZE → values.decoded ys ≡ v
       → SetsSlot keys values n bytes (splice bytes (n + i * (keys.SIZE + values.SIZE) + keys.SIZE) ys) i (get_or bytes i 0)

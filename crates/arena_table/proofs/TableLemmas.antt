@@ -19,11 +19,11 @@ module _ {K V : Type 0} (keys : Ghosts K) (values : Ghosts V) (hash : K × V →
   homes : (p : K × V) → home_of n (hash p) < n
   homes p = home-less n (hash p) some
 
-  -- something stands in each slot, or nothing
+  -- each slot holds a pair, or is free
   was : (i : ℕ) → i < n → slice_get (slots_of keys values n old) i ≡ Some (get_or (slots_of keys values n old) i None)
   was i h = slice_get-get_or (slots_of keys values n old) i None (omega (arith, slots-long keys values n old shape))
 
-  -- a slot of the old bytes that holds something is one of the ring's
+  -- a slot of the old bytes that holds a pair is one of the ring's
   inside : (i : ℕ) (x : K × V) → slice_get (slots_of keys values n old) i ≡ Some (Some x) → i < n
   inside i x s = slot-within-long keys values n old shape i x s
 

@@ -20,7 +20,7 @@ use Rattle.arena_table.specs.declared.table.Table.{Table}
 use Rattle.arena_table.proofs.HandleLemmas.{handle-shape}
 use Rattle.arena_table.proofs.SlotLemmas.{slots-long, slot-free, slot-taken}
 
--- a ring's slots come by sixty-fours, or are fewer
+-- the number of a ring's slots is a multiple of 64, or less than 64
 pub ring-groups : (n : ℕ) → IsRing n → IsByGroups n
 ring-groups n r = elim (cases_lt r.0.0 6) [
   | inl l ↦ let low : r.0.0 ≤ 5 = omega arith in let most : 2 ^ r.0.0 ≤ 2 ^ 5 = pow_mono low in inl (omega (arith, r.0.1, most))
@@ -62,7 +62,7 @@ module _ {K V : Type 0} (keys : Ghosts K) (values : Ghosts V) (n : ℕ) (bytes :
     pub walk-end : (s : Scan) → AreFree (take n bytes) (front_of s) n → left_in keys values n bytes s ≡ []
     walk-end s none = left-end n (take n bytes) (slots_of keys values n bytes) walk-slots walk-free (front_of s) none
 
-    -- where it goes on, the pair of the slot comes first
+    -- if the walk continues, the pair of the slot comes first
     pub walk-goes : (s t : Scan) (at : ℕ) → GoesOn n (take n bytes) s at t
         → (x : K × V) × (slice_get (slots_of keys values n bytes) at ≡ Some (Some x)) × (left_in keys values n bytes s
         ≡ x ∷ left_in keys values n bytes t)
@@ -121,7 +121,7 @@ walk-shape keys values memory t bytes small few handle is = elim (cases_lt 0 t.s
 module _ {K V : Type 0} (keys : Ghosts K) (values : Ghosts V) (memory : Memory) (t : Table K V) (bytes : List ℕ)
     (small : keys.SIZE ≤ 2 ^ 24)
     (few : values.SIZE ≤ 2 ^ 24) (handle : IsTableHandle keys values memory t) (is : bytes ≡ bytes_of memory t.block) where
-  -- its marks come by sixty-fours, or are fewer
+  -- the number of its marks is a multiple of 64, or less than 64
   pub table-groups : IsByGroups t.slots
   table-groups = walk-groups keys values t.slots bytes (walk-shape keys values memory t bytes small few handle is)
 

@@ -1,5 +1,4 @@
-// Where a pair goes that is farther from its home than marks tell: there the keys that stand on the way are hashed
-// again.
+// The place of a pair so far from its home that marks don't give the distance: keys on the way are hashed again.
 ghost use Rattle.std.specs.Prelude.{◌≡◌, ℕ, ◌^◌, ◌<◌, ◌≤◌, Some, IsTrue, false, slice_get};
 ghost use Rattle.hash_ring.specs.Searches.{IsPassed};
 ghost use Rattle.hash_ring.specs.Slots.{IsAway, IsBehind, IsPlaceFor};
@@ -34,7 +33,8 @@ pub(crate) fn hash_at<K: ArenaKey, V: Item, S: KeyHasher, C: ChunkSource>(
     hasher.hash(key.content(a, &mut room))
 }
 
-// Whether what stands in a slot is at least so far from its home, which is farther than marks tell.
+// Returns whether the pair in a slot is at least `far` slots from its home. `far` is at least 14, a distance that marks
+// don't give.
 fn is_behind<K: ArenaKey, V: Item, S: KeyHasher, C: ChunkSource>(
     a: &Allocator<C>,
     table: Table<K, V>,
@@ -60,9 +60,9 @@ fn is_behind<K: ArenaKey, V: Item, S: KeyHasher, C: ChunkSource>(
     far <= distance(table.slots, hash_at(a, table, hasher, at), at)
 }
 
-// The first slot, from the one that marks tell on, whose pair is nearer to its home than one with this hash
-// would be there. What is passed stands in the order of homes, so the search looks twice as far each time,
-// and goes back by halves: few keys are hashed, however many stand on the way.
+// Returns the first slot, from the 14th after the home on, that is free or whose pair is nearer to its home than a pair
+// with this hash would be there. The pairs before it are in the order of their homes, so the search looks twice as far
+// each time, and goes back by halves: few keys are hashed, however many are on the way.
 #[cold]
 #[inline(never)]
 pub(crate) fn far_spot<K: ArenaKey, V: Item, S: KeyHasher, C: ChunkSource>(

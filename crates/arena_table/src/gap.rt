@@ -1,4 +1,4 @@
-// A slot is freed, and the pairs behind it that are away from their homes move back by one.
+// Frees a slot and closes the gap: the pairs after it that are away from their homes move back by one.
 ghost use Rattle.std.specs.Prelude.{◌≡◌, ◌+◌, ◌<◌, ◌≤◌, IsTrue, length};
 ghost use Rattle.hash_ring.specs.Marks.{IsRing};
 ghost use Rattle.arena_table.specs.Tables.{IsShape};
@@ -45,7 +45,7 @@ fn close_gap<K: Item, V: Item>(bytes: &mut [u8], slots: u64, at: u64)
     }
 }
 
-/// Whether the gap at a slot is closed by marks alone: no pair that moves back is far from its home.
+/// Returns `true` only if the gap at a slot can be closed by marks alone: no pair that moves back has a far mark.
 #[inline(always)]
 pub(crate) fn is_near(bytes: &[u8], slots: u64, at: u64) -> bool
     requires ring { IsRing slots }
@@ -67,7 +67,7 @@ pub(crate) fn is_near(bytes: &[u8], slots: u64, at: u64) -> bool
     true
 }
 
-/// Frees a slot of a table's bytes, and closes the gap. No pair behind it is far.
+/// Frees a slot of a table's bytes, and closes the gap. No pair that moves back may have a far mark.
 #[derive(Clone, Copy)]
 pub(crate) struct CloseGap<K, V> {
     pub(crate) slots: u64,

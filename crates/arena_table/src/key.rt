@@ -6,12 +6,12 @@ ghost use Rattle.arena_table.specs.Contents.{Key, whole_key, text_key, content_i
 use arena_chunks::{Allocator, ChunkSource, Str};
 use arena_items::Item;
 
-/// A key of a map. Two keys are the same where their contents are equal.
+/// A key of a map. Two keys are the same if their contents are equal.
 pub trait ArenaKey: Item {
-    // The block of its text, and its content by that.
+    // The block of a key's text, and the key's content, given the bytes of that block.
     ghost key: { Key Self };
 
-    /// The content: the bytes of the key's text, or those that are written to the front of `room`.
+    /// Returns the content: the bytes of the key's text, or bytes that it writes to the front of `room`.
     fn content<'x, C: ChunkSource>(
         &'x self,
         a: &'x Allocator<C>,

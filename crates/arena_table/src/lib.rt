@@ -1,4 +1,5 @@
-//! The table of a map in an arena: a ring of slots in a block, a mark of one byte and a pair for each, in the order of distance.
+//! The table of a map in an arena: a block with a mark of one byte and a pair for each slot of a ring, ordered by
+//! distance.
 #![tactic(auto)]
 
 mod far;

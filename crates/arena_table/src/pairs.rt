@@ -1,11 +1,11 @@
-// The pairs that stand behind the marks of a table, key and value packed.
+// Pairs in a table's bytes, after its marks: each is its key and then its value, packed.
 ghost use Rattle.std.specs.Prelude.{◌≡◌, ℕ, ◌+◌, ◌^◌, ◌<◌, ◌≤◌, ◌++◌, Some, None, length, slice_get};
 ghost use Rattle.arena_table.specs.Tables.{slots_of, IsShape};
 ghost use Rattle.arena_table.specs.Edits.{SetsSlot};
 
 use arena_items::Item;
 
-// The bytes of a pair.
+// The size of a pair in bytes.
 #[inline]
 pub(crate) fn pair_size<K: Item, V: Item>() -> usize
     requires keys_small { K.SIZE ≤ 2 ^ 24 }
@@ -15,7 +15,7 @@ pub(crate) fn pair_size<K: Item, V: Item>() -> usize
     (K::SIZE + V::SIZE) as usize
 }
 
-/// The key in a slot.
+/// Returns the key in a slot; unspecified if the slot is free.
 #[tactic(auto, using(crate::proofs::SlotLemmas::slot_laws))]
 #[inline]
 pub fn key_at<K: Item, V: Item>(bytes: &[u8], slots: u64, i: u64) -> K
@@ -28,7 +28,7 @@ pub fn key_at<K: Item, V: Item>(bytes: &[u8], slots: u64, i: u64) -> K
     K::decode(&bytes[at..at + K::SIZE as usize])
 }
 
-/// The value in a slot.
+/// Returns the value in a slot; unspecified if the slot is free.
 #[tactic(auto, using(crate::proofs::SlotLemmas::slot_laws))]
 #[inline]
 pub fn value_at<K: Item, V: Item>(bytes: &[u8], slots: u64, i: u64) -> V

@@ -1,4 +1,4 @@
-// A pair is put into a slot, and the pairs that stand there and behind move on by one, up to a free slot.
+// Puts a pair into a slot; the pairs there and after it move on by one, up to a free slot.
 ghost use Rattle.std.specs.Prelude.{◌≡◌, ◌+◌, ◌^◌, ◌<◌, ◌≤◌, length};
 ghost use Rattle.arena_table.specs.Tables.{IsShape};
 ghost use Rattle.arena_table.specs.Edits.{ChangesValue, PutsPair};
@@ -9,7 +9,7 @@ use arena_items::Item;
 use hash_ring::{farther, ring};
 use std::marker::PhantomData;
 
-// Puts a pair with its mark into a slot, and moves on what stands there.
+// Puts a pair with its mark into a slot, and moves the pairs there and after it on by one, up to a free slot.
 #[inline(always)]
 fn put_at<K: Item, V: Item>(bytes: &mut [u8], slots: u64, at: u64, mark: u8, key: K, value: V)
     requires shape { IsShape K.Item V.Item slots bytes.old }
@@ -57,7 +57,7 @@ impl<K: Item, V: Item> Edit for PutPair<K, V> {
     }
 }
 
-// Puts a value into a slot, whose mark and key stay.
+// Replaces the value in a slot. The mark and the key stay.
 #[tactic(auto, using(crate::proofs::SlotLemmas::slot_laws))]
 #[inline]
 fn change_value<K: Item, V: Item>(bytes: &mut [u8], slots: u64, at: u64, value: V)
@@ -70,14 +70,14 @@ fn change_value<K: Item, V: Item>(bytes: &mut [u8], slots: u64, at: u64, value: 
     value.encode(&mut bytes[place..place + V::SIZE as usize]);
 }
 
-/// Puts a value into a slot of a table's bytes, whose key stays.
+/// Replaces the value in a slot of a table's bytes. The key stays.
 #[derive(Clone, Copy)]
 pub struct PutValue<K, V> {
-    /// How many slots the table has.
+    /// The number of slots of the table.
     pub slots: u64,
     /// The slot.
     pub at: u64,
-    /// The value that it has then.
+    /// The new value.
     pub value: V,
     /// The type of the key, which stays.
     pub of: PhantomData<K>,

@@ -1,5 +1,5 @@
-// Changes of a table whose keys may have to be hashed again: where marks don't tell how far a pair is from
-// its home, and where all pairs move to another table.
+// Changes of a table that may hash keys again: if marks don't give a pair's distance from its home, or if all pairs
+// move to another table.
 ghost use Rattle.std.specs.Prelude.{◌≡◌, ℕ, ◌+◌, ◌^◌, ◌<◌, ◌≤◌, [], ◌∷◌, Some, None};
 ghost use Rattle.std.specs.Prelude.{length, replicate, slice_get, slice_index};
 ghost use Rattle.std.specs.Option.{MatchOption};
@@ -25,7 +25,7 @@ use arena_items::{Item, Zeros};
 use hash_ring::{AWAY, FAR, KeyHasher, Scan, distance, mark_of, ring, start, step};
 use std::marker::PhantomData;
 
-// The mark of the pair of a slot when it has moved back by one.
+// The mark that the pair of a slot has after it moves back by one.
 fn mark_back<K: ArenaKey, V: Item, S: KeyHasher, C: ChunkSource>(
     a: &Allocator<C>,
     table: Table<K, V>,
@@ -53,7 +53,7 @@ fn mark_back<K: ArenaKey, V: Item, S: KeyHasher, C: ChunkSource>(
     mark_of(hash, distance(table.slots, hash, from) - 1)
 }
 
-// Frees a slot and closes the gap, a slot at a time.
+// Frees a slot and closes the gap, one slot at a time, where marks alone don't suffice.
 #[cold]
 #[inline(never)]
 fn close_far<K: ArenaKey, V: Item, S: KeyHasher, C: ChunkSource>(
@@ -96,7 +96,7 @@ fn close_far<K: ArenaKey, V: Item, S: KeyHasher, C: ChunkSource>(
 }
 
 impl<K: ArenaKey, V: Item> Table<K, V> {
-    // The slot where a pair with this hash goes, by where the search for it ended.
+    // The slot for a pair with this hash, given where the search for it ended.
     #[inline]
     fn place_for<S: KeyHasher, C: ChunkSource>(
         self,
@@ -121,12 +121,12 @@ impl<K: ArenaKey, V: Item> Table<K, V> {
         if mark < FAR {
             return spot;
         }
-        // A copy of its own, so that the common way writes none for the call.
+        // A separate copy, so that the common path doesn't write one for the call.
         let table = self;
         far_spot(a, table, hasher, hash)
     }
 
-    /// Puts a pair, whose content no slot holds, where the search for it ended.
+    /// Inserts a pair with a new content, where the search for it ended.
     #[inline(always)]
     pub fn put<S: KeyHasher, C: ChunkSource>(
         self,
@@ -163,7 +163,7 @@ impl<K: ArenaKey, V: Item> Table<K, V> {
         a.write_with(self.block, 0, self.block.size, &put);
     }
 
-    /// Puts a pair whose content no slot holds.
+    /// Inserts a pair with a new content.
     #[inline(always)]
     pub fn settle<S: KeyHasher, C: ChunkSource>(
         self,
@@ -217,7 +217,7 @@ impl<K: ArenaKey, V: Item> Table<K, V> {
         a.write_with(self.block, 0, self.block.size, &close);
     }
 
-    // Puts the next pair of a walk over another table, and answers where the walk goes on.
+    // Inserts the next pair of a walk over another table, and returns where the walk continues, or `None` at its end.
     #[inline(always)]
     fn carry<S: KeyHasher, C: ChunkSource>(
         self,
@@ -253,7 +253,7 @@ impl<K: ArenaKey, V: Item> Table<K, V> {
         Some(next)
     }
 
-    /// Puts all pairs of another table into this one, which has none.
+    /// Inserts all pairs of another table into this one, which must be empty.
     pub fn carry_all<S: KeyHasher, C: ChunkSource>(
         self,
         a: &mut Allocator<C>,

@@ -25,7 +25,7 @@ fn holds<K: ArenaKey, C: ChunkSource>(a: &Allocator<C>, key: K, wanted: &[u8]) -
     same(key.content(a, &mut room), wanted)
 }
 
-/// Looks for a content in a table that has slots, among its bytes.
+/// Searches a table for a content, given the table's bytes. The table must have a free slot.
 #[inline(always)]
 pub fn find<K: ArenaKey, V: Item, C: ChunkSource>(
     a: &Allocator<C>,

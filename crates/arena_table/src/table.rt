@@ -1,4 +1,4 @@
-// Tables: where their pairs stand.
+// Tables: where their pairs are stored.
 ghost use Rattle.std.specs.Prelude.{◌≡◌, ℕ, ◌+◌, ◌*◌, ◌^◌, ◌<◌, ◌≤◌, [], ◌∷◌, None, IfOk, OnErr, length};
 ghost use Rattle.std.specs.Prelude.{replicate};
 ghost use Rattle.arena_chunks.specs.Memory.{Memory};
@@ -18,15 +18,14 @@ use arena_place::Layout;
 use hash_ring::{farther, home_mark, least, ring};
 use std::marker::PhantomData;
 
-/// The table of a map: a block with a byte and a pair for each slot. The number of slots is 0 or a power of
-/// two.
+/// The table of a map: a block with a mark and a pair for each slot. The number of slots is 0 or a power of two.
 #[derive(Clone, Copy)]
 pub struct Table<K, V> {
-    /// The block: a mark for each slot, and behind them the slots.
+    /// The block: a mark for each slot, and after them the pairs.
     pub block: Block,
-    /// How many slots there are.
+    /// The number of slots.
     pub slots: u64,
-    /// The types of the pairs, which take no place in the handle.
+    /// The types of the pairs. It takes no space in the handle.
     pub of: PhantomData<(K, V)>,
 }
 
@@ -39,7 +38,7 @@ pub(crate) fn table_align<K: Item, V: Item>() -> u64
 }
 
 impl<K: Item, V: Item> Table<K, V> {
-    /// No table.
+    /// Returns a table without slots, and with an empty block.
     pub fn none() -> Table<K, V>
         ensures held { (memory : Memory) → IsTableHandle K.Item V.Item memory result }
         ensures slots { result.slots ≡ 0 }
@@ -52,11 +51,11 @@ impl<K: Item, V: Item> Table<K, V> {
         }
     }
 
-    /// A table with all slots free, of a power of two.
+    /// Places a table with all slots free. The number of slots is a power of two from 8 to 2^33.
     ///
     /// # Errors
     ///
-    /// As of the arena's `alloc_layout`. Nothing changes.
+    /// As for the arena's `alloc_layout`. The memory is unchanged.
     pub fn place<C: ChunkSource>(a: &mut Allocator<C>, slots: u64) -> Grown<Table<K, V>>
         requires keys_small { K.SIZE ≤ 2 ^ 24 }
         requires values_small { V.SIZE ≤ 2 ^ 24 }
@@ -92,7 +91,7 @@ impl<K: Item, V: Item> Table<K, V> {
         a.write_with(self.block, 0, self.slots, &Zeros);
     }
 
-    // Where a pair with this hash goes, whose content no slot holds, with its mark.
+    // The slot and the mark for a pair with this hash, whose content no slot holds, as far as marks show.
     #[inline(always)]
     pub(crate) fn spot_for(self, bytes: &[u8], hash: u64) -> (u64, u8)
         requires shape { IsShape K.Item V.Item self.slots bytes.now }

@@ -1,10 +1,8 @@
-// Worked examples of the rules, and one call of each function that takes memory. Most are tables of calls (`steps`), since
-// a table costs its proof next to nothing.
+// Worked examples of the rules, and one call of each function that takes memory. Most are tables of calls (`steps`),
+// because a table costs almost nothing to prove.
 mod allocators;
-mod beside;
 mod blocks;
 mod creation;
-mod ends;
 mod growth;
 mod items;
 mod layers;
@@ -15,7 +13,6 @@ mod reallocation;
 mod regions;
 mod replies;
 mod resizes;
-mod runs;
 mod sources;
 mod stage;
 mod steps;
@@ -44,13 +41,13 @@ fn ample(alloc: Global) -> Allocator<MemoryChunks> {
     Allocator::new(alloc, MemoryChunks::new(alloc, 1 << 20))
 }
 
-// A source that refuses these requests, by their numbers from 1.
+// A source that refuses the requests with these numbers, counted from 1.
 fn refusing(alloc: Global, refuse: &[u64]) -> Result<RefusingChunks, AllocError> {
     let refuse = refuse.to_vec(alloc)?;
     Ok(RefusingChunks::new(alloc, refuse))
 }
 
-// The block, which must be held.
+// Returns the block. The test fails if it isn't held.
 fn held<C: ChunkSource>(rt: &impl Abort, a: &Allocator<C>, block: Block) -> Block
     ensures readable { IsTrue (is_readable a.now.memory.state result) }
     ensures block { result ≡ block }
@@ -59,7 +56,7 @@ fn held<C: ChunkSource>(rt: &impl Abort, a: &Allocator<C>, block: Block) -> Bloc
     block
 }
 
-// A block that was answered at this address, which is held.
+// Returns the block of a result. The test fails if there is none, or if it has another address or isn't held.
 fn placed<C: ChunkSource>(
     rt: &impl Abort,
     what: &'static str,
@@ -75,7 +72,7 @@ fn placed<C: ChunkSource>(
     held(rt, a, block)
 }
 
-// The block is held and has these bytes.
+// Checks that the block is held and has these bytes.
 fn reads<C: ChunkSource>(
     rt: &impl Abort,
     what: &'static str,
@@ -87,7 +84,7 @@ fn reads<C: ChunkSource>(
     must(rt, what, *a.read(block) == *wanted);
 }
 
-// So many bytes are used, and so many blocks were placed, and grown or shrunk.
+// Checks the bytes in use, and the counts of blocks that were placed and of blocks that were grown or shrunk.
 fn has<C: ChunkSource>(
     rt: &impl Abort,
     what: &'static str,
@@ -99,12 +96,12 @@ fn has<C: ChunkSource>(
     same_at(rt, what, found, (used, counts));
 }
 
-// What was found is what is wanted.
+// Fails the test if the two values differ.
 fn same<T: Copy + PartialEq + Debug>(rt: &impl Abort, found: T, wanted: T) {
     same_at(rt, "a value", found, wanted);
 }
 
-// What was found there is what is wanted.
+// Fails the test if the two values differ. `at` names the case.
 fn same_at<A: Copy + Debug, T: Copy + PartialEq + Debug>(
     rt: &impl Abort,
     at: A,
@@ -116,7 +113,7 @@ fn same_at<A: Copy + Debug, T: Copy + PartialEq + Debug>(
     }
 }
 
-// It is so there.
+// Fails the test if the condition is false. `at` names the case.
 fn must<A: Copy + Debug>(rt: &impl Abort, at: A, is: bool)
     ensures { IsTrue is }
 {

@@ -25,7 +25,7 @@ pub four : (c : ℕ) → len_utf8 c ≢ 1 → len_utf8 c ≢ 2 → len_utf8 c �
 unfolding encode_utf8
 four c not_1 not_2 not_3 = grind (arith, nat_tests)
 
--- ---- Places of so many bytes, each of which is set
+-- ---- Places of one to four bytes, each of which is set
 
 pub set_one : (old : List ℕ) (a : ℕ) → length old ≡ 1 → set old 0 a ≡ a ∷ []
 set_one [] a e = absurd (omega arith)
@@ -58,7 +58,7 @@ times_ascii byte (suc n) small (suc i) = times_ascii byte n small i
 pub ascii_utf8 : (byte n : ℕ) → byte < 128 → IsUtf8 (replicate n byte)
 ascii_utf8 byte n small = IsUtf8-from_ascii (replicate n byte) (times_ascii byte n small)
 
--- So is a text of which one ASCII byte is replaced by another.
+-- So is a text in which one ASCII byte is replaced by another.
 pub set_utf8 : (bytes : List ℕ) (i byte : ℕ) → IsUtf8 bytes → i < length bytes → get_or bytes i 0 < 128 → byte < 128
     → IsUtf8 (set bytes i byte)
 set_utf8 bytes i byte text inside ascii small =

@@ -17,7 +17,7 @@ use Rattle.arena_text.specs.Builders.{IsBuilderIn}
 use Rattle.arena_text.specs.Changes.{IsGrown}
 use Rattle.arena_text.specs.declared.text.StringBuilder.{StringBuilder}
 
--- So many bytes have a layout.
+-- n bytes have a layout.
 pub bytes_layout : (n : ℕ) → n < 2 ^ 63 → IsTrue (is_layout n 1)
 unfolding is_power_among
 bytes_layout n few =
@@ -25,7 +25,7 @@ bytes_layout n few =
     let fits : nat_le n (2 ^ 63 - 1) ≡ true = grind (arith, nat_tests) in
     rw (same, fits) refl
 
--- A block was taken for more bytes: the text has those that it had.
+-- A block was taken for more bytes: the text has the bytes that it had.
 pub grown_text : (old new : View) (t : StringBuilder) (c : Block) (more : ℕ) → IsBuilderIn old.memory t → t.cap < more
     → TakesRoom old new t.block t.cap (more * 1) 1 (Placed c)
     → IsGrown old.memory new.memory t (GrowsTo more) (record { block = c; len = t.len; cap = more })
@@ -44,7 +44,7 @@ grown_text old new t c more held less takes =
       frame = taken_frame old new t.block c t.cap (more * 1) 1 takes no_bytes;
     }
 
--- What is required is there after a growth that was made.
+-- After a growth that succeeded there is room for what is required.
 pub enough : (old new : View) (b : Block) (cap required : ℕ) (growth : Growth) (f : StringBuilder → Block) (t : StringBuilder)
     → MakesRoom 1 1 old new b cap growth f (Ok t) → Suffices cap required growth → required ≤ capacity_after growth cap
 enough old new b cap required Stays f t made suffices = suffices
@@ -66,12 +66,12 @@ new_capacity old new b room f t made = go (nat_le room 0) (nat_le room (2 ^ 63 -
     go false true is made = refl
     go false false is made = absurd (let no = made.0 in cc)
 
--- Where there is room nothing grows.
+-- If there is room nothing grows.
 pub room_there : (cap len n : ℕ) → len + n ≤ cap → amortised_growth cap len n ≡ Stays
 unfolding growth_to
 room_there cap len n fits = grind (arith, nat_tests)
 
--- Where bytes are put there is room for no more than twice the bytes and eight.
+-- After bytes are added the room is at most twice the bytes plus 8, if it was so before.
 pub room_pushed : (cap len n : ℕ) → len ≤ cap → IsRoomFor len cap → IsRoomFor (len + n) (capacity_after (amortised_growth cap len n) cap)
 unfolding growth_to amortised
 room_pushed cap len n within room = go (nat_le (len + n) cap) (nat_le (len + n) (2 ^ 63 - 1)) (nat_le more (2 ^ 63 - 1)) refl refl refl
@@ -89,7 +89,7 @@ room_pushed cap len n within room = go (nat_le (len + n) cap) (nat_le (len + n) 
     go false true false is small all = omega arith
     go false false fits is small all = omega arith
 
--- And all blocks that were asked for have together no more than twice the bytes of the last.
+-- All blocks that were asked for have together at most twice the bytes of the last, if it was so before.
 pub asked_pushed : (cap len n asked : ℕ) → len ≤ cap → asked ≤ 2 * cap → capacity_after (amortised_growth cap len n) cap < 2 ^ 62
     → asked + asked_by (amortised_growth cap len n) ≤ 2 * capacity_after (amortised_growth cap len n) cap
 unfolding growth_to amortised

@@ -27,16 +27,16 @@ use Rattle.arena_text.proofs.RoomLemmas.{new_capacity, too_many, room_there, roo
 
 -- ---- Bytes
 
--- A front of a list whose part behind it is replaced,
+-- A front of a list of which the part after it is replaced,
 front_then : (at : ℕ) (bs ys : List ℕ) → at + length ys ≤ length bs → take (at + length ys) (splice bs at ys) ≡ take at bs ++ ys
 front_then at bs ys within = grind (arith, common_steps)
 
--- one whose front moves up by one, below another value,
+-- one whose front moves up by one, after another value,
 front_below : (n x : ℕ) (bs : List ℕ) → n + 1 ≤ length bs
     → take (n + 1) (splice (splice bs 1 (take n bs)) 0 (x ∷ [])) ≡ x ∷ take n bs
 front_below n x bs within = grind (arith, common_steps)
 
--- and one of which one value is replaced.
+-- and one in which a value is replaced.
 front_set : (n i x : ℕ) (bs : List ℕ) → i < n → n ≤ length bs → take n (splice bs i (x ∷ [])) ≡ set (take n bs) i x
 front_set n i x bs inside within =
     let below : i < i + 1 = omega arith in
@@ -52,11 +52,11 @@ pub ruleset edits = (edits_to, length-bytes)
 abbrev block_of : StringBuilder → Block
 block_of t = t.block
 
--- so many bytes of a text's block
+-- the length of a text's block
 long : (m : Memory) (t : StringBuilder) → IsBuilderIn m t → length (bytes_of m t.block) ≡ t.cap
 long m t held = length-bytes (image m) t.block.addr t.block.size ∙ held.place.of_size
 
--- A text is held after a write in its block, with any length that its capacity has.
+-- A text is held after a write in its block, with any length up to its capacity.
 held_still : (old new : View) (t : StringBuilder) (n : ℕ) → IsBuilderIn old.memory t → n ≤ t.cap → SamePlaces old new
     → IsBuilderIn new.memory (record t { len = n })
 held_still old new t n held within same = record {
@@ -72,7 +72,7 @@ held_still old new t n held within same = record {
 pub counted : (m : Memory) (t : StringBuilder) → IsBuilderIn m t → t.len ≡ length (builder_bytes m t)
 counted m t held = sym (length-take-le t.len (bytes_of m t.block) (omega (arith, long m t held, held.within)))
 
--- What is written in its block stands there among the rest.
+-- What is written in its block is there, between the rest.
 spliced : (old new : View) (t : StringBuilder) (at : ℕ) (list : List ℕ) → IsBuilderIn old.memory t → at + length list ≤ t.cap
     → WritesBlock old.memory new.memory t.block at list → bytes_of new.memory t.block ≡ splice (bytes_of old.memory t.block) at list
 spliced old new t at list held fits writes =
@@ -121,7 +121,7 @@ module _ (old mid : View) (t : StringBuilder) (growth : Growth) where
     reserves = grows mid u.len (builder_bytes old.memory t) grown.held.within (record { state = refl; statistics = refl; source = refl })
         (frame_reflexive mid.memory (u.block ∷ [])) grown.bytes_are
 
-    -- Bytes were written at the end.
+    -- Bytes were appended.
     pub pushed : (new : View) (list : List ℕ) → u.len + length list ≤ u.cap
         → WritesBlock mid.memory new.memory u.block u.len list → new.source ≡ mid.source
         → Grows old new t growth (builder_bytes old.memory t ++ list)
@@ -132,7 +132,7 @@ module _ (old mid : View) (t : StringBuilder) (growth : Growth) where
         ∙ front_then u.len (bytes_of mid.memory u.block) list (omega (arith, long mid.memory u grown.held))
         ∙ ap (λ bs. bs ++ list) grown.bytes_are)
 
-    -- All bytes were moved up by one, and one was written below them.
+    -- All bytes were moved up by one, and one was written before them.
     pub pushed_below : (two new : View) (byte : ℕ) → u.len + 1 ≤ u.cap
         → WritesBlock mid.memory two.memory u.block 1 (bytes_from (image mid.memory) (u.block.addr + 0) u.len) → two.source ≡ mid.source
         → WritesBlock two.memory new.memory u.block 0 (byte ∷ []) → new.source ≡ two.source
@@ -200,7 +200,7 @@ made_full old mid new t list made writes source =
       err = tt;
     }
 
--- There is no room for so many bytes.
+-- There is no room for that many bytes.
 pub not_made : (view : View) (n : ℕ) (bytes : List ℕ) → 2 ^ 64 ≤ n → Makes view view n bytes (Err CapacityOverflow)
 not_made view n bytes many = record {
   made = subst (λ growth. MakesRoom 1 1 view view no_block 0 growth block_of (Err CapacityOverflow))
@@ -213,7 +213,7 @@ not_made view n bytes many = record {
   err = refl;
 }
 
--- One text more behind the first i:
+-- One text more after the first i:
 texts_more : {T : Type 0} (f : T → List ℕ) (xs : List T) (i : ℕ) (x : T) → i < length xs → x ≡ get_or xs i x
     → flat_map f (take i xs) ++ f x ≡ flat_map f (take (i + 1) xs)
 texts_more f xs i x inside is = flat_map_more f [] (take i xs) x ∙ rw (take_more xs i x inside, ← is) refl
@@ -223,7 +223,7 @@ pub utf8_more : {T : Type 0} (f : T → List ℕ) (xs : List T) (i : ℕ) (x : T
     → IsUtf8 (flat_map f (take i xs)) → IsUtf8 (f x) → IsUtf8 (flat_map f (take (i + 1) xs))
 utf8_more f xs i x inside is texts text = subst IsUtf8 (texts_more f xs i x inside is) (IsUtf8-append _ _ texts text)
 
--- and they are written, where it was.
+-- and they are written at its place.
 pub one_more : {T : Type 0} (f : T → List ℕ) (xs : List T) (i : ℕ) (x : T) (old mid new : Memory) (b : Block) (at : ℕ) → i < length xs
     → x ≡ get_or xs i x → at ≡ length (flat_map f (take i xs)) → WritesBlock old mid b 0 (flat_map f (take i xs))
     → WritesBlock mid new b at (f x)
@@ -251,7 +251,7 @@ pub never_refused : (old new : View) (t u : StringBuilder) (n : ℕ) (list : Lis
     → ¬ (Grows old new t (amortised_growth t.cap t.len n) list u (Err e))
 never_refused old new t u n list e room is = absurd (let ok = (stays_ok old new t u n list (Err e) room is).0 in cc)
 
--- and join to the call that made the room.
+-- and are one with the call that made the room.
 pub made_within : (old mid new : View) (t u : StringBuilder) (room n : ℕ) (first list : List ℕ) → Makes old mid room first (Ok t)
     → t.len + n ≤ t.cap → Grows mid new t (amortised_growth t.cap t.len n) list u (Ok tt) → Makes old new room list (Ok u)
 made_within old mid new t u room n first list made fits one =
@@ -285,7 +285,7 @@ grown_within old mid new t u v growth n first list (Ok x) one fits two =
       frame = frame_then old.memory mid.memory new.memory (t.block ∷ []) (u.block ∷ []) (v.block ∷ []) one.frame two.frame;
     }
 
--- Where bytes were put to a text its room is no more than twice its bytes and eight, if it was so before.
+-- If bytes are added to a text its room is at most twice its bytes plus 8, if it was so before.
 pub pushed_room : (old new : View) (t u : StringBuilder) (n : ℕ) (list : List ℕ) → IsBuilderIn old.memory t → IsRoomFor t.len t.cap
     → length list ≡ t.len + n → Grows old new t (amortised_growth t.cap t.len n) list u (Ok tt) → IsRoomFor u.len u.cap
 pushed_room old new t u n list held room long is =
@@ -297,7 +297,7 @@ pushed_room old new t u n list held room long is =
 pub front_bytes : (m : Memory) (t : StringBuilder) → IsBuilderIn m t → bytes_from (image m) t.block.addr t.len ≡ builder_bytes m t
 front_bytes m t held = sym (take_bytes (image m) t.block.addr t.block.size t.len (omega (arith, held.within, held.place.of_size)))
 
--- They may be read there.
+-- They are readable there.
 pub front_held : (m : Memory) (t : StringBuilder) → IsBuilderIn m t → IsTrue (is_readable m.state (record t.block { size = t.len }))
 front_held m t held = front_readable m.state t.block t.len held.place.readable (omega (arith, held.within, held.place.of_size))
 

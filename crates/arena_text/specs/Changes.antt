@@ -10,7 +10,7 @@ use Rattle.arena_text.specs.Growth.{new_growth}
 use Rattle.arena_text.specs.Builders.{IsBuilderIn, builder_bytes, no_block}
 use Rattle.arena_text.specs.declared.text.StringBuilder.{StringBuilder}
 
--- A call that takes no memory makes the text these bytes. No cursor moves, and nothing is asked for or counted.
+-- After a call that takes no memory the text is these bytes. No cursor moves, and nothing is asked for or counted.
 pub record Becomes (old new : View) (t : StringBuilder) (bytes : List ℕ) (u : StringBuilder) : Type 0 where
   pub held : IsBuilderIn new.memory u
   pub bytes_are : builder_bytes new.memory u ≡ bytes
@@ -20,8 +20,8 @@ pub record Becomes (old new : View) (t : StringBuilder) (bytes : List ℕ) (u : 
   pub places : SamePlaces old new
   pub frame : Frame old.memory new.memory (t.block ∷ []) (u.block ∷ [])
 
--- A call that may grow the text makes it these bytes, or is refused and leaves all as it was. What it does to the places of the
--- arena, and the capacity, follow from the growth.
+-- After a call that may grow the text it is these bytes, or the call was refused and text and arena are as they were.
+-- What it does to the places of the arena, and the capacity, follow from the growth.
 pub record Grows (old new : View) (t : StringBuilder) (growth : Growth) (bytes : List ℕ) (u : StringBuilder)
     (result : Result (Unit {0}) AllocError) : Type 0 where
   pub made : MakesRoom 1 1 old new t.block t.cap growth (λ _. u.block) result
@@ -32,7 +32,7 @@ pub record Grows (old new : View) (t : StringBuilder) (growth : Growth) (bytes :
   pub err : OnErr result ((u ≡ t) × (new.memory ≡ old.memory))
   pub frame : Frame old.memory new.memory (t.block ∷ []) (u.block ∷ [])
 
--- A call that makes a text of these bytes, with room for so many, which is the capacity. Refused, it leaves the arena as it was.
+-- A call that makes a text of these bytes, with the capacity `room`. If it is refused, the arena is as it was.
 pub record Makes (old new : View) (room : ℕ) (bytes : List ℕ) (result : Result StringBuilder AllocError) : Type 0 where
   pub made : MakesRoom 1 1 old new no_block 0 (new_growth room) (λ t. t.block) result
   pub held : IfOk result (IsBuilderIn new.memory)

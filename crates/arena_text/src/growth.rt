@@ -9,10 +9,10 @@ use arena_items::Growth;
 // The most bytes that a text may have.
 const LIMIT: u64 = (1 << 63) - 1;
 
-// A full text grows by this much at least.
+// A text that grows does so by at least this much, up to the limit.
 const LEAST: u64 = 8;
 
-// Growth for so many bytes behind the first `len`.
+// Plans the growth for `additional` bytes after the first `len`.
 pub(crate) fn plan(cap: u64, len: u64, additional: u64) -> Growth
     requires within { len ≤ cap }
     ensures value { result ≡ amortised_growth cap len additional }
@@ -34,7 +34,7 @@ pub(crate) fn plan(cap: u64, len: u64, additional: u64) -> Growth
     }
 }
 
-// Growth of a new text, to just this many bytes.
+// Plans the growth of a new text, to exactly `room` bytes.
 pub(crate) fn plan_new(room: u64) -> Growth
     ensures value { result ≡ new_growth room }
     ensures more { IsMore 0 result }

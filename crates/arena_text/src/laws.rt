@@ -1,5 +1,5 @@
-// The growth rule, calls within a text's room, and what is UTF-8, as facts. A law is a call that does nothing: made in a body,
-// it gives its facts there.
+// The growth rule, calls within a text's room, and what is UTF-8, as facts. A law is a call that does nothing: made in
+// a body, it gives its facts there.
 ghost use Rattle.std.specs.Prelude.{◌≡◌, ℕ, ◌+◌, ◌*◌, ◌^◌, ◌<◌, ◌≤◌, List, [], ◌∷◌, ◌++◌, length, max, replicate, encode_utf8, slice_index, slice_set, IsUtf8, Result, Ok, Err, IsOk};
 ghost use Rattle.std.specs.Char.{IsScalar};
 ghost use Rattle.arena_chunks.specs.Memory.{Memory};
@@ -12,8 +12,9 @@ ghost use Rattle.arena_text.specs.declared.text.StringBuilder.{StringBuilder};
 ghost use Rattle.arena_items.specs.declared.room.AllocError.{AllocError};
 ghost use Rattle.arena_items.specs.declared.room.Growth.{Growth};
 
-/// When a reserve does nothing, when it overflows, and what capacity there is else: more by what is added, by as much
-/// again or by 8, whichever is most; or what is required where that passes 2^63 - 1. The first room is what is added, or 8.
+/// When a reserve does nothing, when it overflows, and what capacity it leads to otherwise: the capacity plus the
+/// greatest of what is added, the capacity and 8, or what is required if that exceeds 2^63 - 1. The first capacity is
+/// what is added, at least 8.
 #[tactic(auto, unfolding(crate::specs::Growth::growth_to, crate::specs::Growth::amortised))]
 pub fn growth_rule()
     ensures stays { (cap len additional : ℕ) → len + additional ≤ cap
@@ -30,7 +31,7 @@ pub fn growth_rule()
         → amortised_growth 0 0 additional ≡ Growth.GrowsTo (max additional 8) }
 {}
 
-/// The room of a new text: none is placed for 0, and more than 2^63 - 1 bytes overflow.
+/// The room of a new text: for 0 bytes no block is placed, and more than 2^63 - 1 overflow.
 #[tactic(auto, unfolding(crate::specs::Growth::growth_to))]
 pub fn room_rule()
     ensures none { new_growth 0 ≡ Growth.Stays }
@@ -38,9 +39,9 @@ pub fn room_rule()
     ensures overflows { (room : ℕ) → 2 ^ 63 ≤ room → new_growth room ≡ Growth.Overflows }
 {}
 
-/// A text to which bytes are put has room for no more than twice its bytes and eight, as a new one has. And all blocks that
-/// it asked for, one after another, have together no more than twice the bytes of the last, as long as that has less than
-/// 2^62.
+/// If a text has room for at most twice its bytes plus 8, as one without room does, this stays so when bytes are added.
+/// And if all blocks that it asked for, one after another, have together at most twice the bytes of the last, this
+/// stays so as long as that has less than 2^62 bytes.
 pub fn pushed_rule()
     ensures text { (old new : View) (t u : StringBuilder) (n : ℕ) (list : List ℕ) → IsBuilderIn old.memory t
         → IsRoomFor t.len t.cap → length list ≡ t.len + n
@@ -53,8 +54,8 @@ pub fn pushed_rule()
         ≤ 2 * capacity_after (amortised_growth cap len n) cap }
 {}
 
-/// Where there is room for n bytes a call that puts so many isn't refused, and takes no memory. It and the call before
-/// it, which made the room, are one call.
+/// If there is room for n bytes, a call that adds n bytes isn't refused, and takes no memory. Together with the call
+/// before it, which made the room, it is one call.
 pub fn within_room()
     ensures ok { (old new : View) (t u : StringBuilder) (n : ℕ) (list : List ℕ)
         (result : Result (Unit {0}) AllocError) → t.len + n ≤ t.cap
@@ -71,14 +72,14 @@ pub fn within_room()
         → Grows old new t growth list v result }
 {}
 
-/// A text has as many bytes as its length tells.
+/// The length of a text is the number of its bytes.
 #[tactic(auto, using(crate::proofs::TextLemmas::counted))]
 pub fn length_rule()
     ensures { (memory : Memory) (t : StringBuilder) → IsBuilderIn memory t
         → t.len ≡ length (builder_bytes memory t) }
 {}
 
-/// No bytes are UTF-8; so are those of a character, ASCII bytes, two texts one after the other, and a text of
+/// The empty list is UTF-8; so are the bytes of a character, ASCII bytes, two texts one after the other, and a text in
 /// which one ASCII byte is replaced by another.
 #[tactic(auto, using(crate::proofs::CharLemmas::utf8))]
 pub fn utf8_rule()

@@ -1,4 +1,4 @@
-//! Texts that are put together in an arena.
+//! Texts that are built in an arena.
 #![tactic(auto)]
 
 mod growth;

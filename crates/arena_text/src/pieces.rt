@@ -1,4 +1,4 @@
-// What is put into a text. Each piece is written straight into its place, with no buffer.
+// What is added to a text. Each piece is written straight into its place, with no buffer.
 ghost use Rattle.std.specs.Prelude.{◌≡◌, ◌+◌, ◌%◌, ◌≤◌, ℕ, List, [], ◌∷◌, length, replicate, encode_utf8, IsTrue};
 ghost use Rattle.arena_chunks.specs.Memory.{is_readable};
 ghost use Rattle.arena_chunks.specs.BlockCalls.{WritesBlock};
@@ -10,11 +10,11 @@ pub(crate) trait Piece {
     // The bytes.
     ghost bytes: { Self → List ℕ };
 
-    /// How many bytes there are.
+    /// Returns how many bytes there are.
     fn len(&self) -> u64
         ensures { result ≡ length (bytes self.now) };
 
-    /// Writes them into a place for so many.
+    /// Writes them into a place of that length.
     fn put_in(&self, place: &mut [u8])
         requires { length place.old ≡ length (bytes self.now) }
         ensures { place.new ≡ bytes self.now };
@@ -37,7 +37,7 @@ impl<P: Piece> Edit for Put<'_, P> {
     }
 }
 
-// Writes a piece over the bytes of a block from an index on.
+// Writes a piece over the bytes of a block, from an index on.
 #[tactic(auto, using(crate::proofs::TextLemmas::edits))]
 #[inline]
 pub(crate) fn write_piece<P: Piece, C: ChunkSource>(
@@ -72,7 +72,7 @@ impl Piece for Byte {
     }
 }
 
-/// A byte, so many times.
+/// A byte, `n` times.
 #[derive(Drop)]
 pub(crate) struct Times {
     pub(crate) byte: u8,
@@ -147,7 +147,7 @@ impl Piece for Utf8 {
     }
 }
 
-// A byte that continues a character: its mark, and six bits.
+// Returns a byte that continues a character: its mark, and six bits.
 fn next(code: u32) -> u8
     ensures { result ≡ 128 + code % 64 }
 {

@@ -1,4 +1,4 @@
-// What is put into a text.
+// Adding to a text.
 ghost use Rattle.std.specs.Prelude.{◌≡◌, ◌+◌, ◌<◌, ◌≤◌, ◌++◌, [], ◌∷◌, length, replicate, encode_utf8, OnOk};
 ghost use Rattle.arena_text.specs.Growth.{amortised_growth};
 ghost use Rattle.arena_text.specs.Builders.{IsBuilderIn, builder_bytes};
@@ -12,13 +12,13 @@ use arena_items::Grown;
 
 #[tactic(auto, using(crate::proofs::TextLemmas::text_laws))]
 impl StringBuilder {
-    /// Makes room for so many more bytes. Where there is less, the capacity grows by so many, by as much again or by 8,
-    /// whichever is most, or to what is required where that passes 2^63 - 1.
+    /// Makes room for `additional` more bytes. If there is less, the capacity grows by the greatest of `additional`,
+    /// the capacity and 8, or to what is required if that would exceed 2^63 - 1.
     ///
     /// # Errors
     ///
-    /// `CapacityOverflow` where what is required passes 2^63 - 1, and else as of the arena's `alloc_layout` or `grow`.
-    /// Nothing changes.
+    /// `CapacityOverflow` if what is required exceeds 2^63 - 1, and otherwise as for the arena's `alloc_layout` or
+    /// `grow`. Nothing changes.
     pub fn reserve<C: ChunkSource>(&mut self, a: &mut Allocator<C>, additional: u64) -> Grown<()>
         requires { IsBuilderIn a.old.memory self.old }
         ensures grows { let growth = amortised_growth self.old.cap self.old.len additional in
@@ -30,7 +30,7 @@ impl StringBuilder {
         Ok(())
     }
 
-    // Puts a piece at the end.
+    // Appends a piece.
     #[inline]
     fn put<P: Piece, C: ChunkSource>(&mut self, a: &mut Allocator<C>, piece: &P) -> Grown<()>
         requires { IsBuilderIn a.old.memory self.old }
@@ -46,11 +46,11 @@ impl StringBuilder {
         Ok(())
     }
 
-    /// Puts bytes at the end, in one copy.
+    /// Appends bytes, which needn't be UTF-8, in one copy.
     ///
     /// # Errors
     ///
-    /// As of `reserve`.
+    /// As for `reserve`.
     #[inline]
     pub fn push_bytes_unchecked<C: ChunkSource>(
         &mut self,
@@ -65,11 +65,11 @@ impl StringBuilder {
         self.put(a, &Slice(bytes))
     }
 
-    /// Puts a text at the end, in one copy.
+    /// Appends a text, in one copy.
     ///
     /// # Errors
     ///
-    /// As of `reserve`.
+    /// As for `reserve`.
     #[inline]
     pub fn push_str<C: ChunkSource>(&mut self, a: &mut Allocator<C>, s: &str) -> Grown<()>
         requires { IsBuilderIn a.old.memory self.old }
@@ -80,11 +80,11 @@ impl StringBuilder {
         self.push_bytes_unchecked(a, s.as_bytes())
     }
 
-    /// Puts a byte at the end.
+    /// Appends a byte, which needn't be ASCII.
     ///
     /// # Errors
     ///
-    /// As of `reserve`.
+    /// As for `reserve`.
     #[inline]
     pub fn push_byte_unchecked<C: ChunkSource>(
         &mut self,
@@ -99,11 +99,11 @@ impl StringBuilder {
         self.put(a, &Byte(byte))
     }
 
-    /// Puts an ASCII byte at the end.
+    /// Appends an ASCII byte.
     ///
     /// # Errors
     ///
-    /// As of `reserve`.
+    /// As for `reserve`.
     #[inline]
     pub fn push_ascii_byte<C: ChunkSource>(&mut self, a: &mut Allocator<C>, byte: u8) -> Grown<()>
         requires held { IsBuilderIn a.old.memory self.old }
@@ -115,11 +115,11 @@ impl StringBuilder {
         self.push_byte_unchecked(a, byte)
     }
 
-    /// Puts a byte at the start. Where there is room the bytes move up by one, in one move of memory.
+    /// Puts a byte, which needn't be ASCII, at the start. The others move up by one, in one move of memory.
     ///
     /// # Errors
     ///
-    /// As of `reserve`.
+    /// As for `reserve`.
     pub fn push_byte_start_unchecked<C: ChunkSource>(
         &mut self,
         a: &mut Allocator<C>,
@@ -137,11 +137,11 @@ impl StringBuilder {
         Ok(())
     }
 
-    /// Puts an ASCII byte at the start. Where there is room the bytes move up by one, in one move of memory.
+    /// Puts an ASCII byte at the start. The others move up by one, in one move of memory.
     ///
     /// # Errors
     ///
-    /// As of `reserve`.
+    /// As for `reserve`.
     pub fn push_ascii_byte_start<C: ChunkSource>(
         &mut self,
         a: &mut Allocator<C>,
@@ -156,11 +156,11 @@ impl StringBuilder {
         self.push_byte_start_unchecked(a, byte)
     }
 
-    /// Puts an ASCII byte at the end so many times, in one fill.
+    /// Appends an ASCII byte `n` times, in one fill.
     ///
     /// # Errors
     ///
-    /// As of `reserve`.
+    /// As for `reserve`.
     pub fn push_ascii_byte_repeat<C: ChunkSource>(
         &mut self,
         a: &mut Allocator<C>,
@@ -176,11 +176,11 @@ impl StringBuilder {
         self.put(a, &Times { byte, n })
     }
 
-    /// Puts a character at the end, as UTF-8.
+    /// Appends a character, as UTF-8.
     ///
     /// # Errors
     ///
-    /// As of `reserve`.
+    /// As for `reserve`.
     #[inline]
     pub fn push<C: ChunkSource>(&mut self, a: &mut Allocator<C>, c: char) -> Grown<()>
         requires { IsBuilderIn a.old.memory self.old }

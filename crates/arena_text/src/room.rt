@@ -11,7 +11,7 @@ use arena_chunks::{Allocator, ChunkSource};
 use arena_items::{AllocError, Grown, Growth, take_room};
 use arena_place::Layout;
 
-// The layout of so many bytes.
+// Returns the layout of `n` bytes.
 #[tactic(auto, using(crate::proofs::RoomLemmas::bytes_layout))]
 fn layout_of(n: u64) -> Layout
     requires { n < 2 ^ 63 }
@@ -21,7 +21,7 @@ fn layout_of(n: u64) -> Layout
     Layout::of(n, 1)
 }
 
-// The text after a growth.
+// Returns the text after a growth.
 #[tactic(auto, using(crate::proofs::RoomLemmas::growths))]
 pub(crate) fn grown<C: ChunkSource>(
     a: &mut Allocator<C>,
@@ -48,7 +48,7 @@ pub(crate) fn grown<C: ChunkSource>(
     }
 }
 
-// The text with more room than it has. Out of line, so that a call with room is small.
+// Returns the text with more room than it has. Out of line, so that a call with room is small.
 #[tactic(auto, using(crate::proofs::RoomLemmas::growths))]
 #[cold]
 #[inline(never)]
@@ -69,7 +69,7 @@ fn reserved<C: ChunkSource>(
     grown(a, old, growth)
 }
 
-// The text with room for so many more bytes.
+// Returns the text with room for `additional` more bytes.
 #[tactic(auto, unfolding(crate::specs::Growth::growth_to), using(crate::proofs::RoomLemmas::growths))]
 #[inline]
 pub(crate) fn roomy<C: ChunkSource>(
@@ -88,7 +88,7 @@ pub(crate) fn roomy<C: ChunkSource>(
     if additional <= old.cap - old.len {
         return Ok(old);
     }
-    // Written out, or the compiler stores the handle at each call, for the growth that seldom comes.
+    // Written out, since otherwise the compiler stores the handle at each call for the growth, which is rare.
     let full = StringBuilder {
         block: old.block,
         len: old.len,

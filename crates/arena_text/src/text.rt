@@ -15,24 +15,24 @@ use arena_items::{AllocError, Grown};
 use std::convert::AsStr;
 use std::str;
 
-/// The handle of bytes in an arena that grow: a text while it is put together. It is a name: two of them may name the
-/// same bytes.
+/// The handle of growing bytes in an arena: a text while it is built. It is a name: two of them may name the same
+/// bytes.
 #[derive(Clone, Copy)]
 pub struct StringBuilder {
     /// The block of the bytes.
     pub block: Block,
-    /// How many bytes there are.
+    /// The number of bytes.
     pub len: u64,
-    /// For how many bytes there is room.
+    /// The number of bytes for which there is room.
     pub cap: u64,
 }
 
-/// The name by which users of the Rust crate know it.
+/// The Rust crate's name for it.
 pub type ArenaStringBuilder = StringBuilder;
 
 #[tactic(auto, using(crate::proofs::TextLemmas::text_laws))]
 impl StringBuilder {
-    /// No bytes and no room.
+    /// Returns a text without bytes or room.
     pub fn new_in() -> StringBuilder
         ensures held { (memory : Memory) → IsBuilderIn memory result }
         ensures bytes { (memory : Memory) → builder_bytes memory result ≡ [] }
@@ -47,11 +47,11 @@ impl StringBuilder {
         }
     }
 
-    /// No bytes, with room for exactly so many. For 0 nothing is placed.
+    /// Returns a text without bytes, with room for exactly `capacity` bytes. For 0 no block is placed.
     ///
     /// # Errors
     ///
-    /// `CapacityOverflow` where the capacity passes 2^63 - 1, and else as of the arena's `alloc_layout`. Nothing
+    /// `CapacityOverflow` if the capacity exceeds 2^63 - 1, and otherwise as for the arena's `alloc_layout`. Nothing
     /// changes.
     pub fn with_capacity_in<C: ChunkSource>(
         capacity: u64,
@@ -63,11 +63,11 @@ impl StringBuilder {
         Ok(text)
     }
 
-    /// The bytes of a text, with room for them alone. For none nothing is placed.
+    /// Returns a copy of a text, with room for it alone. For the empty text no block is placed.
     ///
     /// # Errors
     ///
-    /// As of `with_capacity_in`.
+    /// As for `with_capacity_in`.
     pub fn from_str_in<C: ChunkSource>(s: &str, a: &mut Allocator<C>) -> Grown<StringBuilder>
         ensures { Makes a.old a.new (length s.now) s.now result }
     {
@@ -77,11 +77,11 @@ impl StringBuilder {
         Ok(text)
     }
 
-    /// The bytes of texts, one after another, with room for them alone. For none nothing is placed.
+    /// Returns the bytes of texts, one after another, with room for them alone. For no bytes no block is placed.
     ///
     /// # Errors
     ///
-    /// As of `with_capacity_in`, with the whole length.
+    /// As for `with_capacity_in`, with the total length.
     pub fn from_strs_array_in<T: AsStr + Drop, const N: usize, C: ChunkSource>(
         strings: [T; N],
         a: &mut Allocator<C>,
@@ -98,7 +98,7 @@ impl StringBuilder {
         Ok(text)
     }
 
-    /// Whether the handle is well formed and may be read here.
+    /// Returns whether the handle is well formed and readable in this arena.
     pub fn is_held<C: ChunkSource>(&self, a: &Allocator<C>) -> bool
         ensures { IsTrue result ↔ IsBuilderIn a.now.memory self.now }
     {
@@ -108,7 +108,7 @@ impl StringBuilder {
             && a.is_held_place(self.block)
     }
 
-    /// How many bytes there are.
+    /// Returns the number of bytes.
     #[inline]
     pub fn len(&self) -> u64
         ensures { result ≡ self.now.len }
@@ -116,7 +116,7 @@ impl StringBuilder {
         self.len
     }
 
-    /// Whether there are none.
+    /// Returns whether there are none.
     #[inline]
     pub fn is_empty(&self) -> bool
         ensures { result ≡ (self.now.len == 0) }
@@ -124,7 +124,7 @@ impl StringBuilder {
         self.len == 0
     }
 
-    /// For how many bytes there is room.
+    /// Returns the number of bytes for which there is room.
     #[inline]
     pub fn capacity(&self) -> u64
         ensures { result ≡ self.now.cap }
@@ -132,7 +132,7 @@ impl StringBuilder {
         self.cap
     }
 
-    /// The bytes.
+    /// Returns the bytes.
     #[inline]
     pub fn as_bytes<'x, C: ChunkSource>(&self, a: &'x Allocator<C>) -> &'x [u8]
         requires { IsBuilderIn a.now.memory self.now }
@@ -141,7 +141,7 @@ impl StringBuilder {
         &a.read(self.block)[..self.len as usize]
     }
 
-    /// The text. Nothing is tested: that the bytes are UTF-8 is the caller's condition (`utf8_rule`).
+    /// Returns the text. The bytes aren't checked: that they are UTF-8 is a precondition (`utf8_rule`).
     #[inline]
     pub fn as_str<'x, C: ChunkSource>(&self, a: &'x Allocator<C>) -> &'x str
         requires held { IsBuilderIn a.now.memory self.now }
@@ -151,7 +151,7 @@ impl StringBuilder {
         unsafe { str::from_utf8_unchecked(self.as_bytes(a)) }
     }
 
-    /// Replaces the byte at an index. Where both are ASCII, a text stays one (`utf8_rule`).
+    /// Replaces the byte at an index. If both bytes are ASCII, UTF-8 stays UTF-8 (`utf8_rule`).
     #[inline]
     pub fn set_byte<C: ChunkSource>(&mut self, a: &mut Allocator<C>, i: u64, byte: u8)
         requires held { IsBuilderIn a.old.memory self.old }
@@ -162,7 +162,7 @@ impl StringBuilder {
         write_piece(a, self.block, i, &Byte(byte));
     }
 
-    /// The text, in a front of the builder's block. Nothing is moved.
+    /// Returns the text, which is a front of the builder's block. Nothing is moved.
     pub fn into_str(self) -> Str
         ensures held { (memory : Memory) → IsBuilderIn memory self → IsTextIn memory result }
         ensures bytes { (memory : Memory) → IsBuilderIn memory self
@@ -180,7 +180,7 @@ impl StringBuilder {
         }
     }
 
-    /// Whether the bytes are those of a text.
+    /// Returns whether the bytes are those of a text.
     pub fn eq_str<C: ChunkSource>(&self, a: &Allocator<C>, s: &str) -> bool
         requires { IsBuilderIn a.now.memory self.now }
         ensures { IsTrue result ↔ (builder_bytes a.now.memory self.now ≡ s.now) }
@@ -188,7 +188,7 @@ impl StringBuilder {
         self.as_bytes(a) == s.as_bytes()
     }
 
-    /// Whether the bytes are those of another builder.
+    /// Returns whether the bytes are those of another builder.
     pub fn eq<C: ChunkSource>(&self, a: &Allocator<C>, other: &StringBuilder) -> bool
         requires held { IsBuilderIn a.now.memory self.now }
         requires other { IsBuilderIn a.now.memory other.now }
@@ -199,7 +199,7 @@ impl StringBuilder {
     }
 }
 
-// The whole length of texts, where 64 bits hold it.
+// Returns the total length of texts, or `None` if it doesn't fit in 64 bits.
 fn whole_length<T: AsStr>(strings: &[T]) -> Option<u64>
     ensures none { IfNone result (2 ^ 64 ≤ length (flat_map T.text strings.now)) }
     ensures some { IfSome result (λ n. n ≡ length (flat_map T.text strings.now)) }
@@ -211,7 +211,7 @@ fn whole_length<T: AsStr>(strings: &[T]) -> Option<u64>
     Some(n)
 }
 
-// Writes texts, one after another, from a block's first byte on.
+// Writes texts, one after another, from the start of a block on.
 fn write_all<T: AsStr, C: ChunkSource>(a: &mut Allocator<C>, block: Block, strings: &[T])
     requires readable { IsTrue (is_readable a.old.memory.state block) }
     requires room { length (flat_map T.text strings.now) ≤ block.size }
@@ -219,7 +219,7 @@ fn write_all<T: AsStr, C: ChunkSource>(a: &mut Allocator<C>, block: Block, strin
     ensures utf8 { IsUtf8 (flat_map T.text strings.now) }
     ensures source { a.new.source ≡ a.old.source }
 {
-    // So the arena's state is known to be valid.
+    // For the proof: the arena's state is valid.
     a.known();
     let mut at = 0;
     for s in strings {

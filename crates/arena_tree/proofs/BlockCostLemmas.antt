@@ -37,7 +37,7 @@ module _ (old new : View) (size align : ℕ) (one : old.memory.state.min_align �
     stops = tt;
   }
 
-  -- What is refused leaves all as it was.
+  -- A refusal leaves everything unchanged.
   stopped : (answer : Answer) (error : Option AllocError) → PlacesBlock old new size align answer → new.memory ≡ old.memory
       → Stops (Only size align) (used old + (cost + 0)) old new error → Spends (Only size align) cost 0 0 old new error
   stopped answer error places same stops = record {

@@ -27,7 +27,7 @@ pub only_blocks : (e : Expr) (m : Memory) (ns : List Node) → exprs_blocks (And
 only_blocks e m [] = refl
 only_blocks e m (k ∷ ks) = append-nil (expr_blocks e m k)
 
--- a node that has kids alone, and no number and no text
+-- a node that has children alone, and no number and no text
 abbrev pub HasKidsAlone : Node → Type 0
 HasKidsAlone n = (n.number ≡ 0) × (n.text ≡ no_text)
 

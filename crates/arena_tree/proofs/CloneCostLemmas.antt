@@ -24,7 +24,7 @@ forget spends = spends_more spends (omega arith) (omega arith)
 
 -- ---- A list of nodes
 
--- what the nodes cost beside their own places
+-- what the nodes cost besides their own places
 abbrev pub row_below : List Subtree → ℕ
 row_below [] = 0
 row_below (t ∷ ts) = below_bytes t + row_below ts
@@ -66,12 +66,12 @@ below_is (OfExpr (Prod kids)) = omega (arith, expr_row_bytes kids)
 below_is (OfStmt (tree.Block body)) = omega (arith, stmt_row_bytes body)
 below_is t = omega arith
 
--- a text, or kids
+-- a text, or children
 pub part_spends : {layouts : Layouts} {old new : View} {e : Option AllocError} {part : ℕ} (t : Subtree)
     → part ≤ own_bytes t + row_bytes (kids_it t) → Spends layouts part 0 0 old new e → Spends layouts (below_bytes t) 0 0 old new e
 part_spends t within spends = spends_more spends (omega (arith, within, below_is t)) (omega (arith, within, below_is t))
 
--- a text, and then kids
+-- a text, and then children
 pub both_spend : {some layouts : Layouts} {old one new : View} {e : Option AllocError} {len : ℕ} (t : Subtree) → len ≡ own_bytes t
     → Spends some len 0 0 old one None → Frame old.memory one.memory [] [] → Spends layouts (row_bytes (kids_it t)) 0 0 one new e
     → Spends layouts (below_bytes t) 0 0 old new e

@@ -73,7 +73,7 @@ text_of m n (OfStmt (Let name e)) at is = (at.1, ap length at.2)
 text_of m n t at (inl is) = cc
 text_of m n t at (inr is) = cc
 
--- the list of a node's kids
+-- the list of a node's children
 module _ (m : Memory) (n : Node) (v : Vec Node) (more : has_kids n.kind ≡ true) (same : v ≡ kids_of n) (t : Subtree)
     (at : SubtreeAt t m n) where
   pub row_at : RowAt (kids_it t) m (vec_list node_item m v)

@@ -27,7 +27,7 @@ pub tree_copy : (ss : Stmts) (size align : ℕ) → RowCopyOf (stmt_row ss) size
 tree_copy ss size align (inl h) = inl h
 tree_copy ss size align (inr h) = inr (stmts_copy ss size align h)
 
--- a kid of a list
+-- a child of a list
 pub kid_copy : (ts : List Subtree) (i : ℕ) (t : Subtree) → drop i ts ≡ t ∷ drop (suc i) ts → (size align : ℕ)
     → BelowCopyOf t size align → RowCopyOf ts size align
 kid_copy ts i t is size align h = inr (by ts i is)
@@ -49,7 +49,7 @@ kid_copy ts i t is size align h = inr (by ts i is)
 
 -- ---- Nodes
 
--- the list of its kids, with all that these ask for
+-- the list of its children, with all that these ask for
 pub kids_copy : (t : Subtree) (m : Memory) (n : Node) → SubtreeAt t m n → has_kids n.kind ≡ true → (size align : ℕ)
     → RowCopyOf (kids_it t) size align → BelowCopyOf t size align
 kids_copy (OfExpr (Neg e)) m n at is size align h = one h

@@ -19,7 +19,7 @@ pairwise_each (x ∷ xs) ys h =
     let one = apart_each x.addr x.size xs ys h.0 in
     ((one.0, rest.0), rest.1, (one.1, rest.2))
 
--- Some blocks lie apart from these lists and texts.
+-- Some blocks are apart from these lists and texts.
 abbrev pub AreBeside : List Block → List Block → List Block → Type 0
 AreBeside ws ls ts = AreAllApart ws ls × AreAllApart ws ts
 
@@ -59,7 +59,7 @@ all_within : (ws bs bs' : List Block) → IsWithin bs bs' → AreAllApart ws bs 
 all_within [] bs bs' within h = tt
 all_within (w ∷ ws) bs bs' within h = (within w.addr w.size h.0, all_within ws bs bs' within h.1)
 
--- what lies apart from blocks lies apart from what is left of them
+-- what is apart from blocks is apart from what is left of them
 pub beside : {ls ts ls' ts' : List Block} → Shrinks ls ts ls' ts' → (ws : List Block) → AreBeside ws ls ts → AreBeside ws ls' ts'
 beside {ls} {ts} {ls'} {ts'} s ws h = (all_within ws ls ls' s.lists_in h.0, all_within ws ts ts' s.texts_in h.1)
 
@@ -82,7 +82,7 @@ shrinks_both {b} {bt} {q} {qt} {a} {at} {z} {zt} one two = record {
   texts_in = within_both bt qt at zt one.texts_in two.texts_in;
 }
 
--- beside a block and texts that stay
+-- with a block and texts that stay
 pub shrinks_own : {q qt z zt : List Block} (v : Block) (own : List Block) → Shrinks q qt z zt
     → Shrinks (v ∷ q) (own ++ qt) (v ∷ z) (own ++ zt)
 shrinks_own {q} {qt} {z} {zt} v own s = record {
@@ -106,7 +106,7 @@ pub writes_then : {old mid new : Memory} {ls : List Block} → WritesIn old mid 
 writes_then {old} {mid} {new} {ls} one two =
     record { frame = frame_then old mid new ls ls ls one.frame two.frame; state = two.state ∙ one.state }
 
--- blocks beside hold the same bytes
+-- blocks apart from the written ones hold the same bytes
 pub agree_beside : {old new : Memory} {written : List Block} (bs : List Block) → WritesIn old new written → AreReadable old.state bs
     → AreAllApart bs written → Agree old new bs
 agree_beside {old} {new} {written} bs w readable apart = (stay_all old new written written bs w.frame readable apart).agree

@@ -1,4 +1,4 @@
--- One node is folded: its kids, and then itself by the rule for its kind.
+-- One node is folded: its children, and then itself by the rule for its kind.
 use Rattle.std.proofs.Common.{◌≡◌, ℕ, ◌+◌, ◌<◌, ◌≤◌, ap, sym, refl, subst, ◌∙◌, true, false, Option, Some, None, List, [], ◌∷◌, ◌++◌, arith}
 use Rattle.arena_chunks.specs.Memory.{Memory}
 use Rattle.arena_chunks.specs.Frame.{AreAllApart}
@@ -19,7 +19,7 @@ use Rattle.arena_tree.proofs.KidsLemmas.{branch, node_on}
 use Rattle.arena_tree.proofs.LeanLemmas.{node_lean, own_lean, below_lean}
 use Rattle.arena_tree.proofs.SubtreeLemmas.{kids_it, own_texts, kids_at, true_false}
 
--- ---- A node with no kids
+-- ---- A node with no children
 
 same_tree : (t : Subtree) (m : Memory) (n : Node) → SubtreeAt t m n → Becomes t (lists_at t m n) (texts_at t m n) m m n
 same_tree t m n at = record {
@@ -38,14 +38,14 @@ leaf_folded (OfExpr (Name bytes)) m n at is =
 leaf_folded (OfStmt (Let name e)) m n at is = absurd (true_false (sym (ap has_kids at.0) ∙ is))
 leaf_folded t m n at is = absurd (true_false (sym (ap has_kids at.0) ∙ is))
 
--- ---- The kids
+-- ---- The children
 
 own_readable : (t : Subtree) (m : Memory) (n : Node) → SubtreeAt t m n → AreReadable m.state (own_texts t n)
 own_readable (OfStmt (Let name e)) m n at = (at.1, tt)
 own_readable t m n at = tt
 
 module _ {t : Subtree} {m : Memory} {n : Node} (whole : IsWhole t m n) (is : has_kids n.kind ≡ true) where
-  -- the list of its kids, and its own texts beside that
+  -- the list of its children, and its own texts apart from it
   kids_whole : IsRowWhole (kids_it t) m (kids_of n) × AreAllApart (n.kids ∷ row_lists (kids_it t) m (kids_in m n)) (own_texts t n)
   kids_whole =
       let k = kids_at t m n whole.stands is in
@@ -62,7 +62,7 @@ module _ {t : Subtree} {m : Memory} {n : Node} (whole : IsWhole t m n) (is : has
     low = omega (arith, low, (branch t).below_is);
   }
 
--- The node stands for the tree with its kids folded.
+-- The node represents the tree with its children folded.
 pub record KidsFolded (t : Subtree) (ls ts : List Block) (old new : Memory) (n : Node) (count : ℕ) : Type 0 where
   pub becomes : Becomes (kids_folded t) ls ts old new n
   pub count_is : count ≡ row_folds (kids_it t)
@@ -92,7 +92,7 @@ kids_done {t} {old} {new} {n} {count = count} whole is same fold =
       few = omega (arith, f.few, b.below_is);
     }
 
--- It holds nothing that its kind doesn't use, where it didn't before and its kids don't.
+-- It holds nothing that its kind doesn't use, if it didn't before and its children don't.
 pub kids_done_lean : {old new : Memory} {n : Node} {v : Vec Node} → v ≡ kids_of n
     → (AreLean old (vec_list node_item old v) → AreLean new (vec_list node_item new v)) → AreLean old (n ∷ []) → AreLean new (n ∷ [])
 kids_done_lean {old} {new} {n} same fold lean = node_lean new n (own_lean old n lean)

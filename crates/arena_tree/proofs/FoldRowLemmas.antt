@@ -1,4 +1,4 @@
--- Lists of trees that are folded one after another, from the last one on, each where it stands.
+-- Lists of trees that are folded in place one after another, from the last one on.
 use Rattle.std.proofs.Common.{◌≡◌, ℕ, suc, zero, ◌+◌, ◌-◌, ◌<◌, ◌≤◌, ap, sym, refl, subst, ◌∙◌, Some, List, [], ◌∷◌, ◌++◌, length, take, drop, add-one, arith}
 use Rattle.std.specs.Prelude.{slice_get, slice_set}
 use Rattle.std.proofs.lemmas.List.{length-set, take-set, take-take, drop-set, drop_all}
@@ -24,7 +24,7 @@ use Rattle.arena_tree.proofs.LeanLemmas.{lean_both, lean_first, lean_behind}
 pub held_still : (old new : Memory) (v : Vec Node) → new.state ≡ old.state → IsVecIn node_item old v → IsVecIn node_item new v
 held_still old new v same held = list_held old new v held (rw same held.place.readable)
 
--- The others are folded, then the first, and its node is put in its place.
+-- The others are folded, then the first, whose node is replaced.
 first_folded : {t : Subtree} {trees : List Subtree} {v : Block} {b bt q qt : List Block} {old mid two new : Memory} {l : Node}
     {nodes : List Node} {count once : ℕ} → Split v b q bt qt → AreFolded trees q qt v old mid nodes count → IsFolded t b bt mid two l once
     → WritesIn two new (v ∷ []) → AreFolded (t ∷ trees) (b ++ q) (bt ++ qt) v old new (l ∷ nodes) (count + once)
@@ -46,7 +46,7 @@ first_folded {v = v} {b = b} {q = q} s f g set =
       few = omega (arith, f.few, g.few);
     }
 
--- Where the first one holds nothing that its kind doesn't use, and the others don't, none of them does then.
+-- If the first one holds nothing that its kind doesn't use, and neither do the others, then none of them does.
 first_lean : {t : Subtree} {trees : List Subtree} {v : Block} {b bt q qt : List Block} {old mid two new : Memory} {l : Node}
     {nodes : List Node} {count once : ℕ} → Split v b q bt qt → AreFolded trees q qt v old mid nodes count → IsFolded t b bt mid two l once
     → WritesIn two new (v ∷ []) → AreLean two (l ∷ []) → AreLean mid nodes → AreLean new (l ∷ nodes)
@@ -86,7 +86,7 @@ place_of trees m ns v i k at clear is = absurd at
 
 -- ---- The loop
 
--- The nodes of a list from an index on are folded, and those before are as they were.
+-- The nodes of a list from an index on are folded, and those before are unchanged.
 pub record Left (trees : List Subtree) (old m : Memory) (v : Vec Node) (i count : ℕ) : Type 0 where
   pub whole : IsRowWhole trees old v
   pub front : take i (vec_list node_item m v) ≡ take i (vec_list node_item old v)
@@ -114,7 +114,7 @@ row_begins {trees} {m} {v} i whole end =
       lean = λ lean. lean_behind m i ns lean;
     }
 
--- the tree whose turn it is
+-- the next tree
 pub record Turn (trees : List Subtree) (old m : Memory) (v : Vec Node) (i count : ℕ) (k : Node) : Type 0 where
   pub left : Left trees old m v (suc i) count
   pub get : slice_get (vec_list node_item m v) i ≡ Some k

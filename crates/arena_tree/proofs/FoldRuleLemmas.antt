@@ -1,4 +1,4 @@
--- The rule for one node whose kids are folded: negations of negations, and totals of numbers.
+-- The rule for one node whose children are folded: negations of negations, and totals of numbers.
 use Rattle.std.proofs.Common.{◌≡◌, ℕ, ◌^◌, ap, refl, subst, ◌∙◌, Bool, true, false, Option, Some, None, List, [], ◌∷◌}
 use Rattle.std.specs.Prelude.{slice_get, IfSome, nat_lt, if◌then◌else◌}
 use Rattle.arena_chunks.specs.Memory.{Memory}
@@ -35,7 +35,7 @@ pub only_is : (ns : List Node) (P : Node → Type 0) (k : Node) → IsOnly ns P 
 only_is (l ∷ []) P k only is = ap (λ j. j ∷ []) (some_node l k is)
 only_is ns P k only is = absurd only
 
--- what the only kid negates, if it does
+-- what the only child negates, if it does
 abbrev IsInner : Memory → Node → Option Node → Type 0
 IsInner m k None = k.kind ≡ kind.Neg → ⊥
 IsInner m k (Some inner) = (k.kind ≡ kind.Neg) × (kids_in m k ≡ inner ∷ [])
@@ -67,7 +67,7 @@ pub total_lean : (m : Memory) (found : Option Node) → IfSome found (λ n. n �
 total_lean m None is = tt
 total_lean m (Some n) is = number_lean m n.number n is
 
--- The total comes in the place of the node, where there is one.
+-- The total replaces the node, if there is one.
 totalled : (total : List ℕ → ℕ) (o : Option (List ℕ)) (e : Expr) (m : Memory) (n : Node) (found : Option Node)
     → IsTotalNode (total_in total o) found → ExprAt e m n
     → Replaces (OfExpr e) (OfExpr (reckoned total o e)) m n (or_stays found n) × (once_if found ≡ one_if_reckoned total o)
@@ -88,7 +88,7 @@ totalled total (Some ns) e m n found is at = by (nat_lt (total ns) (2 ^ 64)) fou
     by false None is = (stays (OfExpr e) m n at, refl)
     by false (Some after) is = cc
 
--- the numbers of kids are those of their nodes
+-- the numbers of children are those of their nodes
 numbers_are : (es : Exprs) (m : Memory) (ns : List Node) → ExprsAt es m ns → numbers_of es ≡ numbers_in ns
 numbers_are NoExprs m [] at = refl
 numbers_are (And e rest) m (n ∷ ns) at = ap (front_number e) (numbers_are rest m ns at.1) ∙ front e (numbers_in ns) at.0

@@ -1,4 +1,4 @@
--- Trees beside writes stand as before, on the same blocks.
+-- Trees apart from writes are unchanged, on the same blocks.
 use Rattle.std.proofs.Common.{ℕ, refl, List, [], ◌∷◌, ◌++◌}
 use Rattle.arena_chunks.specs.Memory.{Memory}
 use Rattle.arena_chunks.specs.Frame.{IsApart, AreAllApart}

@@ -1,4 +1,4 @@
--- A tree as its node with its kids: what is known of it by them, and that it stands where they do.
+-- A tree as its node with its children: what follows from them, and that it is represented where they are.
 use Rattle.std.proofs.Common.{◌≡◌, ◌+◌, ap, sym, refl, ◌∙◌, true, List, [], ◌∷◌, ◌++◌, arith}
 use Rattle.std.specs.Prelude.{map}
 use Rattle.arena_chunks.specs.Memory.{Memory}
@@ -40,7 +40,7 @@ branch (OfStmt (tree.Block body)) =
     let r = stmt_row_is body in record { below_is = r.0; folds_are = omega (arith, r.1); folded_is = refl; kids_are = r.2 }
 branch t = record { below_is = omega arith; folds_are = omega arith; folded_is = refl; kids_are = refl }
 
--- ---- A node whose kids are others
+-- ---- A node with other children
 
 only_row : (e : Expr) (m : Memory) (ns : List Node) → RowAt (OfExpr e ∷ []) m ns → IsOnly ns (λ k. ExprAt e m k)
 only_row e m (k ∷ []) at = at.0

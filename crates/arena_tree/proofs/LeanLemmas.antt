@@ -49,7 +49,7 @@ leaf_lean m n none = subst (AreLean m) (sym (ap (vec_list node_item m) none)) (e
 pub number_lean : (m : Memory) (k : ℕ) (n : Node) → n ≡ number_node k → AreLean m (n ∷ [])
 number_lean m k n is = subst (λ n. AreLean m (n ∷ [])) (sym is) (node_lean m (number_node k) (refl, refl) (leaf_lean m (number_node k) refl))
 
--- the first, and those behind an index
+-- the first, and those after an index
 pub lean_first : (m : Memory) (n : Node) (ns : List Node) → AreLean m (n ∷ ns) → AreLean m (n ∷ [])
 lean_first m n ns lean zero = tt
 lean_first m n ns lean (suc depth) = ((lean (suc depth)).0, tt)
@@ -77,7 +77,7 @@ one_block : (e : Expr) (m : Memory) (ns : List Node) → of_first ns (λ k. expr
 one_block e m [] = refl
 one_block e m (k ∷ ks) = sym (append-nil (expr_blocks e m k))
 
--- The kids of a node are the same, on the same blocks.
+-- The children of a node are the same, on the same blocks.
 record KidsAgree (t : Subtree) (a c : Memory) (n : Node) : Type 0 where
   kids : kids_in c n ≡ kids_in a n
   agree : Agree a c (row_blocks (kids_it t) a (kids_in a n))

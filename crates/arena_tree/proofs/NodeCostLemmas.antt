@@ -1,4 +1,4 @@
--- What it costs to put a node at the end of a list.
+-- What it costs to append a node to a list.
 use Rattle.std.proofs.Common.{◌≡◌, ℕ, ◌+◌, ◌-◌, ◌*◌, ◌^◌, ◌<◌, ◌≤◌, refl, sym, ap, subst, ◌∙◌, arith, IsTrue, Ok, Err, List, [], ◌∷◌, ◌++◌, length, length-append, ◌⊎◌, inl, inr, max, None}
 use Rattle.std.proofs.lemmas.Bool.{cases_lt}
 use Rattle.std.specs.Prelude.{Result, Option, OnOk, OnErr}
@@ -40,7 +40,7 @@ same_more a b is = cc
 stays_grows : (more : ℕ) → Stays ≡ GrowsTo more → ⊥
 stays_grows more is = cc
 
--- A refused block tells the refusals by which the source's count rose.
+-- A refused block reports the refusals by which the source's count rose.
 pub told : (old new : View) (size align k : ℕ) → PlacesBlock old new size align (Refused k) → IsCounted k old new
 told old new size align k places =
     let asked = places.1.outcome.1.asked in
@@ -63,8 +63,8 @@ pushed_length ns n len is = omega (arith, length-append ns (n ∷ []), is)
 pub unchanged : {old new : Memory} → new ≡ old → Frame old new [] []
 unchanged {old} same = subst (λ m. Frame old m [] []) (sym same) (frame_reflexive old [])
 
--- What is known of growth: it is paid ahead, the capacity never falls, what fits is no overflow, there is none where there is room, and else
--- the capacity is doubled.
+-- How lists grow: growth is paid ahead, the capacity never falls, what fits doesn't overflow, nothing grows where there
+-- is room, and otherwise the capacity is doubled.
 pub record Paid : Type 0 where
   pub keeps : (size cap required : ℕ) → cap ≤ capacity_after (amortised_growth size cap required) cap
   pub asks : (size cap len n : ℕ) → len ≤ cap → 0 < size → (len + n) * (2 * size) ≤ 2 ^ 32
@@ -107,7 +107,7 @@ module _ (paid : Paid) (old new : View) (v w : Vec Node) (list : List Node) (one
   never : (result : Result (Unit {0}) AllocError) → growth ≡ Overflows → Pushes result → ⊥
   never result is grows = paid.fits old new v w (v.raw.len + 1) list result (omega arith) (omega arith) grows (rw is at grows.made).0
 
-  -- One node more is paid by its cost and by what the list saved.
+  -- One more node is paid by its cost and by what the list saved.
   costs : (g : Growth) → growth ≡ g → (result : Result (Unit {0}) AllocError) → Pushes result
       → Costs {X = Unit {0}} farthest 359 credit later old new result
   costs Stays is (Ok tt) grows =

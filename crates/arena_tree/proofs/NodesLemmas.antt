@@ -42,7 +42,7 @@ list_size : (m : Memory) (v : Vec Node) → IsVecIn node_item m v → 88 * lengt
 list_size m v held =
     omega (arith, list_len m v, held.within, held.place.of_size)
 
--- the one kid of a node
+-- the one child of a node
 kid_size : (e : Expr) (m : Memory) (n : Node) → ((k : Node) → ExprAt e m k → 88 * below e ≤ sizes (expr_lists e m k))
     → IsVecIn node_item m (kids_of n) → IsOnly (kids_in m n) (λ k. ExprAt e m k)
     → 88 * (1 + below e) ≤ n.kids.size + sizes (of_first (kids_in m n) (λ k. expr_lists e m k))

@@ -1,4 +1,4 @@
--- A node stands for one tree at most.
+-- A node represents at most one tree.
 use Rattle.std.proofs.Common.{◌≡◌, ap, sym, refl, ◌∙◌, List, [], ◌∷◌}
 use Rattle.arena_chunks.specs.Memory.{Memory}
 use Rattle.tree_rules.specs.Trees.{Expr, Num, Name, Neg, Sum, Prod, Exprs, NoExprs, And, Stmt, Let, Show, Stmts, NoStmts, Then}

@@ -1,4 +1,4 @@
--- What calls on whole trees answer and take, by what their parts spend.
+-- What calls on whole trees return and take, by what their parts spend.
 use Rattle.std.proofs.Common.{◌≡◌, ℕ, ◌^◌, ◌<◌, ◌≤◌, ◌⊎◌, inl, inr, refl, arith, true, Err, Some, List, []}
 use Rattle.std.specs.Prelude.{Option}
 use Rattle.std.proofs.lemmas.Bool.{cases_lt}

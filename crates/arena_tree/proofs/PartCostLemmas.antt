@@ -1,4 +1,4 @@
--- What it costs to read the kids of a sum or a product, one after another, and to put them in a list.
+-- What it costs to read the children of a sum or a product, one after another, and to append them to a list.
 use Rattle.std.proofs.Common.{ℕ, ◌+◌, ◌-◌, ◌<◌, arith, None, []}
 use Rattle.arena_chunks.specs.Source.{View}
 use Rattle.arena_chunks.specs.Frame.{Frame}
@@ -6,7 +6,7 @@ use Rattle.arena_items.specs.Denied.{Layouts}
 use Rattle.arena_tree.specs.Spending.{Spends, most_for, left_for_node, node_cost}
 use Rattle.arena_tree.proofs.SpendingLemmas.{spends_then}
 
--- A kid is read behind others. It may be negated then.
+-- A child is read after others. It may then be negated.
 pub kid_read : {some layouts : Layouts} {at here end : ℕ} {old one two : View} (saved : ℕ) → at < here → here < end
     → Spends some (most_for (here - at)) 0 (1024 + saved) old one None
     → Spends layouts (most_for (end - here)) 0 left_for_node one two None

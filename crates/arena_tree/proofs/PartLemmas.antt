@@ -30,7 +30,7 @@ reads_token before behind t steps = record {
   within = t.within;
 }
 
--- one part, and another behind it
+-- one part, and another after it
 pub reads_then : {X : Type 0} {bytes : List ℕ} {from mid end : ℕ} {one two : List Token → List Token} {before between behind : X → State}
     → Reads bytes from mid one before between → Reads bytes mid end two between behind
     → Reads bytes from end (λ more. one (two more)) before behind
@@ -73,7 +73,7 @@ module _ {bytes : List ℕ} {at end : ℕ} where
   reads_sign true t = reads_token behind_factor at_next t (λ opens. refl)
   reads_sign false t = reads_token behind_factor at_next t (λ opens. refl)
 
-  -- a factor behind an operator
+  -- a factor after an operator
   pub reads_next : {spelled : List Token → List Token} → Reads bytes at end spelled (state AtFactor) behind_factor
       → Reads bytes at end spelled at_next behind_factor
   reads_next {spelled} r =

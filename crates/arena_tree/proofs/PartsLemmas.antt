@@ -50,7 +50,7 @@ parts_pairwise bs ls ts (Second b bs' ls' ts' p) h =
     let one = parts_apart b.addr b.size bs' ls' ts' p h.0 in
     (rest.0, (one.0, rest.1))
 
--- of a node with one kid
+-- of a node with one child
 one_parts : (e : Expr) (m : Memory) (n : Node) → ((k : Node) → Parts (expr_blocks e m k) (expr_lists e m k) (expr_texts e m k))
     → Parts (n.kids ∷ of_first (kids_in m n) (λ k. expr_blocks e m k)) (n.kids ∷ of_first (kids_in m n) (λ k. expr_lists e m k))
     (of_first (kids_in m n) (λ k. expr_texts e m k))

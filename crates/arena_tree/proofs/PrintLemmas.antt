@@ -49,7 +49,7 @@ product_in AsTerm xs = sym (append-nil xs)
 product_in AsFactor xs = refl
 
 module _ (m : Memory) (n : Node) (s : tree.Stand) where
-  -- a node of this kind, where its kids have this text
+  -- a node of this kind, whose children have this text
   abbrev pub of_kind : Kind → List ℕ → List ℕ
   of_kind kind.Num inner = number n.number
   of_kind kind.Name inner = text_bytes m n.text

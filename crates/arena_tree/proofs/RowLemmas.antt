@@ -76,7 +76,7 @@ row_none m v held none size = record {
   lean = subst (AreLean m) (sym none) (lean_none m);
 }
 
--- A tree that was placed before is put in a list with room, in a block that was free.
+-- A tree that was placed before is appended to a list with room, in a block that was free.
 pub row_first : (t : Subtree) (old one mid new : Memory) (v w : Vec Node) (n : Node) → IsTreePlaced t old one n → IsRowBuilt [] one mid v
     → IsVecIn node_item new w → vec_list node_item new w ≡ vec_list node_item mid v ++ n ∷ []
     → Frame mid new (v.raw.block ∷ []) (w.raw.block ∷ []) → IsRowBuilt (t ∷ []) old new w
@@ -103,7 +103,7 @@ row_first t old one mid new v w n placed room held list_is filled =
     no_trees [] at = refl
     no_trees (k ∷ ns) at = absurd at
 
--- A tree is placed, and put at the end of a list that is built.
+-- A tree is placed, and appended to a list that is being built.
 module _ (ts : List Subtree) (t : Subtree) (old one two : Memory) (v : Vec Node) (n : Node) (built : IsRowBuilt ts old one v)
     (placed : IsTreePlaced t one two n) where
   stands : SubtreeAt t two n × ArePairwiseApart (blocks_at t two n) × Frame one two [] (blocks_at t two n) × AreLean two (n ∷ [])
@@ -190,7 +190,7 @@ stmts_more ss s {old} {new} {v} = subst (λ ts. IsRowBuilt ts old new v) (sym (i
     is NoStmts = refl
     is (Then r ss) = ap (λ ts. OfStmt r ∷ ts) (is ss)
 
--- ---- The tree whose turn it is
+-- ---- The next tree
 
 pub record Kid (ts : List Subtree) (m : Memory) (i : ℕ) (k : Node) : Type 0 where
   pub tree : Subtree

@@ -1,4 +1,4 @@
--- What calls cost that are made one after another.
+-- What calls cost one after another.
 use Rattle.std.proofs.Common.{◌≡◌, ℕ, ◌+◌, ◌-◌, ◌≤◌, inl, inr, refl, sym, subst, ◌∙◌, arith, Ok, Err, Option, Some, None, List, [], length, drop, length-take}
 use Rattle.std.specs.Prelude.{Result, IsErr, IsErrAnd, slice_range}
 use Rattle.arena_rules.proofs.AskingLemmas.{asks_more, asks_then, refused_after}
@@ -73,7 +73,7 @@ spends_then {some} {layouts} {one} {saved} {two} {spare} {left} {all} {rest} {ol
     by (Some OutOfMemory) h = frame_then old.memory mid.memory new.memory [] [] [] frame h
     by (Some CapacityOverflow) h = h
 
--- What is paid ahead is enough for more, and what is saved may be forgotten.
+-- What is paid ahead is enough for more, and some of what is saved may be dropped.
 pub spends_more : {layouts : Layouts} {few spare many left rest : ℕ} {old new : View} {error : Option AllocError}
     → Spends layouts few spare left old new error → few + spare ≤ many → few + spare + rest ≤ many + left
     → Spends layouts many 0 rest old new error
@@ -81,7 +81,7 @@ spends_more {layouts} {old = old} spends less paid =
     spends_then (spends_nothing {layouts = layouts} 0 0 0 old (omega arith)) spends (frame_reflexive old.memory []) (omega arith) (omega (arith, less))
     (omega (arith, paid))
 
--- What is asked for is of more layouts too; and calls that were not stopped may be said to ask for any.
+-- What is asked for is of more layouts too; and calls that didn't fail ask for any.
 pub asks_of : {some layouts : Layouts} {bytes before after : ℕ} {old new : View} {error : Option AllocError}
     → ((size align : ℕ) → some size align → layouts size align) → Spends some bytes before after old new error
     → Spends layouts bytes before after old new error
@@ -115,11 +115,11 @@ pub frees_then : {old mid new : Memory} {blocks others : List Block} → Frame o
     → Frame old new [] []
 frees_then {old} {mid} {new} first second = frame_then old mid new [] [] [] (frees first) (frees second)
 
--- A range has no more bytes than its ends tell.
+-- A range has no more bytes than there are between its ends.
 pub range_length : (bytes : List ℕ) (begin end : ℕ) → length (slice_range bytes begin end) ≤ end - begin
 range_length bytes begin end = omega (arith, length-take (end - begin) (drop begin bytes))
 
--- ---- What `?` hands on
+-- ---- What `?` passes on
 
 abbrev pub IsHandedOn : {X : Type 0} → Result X AllocError → AllocError → Type 0
 IsHandedOn result e = IsErr result × IsErrAnd result (λ f. f ≡ e)

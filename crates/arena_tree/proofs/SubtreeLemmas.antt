@@ -1,4 +1,5 @@
--- Expressions and statements as subtrees: their kids, what the rule for one node leaves to those, and how many there are.
+-- Expressions and statements as subtrees: their children, what the rule for one node leaves to those, and how many
+-- there are.
 use Rattle.std.proofs.Common.{◌≡◌, ℕ, suc, ap, sym, refl, ◌∙◌, true, false, List, [], ◌∷◌, ◌++◌, length, append-nil}
 use Rattle.arena_chunks.specs.Memory.{Memory}
 use Rattle.arena_store.specs.declared.block.Block.{Block}
@@ -49,7 +50,7 @@ row_length [] m [] at = refl
 row_length (t ∷ ts) m (n ∷ ns) at = ap suc (row_length ts m ns at.1)
 row_length ts m ns at = absurd at
 
--- ---- Kids
+-- ---- Children
 
 abbrev pub own_texts : Subtree → Node → List Block
 own_texts (OfStmt (Let name e)) n = n.text.block ∷ []
@@ -61,7 +62,7 @@ own_bytes (OfExpr (Name bytes)) = length bytes
 own_bytes (OfStmt (Let name e)) = length name
 own_bytes t = 0
 
--- what stands under a node, and its blocks
+-- the children of a node, and its blocks
 pub record KidsAt (ks : List Subtree) (own : List Block) (m : Memory) (n : Node) (ls ts : List Block) : Type 0 where
   pub held : IsVecIn node_item m (kids_of n)
   pub stand : RowAt ks m (kids_in m n)

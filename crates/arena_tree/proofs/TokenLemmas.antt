@@ -37,7 +37,7 @@ some_none r e = cc
 pub not_some : (s : State) → ◌≡◌ {A = Option State} None (Some s) → ⊥
 not_some s e = cc
 
--- A token that is passed is one that may stand there, and the text isn't refused behind it.
+-- A token that is accepted may come there, and the text isn't refused after it.
 pub record Passed (size : ℕ) (s : State) (token : Token) (ts : List Placed) : Type 0 where
   pub next : State
   pub step_is : step s token ≡ Some next
@@ -79,7 +79,7 @@ passed_to {bytes} {at} {end} {token} s next t is p =
 
 -- ---- What is seen
 
--- what is seen next may stand there
+-- what is seen next may come there
 passed_next : {bytes : List ℕ} {at : ℕ} {l : Lexeme} → IsNext bytes at l → (s : State) → IsPassed bytes s at
     → Passed (length bytes) s (like l.seen) (tokens_at bytes l.end)
 unfolding refusal_from
@@ -122,7 +122,7 @@ module _ {bytes : List ℕ} {at : ℕ} {l : Lexeme} (n : IsNext bytes at l) wher
       by seen.Other q is other = not_some q.next q.step_is
       by s q is other = absurd is
 
-  -- behind an expression in parentheses they close
+  -- after an expression in parentheses they close
   pub only_close : MustClose bytes at → (l.seen ≡ seen.RightParen → ⊥) → ⊥
   only_close m = by l.seen (passed_next n (state BehindFactor (Paren ∷ m.opens)) m.passed) (subst TermsStop n.tokens_are m.stop) n.seen
     where
@@ -135,7 +135,7 @@ module _ {bytes : List ℕ} {at : ℕ} {l : Lexeme} (n : IsNext bytes at l) wher
       by seen.Minus q stop h other = stop.1.1 h
       by s q stop h other = not_some q.next q.step_is
 
-  -- behind a statement's expression a semicolon comes
+  -- after a statement's expression a semicolon comes
   pub only_semicolon : MustEnd bytes at → (l.seen ≡ seen.Semicolon → ⊥) → ⊥
   only_semicolon m =
       by l.seen m.depth (passed_next n (behind_factor (braces m.depth)) m.passed) (subst TermsStop n.tokens_are m.stop) n.seen
@@ -215,7 +215,7 @@ starts_name {bytes} {at} {here} begin opens p minus paren digit = by (is_name_st
         let q = passed_token (state AtFactor opens) (sign_token begin digit is) p in
         absurd (not_some q.next (sym (no_factor opens (slice_index bytes here) minus paren) ∙ q.step_is))
 
--- which is not the key word
+-- which is not the keyword
 pub only_word : {bytes : List ℕ} {at end : ℕ} (name : List ℕ) (opens : List Open) → IsTokenAt bytes at (word name) end
     → IsPassed bytes (state AtFactor opens) at → IsTokenAt bytes at (Word name) end
 only_word {bytes} {at} {end} name opens t p =

@@ -24,7 +24,7 @@ pub only_some : (ns : List Node) (P : Node → Type 0) → IsOnly ns P → lengt
 only_some (k ∷ []) P only = refl
 only_some ns P only = absurd only
 
--- the handle of a node with one kid
+-- the handle of a node with one child
 pub first_held : (m : Memory) (n : Node) (v : Vec Node) → v ≡ kids_of n → IsVecIn node_item m (kids_of n) → n.len ≡ 1
     → IsVecIn node_item m v × (0 < v.raw.len)
 first_held m n v same held one =

@@ -1,4 +1,4 @@
--- What becomes of whole trees beside calls on other blocks.
+-- What becomes of whole trees during calls on other blocks.
 use Rattle.std.proofs.Common.{◌≡◌, sym, ap, subst, ◌∙◌, List, [], ◌∷◌}
 use Rattle.arena_chunks.specs.Memory.{Memory}
 use Rattle.arena_chunks.specs.Checkpoints.{GoesBack}
@@ -73,7 +73,7 @@ tree_back old new t ss back h means =
     agree [] readable = tt
     agree (b ∷ bs) readable = (sym (went_back old new b back readable.0), agree bs readable.1)
 
--- What lies apart from its blocks lies apart from its lists of nodes.
+-- What is apart from its blocks is apart from its lists of nodes.
 pub lists_apart : (m : Memory) (t : Tree) (ss : Stmts) (others : List Block) → AreAllApart others (footprint ss m t)
     → AreAllApart others (lists_of ss m t)
 lists_apart m t ss others apart =

@@ -1,4 +1,4 @@
--- What a copy of a tree in another arena answers, and what it takes.
+-- What a copy of a tree in another arena returns, and what it takes.
 use Rattle.std.specs.Prelude.{ℕ, ◌+◌, ◌*◌, ◌⊎◌, List, [], ◌∷◌, length, Result, Ok, Err}
 use Rattle.arena_chunks.specs.Source.{View}
 use Rattle.arena_chunks.specs.Frame.{Frame}
@@ -37,7 +37,7 @@ abbrev mutual
   stmts_name_bytes NoStmts = 0
   stmts_name_bytes (Then s rest) = stmt_name_bytes s + stmts_name_bytes rest
 
--- the bytes of the arena that a tree's copy takes at most: 128 for each node, and one for each byte of the names
+-- the most bytes of the arena that a tree's copy takes: 128 for each node, and one for each byte of the names
 abbrev pub clone_bytes : Stmts → ℕ
 clone_bytes ss = 128 * stmt_nodes ss + stmts_name_bytes ss
 
@@ -88,8 +88,8 @@ KidsCopyOf (t ∷ ts) size align = BelowCopyOf t size align ⊎ KidsCopyOf ts si
 abbrev pub RowCopyOf : List Subtree → Layouts
 RowCopyOf ts size align = ListOf (length ts) size align ⊎ KidsCopyOf ts size align
 
--- A tree is placed that means these statements, on blocks that were free and lie apart from each other, or a block of it is refused. No
--- text is judged, so no refusal is one of texts.
+-- A tree is placed that means these statements, on blocks that were free and are apart from each other, or a block of
+-- it is refused. No text is judged, so none is refused.
 abbrev pub Clones : Stmts → View → View → Result Tree TreeErr → Type 0
 Clones trees old new (Ok t) = AreBuilt trees old.memory new.memory t.stmts
 Clones trees old new (Err (AllocErr k)) = IsShortOf (TreeCopyOf trees) (clone_bytes trees) k old new × Frame old.memory new.memory [] []

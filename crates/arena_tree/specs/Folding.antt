@@ -1,4 +1,4 @@
--- What folding a tree where it stands does.
+-- What folding a tree in place does.
 use Rattle.std.specs.Prelude.{◌≡◌, ℕ, List, ◌∷◌}
 use Rattle.arena_chunks.specs.Memory.{Memory}
 use Rattle.arena_chunks.specs.Source.{View}
@@ -13,7 +13,7 @@ use Rattle.arena_tree.specs.Lists.{stmts_lists}
 use Rattle.arena_tree.specs.Given.{Means}
 use Rattle.arena_tree.specs.declared.tree.Tree.{Tree}
 
--- Addresses that lie apart from the first blocks lie apart from the second ones: these have no byte but of those.
+-- Addresses that are apart from the first blocks are apart from the second ones: these have only bytes of the first.
 abbrev pub IsWithin : List Block → List Block → Type 0
 IsWithin before after = (addr n : ℕ) → IsApart addr n before → IsApart addr n after
 
@@ -24,8 +24,9 @@ lists_of ss m t = t.stmts.raw.block ∷ stmts_lists ss m (vec_list node_item m t
 abbrev pub footprint : Stmts → Memory → Tree → List Block
 footprint ss m t = t.stmts.raw.block ∷ stmts_blocks ss m (vec_list node_item m t.stmts)
 
--- The tree of these statements has each of its expressions folded. The handle stays, no memory is taken and no cursor moves, and only
--- bytes of its lists of nodes change. The count is that of the nodes to which one of the two rules was applied.
+-- The tree of these statements has each of its expressions folded. The handle stays, no memory is taken and no cursor
+-- moves, and only bytes of its lists of nodes change. The count is that of the nodes to which one of the two rules was
+-- applied.
 pub record Folds (ss : Stmts) (old new : View) (before after : Tree) (count : ℕ) : Type 0 where
   pub handle : after ≡ before
   pub means : Means new.memory after (folded_stmts ss)

@@ -1,4 +1,4 @@
--- Trees that are folded where they stand: expressions and statements alike.
+-- Trees that are folded in place: expressions and statements alike.
 use Rattle.std.specs.Prelude.{◌≡◌, ℕ, ◌+◌, ◌*◌, ◌^◌, ◌<◌, ◌≤◌, nat_lt, if◌then◌else◌, Bool, true, false, Option, Some, None, List, [], ◌∷◌, map, drop}
 use Rattle.arena_chunks.specs.Memory.{Memory}
 use Rattle.arena_chunks.specs.Frame.{Frame, AreAllApart, ArePairwiseApart}
@@ -29,7 +29,7 @@ abbrev pub row_folds : List Subtree → ℕ
 row_folds [] = 0
 row_folds (t ∷ ts) = folds_of_it t + row_folds ts
 
--- ---- What folding asks
+-- ---- What folding requires
 
 -- blocks of lists that share no byte with each other, and none with the texts
 pub record IsClear (ls ts : List Block) : Type 0 where
@@ -58,7 +58,7 @@ pub record CanFoldRow (m : Memory) (v : Vec Node) (room : ℕ) : Type 0 where
 
 -- ---- What it does
 
--- The node stands for the tree, on these blocks of lists and of texts.
+-- The node represents the tree, on these blocks of lists and of texts.
 pub record StandsOn (t : Subtree) (m : Memory) (n : Node) (ls ts : List Block) : Type 0 where
   pub stands : SubtreeAt t m n
   pub lists : lists_at t m n ≡ ls
@@ -69,7 +69,7 @@ pub record StandOn (trees : List Subtree) (m : Memory) (ns : List Node) (ls ts :
   pub lists : row_lists trees m ns ≡ ls
   pub texts : row_texts trees m ns ≡ ts
 
--- Of these lists and texts those are left: they have no byte but of these.
+-- What is left of these lists and texts: they have only bytes of these.
 pub record Shrinks (ls ts ls' ts' : List Block) : Type 0 where
   pub pairs : ArePairwiseApart ls → ArePairwiseApart ls'
   pub lists_in : IsWithin ls ls'
@@ -80,7 +80,7 @@ pub record WritesIn (old new : Memory) (ls : List Block) : Type 0 where
   pub frame : Frame old new ls ls
   pub state : new.state ≡ old.state
 
--- A node of these lists and texts stands for this tree now.
+-- A node of these lists and texts now represents this tree.
 pub record Becomes (t : Subtree) (ls ts : List Block) (old new : Memory) (n : Node) : Type 0 where
   pub lists : List Block
   pub texts : List Block
@@ -88,13 +88,13 @@ pub record Becomes (t : Subtree) (ls ts : List Block) (old new : Memory) (n : No
   pub shrinks : Shrinks ls ts lists texts
   pub writes : WritesIn old new ls
 
--- A node stood for a tree on these blocks, and this one stands for it, folded.
+-- A node represented a tree on these blocks, and this one represents it, folded.
 pub record IsFolded (t : Subtree) (ls ts : List Block) (old new : Memory) (after : Node) (count : ℕ) : Type 0 where
   pub becomes : Becomes (folded_it t) ls ts old new after
   pub count_is : count ≡ folds_of_it t
   pub few : count ≤ 1 + below_it t
 
--- Nodes of a list in this block stood for trees on these blocks, and these stand for them, folded.
+-- Nodes of a list in this block represented trees on these blocks, and these represent them, folded.
 pub record AreFolded (trees : List Subtree) (ls ts : List Block) (v : Block) (old new : Memory) (nodes : List Node)
     (count : ℕ) : Type 0 where
   pub lists : List Block
@@ -112,13 +112,13 @@ AreFoldedFrom i trees old new v count =
     AreFolded (drop i trees) (row_lists (drop i trees) old ns) (row_texts (drop i trees) old ns) v.raw.block old new
     (drop i (vec_list node_item new v)) count
 
--- whatever trees stand in the list
+-- for any trees in the list
 pub record FoldsRow (old new : Memory) (v : Vec Node) (count : ℕ) : Type 0 where
   pub each : (trees : List Subtree) → IsRowWhole trees old v → AreFoldedFrom 0 trees old new v count
 
--- ---- One node, whose kids are folded
+-- ---- One node, whose children are folded
 
--- the node with what these make of its kids
+-- the node with these functions applied to its children
 abbrev pub with_kids : (Expr → Expr) → (Exprs → Exprs) → (Stmts → Stmts) → Subtree → Subtree
 with_kids one all body (OfExpr (Num k)) = OfExpr (Num k)
 with_kids one all body (OfExpr (Name bytes)) = OfExpr (Name bytes)
@@ -149,12 +149,12 @@ times_ruled (OfExpr (Sum kids)) = one_if_reckoned sum (numbers_of kids)
 times_ruled (OfExpr (Prod kids)) = one_if_reckoned product (numbers_of kids)
 times_ruled (OfStmt s) = 0
 
--- This node stands for a tree in the place of one for which that node stood.
+-- This node represents a tree, and replaces that node, which represented another.
 pub record Replaces (t u : Subtree) (m : Memory) (n after : Node) : Type 0 where
   pub stands : SubtreeAt u m after
   pub shrinks : Shrinks (lists_at t m n) (texts_at t m n) (lists_at u m after) (texts_at u m after)
 
--- the node that comes, or the one that stays; and how often the rule is applied then
+-- the node that replaces it, or the one that stays; and how often the rule is then applied
 abbrev pub or_stays : Option Node → Node → Node
 or_stays None n = n
 or_stays (Some after) n = after

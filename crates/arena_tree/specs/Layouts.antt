@@ -4,17 +4,17 @@ use Rattle.arena_items.specs.Denied.{Layouts, Only, TextOf}
 use Rattle.tree_rules.specs.Tokens.{Word}
 use Rattle.arena_tree.specs.Parts.{IsTokenAt}
 
--- a list with room for so many nodes
+-- a list with room for this many nodes
 abbrev pub ListOf : ℕ → Layouts
 ListOf nodes = Only (nodes * 88) 8
 
--- what a list that is full becomes, to get room for one node more: twice as long, and a first node alone
+-- the list that replaces a full one, to have room for one more node: of twice the capacity, and at first of one node
 abbrev pub LongerList : (len cap : ℕ) → Layouts
 LongerList len cap size align = (cap ≤ len) × ListOf (max (2 * cap) (len + 1)) size align
 
 -- ---- What the tree of a text asks for
 
--- the bytes of a name that stands in the text
+-- the bytes of a name in the text
 pub record IsNameIn (bytes : List ℕ) (size align : ℕ) : Type 0 where
   pub name : List ℕ
   pub at : ℕ
@@ -22,7 +22,7 @@ pub record IsNameIn (bytes : List ℕ) (size align : ℕ) : Type 0 where
   pub stands : IsTokenAt bytes at (Word name) end
   pub layout : TextOf (length name) size align
 
--- a list with room for so many nodes at most
+-- a list with room for at most `most` nodes
 pub record IsListWithin (most size align : ℕ) : Type 0 where
   pub nodes : ℕ
   pub few : nodes ≤ most

@@ -1,4 +1,4 @@
--- What parsing a text answers, and what it takes.
+-- What parsing a text returns, and what it takes.
 use Rattle.std.specs.Prelude.{◌≡◌, ℕ, ◌+◌, ◌*◌, ◌^◌, ◌≤◌, true, false, List, [], length, Result, Ok, Err}
 use Rattle.arena_chunks.specs.Source.{View}
 use Rattle.arena_chunks.specs.Frame.{Frame}
@@ -16,26 +16,26 @@ use Rattle.arena_tree.specs.declared.tree.Tree.{Tree}
 use Rattle.arena_tree.specs.declared.tree.TreeErr.{TreeErr}
 use Rattle.arena_tree.specs.declared.tree.TreeErr.TheVariants.{Syntax, TooDeep, NumberTooBig, AllocErr, OutOfMemory}
 
--- the bytes of the arena that the tree of a text takes at most
+-- the most bytes of the arena that the tree of a text takes
 abbrev pub parse_bytes : ℕ → ℕ
 parse_bytes length = 1024 * (length + 1)
 
--- A call takes at most so many bytes of the arena, asks for chunks within that, and the arena stays of its kind. No chunk was given up,
--- and the newest data end rose by at most twice what the arena's bytes rose.
+-- A call takes at most `bytes` of the arena, asks for chunks within that, and the arena keeps its kind. No chunk was
+-- freed, and the newest data end rose by at most twice as much as the arena's bytes.
 pub record TakesAtMost (bytes : ℕ) (old new : View) : Type 0 where
   pub takes : used new ≤ used old + bytes
   pub asks : AsksWithin (used old + bytes) old new
   pub kind : KeepsKind old.memory new.memory
 
--- Why a block was refused in a call that takes at most so many bytes: it has one of these layouts and no place, and the arena grows and was
--- starved, or it doesn't and has fewer. The refusals that are told are the source's.
+-- Why a block was refused in a call that takes at most `bytes`: it has one of these layouts and no place, and the arena
+-- grows and was starved, or it doesn't and has fewer. At least `refused` refusals were the source's.
 pub record IsShortOf (layouts : Layouts) (bytes refused : ℕ) (old new : View) : Type 0 where
   pub denied : IsDenied layouts new
   pub counted : IsCounted refused old new
   pub starved : old.memory.state.is_growing ≡ true → IsStarved (2 ^ 62) old new
   pub full : old.memory.state.is_growing ≡ false → IsFull (used old + bytes) old
 
--- a refusal of the text, told so
+-- a refusal of the text as an error
 abbrev pub error_for : Refused → TreeErr
 error_for (refused.Syntax at) = Syntax at
 error_for (refused.TooDeep at) = TooDeep at
@@ -45,11 +45,12 @@ error_for (refused.NumberTooBig at) = NumberTooBig at
 abbrev pub IsProgramText : List ℕ → Type 0
 IsProgramText bytes = (trees : Stmts) × TreeOf bytes (Ok trees)
 
--- the text is refused so, before anything is placed
+-- the text is refused for this reason, before anything is placed
 abbrev pub IsRefusedText : List ℕ → View → View → Refused → Type 0
 IsRefusedText bytes old new why = TreeOf bytes (Err why) × (new ≡ old)
 
--- A text's tree is placed on blocks that were free and lie apart from each other, or the text is refused, or a block of its tree is.
+-- A text's tree is placed on blocks that were free and are apart from each other, or the text is refused, or a block of
+-- its tree is.
 abbrev pub Parses : List ℕ → View → View → Result Tree TreeErr → Type 0
 Parses bytes old new (Ok t) = (trees : Stmts) × TreeOf bytes (Ok trees) × AreBuilt trees old.memory new.memory t.stmts
 Parses bytes old new (Err (Syntax at)) = IsRefusedText bytes old new (refused.Syntax at)

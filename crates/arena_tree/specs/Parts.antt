@@ -28,7 +28,7 @@ IsFactorPlace bytes at = (opens : List Open) × IsPassed bytes (state AtFactor o
 abbrev pub spelled_at : List ℕ → ℕ → List Token
 spelled_at bytes at = without_places (tokens_at bytes at)
 
--- a token, and the byte behind it
+-- a token, and the byte after it
 pub record IsTokenAt (bytes : List ℕ) (at : ℕ) (token : Token) (end : ℕ) : Type 0 where
   pub place : ℕ
   pub tokens_are : tokens_at bytes at ≡ record { at = place; token = token } ∷ tokens_at bytes end
@@ -44,7 +44,7 @@ abbrev pub NoSign : List Placed → Type 0
 NoSign [] = Unit {0}
 NoSign (t ∷ ts) = (t.token ≡ Plus → ⊥) × (t.token ≡ Minus → ⊥)
 
--- a term that is taken away is negated
+-- a subtracted term is negated
 abbrev pub signed_tree : Bool → Expr → Expr
 signed_tree true e = Neg e
 signed_tree false e = e
@@ -53,14 +53,15 @@ abbrev pub sign_of : Bool → Token
 sign_of true = Minus
 sign_of false = Plus
 
--- From one byte to another these tokens stand, and over them the machine goes from one state to the other, whatever is open.
+-- From one byte to another there are these tokens, and over them the machine goes from one state to the other, whatever
+-- is open.
 pub record Reads {X : Type 0} (bytes : List ℕ) (from end : ℕ) (spelled : List Token → List Token) (before behind : X → State) : Type 0 where
   pub tokens_are : spelled_at bytes from ≡ spelled (spelled_at bytes end)
   pub passes : (opens : X) → IsPassed bytes (before opens) from → IsPassed bytes (behind opens) end
   pub later : from < end
   pub within : end ≤ length bytes
 
--- the states behind a factor, and behind an operator after it
+-- the states after a factor, and after an operator that follows it
 abbrev pub behind_factor : List Open → State
 behind_factor opens = state BehindFactor (signs_ended opens)
 
@@ -105,7 +106,7 @@ pub record AreTerms (bytes : List ℕ) (from next : ℕ) (minus : Bool) (old new
   pub open read use *
   pub built : IsRowBuilt (expr_row (term_trees part)) old new list
 
--- What a factor begins with: a number, a name, a sign or a parenthesis. Behind the last two a factor is to come.
+-- What a factor begins with: a number, a name, a sign or a parenthesis. After the last two a factor is to come.
 abbrev pub IsStart : List ℕ → ℕ → Start → Type 0
 IsStart bytes at (start.Number n end) = IsTokenAt bytes at (Number n) end
 IsStart bytes at (start.Word begin end) = IsTokenAt bytes at (Word (slice_range bytes begin end)) end × (begin ≤ end)

@@ -8,8 +8,8 @@ use Rattle.arena_tree.specs.Given.{IsTreeIn, Means}
 use Rattle.arena_tree.specs.Folding.{lists_of, footprint}
 use Rattle.arena_tree.specs.declared.tree.Tree.{Tree}
 
--- After a call that has other blocks then, the tree is held, means the same statements, names the same blocks, and these lie apart from
--- the call's.
+-- After a call on other blocks, the tree is held, means the same statements, names the same blocks, and these are apart
+-- from those that the call then has.
 pub record StaysTree (trees : Stmts) (old new : Memory) (after : List Block) (t : Tree) : Type 0 where
   pub held : IsTreeIn new t
   pub means : Means new t trees

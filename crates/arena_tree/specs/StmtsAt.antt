@@ -1,4 +1,4 @@
--- Which nodes stand for which statements, and the blocks that they name at every depth.
+-- Which nodes represent which statements, and the blocks that they name at every depth.
 use Rattle.std.specs.Prelude.{◌≡◌, List, [], ◌∷◌, ◌++◌}
 use Rattle.arena_chunks.specs.Memory.{Memory}
 use Rattle.arena_chunks.specs.Frame.{Frame, ArePairwiseApart}

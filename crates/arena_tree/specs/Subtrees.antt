@@ -1,4 +1,4 @@
--- What a node stands for, an expression or a statement, and lists of such nodes.
+-- What a node represents, an expression or a statement, and lists of such nodes.
 use Rattle.std.specs.Prelude.{ℕ, ◌+◌, ◌<◌, Bool, true, false, List, [], ◌∷◌, ◌++◌}
 use Rattle.arena_chunks.specs.Memory.{Memory}
 use Rattle.arena_chunks.specs.Frame.{Frame, ArePairwiseApart}
@@ -15,7 +15,7 @@ use Rattle.arena_tree.specs.TreesAt.{node_item, ExprAt, expr_blocks, IsPlaced, A
 use Rattle.arena_tree.specs.StmtsAt.{StmtAt, stmt_blocks, IsStmtPlaced}
 use Rattle.arena_tree.specs.Lists.{expr_lists, expr_texts, stmt_lists, stmt_texts}
 
--- ---- What a node stands for
+-- ---- What a node represents
 
 pub data Subtree : Type 0 where
   OfExpr : (e : Expr) → Subtree
@@ -51,7 +51,7 @@ abbrev pub stmt_row : Stmts → List Subtree
 stmt_row NoStmts = []
 stmt_row (Then s rest) = OfStmt s ∷ stmt_row rest
 
--- what stands under a node
+-- the children of a node
 abbrev pub kids_it : Subtree → List Subtree
 kids_it (OfExpr (Num k)) = []
 kids_it (OfExpr (Name bytes)) = []
@@ -94,7 +94,7 @@ has_kids kind.Num = false
 has_kids kind.Name = false
 has_kids k = true
 
--- The node stands for a tree with fewer nodes below it than this.
+-- The node represents a tree with fewer nodes below it than this.
 pub record HasTree (m : Memory) (n : Node) (room : ℕ) : Type 0 where
   pub tree : Subtree
   pub stands : SubtreeAt tree m n

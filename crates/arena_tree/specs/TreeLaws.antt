@@ -44,7 +44,7 @@ readable_each m = all_each (λ (b : Block). IsTrue (is_readable m.state b))
 pub agree_each : (a c : Memory) (bs cs : List Block) → Agree a c (bs ++ cs) → Agree a c bs × Agree a c cs
 agree_each a c = all_each (λ (b : Block). bytes_of a b ≡ bytes_of c b)
 
--- ---- A tree that stands may be read
+-- ---- A tree that is represented may be read
 
 mutual
   pub expr_readable : (e : Expr) (m : Memory) (n : Node) → ExprAt e m n → AreReadable m.state (expr_blocks e m n)
@@ -100,7 +100,7 @@ mutual
 pub expr_names : (e : Expr) (a c : Memory) (n : Node) → Agree a c (expr_blocks e a n) → expr_blocks e c n ≡ expr_blocks e a n
 expr_names = expr_same OfBoth
 
--- ---- And it stands for the same tree
+-- ---- And it represents the same tree
 
 pub only_again : (a c : Memory) (ns : List Node) (e : Expr)
     → ((k : Node) → ExprAt e a k → Agree a c (expr_blocks e a k) → AreReadable c.state (expr_blocks e a k) → ExprAt e c k)

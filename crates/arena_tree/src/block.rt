@@ -18,7 +18,7 @@ pub(crate) fn place_block<C: ChunkSource>(a: &mut Allocator<C>, layout: Layout) 
     ensures frame { IfOk result (λ b. Frame a.old.memory a.new.memory [] (b ∷ [])) }
     ensures spends { Spends (Only layout.size layout.align) (layout.size + (layout.align - 1)) 0 0 a.old a.new (error_of result) }
 {
-    // So the least alignment is known to be 1.
+    // Provides that the least alignment is 1.
     let _ = a.min_align();
     match a.alloc_layout(layout) {
         Ok(block) => Ok(block),

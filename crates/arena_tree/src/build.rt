@@ -1,4 +1,4 @@
-// Nodes with kids.
+// Nodes with children.
 ghost use Rattle.std.specs.Prelude.{◌≡◌, ◌+◌, ◌^◌, ◌≤◌, List, [], ◌∷◌, ◌++◌, IfOk, OnOk};
 ghost use Rattle.arena_chunks.specs.Memory.{Memory};
 ghost use Rattle.arena_vec.specs.Vecs.{IsVecIn};
@@ -51,7 +51,7 @@ pub(crate) fn named(text: Str) -> Node
     }
 }
 
-// The node of a kind that has these kids.
+// The node of a kind that has these children.
 #[inline(always)]
 pub(crate) fn with_kids(kind: Kind, list: Vec<Node>) -> Node
     ensures kind { result.kind ≡ kind }
@@ -70,7 +70,7 @@ pub(crate) fn with_kids(kind: Kind, list: Vec<Node>) -> Node
     }
 }
 
-// Puts a node at the end of a list that is built.
+// Appends a node to a list that is being built.
 #[inline(always)]
 pub(crate) fn push_node<C: ChunkSource>(
     a: &mut Allocator<C>,
@@ -89,12 +89,12 @@ pub(crate) fn push_node<C: ChunkSource>(
     growth_rule();
     growth_costs();
     vector_costs::<Node, ()>();
-    // So the least alignment is known to be 1.
+    // Provides that the least alignment is 1.
     let _ = a.min_align();
     list.push(a, node)
 }
 
-// Puts a node under one of a kind, as its only kid.
+// Wraps a node in one of a kind, as its only child.
 pub(crate) fn wrap<C: ChunkSource>(a: &mut Allocator<C>, kind: Kind, node: &mut Node) -> Grown<()>
     ensures tree { (e : Expr) (old : Memory) → IsPlaced e old a.old.memory node.old
         → OnOk result ((node.new.kind ≡ kind) × IsRowBuilt (OfExpr e ∷ []) old a.new.memory (kids_of node.new)
@@ -107,7 +107,7 @@ pub(crate) fn wrap<C: ChunkSource>(a: &mut Allocator<C>, kind: Kind, node: &mut 
     Ok(())
 }
 
-// Negates the expression that a node stands for.
+// Negates the expression that a node represents.
 pub(crate) fn negate<C: ChunkSource>(a: &mut Allocator<C>, node: &mut Node) -> Grown<()>
     ensures tree { (e : Expr) (old : Memory) → IsPlaced e old a.old.memory node.old
         → OnOk result (IsPlaced (Neg e) old a.new.memory node.new) }
@@ -116,7 +116,7 @@ pub(crate) fn negate<C: ChunkSource>(a: &mut Allocator<C>, node: &mut Node) -> G
     wrap(a, Kind::Neg, node)
 }
 
-// Negates it if a minus stands before it.
+// Negates it if a minus comes before it.
 #[inline(always)]
 pub(crate) fn sign<C: ChunkSource>(a: &mut Allocator<C>, minus: bool, node: &mut Node) -> Grown<()>
     ensures tree { (e : Expr) (old : Memory) → IsPlaced e old a.old.memory node.old

@@ -16,7 +16,7 @@ use arena_place::Layout;
 use arena_vec::Vec;
 use arena_vec::laws::growth_rule;
 
-// A list of no nodes, with room for exactly so many.
+// A list of no nodes, with room for exactly `len`.
 pub(crate) fn roomy<C: ChunkSource>(a: &mut Allocator<C>, len: u32) -> Grown<Vec<Node>>
     ensures row { IfOk result (IsRowBuilt [] a.old.memory a.new.memory) }
     ensures len { IfOk result (λ v. v.raw.len ≡ 0) }
@@ -33,7 +33,7 @@ pub(crate) fn roomy<C: ChunkSource>(a: &mut Allocator<C>, len: u32) -> Grown<Vec
     Ok(Vec::from_raw_parts_in(block, 0, len))
 }
 
-// Puts a node at the end of a list that has room for it.
+// Appends a node to a list that has room for it.
 pub(crate) fn fill<C: ChunkSource>(a: &mut Allocator<C>, list: &mut Vec<Node>, node: Node)
     requires held { IsVecIn node_item a.old.memory list.old }
     requires room { list.old.raw.len < list.old.raw.cap }

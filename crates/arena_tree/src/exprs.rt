@@ -1,4 +1,4 @@
-// Texts that are known to be programs are read, and their trees placed.
+// Reads texts that are programs, and places their trees.
 ghost use Rattle.std.specs.Prelude.{◌^◌, ◌≤◌, length, IfOk};
 ghost use Rattle.arena_tree.specs.Parts.{IsFactorPlace, IsStart, IsFactor, IsTerm, IsTerms};
 ghost use Rattle.arena_tree.specs.Spending.{SpendsUpTo};
@@ -10,8 +10,8 @@ use crate::node::{Kind, Node};
 use arena_chunks::{Allocator, ChunkSource};
 use arena_items::Grown;
 
-// This and what follows read a part each, write its node, and answer where it ends. Factors are read within what asks for them; what
-// is rarer, and clears memory for its answer, isn't.
+// This function and the next ones each read a part, write its node, and return where it ends. Factors are inlined into
+// their callers; the rarer parts, which clear memory for their results, are not.
 #[cycle(parse)]
 #[inline(always)]
 fn factor<C: ChunkSource>(
@@ -40,7 +40,7 @@ fn factor<C: ChunkSource>(
     }
 }
 
-// A factor behind a sign. The sign was read, up to this byte behind it.
+// A factor after a minus sign, which was read up to this byte after it.
 #[cycle(parse)]
 #[inline(never)]
 fn minus<C: ChunkSource>(

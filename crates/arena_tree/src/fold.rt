@@ -1,4 +1,4 @@
-// Folding of trees, where they stand.
+// Folding of trees in place.
 ghost use Rattle.std.specs.Prelude.{◌≡◌, ℕ, [], ◌∷◌, IfSome};
 ghost use Rattle.arena_items.specs.Room.{SamePlaces};
 ghost use Rattle.arena_vec.specs.Vecs.{IsVecIn, vec_list};
@@ -16,7 +16,7 @@ use arena_vec::Vec;
 
 impl ReplaceWith for Node {}
 
-// The total of numbers from the last one on, or none where it passes 64 bits.
+// The total with one more number in front, or `None` where it exceeds 64 bits.
 fn one_more(product: bool, total: Option<u64>, n: u64) -> Option<u64>
     ensures { (t : ℕ) → total ≡ capped t → result ≡ capped (added product n t) }
 {
@@ -43,7 +43,7 @@ fn empty_total(product: bool) -> u64
     if product { 1 } else { 0 }
 }
 
-// The sum or the product of nodes that are all numbers, where it fits 64 bits.
+// The sum or the product of nodes that are all numbers, if it fits 64 bits.
 fn total<C: ChunkSource>(a: &Allocator<C>, list: Vec<Node>, product: bool) -> Option<u64>
     requires { IsVecIn node_item a.now.memory list }
     ensures { result ≡ total_in (total_of product) (numbers_in (vec_list node_item a.now.memory list)) }
@@ -61,7 +61,7 @@ fn total<C: ChunkSource>(a: &Allocator<C>, list: Vec<Node>, product: bool) -> Op
     total
 }
 
-// The node of the total of a node's kids, or none where there is no total.
+// The node of the total of a node's children, or `None` where there is no total.
 fn total_node<C: ChunkSource>(a: &Allocator<C>, node: Node, product: bool) -> Option<Node>
     requires { IsVecIn node_item a.now.memory (kids_of node) }
     ensures total { IsTotalNode (total_in (total_of product) (numbers_in (kids_in a.now.memory node))) result }
@@ -73,7 +73,7 @@ fn total_node<C: ChunkSource>(a: &Allocator<C>, node: Node, product: bool) -> Op
     }
 }
 
-// What a node negates.
+// The node that a negation negates.
 fn only_kid<C: ChunkSource>(a: &Allocator<C>, node: Node) -> Node
     requires { IsNegation a.now.memory node }
     ensures { kids_in a.now.memory node ≡ result ∷ [] }
@@ -82,7 +82,7 @@ fn only_kid<C: ChunkSource>(a: &Allocator<C>, node: Node) -> Node
     list.get(a, 0)
 }
 
-// The node that comes in the place of one whose kids are folded, by the rule for its kind; none where it stays.
+// The node that replaces one whose children are folded, by the rule for its kind, or `None` where it stays.
 fn rule<C: ChunkSource>(a: &Allocator<C>, node: Node) -> Option<Node>
     requires { IsSubtree a.now.memory node }
     ensures rule { IsRule a.now.memory node result }
@@ -112,14 +112,14 @@ fn has_kids(kind: Kind) -> bool
     }
 }
 
-// Puts a node in the place of another.
+// Replaces a node.
 fn replace(node: &mut Node, by: Node)
     ensures { node.new ≡ by }
 {
     node.replace_with(|_| by);
 }
 
-// Folds a node, whose kids come first, and counts the nodes to which a rule was applied.
+// Folds a node, children first, and counts the nodes to which a rule was applied.
 #[cycle(fold)]
 fn fold_node<C: ChunkSource>(a: &mut Allocator<C>, node: &mut Node, room: u64) -> u64
     requires { CanFold a.old.memory node.old room }

@@ -1,4 +1,5 @@
-// What calls leave of trees that they don't work on. A law is a call that does nothing: made in a body, it gives its facts there.
+// What calls leave of trees that they don't work on. A law is a function that does nothing: called in a body, it
+// provides its facts there.
 ghost use Rattle.std.specs.Prelude.{◌≡◌, List, []};
 ghost use Rattle.arena_chunks.specs.Checkpoints.{GoesBack};
 ghost use Rattle.arena_chunks.specs.Frame.{Frame, AreAllApart};
@@ -11,12 +12,13 @@ ghost use Rattle.arena_tree.specs.Given.{IsTreeIn, Means};
 ghost use Rattle.arena_tree.specs.Staying.{StaysTree};
 ghost use Rattle.arena_tree.specs.declared.tree.Tree.{Tree};
 
-/// The frame law of trees. A call on some blocks leaves a tree whose footprint lies apart from them (`stays`): it is held, means
-/// the same statements, names the same blocks, and these lie apart from those that the call has then. So does a call that had no
-/// blocks before (`placed`); and to go back to a mark, where the tree's blocks may still be read (`back`).
+/// The frame law of trees. A call on some blocks keeps a tree whose footprint is apart from them (`stays`): it is held,
+/// means the same statements, names the same blocks, and these are apart from those that the call has afterwards. So
+/// does a call that had no blocks before (`placed`); and so does going back to a mark, if the tree's blocks may still
+/// be read (`back`).
 ///
-/// A tree means one list of statements (`one`), and its blocks may be read (`readable`). Blocks from which they lie apart lie apart
-/// from them (`turned`), and so from its lists of nodes, on which `fold` works (`lists`).
+/// A tree means one list of statements (`one`), and its blocks may be read (`readable`). Blocks from which they are
+/// apart are apart from them (`turned`), and so from its lists of nodes, on which `fold` works (`lists`).
 pub fn tree_law()
     ensures stays { (old new : Memory) (before after : List Block) (t : Tree) (trees : Stmts) → Frame old new before after
         → IsTreeIn old t → Means old t trees → AreAllApart (footprint trees old t) before

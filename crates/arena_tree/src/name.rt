@@ -70,7 +70,7 @@ pub(crate) fn clone_text<C: ChunkSource, D: ChunkSource>(
     ensures spends { Spends (TextOf (length (text_bytes from.now.memory text)))
         (length (text_bytes from.now.memory text)) 0 0 to.old to.new (error_of result) }
 {
-    // So the state is known to be valid, and the text to have a layout.
+    // Provides that the state is valid, so that the text has a layout.
     let _ = from.min_align();
     place_text(to, from.read(text.block))
 }

@@ -15,7 +15,7 @@ use arena_chunks::{Allocator, ChunkSource};
 use arena_items::Grown;
 use arena_vec::Vec;
 
-// A definition: its name's bytes, and the byte behind the equals sign.
+// A definition: its name's bytes, and the byte after the equals sign.
 fn let_line<C: ChunkSource>(
     a: &mut Allocator<C>,
     src: &[u8],

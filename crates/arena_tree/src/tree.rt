@@ -30,19 +30,19 @@ pub struct Tree {
 /// Why a tree wasn't placed.
 #[derive(Clone, Copy, PartialEq, Eq, Debug)]
 pub enum TreeErr {
-    /// The tokens before the one at this byte begin a program, and with it they don't; or the text ends there too early.
+    /// The tokens before the one at this byte begin a program, but not with it; or the text ends there too early.
     Syntax { at: u64 },
     /// With the token at this byte, more than 64 parentheses, braces and signs would be open at once.
     TooDeep { at: u64 },
-    /// The number at this byte passes 64 bits.
+    /// The number at this byte exceeds 64 bits.
     NumberTooBig { at: u64 },
-    /// There is no place for a block. At most so many requests for a chunk were refused in the call.
+    /// There is no place for a block. At least this many requests for a chunk were refused in the call.
     AllocErr { refused: u32 },
-    /// Memory for the arena's table of chunks runs out.
+    /// Out of memory for the arena's table of chunks.
     OutOfMemory,
 }
 
-// Why a text is refused, told so.
+// A refusal of the text as an error.
 fn refused_as(refused: Refused) -> TreeErr
     ensures { result ≡ error_for refused }
 {
@@ -54,14 +54,15 @@ fn refused_as(refused: Refused) -> TreeErr
 }
 
 impl Tree {
-    /// Places the tree of a text, of at most 16,777,216 bytes. It takes at most 1024 bytes of the arena for each byte of
+    /// Places the tree of a text of at most 16,777,216 bytes. It takes at most 1024 bytes of the arena for each byte of
     /// the text, and 1024 more.
     ///
     /// # Errors
     ///
-    /// `Syntax`, `TooDeep` or `NumberTooBig` at the first token for which the text is no program: then the arena is as it was.
-    /// `AllocErr` where the arena has no place for a block: it grows and was starved, or it doesn't and has fewer bytes than
-    /// those. `OutOfMemory` where memory outside the chunks runs out. Blocks placed until then stay in the arena, unused.
+    /// `Syntax`, `TooDeep` or `NumberTooBig` at the first token that is refused, or `Syntax` at the end of a text that
+    /// ends too early: then the arena is unchanged. `AllocErr` where the arena has no place for a block: it grows and
+    /// was starved, or it doesn't and has fewer bytes than were in use plus those. `OutOfMemory` where memory outside
+    /// the chunks runs out. Blocks placed until then stay in the arena, unused.
     pub fn parse<C: ChunkSource>(a: &mut Allocator<C>, src: &[u8]) -> Result<Tree, TreeErr>
         requires { length src.now ≤ 2 ^ 24 }
         ensures parses { Parses src.now a.old a.new result }
@@ -84,11 +85,11 @@ impl Tree {
         }
     }
 
-    /// The text of the tree.
+    /// Returns the text of the tree.
     ///
     /// # Errors
     ///
-    /// `OutOfMemory` where memory for the text runs out.
+    /// Out of memory for the text.
     pub fn print<C: ChunkSource>(
         &self,
         alloc: Global,
@@ -103,13 +104,14 @@ impl Tree {
         Ok(out)
     }
 
-    /// A tree in another arena that means the same, on blocks that were free. It takes at most 128 bytes of that arena for
-    /// each node, and one for each byte of the names.
+    /// Copies the tree to another arena, on blocks that were free there. The copy means the same. It takes at most 128
+    /// bytes of that arena for each node, and one for each byte of the names.
     ///
     /// # Errors
     ///
-    /// `AllocErr` where the other arena has no place for a block: it grows and was starved, or it doesn't and has fewer bytes
-    /// than those. `OutOfMemory` where memory outside the chunks runs out. Blocks placed until then stay in the arena, unused.
+    /// `AllocErr` where the other arena has no place for a block: it grows and was starved, or it doesn't and has fewer
+    /// bytes than were in use plus those. `OutOfMemory` where memory outside the chunks runs out. Blocks placed until
+    /// then stay in the arena, unused.
     pub fn clone_in<C: ChunkSource, D: ChunkSource>(
         &self,
         from: &Allocator<C>,
@@ -131,9 +133,9 @@ impl Tree {
         }
     }
 
-    /// Folds each expression where it stands, kids first: a negation of a negation becomes what that negates, and a sum or
-    /// a product of numbers alone becomes their total, where it fits 64 bits. Answers to how many nodes one of these two
-    /// rules was applied. Takes no memory, and only bytes of the tree's lists of nodes change.
+    /// Folds each expression in place, children first: a negation of a negation becomes what that negates, and a sum or
+    /// a product of numbers alone becomes their total, if it fits 64 bits. Returns the number of nodes to which one of
+    /// these two rules was applied. Takes no memory, and changes only bytes of the tree's lists of nodes.
     pub fn fold<C: ChunkSource>(&mut self, a: &mut Allocator<C>) -> u64
         requires { IsTreeIn a.old.memory self.old }
         ensures folded { (trees : Stmts) → Means a.old.memory self.old trees → Folds trees a.old a.new self.old self.new result }

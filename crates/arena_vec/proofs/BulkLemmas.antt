@@ -1,4 +1,4 @@
--- Many values at once: copies, cuts, and vectors beside a call.
+-- Many values at once: copies, cuts, and vectors that other calls leave alone.
 use Rattle.std.proofs.Common.{◌≡◌, ℕ, ◌+◌, ◌-◌, ◌^◌, ◌<◌, ◌≤◌, List, ◌++◌, length, take, drop, replicate, refl, sym, ap, ◌∙◌, arith, Ok, inl, inr, append-nil}
 use Rattle.std.proofs.lemmas.List.{take_all}
 use Rattle.std.proofs.lemmas.Bool.{cases_lt}
@@ -18,7 +18,7 @@ use Rattle.arena_items.specs.declared.room.Growth.TheVariants.{Stays as RoomStay
 use Rattle.arena_vec.specs.declared.vec.Vec.{Vec}
 use Rattle.arena_vec.proofs.VecLemmas.{shortened}
 
--- Where its block stays a vector may be cut to its first n values.
+-- As long as its block stays a vector may be cut to its first n values.
 pub now_cut : {T : Type 0} (item : Ghosts T) (old new : Memory) (after : List Block) (v : Vec T) (n : ℕ) → IsVecIn item old v
     → Stays old new after v.raw.block → n ≤ v.raw.len
     → IsNow item new v (take n (vec_list item old v)) (record {
@@ -40,12 +40,12 @@ now_cut item old new after v n held stays fewer =
       cap = refl;
     }
 
--- Where there is room nothing grows.
+-- If there is room nothing grows.
 pub no_growth : (size cap required wanted : ℕ) → required ≤ cap → growth_to size cap required wanted ≡ RoomStays
 unfolding growth_to
 no_growth size cap required wanted room = grind arith
 
--- To cut a vector is to give it another length with nothing behind.
+-- To cut a vector is to give it another length and append nothing.
 pub cut_grows : {T : Type 0} (item : Ghosts T) (view : View) (v : Vec T) (n : ℕ) (value : T) → IsVecIn item view.memory v → n ≤ v.raw.len
     → Grows {X = Unit {0}} item view view v (amortised_growth item.SIZE v.raw.cap n)
     (take n (vec_list item view.memory v) ++ replicate (n - v.raw.len) value)
@@ -64,7 +64,7 @@ cut_grows item view v n value held fewer =
       frame = cut.frame;
     })
 
--- A value was put behind all others, so often that there are m.
+-- A value was appended until there are m.
 pub filled : {T : Type 0} (size : ℕ) (dec : List ℕ → T) (list : List T) (k m : ℕ) (value : T) (old new : List ℕ) → k ≤ m
     → elements size dec k old ≡ list → elements size dec (k + (m - k)) new ≡ elements size dec k old ++ replicate (m - k) value
     → elements size dec m new ≡ take m list ++ replicate (m - k) value
@@ -74,7 +74,7 @@ filled size dec list k m value old new more first put =
     ap (λ p. elements size dec p new) (sym all) ∙ put ∙ ap (λ l. l ++ replicate (m - k) value) (first
     ∙ sym (take_all m list (omega (arith, long))))
 
--- The values of another vector were put behind all others.
+-- The values of another vector were appended.
 pub appended : {T : Type 0} (size : ℕ) (dec : List ℕ → T) (list : List T) (k n : ℕ) (between other old new : List ℕ) → between ≡ other
     → elements size dec k old ≡ list
     → elements size dec (k + n) new ≡ elements size dec k old ++ drop 0 (elements size dec (0 + n) between)
@@ -93,7 +93,7 @@ split size dec at n between old fresh new within same put =
     elements-all size dec (n - at) new fresh (drop at (elements size dec (at + (n - at)) between)) put
     ∙ ap (λ p. drop at (elements size dec p between)) all ∙ ap (λ bs. drop at (elements size dec n bs)) same
 
--- A count that is cut at 2 ^ 64 - 1 grows a vector as the whole count does.
+-- A count that is capped at 2 ^ 64 - 1 grows a vector as the whole count does.
 pub cut_growth : (size cap len n : ℕ) → cap < 2 ^ 32 → amortised_growth size cap (len + min n (2 ^ 64 - 1))
     ≡ amortised_growth size cap (len + n)
 unfolding growth_to fits

@@ -28,15 +28,15 @@ unsettled Equal k e = refl
 unsettled Greater k e = cc
 
 module _ {T : Type 0} (xs ys : List T) where
-  -- Lists of other lengths aren't equal.
+  -- Lists of different lengths aren't equal.
   pub other_lengths : (E : T → T → Bool) (n m : ℕ) → length xs ≡ n → length ys ≡ m → (n ≡ m → ⊥) → false ≡ pointwise E xs ys
   other_lengths E n m one two other = sym (unequal E xs ys (λ e. other (omega (arith, one, two, e))))
 
-  -- Where all indices were looked at the lists are equal,
+  -- If all indices were compared the lists are equal,
   pub all_equal : (E : T → T → Bool) (i : ℕ) → length xs ≡ i → length ys ≡ i → Rest (pointwise E) xs ys i → true ≡ pointwise E xs ys
   all_equal E i one two rest = all_seen E xs ys i (sym one) (sym two) ∙ rest
 
-  -- and where all of one were, the lengths decide.
+  -- and if all of one were, the lengths decide.
   pub lengths_decide : (R : T → T → Ordering) (i n m : ℕ) (r : Ordering) → length xs ≡ n → length ys ≡ m → i ≡ min n m
       → r ≡ nat_cmp n m → Rest (slice_cmp R) xs ys i → r ≡ slice_cmp R xs ys
   lengths_decide R i n m r one two all told rest =
@@ -49,24 +49,24 @@ module _ {T : Type 0} (xs ys : List T) (i : ℕ) (x y : T) (here : slice_get xs 
       (sym (get_or_from_slice_get xs i x x here)) (sym (get_or_from_slice_get ys i y y there)) f
 
   module _ (E : T → T → Bool) (rest : Rest (pointwise E) xs ys i) where
-    -- Where they aren't equal, the lists aren't,
+    -- If they aren't equal, the lists aren't,
     pub unlike : not (E x y) ≡ true → false ≡ pointwise E xs ys
     unlike e =
         sym (ap (λ b. b && pointwise E (drop (i + 1) xs) (drop (i + 1) ys)) (untrue (E x y) e)) ∙ turn (pointwise E) ∙ rest
 
-    -- and where they are, the rest tells.
+    -- and if they are, the rest decides.
     pub alike : not (E x y) ≡ false → Rest (pointwise E) xs ys (i + 1)
     alike e =
         sym (ap (λ b. b && pointwise E (drop (i + 1) xs) (drop (i + 1) ys)) (not_untrue (E x y) e)) ∙ turn (pointwise E) ∙ rest
 
   module _ (R : T → T → Ordering) (r : Ordering) (told : r ≡ R x y) (rest : Rest (slice_cmp R) xs ys i) where
-    -- Where they differ they decide,
+    -- If they differ they decide,
     pub differ : is_ne r ≡ true → r ≡ slice_cmp R xs ys
     differ e =
         let k = slice_cmp R (drop (i + 1) xs) (drop (i + 1) ys) in
         settled r k e ∙ ap (λ q. ordering_then q k) told ∙ turn (slice_cmp R) ∙ rest
 
-    -- and where they don't, the rest does.
+    -- and if they don't, the rest does.
     pub tie : is_ne r ≡ false → Rest (slice_cmp R) xs ys (i + 1)
     tie e =
         let k = slice_cmp R (drop (i + 1) xs) (drop (i + 1) ys) in
@@ -75,7 +75,7 @@ module _ {T : Type 0} (xs ys : List T) (i : ℕ) (x y : T) (here : slice_get xs 
 -- ---- What the comparisons mean
 
 module _ {T : Type 0} (E : T → T → Bool) where
-  -- Equal lists are as long, and have equal values at each index;
+  -- Equal lists have the same length, and equal values at each index;
   pub each_alike : (xs ys : List T) → pointwise E xs ys ≡ true → AreAlike E xs ys
   each_alike xs ys same = record { as_long = as_long E xs ys same; values = there xs ys same }
     where
@@ -106,7 +106,7 @@ module _ {T : Type 0} (E : T → T → Bool) (R : T → T → Ordering) (ties : 
   passed : (x y : T) (k : Ordering) → E x y ≡ true → ordering_then (R x y) k ≡ k
   passed x y k same = ap (λ r. ordering_then r k) ((Equal-is (R x y)).0 (sym (ties x y) ∙ same))
 
-  -- Behind equal fronts the first values that differ decide,
+  -- After equal fronts the first values that differ decide,
   pub first_decides : (before front : List T) (x y : T) (xs ys : List T) → pointwise E before front ≡ true → (R x y ≡ Equal → ⊥)
       → slice_cmp R (before ++ x ∷ xs) (front ++ y ∷ ys) ≡ R x y
   first_decides [] [] x y xs ys same differ = decided (R x y) (slice_cmp R xs ys) differ
@@ -116,7 +116,7 @@ module _ {T : Type 0} (E : T → T → Bool) (R : T → T → Ordering) (ties : 
       passed u v _ (first_so (E u v) (pointwise E us vs) same)
       ∙ first_decides us vs x y xs ys (second_so (E u v) (pointwise E us vs) same) differ
 
-  -- and a list comes before those that it begins.
+  -- and a proper prefix comes first.
   pub front_first : (before front : List T) (y : T) (ys : List T) → pointwise E before front ≡ true
       → slice_cmp R before (front ++ y ∷ ys) ≡ Less
   front_first [] [] y ys same = refl

@@ -34,7 +34,7 @@ twice size cap required m is few bytes = rw (sym is) (grind (arith, nat_tests))
 
 -- ---- The capacity
 
--- It is no less, by each answer of the rule's tests.
+-- It is no less, whatever the rule's tests return.
 no_less : (b c d : Bool) (cap required : ℕ) → (b ≡ false → cap < required)
     → cap ≤ capacity_after (if b then Stays else (if c then GrowsTo (if d then max (2 * cap) required else required) else Overflows)) cap
 no_less true c d cap required less = omega arith
@@ -56,7 +56,7 @@ vec_keeps item old new v w required list (Err e) grows = rw grows.err.0 (omega a
 
 -- ---- The bytes
 
--- twice as many as are required just fit
+-- less than twice what is required fits
 bounds : (size m required : ℕ) → m + 1 ≤ 2 * required → required ≤ m → 0 < size → required * (2 * size) ≤ 2 ^ 32
     → (m < 2 ^ 32) × (m * size < 2 ^ 32) × (required < 2 ^ 32) × (required * size < 2 ^ 32)
 bounds size m required half least some few =
@@ -91,7 +91,7 @@ asks size cap len n within some few = elim (cases_lt cap (len + n)) [
 -- ---- Refusals
 
 module _ {X : Type 0} (f : X → Block) where
-  -- The arena knows no overflow,
+  -- An arena never reports an overflow,
   no_overflow : (result : Result X AllocError) (P : Answer → Type 0) → RoomAnswer f result P → ¬ (result ≡ Err CapacityOverflow)
   no_overflow (Ok x) P a is = cc
   no_overflow (Err (AllocErr refused)) P a is = cc
@@ -102,7 +102,7 @@ module _ {X : Type 0} (f : X → Block) where
   none_refused (Ok x) P a is = cc
   none_refused (Err e) P a is = absurd a
 
-  -- so there is none where what is required fits.
+  -- so there is none if what is required fits.
   pub fits_then : (size align cap required : ℕ) (old new : View) (block : Block) (result : Result X AllocError)
       → required < 2 ^ 32 → required * size < 2 ^ 32
       → MakesRoom size align old new block cap (amortised_growth size cap required) f result → ¬ (result ≡ Err CapacityOverflow)

@@ -5,7 +5,7 @@ use Rattle.std.proofs.lemmas.List.{take_all}
 use Rattle.std.proofs.lemmas.Option.{slice_get_within, get_or_from_slice_get}
 use Rattle.std.specs.Fmt.{◌++?◌, comma_space, debug_items, debug_list, debug_variant}
 
--- two texts behind the same front
+-- two texts after the same front
 joined : (front old new : List ℕ) (o p : Option (List ℕ)) → IfSome o (λ s. old ≡ front ++ s) → IfSome p (λ s. new ≡ old ++ s)
     → IfSome (o ++? p) (λ s. new ≡ front ++ s)
 joined front old new None p first second = tt

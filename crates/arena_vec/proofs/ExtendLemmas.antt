@@ -1,4 +1,4 @@
--- Items that are put at the end, one after another.
+-- Items that are appended, one after another.
 use Rattle.std.proofs.Common.{◌≡◌, ℕ, List, [], ◌∷◌, ◌++◌, refl, sym, ap, subst, ◌∙◌, append_assoc, append-nil, Ok, Err, Option, Some}
 use Rattle.std.specs.Iterator.{Count, Yields}
 use Rattle.std.specs.Iterator.SizeHint.{IsWithinCount}
@@ -35,7 +35,7 @@ Extends-push item steps left iter now next old mid new v u w (y ∷ ys) x run st
 )
 
 module _ {T I : Type 0} (item : Ghosts T) (steps : I → Option T → I → Type 0) (left : I → Count) where
-  -- these items were taken and put at the end
+  -- these items were taken and appended
   pub record IsExtending (iter now : I) (old new : View) (v w : Vec T) : Type 0 where
     pub items : List T
     pub yields : Yields steps iter items now

@@ -14,7 +14,7 @@ module _ {S T : Type 0} (write : S → List ℕ → S) (F : T → HashWrites) (s
       fed ∙ ap (λ r. fold write r (F x)) so_far
       ∙ sym (each_more write F s xs i x (slice_get_within xs i x here) (sym (get_or_from_slice_get xs i x x here)))
 
-  -- all, behind the length
+  -- all, after the length
   pub fed_all : (r : S) (n : ℕ) → length xs ≡ n → n ≤ i → s ≡ fold write r (usize n) → t ≡ fold write r (slice F xs)
   fed_all r n long all first =
       so_far ∙ ap (λ l. fold write s (flat_map F l)) (take_all i xs (rw long all))

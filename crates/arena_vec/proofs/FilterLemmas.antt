@@ -1,4 +1,4 @@
--- A walk in which a test picks the values that go.
+-- A walk in which a test picks the values to remove.
 use Rattle.std.proofs.Common.{◌≡◌, List, [], ◌∷◌, ◌++◌, refl, sym, ap, subst, ◌∙◌, Some, None, Option, Bool, true, false, append_assoc, append-nil}
 use Rattle.std.specs.List.Retain.{ExtractsNext}
 

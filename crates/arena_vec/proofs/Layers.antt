@@ -1,4 +1,4 @@
--- The lemmas that a crate above cites: calls that make room, one after another, and a range on its way out.
+-- The lemmas that crates above cite: calls that make room, one after another, and a range that is drained.
 use Rattle.std.proofs.Common.{◌≡◌, ℕ, List, take, refl, ◌∙◌, Ok, Err}
 use Rattle.arena_chunks.specs.Source.{View}
 use Rattle.arena_items.specs.declared.item.Item.{Ghosts}
@@ -14,7 +14,7 @@ use Rattle.arena_vec.specs.declared.vec.Vec.{Vec}
 pub use Rattle.arena_items.proofs.Layers.{length-elements, same_then, room_then, room_refused}
 pub use Rattle.raw_vec.proofs.Windows.{window-whole, window_start, first_left}
 
--- ---- Where there is room
+-- ---- If there is room
 
 module _ {X T : Type 0} (item : Ghosts T) (old new : View) (v w : Vec T) (growth : Growth) (list : List T) (stays : growth ≡ Stays) where
   -- no cursor moves, and the block stays;
@@ -32,7 +32,7 @@ module _ {X T : Type 0} (item : Ghosts T) (old new : View) (v w : Vec T) (growth
   pub not_refused : (e : AllocError) → Grows {X = X} item old new v growth list w (Err e) → ⊥
   not_refused e grows = (rw stays at grows.made).0
 
--- ---- A range on its way out
+-- ---- A range that is drained
 
 -- one call of next after others
 pub drain_then : {T S : Type 0} (item : Ghosts T) (d e f : Drain T S) → SameDrain item d e → SameDrain item e f → SameDrain item d f

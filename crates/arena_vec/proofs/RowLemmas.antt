@@ -5,7 +5,7 @@ use Rattle.std.proofs.lemmas.List.{drop_all, drop-take}
 use Rattle.std.specs.List.{insert, remove_range}
 use Rattle.arena_items.specs.Rows.{over}
 
--- what stands behind a part moves down to it
+-- what comes after a part moves down over it
 pub moved_down : {T : Type 0} (xs : List T) (from to : ℕ) → from ≤ to → to ≤ length xs
     → take (length xs - (to - from)) (over xs from (take (length xs - to) (drop to xs))) ≡ remove_range xs from to
 moved_down xs from to h l = grind (arith, common_steps)
@@ -15,7 +15,7 @@ set_after [] ys i v h = absurd (omega arith)
 set_after (x ∷ xs) ys zero v h = refl
 set_after (x ∷ xs) ys (suc i) v h = ap (λ l. x ∷ l) (set_after xs ys i v (omega arith))
 
--- the values from a place on move up by one, and another is put there
+-- the values from an index on move up by one, and another is put there
 pub moved_up : {T : Type 0} (xs : List T) (n i : ℕ) (v : T) → length xs ≡ n + 1 → i ≤ n
     → set (over xs (i + 1) (take (n - i) (drop i xs))) i v ≡ insert (take n xs) i v
 moved_up {T} xs n i v e h =

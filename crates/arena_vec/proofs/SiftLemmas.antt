@@ -22,7 +22,7 @@ module _ {X : Type 0} (xs : List X) (i : ℕ) (y : X) where
   rest_of_set : (k : ℕ) → i < k → drop k (set xs i y) ≡ drop k xs
   rest_of_set k h = grind (arith, common_steps)
 
--- the value at an index, and those behind it
+-- the value at an index, and those after it
 pub rest_at : {X : Type 0} (xs : List X) (k : ℕ) (x : X) → slice_get xs k ≡ Some x → drop k xs ≡ x ∷ drop (k + 1) xs
 rest_at xs k x got =
     let next : suc k ≡ k + 1 = omega arith in
@@ -30,7 +30,8 @@ rest_at xs k x got =
 
 -- ---- The walk
 
--- A walk over the list has come to the value k, and the first `kept` stay. With what it leaves of the rest they are the whole.
+-- A walk over the list has come to the value k, and the first `kept` stay. With what it keeps of the rest they are the
+-- whole.
 pub record IsSifting {S X : Type 0} (Leaves : S → List X → List X → Type 0) (IsWhole : List X → Type 0) (s : S) (kept k : ℕ)
     (xs : List X) : Type 0 where
   pub onward : (zs : List X) → Leaves s (drop k xs) zs → IsWhole (take kept xs ++ zs)
@@ -41,7 +42,7 @@ module _ {S X : Type 0} {Leaves : S → List X → List X → Type 0} {IsWhole :
   pub sift_starts : {s : S} (xs : List X) → ((zs : List X) → Leaves s xs zs → IsWhole zs) → IsSifting Leaves IsWhole s 0 0 xs
   sift_starts xs whole = record { onward = whole; order = omega arith }
 
-  -- goes on past a value that is put behind those that stay, and is one of them or is put there for nothing,
+  -- goes on past a value that is written after those that stay, and is one of them or not,
   pub sift_goes_on : {s t : S} {kept k : ℕ} {x : X} {xs : List X} (b : Bool) (y : X) → IsSifting Leaves IsWhole s kept k xs
       → slice_get xs k ≡ Some x → ((ys zs : List X) → Leaves t ys zs → Leaves s (x ∷ ys) (cond b (y ∷ zs) zs))
       → IsSifting Leaves IsWhole t (kept + bool_byte b) (k + 1) (set xs kept y)
@@ -72,7 +73,8 @@ module _ {S X : Type 0} {Leaves : S → List X → List X → Type 0} {IsWhole :
   sift_ends {s} {kept} {k} {xs} sifts ended left =
       rw (append-nil (take kept xs)) at (sifts.onward [] (subst (λ l. Leaves s l []) (sym (drop_all k xs ended)) left))
 
--- A closure that can be called at each value from an index on can then be called at those behind it, also where one was put in front.
+-- A closure that can be called at each value from an index on can then be called at those after it, even if one was
+-- written in front.
 pub turn_sifts : {X P : Type 0} {R : P → X → P → Type 0} {Q : P → X → Type 0} {p q : P} {kept k : ℕ} {x : X} (xs : List X) (y : X)
     → CallableAtEachTurn list_steps R Q (drop k xs) p → slice_get xs k ≡ Some x → kept ≤ k → R p x q
     → CallableAtEachTurn list_steps R Q (drop (k + 1) (set xs kept y)) q

@@ -1,4 +1,4 @@
--- What stands in a range's place after the steps of a splice.
+-- What is in a range's place after the steps of a splice.
 use Rattle.std.proofs.Common.{◌≡◌, ℕ, ◌+◌, ◌-◌, ◌<◌, ◌≤◌, List, [], ◌∷◌, ◌++◌, length, take, drop, refl, sym, ap, subst, ◌∙◌, arith, Option, Result, Ok, Err, ◌⊎◌, inl, inr, length-append, append_assoc, append-nil}
 use Rattle.std.proofs.lemmas.Bool.{cases_Bool, cases_lt}
 use Rattle.std.proofs.lemmas.List.{length-take, take_at, drop_at, drop_all}
@@ -30,7 +30,7 @@ ok_or_err (Err e) = inr (e, refl)
 
 -- ---- Lists and items
 
--- more is put behind what stands in a range's place
+-- more is put after what is in a range's place
 replaced_more : {T : Type 0} (xs ys zs : List T) (start end at : ℕ) → start ≤ length xs → at ≡ start + length ys
     → replace_range (replace_range xs start end ys) at at zs ≡ replace_range xs start end (ys ++ zs)
 replaced_more xs ys zs start end at within e =
@@ -45,7 +45,7 @@ Yields-append steps s t u [] ys first second = rw first second
 Yields-append steps s t u (x ∷ xs) ys first second = (first.0, first.1, Yields-append steps first.0 t u xs ys first.2 second)
 
 module _ {T I : Type 0} (item : Ghosts T) (steps : I → Option T → I → Type 0) (count : I → Count) where
-  -- Items that were put at the end are those that the iterator gave.
+  -- Items that were appended are those that the iterator gave.
   Extends-yields : (iter now : I) (old new : View) (v w : Vec T) (xs : List T) → Extends item steps count iter old v xs now new w
       → Yields steps iter xs now
   Extends-yields iter now old new v w [] run = sym run.0
@@ -58,7 +58,7 @@ module _ {T I : Type 0} (item : Ghosts T) (steps : I → Option T → I → Type
       (Extends-yields iter takes.now old takes.between v w takes.items takes.extends) takes.step
 
   module _ (iter : I) (old new : Memory) (v w : Vec T) (start end : ℕ) where
-    -- These items stand there.
+    -- These items are there.
     replaces : (result : Result (Unit {0}) AllocError) (items : List T) → IsVecIn item new w
         → vec_list item new w ≡ replace_range (vec_list item old v) start end items → OnOk result (Drains steps iter items)
         → OnErr result ((lost : List T) × (now : I) × Yields steps iter (items ++ lost) now)
@@ -73,7 +73,7 @@ module _ {T I : Type 0} (item : Ghosts T) (steps : I → Option T → I → Type
       frame = frame;
     }
 
-    -- Nothing was put, and these items are lost.
+    -- Nothing was put there, and these items are lost.
     replaces_none : (e : AllocError) (lost : List T) (now : I) → end ≡ start → IsVecIn item new w
         → vec_list item new w ≡ vec_list item old v
         → Yields steps iter lost now → Frame old new (v.raw.block ∷ []) (w.raw.block ∷ [])
@@ -82,7 +82,7 @@ module _ {T I : Type 0} (item : Ghosts T) (steps : I → Option T → I → Type
         replaces (Err e) [] held (same ∙ sym (replaced_none (vec_list item old v) start)
         ∙ ap (λ k. replace_range (vec_list item old v) start k []) (sym none)) tt (lost, now, yields) frame
 
-  -- What is put behind the items that stand there stands there too.
+  -- What is put after the items that are there is there too.
   replaces_then : (iter now : I) (old mid new : Memory) (v u w : Vec T) (start end at : ℕ) (items : List T)
       (result : Result (Unit {0}) AllocError) → start ≤ v.raw.len → at ≡ start + length items → Yields steps iter items now
       → vec_list item mid u ≡ replace_range (vec_list item old v) start end items → Frame old mid (v.raw.block ∷ []) (u.raw.block ∷ [])
@@ -102,7 +102,7 @@ module _ {T I : Type 0} (item : Ghosts T) (steps : I → Option T → I → Type
       )) rest.some)
       (frame_then old mid new _ _ _ frame rest.frame)
 
-  -- The items that are left stand at their index.
+  -- The items that are left are at their index.
   rest_replaces : (iter : I) (old new : View) (v w : Vec T) (at : ℕ) (result : Result (Unit {0}) AllocError)
       → PutsRest item steps count iter old new v at w result → Replaces item steps iter old.memory new.memory v at at w result
   rest_replaces iter old new v w at result p = elim (ok_or_err p.gathered) [
@@ -128,7 +128,7 @@ module _ {T I : Type 0} (item : Ghosts T) (steps : I → Option T → I → Type
         ]
   ]
 
-  -- Items stand in the places that were filled, and what followed behind them.
+  -- Items are in the places that were filled, and what followed after them.
   fills_replaces : (iter : I) (old new : View) (v w : Vec T) (growth : Growth) (start end places at : ℕ)
       (result : Result (Unit {0}) AllocError) (follows : I → View → Vec T → Type 0) → start ≤ v.raw.len → at ≡ start + places
       → ((e : AllocError) (mid : View) (u : Vec T) (list : List T) → Grows {X = Unit {0}} item old mid v growth list u (Err e)
@@ -160,7 +160,7 @@ module _ {T I : Type 0} (item : Ghosts T) (steps : I → Option T → I → Type
         ]
   ]
 
-  -- Items stand at their index, with a hint or with none.
+  -- Items are at their index, with a hint or with none.
   more_replaces : (iter : I) (old new : View) (v w : Vec T) (at : ℕ) (result : Result (Unit {0}) AllocError) → at ≤ v.raw.len
       → PutsMore item steps count iter old new v at w result → Replaces item steps iter old.memory new.memory v at at w result
   more_replaces iter old new v w at result within p = elim (cases_Bool (is_useful item.SIZE v.raw.len p.hint)) [
@@ -172,7 +172,7 @@ module _ {T I : Type 0} (item : Ghosts T) (steps : I → Option T → I → Type
 
 -- ---- The ends
 
--- Items at the end stand in the place of the last values.
+-- Items at the end are in the place of the last values.
 at_end : {T : Type 0} (item : Ghosts T) (m : Memory) (v : Vec T) (start end : ℕ) (items : List T) → start ≤ end → end ≡ v.raw.len
     → vec_list item m (record v { raw = record v.raw { len = start } }) ++ items ≡ replace_range (vec_list item m v) start end items
 at_end item m v start end items order all =
@@ -183,7 +183,7 @@ at_end item m v start end items order all =
 
 module _ {T I : Type 0} {item : Ghosts T} {steps : I → Option T → I → Type 0} {count : I → Count} {iter : I} {old new : View} {v w : Vec T}
     {start end : ℕ} where
-  -- Items stand in a range before a tail.
+  -- Items are in a range before a tail.
   pub spliced : {result : Result (Unit {0}) AllocError} → start ≤ end → end < v.raw.len
       → FillsThen item steps iter old new v Stays start end (end - start) w result
       (λ now between u. PutsMore item steps count now between new u end w result)
@@ -198,7 +198,7 @@ module _ {T I : Type 0} {item : Ghosts T} {steps : I → Option T → I → Type
     splices = record { at_end = λ all. absurd (omega arith); before_tail = λ tail. fills };
   }
 
-  -- All items stand at the end.
+  -- All items are at the end.
   pub extends_all : start ≤ end → end ≡ v.raw.len → IsVecIn item new.memory w
       → Frame old.memory new.memory (v.raw.block ∷ []) (w.raw.block ∷ [])
       → TakesAll item steps count iter old new (record v { raw = record v.raw { len = start } }) w
@@ -207,7 +207,7 @@ module _ {T I : Type 0} {item : Ghosts T} {steps : I → Option T → I → Type
       replaces item steps count iter old.memory new.memory v w start end (Ok tt) takes.items held
       (takes.list_is ∙ at_end item old.memory v start end takes.items order all) takes.drains tt frame
 
-  -- Those before a refusal do.
+  -- Those before a refusal are.
   pub extends_some : {e : AllocError} → start ≤ end → end ≡ v.raw.len → IsVecIn item new.memory w
       → Frame old.memory new.memory (v.raw.block ∷ []) (w.raw.block ∷ [])
       → TakesSome item steps count iter old new (record v { raw = record v.raw { len = start } }) w e

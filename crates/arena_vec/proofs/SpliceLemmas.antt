@@ -31,7 +31,7 @@ use Rattle.arena_vec.proofs.BulkLemmas.{now_cut}
 
 -- ---- Lists
 
--- nothing put over others
+-- nothing written over others
 over_none : {T : Type 0} (xs : List T) (at : ℕ) → over xs at [] ≡ xs
 over_none xs at = grind (arith, common_steps)
 
@@ -45,7 +45,7 @@ module _ {T : Type 0} (xs ys : List T) (at : ℕ) (within : at + length ys ≤ l
   front_long : length (take at xs ++ ys) ≡ at + length ys
   front_long = omega (arith, length-append (take at xs) ys, length-take at xs)
 
-  -- one more value behind those that were put over others
+  -- one more value after those that were written over others
   over_more : (x : T) → at + length ys < length xs → set (over xs at ys) (at + length ys) x ≡ over xs at (ys ++ x ∷ [])
   over_more x more =
       let n = at + length ys in
@@ -55,7 +55,7 @@ module _ {T : Type 0} (xs ys : List T) (at : ℕ) (within : at + length ys ≤ l
       ∙ rw (none, first_set xs n x more, last, ← append_assoc (take at xs) ys (x ∷ []))
       (sym (append_assoc (take at xs ++ ys) (x ∷ []) (drop (n + 1) xs)))
 
-  -- Values that were put over the first of a range, and the others of it taken out.
+  -- Values that were written over the first of a range, and the others of it removed.
   over_removed : (end : ℕ) → at + length ys ≤ end → remove_range (over xs at ys) (at + length ys) end ≡ replace_range xs at end ys
   over_removed end more =
       let n = at + length ys in
@@ -66,11 +66,11 @@ module _ {T : Type 0} (xs ys : List T) (at : ℕ) (within : at + length ys ≤ l
       ∙ ap (drop (end - n)) (drop_at front (drop n xs) n front_long) ∙ drop-drop (end - n) n xs ∙ ap (λ k. drop k xs) whole in
       rw (take_at front (drop n xs) n front_long, behind) refl
 
--- the first of the first are the first
+-- taking twice is taking the fewer
 take_twice : {T : Type 0} (xs : List T) (n m : ℕ) → n ≤ m → take n (take m xs) ≡ take n xs
 take_twice xs n m h = grind (arith, common_steps)
 
--- What stands from an index on moved up by so many, behind the first values of a longer list.
+-- The values from an index on moved up by n, after the first values of a longer list.
 pub widened : {T : Type 0} (xs front : List T) (len at n : ℕ) → take len xs ≡ front → length xs ≡ len + n → at ≤ len
     → over xs (at + n) (take (len - at) (drop at xs)) ≡ replace_range front at at (take n (drop at xs))
 widened {T} xs front len at n e long within =
@@ -96,14 +96,14 @@ replaced_again xs ys zs at end within e =
     let both : length (front ++ ys) ≡ end = omega (arith, length-append front ys, long, e) in
     rw (drop_at (front ++ ys) (drop at xs) end both, append_assoc front ys (drop at xs), take_at front (ys ++ drop at xs) at long) refl
 
--- how many there are
+-- the length afterwards
 length-replaced : {T : Type 0} (xs ys : List T) (start end : ℕ) → start ≤ length xs
     → length (replace_range xs start end ys) ≡ start + length ys + (length xs - end)
 length-replaced xs ys start end within =
     let both = length-append (take start xs ++ ys) (drop end xs) in
     omega (arith, both, length-append (take start xs) ys, length-take start xs, length-drop end xs)
 
--- the same of a vector's values
+-- the length of a vector with a range replaced
 pub replaced_len : {T : Type 0} (item : Ghosts T) (m : Memory) (v w : Vec T) (start end : ℕ) (items : List T) → start ≤ v.raw.len
     → w.raw.len ≡ length (replace_range (vec_list item m v) start end items) → w.raw.len ≡ start + length items + (v.raw.len - end)
 replaced_len item m v w start end items within len =
@@ -112,7 +112,7 @@ replaced_len item m v w start end items within len =
 
 -- ---- Filling
 
--- An iterator's items were put in the places of a vector from `start` on, as far as this one.
+-- An iterator's items were put in the places of a vector from `start` on, up to `at`.
 pub record IsFilling {T I : Type 0} (item : Ghosts T) (steps : I → Option T → I → Type 0) (iter now : I) (old new : View) (v : Vec T)
     (start at : ℕ) : Type 0 where
   pub items : List T
@@ -172,7 +172,7 @@ module _ {T I : Type 0} {item : Ghosts T} {steps : I → Option T → I → Type
     drains = λ isnt. absurd (let no : true ≡ false = isnt in cc);
   }
 
-  -- The items ended, and the places that are left were taken out.
+  -- The items ended, and the places that are left were removed.
   pub filled_some : {iter now last : I} {old mid new : View} {v w : Vec T} {start end at : ℕ} → end ≤ v.raw.len
       → IsFilling item steps iter now old mid v start at → at < end → steps now None last
       → Becomes item mid new v (remove_range (vec_list item mid.memory v) at end) w → Fills item steps iter last old new v start end w false
@@ -215,7 +215,7 @@ module _ {T : Type 0} {item : Ghosts T} where
     frame = frame_then old.memory mid.memory new.memory _ _ _ grows.frame becomes.frame;
   }
 
-  -- What takes no memory grows nothing.
+  -- What takes no memory is no growth.
   pub grows_nothing : {old new : View} {v w : Vec T} {list : List T} → Becomes item old new v list w
       → Grows {X = Unit {0}} item old new v Stays list w (Ok tt)
   grows_nothing becomes = record {

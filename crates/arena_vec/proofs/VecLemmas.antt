@@ -24,12 +24,12 @@ use Rattle.arena_vec.proofs.RowLemmas.{moved_down, moved_up}
 
 -- ---- Vectors
 
--- so many values of a vector lie in its block
+-- n values of a vector are in its block
 pub room_of : {T : Type 0} (item : Ghosts T) (m : Memory) (v : Vec T) (n : ℕ) → IsVecIn item m v → n ≤ v.raw.cap
     → n * item.SIZE ≤ v.raw.block.size
 room_of item m v n held within = omega (arith, held.place.of_size, mul-le-mul_right item.SIZE within)
 
--- As long as no cursor moves it is held, with as many values as there is room for.
+-- As long as no cursor moves it is held, with any length up to its capacity.
 pub still_held : {T : Type 0} (item : Ghosts T) (old new : View) (v : Vec T) (n : ℕ) → IsVecIn item old.memory v → n ≤ v.raw.cap
     → SamePlaces old new
     → IsVecIn item new.memory (record { raw = record { block = v.raw.block; len = n; cap = v.raw.cap; of = v.raw.of } })
@@ -54,7 +54,7 @@ becomes item old new v n list held within same frame values = record {
   frame = frame;
 }
 
--- Nothing was written, and fewer values are looked at.
+-- Nothing was written, and fewer values count.
 pub shortened : {T : Type 0} (item : Ghosts T) (view : View) (v : Vec T) (n : ℕ) → IsVecIn item view.memory v → n ≤ v.raw.len
     → Becomes item view view v (take n (vec_list item view.memory v))
     (record { raw = record { block = v.raw.block; len = n; cap = v.raw.cap; of = v.raw.of } })
@@ -162,15 +162,15 @@ module _ {T : Type 0} (item : Ghosts T) (old new : Memory) (v : Vec T) (growth :
   pub same_list : raw_values item new raw raw.len ≡ vec_list item old v
   same_list = ap (raw_values item new raw) grown.len ∙ grown.values v.raw.len held.within
 
-  -- as a front of the values where more are looked at.
+  -- as a front of the values if more are looked at.
   pub same_front : (n : ℕ) → raw.len ≤ n → take raw.len (raw_values item new raw n) ≡ vec_list item old v
   same_front n more = sym (elements-cut item.SIZE item.decoded raw.len n (bytes_of new raw.block) more) ∙ same_list
 
--- 64 bits hold the bytes of as many values as 32 bits count.
+-- The bytes of as many values as fit in 32 bits fit in 64 bits.
 pub whole_bytes : (n size : ℕ) → n < 2 ^ 32 → size ≤ 2 ^ 24 → n * size % 2 ^ 64 ≡ n * size
 whole_bytes n size few small = mod-eq_of_lt (omega (arith, mul-le-mul_left n small, few))
 
--- A front of the block is a boxed slice of as many values.
+-- A front of the block is a boxed slice of that many values.
 module _ {T : Type 0} (item : Ghosts T) (m : Memory) (v : Vec T) (held : IsVecIn item m v) where
   pub slice_held : IsHeld (v.raw.len * item.SIZE) item.ALIGN m.state (record v.raw.block { size = v.raw.len * item.SIZE })
   slice_held = record {
@@ -186,7 +186,7 @@ module _ {T : Type 0} (item : Ghosts T) (m : Memory) (v : Vec T) (held : IsVecIn
       (sym (take_bytes (image m) v.raw.block.addr v.raw.block.size (v.raw.len * item.SIZE) (room_of item m v v.raw.len held held.within)))
       ∙ elements-front item.SIZE item.decoded v.raw.len (bytes_of m v.raw.block)
 
--- what stands behind a range moved down
+-- what comes after a range moved down
 pub closed : {T : Type 0} (size : ℕ) (dec : List ℕ → T) (n start end : ℕ) (old new : List ℕ) → start ≤ end → end ≤ n
     → elements size dec n new ≡ over (elements size dec n old) start (take (n - end) (drop end (elements size dec n old)))
     → elements size dec (n - (end - start)) new ≡ remove_range (elements size dec n old) start end
@@ -195,7 +195,7 @@ closed size dec n start end old new order within moved =
     elements-cut size dec (n - (end - start)) n new (omega arith) ∙ ap (take (n - (end - start))) moved
     ∙ (rw long at (moved_down (elements size dec n old) start end order (omega (arith, long))))
 
--- a value was put in the midst
+-- a value was inserted
 pub inserted : {T : Type 0} (xs one two three : List T) (n i : ℕ) (v : T) → take n one ≡ xs → length one ≡ n + 1 → i ≤ n
     → two ≡ over one (i + 1) (take (n - i) (drop i one)) → three ≡ set two i v → three ≡ insert xs i v
 inserted xs one two three n i v front long within moved put =

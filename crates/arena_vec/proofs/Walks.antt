@@ -17,11 +17,11 @@ use Rattle.arena_items.specs.Room.{SamePlaces}
 use Rattle.raw_vec.proofs.Windows.{left_first_at}
 use Rattle.arena_vec.proofs.TurnLemmas.{turn_now, turn_on}
 
--- What is behind a value that is replaced is as it was.
+-- What comes after a value that is replaced is as it was.
 drop_of_set : {X : Type 0} (xs : List X) (k n : ℕ) (y : X) → k < n → drop n (set xs k y) ≡ drop n xs
 drop_of_set xs k n y h = grind (arith, common_steps)
 
--- So are the values behind one that is put in a block.
+-- So are the values after one that is written in a block.
 pub behind_put : {T : Type 0} (size : ℕ) (dec : List ℕ → T) (n k f : ℕ) (old new : List ℕ) (y : T) → k < f → f ≤ n
     → elements size dec n new ≡ set (elements size dec n old) k y
     → elements size dec (n - f) (drop (f * size) new) ≡ elements size dec (n - f) (drop (f * size) old)
@@ -50,7 +50,7 @@ values_whole item a block n =
     let all : n - 0 ≡ n = omega arith in
     rw (none, all) refl
 
--- one and the others behind it
+-- one and the others after it
 pub values_next : {T : Type 0} (item : Ghosts T) (a : View) (block : Block) (n k : ℕ) (x : T) → k < n
     → slice_get (front_of item a block n) k ≡ Some x → values_from item a block n k ≡ x ∷ values_from item a block n (k + 1)
 values_next item a block n k x more got = left_first_at item.SIZE item.decoded n k n (bytes_of a.memory block) x more (omega arith) got
@@ -62,11 +62,11 @@ module _ {T P : Type 0} {R : P → T → P → Type 0} {Q : P → T → Type 0} 
   pub walk_takes : Q p x
   walk_takes = turn_now (values_next item now block n k x more got) h
 
-  -- and then at each behind it,
+  -- and then at each after it,
   pub walk_goes : (q : P) → R p x q → CallableAtEachTurn list_steps R Q (values_from item now block n (k + 1)) q
   walk_goes q r = turn_on (values_next item now block n k x more got) h q r
 
-  -- also where one was put in front.
+  -- even if one was written in front.
   pub walk_goes_put : (new : View) (kept : ℕ) (y : T) (q : P) → R p x q → kept ≤ k
       → front_of item new block n ≡ set (front_of item now block n) kept y
       → CallableAtEachTurn list_steps R Q (values_from item new block n (k + 1)) q
@@ -75,7 +75,8 @@ module _ {T P : Type 0} {R : P → T → P → Type 0} {Q : P → T → Type 0} 
       (omega (arith, order)) (omega (arith, more)) put in
       subst (λ l. CallableAtEachTurn list_steps R Q l q) (sym behind) (walk_goes q r)
 
--- A walk from `old` on has come to the value k of n, and the first `kept` stay. With what it leaves of the rest they are the whole.
+-- A walk from `old` on has come to the value k of n, and the first `kept` stay. With what it keeps of the rest they are
+-- the whole.
 pub record IsWalking {T S : Type 0} (item : Ghosts T) (old now : View) (block : Block) (n : ℕ)
     (Leaves : S → List T → List T → Type 0) (IsWhole : List T → Type 0) (s : S) (kept k : ℕ) : Type 0 where
   pub onward : (zs : List T) → Leaves s (values_from item now block n k) zs → IsWhole (front_of item now block kept ++ zs)
@@ -98,7 +99,7 @@ module _ {T S : Type 0} {item : Ghosts T} {old : View} {block : Block} {n : ℕ}
 
   module _ {now : View} {s t : S} {kept k : ℕ} {x : T} (walk : IsWalking item old now block n Leaves IsWhole s kept k) (more : k < n)
       (got : slice_get (front_of item now block n) k ≡ Some x) where
-    -- The next value goes,
+    -- The next value is removed,
     pub walk_drops : ((ys zs : List T) → Leaves t ys zs → Leaves s (x ∷ ys) zs)
         → IsWalking item old now block n Leaves IsWhole t kept (k + 1)
     walk_drops step = record {
@@ -108,7 +109,7 @@ module _ {T S : Type 0} {item : Ghosts T} {old : View} {block : Block} {n : ℕ}
       frame = walk.frame;
     }
 
-    -- or one is put behind those that stay.
+    -- or one is put after those that stay.
     pub walk_keeps : {new : View} {y : T} {list : List ℕ} → ((ys zs : List T) → Leaves t ys zs → Leaves s (x ∷ ys) (y ∷ zs))
         → WritesBlock now.memory new.memory block (kept * item.SIZE) list → new.source ≡ now.source
         → front_of item new block n ≡ set (front_of item now block n) kept y

@@ -1,4 +1,4 @@
--- What a walk over a list asks of a closure: that it can be called at each value in turn, and no more.
+-- What a walk over a list requires of a closure: that it can be called at each value in turn, and no more.
 use Rattle.std.specs.Prelude.{◌≡◌, Bool, cond, List}
 use Rattle.std.specs.Array.{list_steps}
 use Rattle.std.specs.Fn.{Mut, Takes, CalledAtMut}
@@ -28,7 +28,7 @@ abbrev pub TakesAtPairMut : {F A R : Type 0} → Mut F (MutBor A × (MutBor A ×
 TakesAtPairMut {A = A} g f x y = (v w : MutBor A) → v.now ≡ x → w.now ≡ y → Takes g f (v, (w, tt))
 
 module _ {F A : Type 0} (R : F → A → A → Bool → F → A → A → Type 0) where
-  -- a turn of a walk that takes some values for the last one kept: f, and that one then
+  -- a turn of a walk that compares each value with the last one kept: f, and the last one kept then
   abbrev pub DedupTurn : F × A → A → F × A → Type 0
   DedupTurn p x q = (b : Bool) × (y : A) × (kept : A) × R p.0 x p.1 b q.0 y kept × (q.1 ≡ cond b kept y)
 

@@ -10,7 +10,7 @@ use Rattle.arena_items.specs.declared.room.Growth.{Growth}
 use Rattle.arena_items.specs.declared.room.AllocError.{AllocError}
 use Rattle.arena_vec.specs.declared.vec.Vec.{Vec}
 
--- A call that takes no memory makes the vector this list. No cursor moves, and nothing is asked for or counted.
+-- After a call that takes no memory the vector is this list. No cursor moves, and nothing is asked for or counted.
 pub record Becomes {T : Type 0} (item : Ghosts T) (old new : View) (v : Vec T) (list : List T) (w : Vec T) : Type 0 where
   pub held : IsVecIn item new.memory w
   pub list_is : vec_list item new.memory w ≡ list
@@ -20,8 +20,8 @@ pub record Becomes {T : Type 0} (item : Ghosts T) (old new : View) (v : Vec T) (
   pub places : SamePlaces old new
   pub frame : Frame old.memory new.memory (v.raw.block ∷ []) (w.raw.block ∷ [])
 
--- A call that may grow the vector makes it this list, or is refused and leaves all as it was. What it does to the places of the
--- arena, and the capacity, follow from the growth.
+-- After a call that may grow the vector it is this list, or the call was refused and vector and arena are as they were.
+-- What it does to the places of the arena, and the capacity, follow from the growth.
 pub record Grows {X T : Type 0} (item : Ghosts T) (old new : View) (v : Vec T) (growth : Growth) (list : List T) (w : Vec T)
     (result : Result X AllocError) : Type 0 where
   pub made : MakesRoom item.SIZE item.ALIGN old new v.raw.block v.raw.cap growth (λ _. w.raw.block) result

@@ -1,4 +1,4 @@
--- What growth costs: the bytes of the block that it asks for, and those that a vector saved up for it.
+-- What growth costs: the bytes of the block that it asks for, and the bytes that a vector has saved up for it.
 use Rattle.std.specs.Prelude.{ℕ, ◌*◌, ◌-◌}
 use Rattle.arena_items.specs.declared.room.Growth.{Growth}
 use Rattle.arena_items.specs.declared.room.Growth.TheVariants.{Stays, GrowsTo, Overflows}
@@ -9,6 +9,6 @@ asked_by size Stays = 0
 asked_by size (GrowsTo more) = more * size
 asked_by size Overflows = 0
 
--- what is saved up for the next block: two values' bytes for each value past half of the capacity
+-- what is saved up for the next block: two values' bytes for each value beyond half of the capacity
 abbrev pub credit_of : ℕ → ℕ → ℕ → ℕ
 credit_of size len cap = 2 * size * (2 * len - cap)

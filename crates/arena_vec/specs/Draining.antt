@@ -1,11 +1,11 @@
--- A range of a vector on its way out.
+-- A range of a vector that is drained.
 use Rattle.std.specs.Prelude.{◌≡◌, ◌-◌, ◌*◌, ◌^◌, ◌≤◌, List, drop}
 use Rattle.arena_items.specs.Values.{elements, bytes_of}
 use Rattle.arena_items.specs.declared.item.Item.{Ghosts}
 use Rattle.arena_vec.specs.Vecs.{IsVecIn}
 use Rattle.arena_vec.specs.declared.drain.Drain.{Drain}
 
--- the vector stands, and the range and what is left of it lie in its list
+-- the vector is held, and the range and what is left of it are within its list
 pub record IsDrain {T S : Type 0} (item : Ghosts T) (d : Drain T S) : Type 0 where
   pub small : item.SIZE ≤ 2 ^ 24
   pub held : IsVecIn item d.arena.now.memory d.vec.now

@@ -13,25 +13,27 @@ use Rattle.arena_items.specs.declared.room.Growth.TheVariants.{Stays}
 use Rattle.arena_items.specs.declared.room.AllocError.{AllocError}
 use Rattle.arena_vec.specs.declared.vec.Vec.{Vec}
 
--- Growth for one more value, where so many are said to follow: a full vector makes room for them too, if they fit.
+-- The growth for one more value, of which `hint` are said to follow: a full vector makes room for them too, if they
+-- fit.
 unfoldable pub hinted_growth : ℕ → ℕ → ℕ → ℕ → Growth
 hinted_growth size cap len hint =
     if nat_lt len cap then Stays else amortised_growth size cap
     (len + (if fits size (len + (hint + 1)) then hint + 1 else 1))
 
--- For how many values a new vector has room: the most that an iterator says it has, if they fit, else the least, if they fit.
+-- The room of a new vector: for the most items that an iterator says it has, if they fit, else for the least, if they
+-- fit.
 unfoldable pub first_room : ℕ → ℕ → Option ℕ → ℕ
 first_room size least None = if fits size least then least else 0
 first_room size least (Some most) = if fits size most then most else (if fits size least then least else 0)
 
--- One value was put at the end, after a growth by a hint that the iterator gave of the items to come.
+-- One value was appended, after a growth by a hint that the iterator gave of the items to come.
 pub record PutsOne {T : Type 0} (item : Ghosts T) (left : Count) (old new : View) (v : Vec T) (x : T) (w : Vec T) : Type 0 where
   pub hint : ℕ
   pub told : IsWithinCount hint left
   pub grows : Grows {X = Unit {0}} item old new v (hinted_growth item.SIZE v.raw.cap v.raw.len hint)
       (vec_list item old.memory v ++ x ∷ []) w (Ok tt)
 
--- These items were taken and put at the end, one after another.
+-- These items were taken and appended, one after another.
 abbrev pub Extends : {T I : Type 0} → Ghosts T → (I → Option T → I → Type 0) → (I → Count) → I → View → Vec T
     → List T → I → View → Vec T → Type 0
 Extends item steps left iter old v [] now new w = (now ≡ iter) × (new ≡ old) × (w ≡ v)
@@ -40,7 +42,7 @@ Extends {T} {I} item steps left iter old v (x ∷ xs) now new w =
     × PutsOne item (left next) old mid v x u
     × Extends item steps left next mid u xs now new w
 
--- All items of an iterator were put at the end.
+-- All items of an iterator were appended.
 pub record TakesAll {T I : Type 0} (item : Ghosts T) (steps : I → Option T → I → Type 0) (left : I → Count) (iter : I) (old new : View)
     (v w : Vec T) : Type 0 where
   pub items : List T
@@ -49,7 +51,7 @@ pub record TakesAll {T I : Type 0} (item : Ghosts T) (steps : I → Option T →
   pub rest : I
   pub extends : Extends item steps left iter old v items rest new w
 
--- Some items were put at the end, and for one more there was no room.
+-- Some items were appended, and for one more there was no room.
 pub record TakesSome {T I : Type 0} (item : Ghosts T) (steps : I → Option T → I → Type 0) (left : I → Count) (iter : I) (old new : View)
     (v w : Vec T) (e : AllocError) : Type 0 where
   pub items : List T
@@ -82,7 +84,7 @@ pub record BuildsWith {T I : Type 0} (item : Ghosts T) (steps : I → Option T �
   pub makes : Makes {X = Vec T} item (λ v. v.raw) old between room [] empty
   pub taken : BuildsOn item steps left iter between new empty result
 
--- It was the room that hints of the iterator give.
+-- The room was the one that the iterator's hints give.
 pub record BuildsFrom {T I : Type 0} (item : Ghosts T) (steps : I → Option T → I → Type 0) (left : I → Count) (iter : I) (old new : View)
     (result : Result (Vec T) AllocError) : Type 0 where
   pub least : ℕ

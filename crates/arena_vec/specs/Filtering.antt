@@ -1,4 +1,4 @@
--- A vector of which a test picks the values that go.
+-- A vector of which a test picks the values to remove.
 use Rattle.std.specs.Prelude.{◌≡◌, ◌-◌, ◌*◌, ◌^◌, ◌≤◌, List, [], ◌∷◌, ◌++◌, drop, Option, Bool, not}
 use Rattle.std.specs.List.Retain.{ExtractsNext}
 use Rattle.arena_chunks.specs.Frame.{Frame}
@@ -16,7 +16,7 @@ untested item d = elements item.SIZE item.decoded (d.vec.now.raw.len - d.front)
 abbrev pub stayed : {T S F : Type 0} → Ghosts T → DrainFilter T S F → List T
 stayed item d = elements item.SIZE item.decoded d.kept (bytes_of d.arena.now.memory d.vec.now.raw.block)
 
--- the vector's storage stands, the values that stay lie before those that weren't tested, and the test can be called at these
+-- the vector is held, the values that stay come before those that weren't tested, and the test can be called at these
 pub record IsFilter {T S F : Type 0} (item : Ghosts T) (can : List T → F → Type 0) (d : DrainFilter T S F) : Type 0 where
   pub small : item.SIZE ≤ 2 ^ 24
   pub held : IsVecIn item d.arena.now.memory d.vec.now
@@ -38,6 +38,6 @@ pub record Filters {T S F : Type 0} (item : Ghosts T) (can : List T → F → Ty
       (d.vec.now.raw.block ∷ [])
   pub filters : IsFilter item can e
 
--- a value stays where the test doesn't pick it
+-- a value stays if the test doesn't pick it
 abbrev pub Stays : {F T : Type 0} → (F → T → Bool → F → T → Type 0) → F → T → Bool → F → T → Type 0
 Stays R f x b g y = R f x (not b) g y

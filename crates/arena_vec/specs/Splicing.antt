@@ -20,7 +20,7 @@ use Rattle.arena_items.specs.declared.room.AllocError.{AllocError}
 use Rattle.arena_vec.specs.declared.splice.Splice.{Splice}
 use Rattle.arena_vec.specs.declared.vec.Vec.{Vec}
 
--- the range that is on its way out
+-- the range that is drained
 abbrev pub drain_of : {T S I : Type 0} → Splice T S I → Drain T S
 drain_of s = record { vec = s.vec; arena = s.arena; start = s.start; end = s.end; front = s.front; back = s.back }
 
@@ -28,7 +28,7 @@ drain_of s = record { vec = s.vec; arena = s.arena; start = s.start; end = s.end
 abbrev pub left_of : {T S I : Type 0} → Ghosts T → Splice T S I → List T
 left_of item s = left item (drain_of s)
 
--- The range stands, and the iterator of what comes in its place may be called and ends.
+-- The range is held, and the iterator of its replacement can be called and ends.
 pub record IsSplice {T S I : Type 0} (item : Ghosts T) (can : I → Type 0) (count : I → Count)
     (s : Splice T S I) : Type 0 where
   pub drains : IsDrain item (drain_of s)
@@ -42,9 +42,9 @@ pub record SameSplice {T S I : Type 0} (item : Ghosts T) (can : I → Type 0) (c
   pub same : SameDrain item (drain_of s) (drain_of t)
   pub with : t.with ≡ s.with
 
--- ---- What stands in the range's place
+-- ---- What is in the range's place
 
--- All of an iterator's items stand in a range's place; or, after a refusal, the first of those that were taken.
+-- All of an iterator's items are in a range's place; or, after a refusal, the first of those that were taken.
 pub record Replaces {T I : Type 0} (item : Ghosts T) (steps : I → Option T → I → Type 0) (iter : I) (old new : Memory)
     (v : Vec T) (start end : ℕ) (w : Vec T)
     (result : Result (Unit {0}) AllocError) : Type 0 where
@@ -56,9 +56,9 @@ pub record Replaces {T I : Type 0} (item : Ghosts T) (steps : I → Option T →
   pub some : OnErr result ((lost : List T) × (now : I) × Yields steps iter (items ++ lost) now)
   pub frame : Frame old new (v.raw.block ∷ []) (w.raw.block ∷ [])
 
--- ---- How it comes there
+-- ---- How it gets there
 
--- With no memory taken an iterator's items were put in a range's place: as many as it has places, or all that came.
+-- An iterator's items were put in a range's place, with no memory taken: as many as it has places, or all that came.
 pub record Fills {T I : Type 0} (item : Ghosts T) (steps : I → Option T → I → Type 0) (iter now : I) (old new : View)
     (v : Vec T) (start end : ℕ) (w : Vec T)
     (full : Bool) : Type 0 where
@@ -67,7 +67,7 @@ pub record Fills {T I : Type 0} (item : Ghosts T) (steps : I → Option T → I 
   pub yields : full ≡ true → (length items ≡ end - start) × Yields steps iter items now
   pub drains : full ≡ false → (length items < end - start) × Drains steps iter items
 
--- Room was made for so many values at an index. What stands there then isn't told.
+-- Room was made for n values at an index. What is there then isn't specified.
 pub record Widens {T : Type 0} (item : Ghosts T) (old new : View) (v : Vec T) (at n : ℕ) (w : Vec T)
     (result : Result (Unit {0}) AllocError) : Type 0 where
   pub values : List T
@@ -81,8 +81,9 @@ pub record IsDone {T : Type 0} (last result : Result (Unit {0}) AllocError) (bet
   pub view : new ≡ between
   pub vec : w ≡ u
 
--- After a growth an iterator's items were put in a range's place: as many as there are places then, or all that came. Where there
--- was no room, or the items ended, nothing more was done. Else this followed, from what the iterator, the arena and the vector were.
+-- After a growth an iterator's items were put in a range's place: as many as there are places then, or all that came.
+-- If there was no room, or the items ended, nothing more was done. Otherwise `follows` holds of the iterator, the arena
+-- and the vector then.
 pub record FillsThen {T I : Type 0} (item : Ghosts T) (steps : I → Option T → I → Type 0) (iter : I) (old new : View)
     (v : Vec T) (growth : Growth) (start end places : ℕ) (w : Vec T) (result : Result (Unit {0}) AllocError)
     (follows : I → View → Vec T → Type 0) : Type 0 where
@@ -96,7 +97,7 @@ pub record FillsThen {T I : Type 0} (item : Ghosts T) (steps : I → Option T �
   pub ended : OnOk room (length items < places → Drains steps iter items × IsDone room result between new filled w)
   pub full : OnOk room (places ≤ length items → (length items ≡ places) × Yields steps iter items now × follows now between filled)
 
--- an iterator's items were put at the end by `extend`: all, or those before a refusal
+-- an iterator's items were appended by `extend`: all, or those before a refusal
 abbrev pub Takes : {T I : Type 0} → Ghosts T → (I → Option T → I → Type 0) → (I → Count) → I → View → View → Vec T
     → Vec T → Result (Unit {0}) AllocError → Type 0
 Takes item steps count iter old new v w result =
@@ -108,8 +109,8 @@ new_vec item = record {
   raw = record { block = empty_block item.ALIGN; len = 0; cap = empty_capacity item.SIZE; of = record {} };
 }
 
--- An iterator's items were gathered in a new vector, while this one stayed as it was, and then put at an index after a reserve by
--- their number. Nothing more was done after a refusal.
+-- An iterator's items were gathered in a new vector, while this one stayed as it was, and then inserted after a reserve
+-- by their number. Nothing more was done after a refusal.
 pub record PutsRest {T I : Type 0} (item : Ghosts T) (steps : I → Option T → I → Type 0) (count : I → Count) (iter : I)
     (old new : View) (v : Vec T) (at : ℕ) (w : Vec T)
     (result : Result (Unit {0}) AllocError) : Type 0 where
@@ -123,11 +124,11 @@ pub record PutsRest {T I : Type 0} (item : Ghosts T) (steps : I → Option T →
   pub puts : OnOk gathered (Grows item between new v (amortised_growth item.SIZE v.raw.cap (v.raw.len + rest.raw.len))
       (replace_range (vec_list item old.memory v) at at (vec_list item between.memory rest)) w result)
 
--- room is made for so many items that are said to come: there are some, and they fit
+-- whether to make room for the items that are said to come: there are some, and they fit
 unfoldable pub is_useful : ℕ → ℕ → ℕ → Bool
 is_useful size len hint = nat_lt 0 hint && fits size (len + hint)
 
--- An iterator's items were put at an index: as many as it said are to come, if that is useful, and then all that were left.
+-- An iterator's items were inserted: as many as it said are to come, if that is useful, and then all that were left.
 pub record PutsMore {T I : Type 0} (item : Ghosts T) (steps : I → Option T → I → Type 0) (count : I → Count) (iter : I)
     (old new : View) (v : Vec T) (at : ℕ) (w : Vec T)
     (result : Result (Unit {0}) AllocError) : Type 0 where
@@ -138,8 +139,8 @@ pub record PutsMore {T I : Type 0} (item : Ghosts T) (steps : I → Option T →
       (amortised_growth item.SIZE v.raw.cap (v.raw.len + hint)) at at hint w result
       (λ now between u. PutsRest item steps count now between new u (at + hint) w result)
 
--- An iterator's items were put in a range's place. Where nothing stands behind it that is what `extend` does without the range.
--- Else the range's places are filled first, and then others.
+-- An iterator's items were put in a range's place. If nothing comes after it that is what `extend` does without the
+-- range. Otherwise the range's places are filled first, and then others.
 pub record Splices {T I : Type 0} (item : Ghosts T) (steps : I → Option T → I → Type 0) (count : I → Count) (iter : I)
     (old new : View) (v : Vec T) (start end : ℕ) (w : Vec T)
     (result : Result (Unit {0}) AllocError) : Type 0 where

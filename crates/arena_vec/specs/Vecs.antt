@@ -9,7 +9,7 @@ use Rattle.arena_items.specs.NumberLaws.{bytes_back}
 use Rattle.raw_vec.specs.Held.{IsRawIn, raw_list}
 use Rattle.arena_vec.specs.declared.vec.Vec.{Vec}
 
--- This handle in this arena is well formed, and the list that it is there.
+-- A handle is well formed in this arena; and the list that it has there.
 abbrev pub IsVecIn : {T : Type 0} → Ghosts T → Memory → Vec T → Type 0
 IsVecIn item m v = IsRawIn item m v.raw
 
@@ -38,7 +38,7 @@ handle_of bs = record {
   };
 }
 
--- Numbers that fit come back.
+-- Numbers that fit are decoded as they were.
 pub handle_back : {T : Type 0} (v : Vec T) → IsHandleValue v → handle_of (handle_bytes v) ≡ v
 handle_back v h = λ i. record {
   raw = record {

@@ -17,11 +17,11 @@ use std::marker::PhantomData;
 
 #[tactic(auto, using(crate::proofs::VecLemmas::vec_laws))]
 impl<T: Item> Vec<T> {
-    /// Puts values at the end, in one pass.
+    /// Appends values, in one pass.
     ///
     /// # Errors
     ///
-    /// As of `try_reserve`. None was put there.
+    /// As for `try_reserve`. None of them was appended.
     pub fn extend_from_slice<C: ChunkSource>(
         &mut self,
         a: &mut Allocator<C>,
@@ -46,7 +46,7 @@ impl<T: Item> Vec<T> {
     ///
     /// # Errors
     ///
-    /// As of `extend_from_slice`.
+    /// As for `extend_from_slice`.
     pub fn extend_from_slice_copy<C: ChunkSource>(
         &mut self,
         a: &mut Allocator<C>,
@@ -62,11 +62,11 @@ impl<T: Item> Vec<T> {
         self.extend_from_slice(a, other)
     }
 
-    /// Puts the values of many slices at the end, one slice after another. Room is made once.
+    /// Appends the values of many slices, one slice after another. Room is made once.
     ///
     /// # Errors
     ///
-    /// As of `extend_from_slice`.
+    /// As for `extend_from_slice`.
     pub fn extend_from_slices_copy<C: ChunkSource>(
         &mut self,
         a: &mut Allocator<C>,
@@ -79,7 +79,7 @@ impl<T: Item> Vec<T> {
             let list = vec_list T.Item a.old.memory self.old ++ more in
             Grows T.Item a.old a.new self.old growth list self.new result }
     {
-        // For the proof: 32 bits hold the capacity.
+        // For the proof: the capacity fits in 32 bits.
         let _cap = self.raw.cap;
         let n = count_all(slices);
         let mut raw = roomy(a, self.raw, n)?;
@@ -89,11 +89,11 @@ impl<T: Item> Vec<T> {
         Ok(())
     }
 
-    /// Has so many values: the first ones, or all and this value behind them, written in one pass.
+    /// Resizes the vector to `new_len` values: the first ones, or all and then copies of `value`, written in one pass.
     ///
     /// # Errors
     ///
-    /// As of `try_reserve`. Nothing changes.
+    /// As for `try_reserve`. Nothing changes.
     pub fn resize<C: ChunkSource>(
         &mut self,
         a: &mut Allocator<C>,
@@ -119,11 +119,11 @@ impl<T: Item> Vec<T> {
         Ok(())
     }
 
-    /// Puts the values of another vector at the end, in one move of memory, and leaves none there.
+    /// Appends the values of another vector, in one move of memory, and leaves that one empty.
     ///
     /// # Errors
     ///
-    /// As of `try_reserve`. Nothing changes.
+    /// As for `try_reserve`. Nothing changes.
     pub fn append<C: ChunkSource>(&mut self, a: &mut Allocator<C>, other: &mut Vec<T>) -> Grown<()>
         requires small { T.SIZE ≤ 2 ^ 24 }
         requires held { IsVecIn T.Item a.old.memory self.old }
@@ -146,11 +146,11 @@ impl<T: Item> Vec<T> {
         Ok(())
     }
 
-    /// Takes the values from an index on into a vector of their own, in one move of memory.
+    /// Splits off the values from an index on into a new vector, in one move of memory.
     ///
     /// # Errors
     ///
-    /// As of `with_capacity_in`. Nothing changes.
+    /// As for `with_capacity_in`. Nothing changes.
     pub fn split_off<C: ChunkSource>(&mut self, a: &mut Allocator<C>, at: u32) -> Grown<Vec<T>>
         requires small { T.SIZE ≤ 2 ^ 24 }
         requires held { IsVecIn T.Item a.old.memory self.old }
@@ -169,7 +169,7 @@ impl<T: Item> Vec<T> {
         Ok(Vec { raw })
     }
 
-    /// The values as a boxed slice, which names a front of the vector's block. Nothing is moved.
+    /// Returns the values as a boxed slice, which names a front of the vector's block. Nothing is moved.
     pub fn into_boxed_slice(self) -> BoxSlice<T>
         requires small { T.SIZE ≤ 2 ^ 24 }
         ensures held { (memory : Memory) → IsVecIn T.Item memory self → IsSliceIn T.Item memory result }

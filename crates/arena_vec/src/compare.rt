@@ -9,7 +9,7 @@ use arena_items::Item;
 use std::cmp::Ordering;
 
 impl<T: Item + PartialEq> Vec<T> {
-    /// Whether two vectors have as many values, and equal ones at each index.
+    /// Returns whether two vectors have the same length, and equal values at each index.
     pub fn eq<C: ChunkSource>(&self, a: &Allocator<C>, other: &Vec<T>) -> bool
         requires small { T.SIZE ≤ 2 ^ 24 }
         requires held { IsVecIn T.Item a.now.memory self.now }
@@ -28,7 +28,7 @@ impl<T: Item + PartialEq> Vec<T> {
         true
     }
 
-    /// Whether a vector has as many values as a slice, and equal ones at each index.
+    /// Returns whether a vector and a slice have the same length, and equal values at each index.
     pub fn eq_slice<C: ChunkSource>(&self, a: &Allocator<C>, other: &[T]) -> bool
         requires small { T.SIZE ≤ 2 ^ 24 }
         requires held { IsVecIn T.Item a.now.memory self.now }
@@ -47,7 +47,7 @@ impl<T: Item + PartialEq> Vec<T> {
 }
 
 impl<T: Item + Ord> Vec<T> {
-    /// How two vectors compare. The first index at which they differ decides, and else their lengths do.
+    /// Compares two vectors. The first index at which they differ decides, and otherwise their lengths do.
     pub fn cmp<C: ChunkSource>(&self, a: &Allocator<C>, other: &Vec<T>) -> Ordering
         requires small { T.SIZE ≤ 2 ^ 24 }
         requires held { IsVecIn T.Item a.now.memory self.now }
@@ -65,7 +65,7 @@ impl<T: Item + Ord> Vec<T> {
         n.cmp(&m)
     }
 
-    /// The same as `cmp`, in `Some`.
+    /// Compares as `cmp` does, and returns the result in `Some`.
     pub fn partial_cmp<C: ChunkSource>(&self, a: &Allocator<C>, other: &Vec<T>) -> Option<Ordering>
         requires small { T.SIZE ≤ 2 ^ 24 }
         requires held { IsVecIn T.Item a.now.memory self.now }

@@ -10,7 +10,7 @@ use std::alloc::{AllocError, Global};
 use std::fmt::Debug;
 
 impl<T: Item + Debug> Vec<T> {
-    // The text, with std's error.
+    // Returns the text, with std's error.
     fn text<C: ChunkSource>(&self, alloc: Global, a: &Allocator<C>) -> Result<String, AllocError>
         requires small { T.SIZE ≤ 2 ^ 24 }
         requires held { IsVecIn T.Item a.now.memory self.now }
@@ -27,11 +27,11 @@ impl<T: Item + Debug> Vec<T> {
         Ok(out)
     }
 
-    /// The values' debug texts, as in `Vec([1, 2])`.
+    /// Returns the debug text of the values, as in `Vec([1, 2])`.
     ///
     /// # Errors
     ///
-    /// `OutOfMemory` where memory for the text runs out, or where a value's own text fails.
+    /// `OutOfMemory` if there is no memory for the text, or if a value's own text fails.
     pub fn debug<C: ChunkSource>(
         &self,
         alloc: Global,

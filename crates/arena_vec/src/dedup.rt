@@ -1,4 +1,4 @@
-// Values that are the same as the last one kept before them.
+// Values that equal the last one kept before them.
 ghost use Rattle.std.specs.Prelude.{List, ◌*◌, ◌^◌, ◌≤◌, [], ◌∷◌, IsTrue};
 ghost use Rattle.std.specs.Fn.{CalledAtPairMut, ComparesKeys};
 ghost use Rattle.std.specs.List.{dedup};
@@ -15,8 +15,8 @@ use crate::vec::Vec;
 use arena_chunks::{Allocator, Block, ChunkSource};
 use arena_items::{Item, item_at, put_item};
 
-// Moves the values that stay to the front, and tells how many they are. The last of them is put there once
-// the next one is found, since each test until then may change it.
+// Moves the values that stay to the front, and returns their number. The last one is written only when the next one is
+// found, since each test until then may change it.
 fn merge<T: Item, C: ChunkSource, F: FnMut(&mut T, &mut T) -> bool>(
     a: &mut Allocator<C>,
     block: Block,
@@ -55,7 +55,8 @@ where
     before + 1
 }
 
-// Whether two values have equal keys. It stands by itself, since inside a closure the two calls get no proof.
+// Returns whether two values have equal keys. It is a function of its own, since inside a closure the two calls get no
+// proof.
 fn have_same_key<T: Item, K: PartialEq + Drop, F: FnMut(&mut T) -> K>(
     key: &mut F,
     x: &mut T,
@@ -69,8 +70,8 @@ fn have_same_key<T: Item, K: PartialEq + Drop, F: FnMut(&mut T) -> K>(
 
 #[tactic(auto, using(crate::proofs::VecLemmas::vec_laws, crate::proofs::VecLemmas::becomes, crate::proofs::VecLemmas::still_held))]
 impl<T: Item> Vec<T> {
-    /// Takes out each value that a test says is the same as the last one kept. The test sees the value first
-    /// and that one second, and both stay as it left them.
+    /// Removes each value that a test says equals the last one kept. The test gets the value first and the last one
+    /// kept second, and may change both.
     pub fn dedup_by<C: ChunkSource, F: FnMut(&mut T, &mut T) -> bool>(
         &mut self,
         a: &mut Allocator<C>,
@@ -92,7 +93,7 @@ impl<T: Item> Vec<T> {
         self.raw.len = merge(a, self.raw.block, self.raw.len, f);
     }
 
-    /// Takes out each value whose key equals that of the last one kept. Its own key is asked for first.
+    /// Removes each value whose key equals that of the last one kept. The value's own key is computed first.
     pub fn dedup_by_key<C: ChunkSource, K: PartialEq + Drop, F: FnMut(&mut T) -> K>(
         &mut self,
         a: &mut Allocator<C>,
@@ -123,7 +124,7 @@ impl<T: Item> Vec<T> {
 }
 
 impl<T: Item + PartialEq> Vec<T> {
-    /// Takes out each value that equals the last one kept.
+    /// Removes each value that equals the last one kept.
     pub fn dedup<C: ChunkSource>(&mut self, a: &mut Allocator<C>)
         requires small { T.SIZE ≤ 2 ^ 24 }
         requires held { IsVecIn T.Item a.old.memory self.old }

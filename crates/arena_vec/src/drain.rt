@@ -1,4 +1,4 @@
-// A range of a vector on its way out.
+// A range of a vector that is drained.
 ghost use Rattle.std.specs.Prelude.{◌≡◌, ℕ, ◌+◌, ◌-◌, ◌*◌, ◌^◌, ◌≤◌, Some, IfSome, length};
 ghost use Rattle.std.specs.List.{remove_range};
 ghost use Rattle.std.specs.Iterator.{YieldsFirst, YieldsLast, UpTo, at_most, item_count};
@@ -13,7 +13,7 @@ use arena_chunks::{Allocator, ChunkSource};
 use arena_items::Item;
 use std::iter::FusedIterator;
 
-/// A range of a vector on its way out. Its values are taken from both ends, and `finish` takes the range out.
+/// A range of a vector that is drained. Its values are taken from both ends, and `finish` removes the range.
 #[derive(Drop)]
 pub struct Drain<'s, T: Item, C: ChunkSource> {
     /// The vector.
@@ -32,7 +32,7 @@ pub struct Drain<'s, T: Item, C: ChunkSource> {
 
 #[tactic(auto, using(raw_vec::proofs::Windows::drain_laws))]
 impl<T: Item> Vec<T> {
-    /// Takes a range out, once `finish` is called. An iterator that is dropped before leaves the vector as it is.
+    /// Removes a range, once `finish` is called. If the iterator is dropped before, the vector is as it was.
     pub fn drain<'s, C: ChunkSource>(
         &'s mut self,
         a: &'s mut Allocator<C>,
@@ -63,7 +63,8 @@ impl<T: Item> Vec<T> {
 }
 
 impl<'s, T: Item, C: ChunkSource> Drain<'s, T, C> {
-    /// Leaves the vector without the range, however much of it was taken. What stands behind it moves down in one move of memory.
+    /// Removes the range from the vector, however much of it was taken. What comes after it moves down in one move of
+    /// memory.
     pub fn finish(self)
         requires { IsDrain T.Item self }
         ensures { let old = self.entry.arena.now in

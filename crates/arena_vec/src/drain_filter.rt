@@ -1,4 +1,4 @@
-// A vector of which a test picks the values that go.
+// A vector of which a test picks the values to remove.
 ghost use Rattle.std.specs.Prelude.{◌≡◌, ℕ, List, ◌-◌, ◌*◌, ◌^◌, ◌≤◌, [], ◌∷◌, ◌++◌, drop, IsTrue, Some, IfSome};
 ghost use Rattle.std.specs.Fn.{CalledAtMut};
 ghost use Rattle.std.specs.Iterator.{UpTo, at_most};
@@ -17,7 +17,7 @@ use crate::vec::Vec;
 use arena_chunks::{Allocator, Block, ChunkSource};
 use arena_items::{Item, item_at, put_item};
 
-/// A vector of which a test picks the values that go. They are taken in order, and `finish` takes out the rest of them.
+/// A vector of which a test picks the values to remove. They are taken in order, and `finish` removes the rest of them.
 #[derive(Drop)]
 pub struct DrainFilter<'s, T: Item, C: ChunkSource, F: Drop> {
     /// The vector.
@@ -28,13 +28,13 @@ pub struct DrainFilter<'s, T: Item, C: ChunkSource, F: Drop> {
     pub pred: F,
     /// How many values were tested.
     pub front: u32,
-    /// How many of those stay. They stand first.
+    /// How many of those stay. They come first.
     pub kept: u32,
 }
 
 impl<T: Item> Vec<T> {
-    /// Takes out the values that a test picks, once `finish` is called. One that is dropped before leaves values moved: nothing
-    /// is said of the vector's list then.
+    /// Removes the values that a test picks, once `finish` is called. If the iterator is dropped before, values may
+    /// have been moved: nothing is said of the vector's list then.
     #[tactic(auto, using(raw_vec::proofs::Windows::drain_laws))]
     pub fn drain_filter<'s, C: ChunkSource, F: FnMut(&mut T) -> bool + Drop>(
         &'s mut self,
@@ -63,7 +63,7 @@ impl<T: Item> Vec<T> {
     }
 }
 
-// Tests the values from `front` on. Those that the test doesn't pick move down behind the first `kept`.
+// Tests the values from `front` on. Those that the test doesn't pick move down after the first `kept`.
 fn drop_rest<T: Item, C: ChunkSource, F: FnMut(&mut T) -> bool + Drop>(
     a: &mut Allocator<C>,
     block: Block,
@@ -100,7 +100,7 @@ fn drop_rest<T: Item, C: ChunkSource, F: FnMut(&mut T) -> bool + Drop>(
 }
 
 impl<'s, T: Item, C: ChunkSource, F: FnMut(&mut T) -> bool + Drop> DrainFilter<'s, T, C, F> {
-    /// Takes out the rest of the values that the test picks. The others stay, as the test left them.
+    /// Removes the rest of the values that the test picks. The others stay, as the test left them.
     pub fn finish(self)
         requires { IsFilter T.Item (CallableOnListMut F.FnMut) self }
         ensures becomes { (rest : List T) × RetainsInTurn (Stays (CalledAtMut F.FnMut)) self.entry.pred

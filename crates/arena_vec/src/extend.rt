@@ -13,7 +13,7 @@ use arena_chunks::{Allocator, ChunkSource};
 use arena_items::{Grown, Item};
 use raw_vec::has_room;
 
-// For how many values more a vector makes room, where so many are said to follow one that is put at the end.
+// Returns for how many more values a vector makes room, if `hint` are said to follow one that is appended.
 #[tactic(auto, unfolding(raw_vec::specs::Growth::fits, raw_vec::specs::Growth::growth_to, crate::specs::Extending::hinted_growth))]
 fn wanted(size: u64, cap: u32, len: u32, hint: u64) -> u64
     requires small { size ≤ 2 ^ 24 }
@@ -29,7 +29,7 @@ fn wanted(size: u64, cap: u32, len: u32, hint: u64) -> u64
     1
 }
 
-// For how many values a new vector has room, by an iterator's hints.
+// Returns for how many values a new vector has room, by an iterator's hints.
 #[tactic(auto, unfolding(crate::specs::Extending::first_room))]
 fn room_at_first(size: u64, least: u64, most: Option<usize>) -> u64
     requires small { size ≤ 2 ^ 24 }
@@ -43,7 +43,7 @@ fn room_at_first(size: u64, least: u64, most: Option<usize>) -> u64
     if has_room(size, least) { least } else { 0 }
 }
 
-// How many items an iterator says are to come at the least, if that is wanted.
+// Returns the least number of items that an iterator says are to come, if that is wanted.
 #[inline]
 fn hint_of<I: Iterator>(iter: &I, is_wanted: bool) -> u64
     ensures { IsWithinCount result (I.remaining iter.now) }
@@ -56,7 +56,7 @@ fn hint_of<I: Iterator>(iter: &I, is_wanted: bool) -> u64
 }
 
 impl<T: Item> Vec<T> {
-    // Puts a value at the end. A full vector makes room for so many more too, if they fit.
+    // Appends a value. A full vector makes room for `hint` more too, if they fit.
     fn push_hinted<C: ChunkSource>(
         &mut self,
         a: &mut Allocator<C>,
@@ -73,12 +73,12 @@ impl<T: Item> Vec<T> {
         self.push_with_room(a, value, more)
     }
 
-    /// Puts an iterator's items at the end, one after another. A vector that is full makes room for the items that the
-    /// iterator says are to come, if they fit, and else for one.
+    /// Appends an iterator's items, one after another. A vector that is full makes room for the items that the iterator
+    /// says are to come, if they fit, and otherwise for one.
     ///
     /// # Errors
     ///
-    /// As of `try_reserve`. The items taken before are there, but for the last.
+    /// As for `try_reserve`. The items taken before are appended, except for the last, which is lost.
     pub fn extend<C: ChunkSource, I: Iterator<Item = T>>(
         &mut self,
         a: &mut Allocator<C>,
@@ -104,11 +104,12 @@ impl<T: Item> Vec<T> {
         Ok(())
     }
 
-    /// A vector of an iterator's items, with room at first for exactly so many. Where more come it grows, as by `extend`.
+    /// Returns a vector of an iterator's items, with room at first for exactly `room`. If more come it grows, as by
+    /// `extend`.
     ///
     /// # Errors
     ///
-    /// As of `with_capacity_in`, and then as of `extend`. What was placed stays.
+    /// As for `with_capacity_in`, and then as for `extend`. What was placed stays.
     pub fn from_iter_with_room_in<C: ChunkSource, I: Iterator<Item = T>>(
         iter: I,
         room: u64,
@@ -129,13 +130,13 @@ impl<T: Item> Vec<T> {
         Ok(vec)
     }
 
-    /// A vector of an iterator's items, by `from_iter_with_room_in` with the room that the iterator's hints give: for the
-    /// greatest number that it says are to come, or else for the least, if they fit. Nothing bounds the greatest number from
-    /// above but the iterator.
+    /// Returns a vector of an iterator's items, by `from_iter_with_room_in` with the room that the iterator's hints
+    /// give: for the greatest number that it says are to come, or otherwise for the least, if they fit. Of what fits,
+    /// only the iterator bounds the greatest number.
     ///
     /// # Errors
     ///
-    /// As of `from_iter_with_room_in`.
+    /// As for `from_iter_with_room_in`.
     pub fn from_iter_in<C: ChunkSource, I: Iterator<Item = T>>(
         iter: I,
         a: &mut Allocator<C>,

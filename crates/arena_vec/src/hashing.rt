@@ -1,4 +1,4 @@
-// A hash, which is that of the list.
+// A vector's hash, which is that of its list.
 ghost use Rattle.std.specs.Prelude.{◌≡◌, ◌^◌, ◌≤◌, fold};
 ghost use Rattle.std.specs.Hash as fed;
 ghost use Rattle.arena_vec.specs.Vecs.{IsVecIn, vec_list};

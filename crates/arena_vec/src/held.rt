@@ -7,8 +7,8 @@ use arena_chunks::{Allocator, ChunkSource};
 use arena_items::Item;
 
 impl<T: Item> Vec<T> {
-    /// Whether the handle is well formed in this arena. One that was read out of an arena, or that a reset may have ended, is
-    /// tested so.
+    /// Returns whether the handle is well formed in this arena. It tests handles that were read from an arena, or that
+    /// a reset may have made invalid.
     pub fn is_held<C: ChunkSource>(&self, a: &Allocator<C>) -> bool
         requires { T.SIZE ≤ 2 ^ 24 }
         ensures { IsTrue result ↔ IsVecIn T.Item a.now.memory self.now }

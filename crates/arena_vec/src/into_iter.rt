@@ -11,7 +11,7 @@ use arena_items::Item;
 use std::iter::FusedIterator;
 use std::marker::Model;
 
-/// What is left of a vector's values.
+/// The rest of a vector's values.
 #[derive(Drop)]
 pub struct IntoIter<'a, T: Item, C: ChunkSource> {
     arena: &'a Allocator<C>,
@@ -35,7 +35,7 @@ impl<'a, T: Item, C: ChunkSource> Model for IntoIter<'a, T, C> {
 
 #[tactic(auto, using(raw_vec::proofs::Windows::window_laws))]
 impl<T: Item> Vec<T> {
-    /// All values, from both ends.
+    /// Returns an iterator over all values, from both ends.
     pub fn into_iter<'a, C: ChunkSource>(self, a: &'a Allocator<C>) -> IntoIter<'a, T, C>
         requires small { T.SIZE ≤ 2 ^ 24 }
         requires held { IsVecIn T.Item a.now.memory self }
@@ -52,7 +52,7 @@ impl<T: Item> Vec<T> {
 
 #[tactic(auto, using(raw_vec::proofs::Windows::window_laws))]
 impl<'a, T: Item, C: ChunkSource> IntoIter<'a, T, C> {
-    /// The bytes of the values that are left, one after another.
+    /// Returns the bytes of the values that are left, one after another.
     pub fn as_slice(&self) -> &[u8]
         ensures length { length result.now ≡ length self.now * T.SIZE }
         ensures list { elements T.SIZE T.decoded (length self.now) result.now ≡ self.now }

@@ -11,8 +11,8 @@ mod growth;
 pub use compare::{equality_law, hash_law, order_law, partial_equality_law};
 pub use growth::{growth_costs, vector_costs};
 
-/// When a growth does nothing, when it overflows, and what capacity else there is then. Amortised growth doubles where
-/// twice the capacity fits and is enough, and else takes what is required.
+/// When a growth does nothing, when it overflows, and what capacity it leads to otherwise. Amortised growth doubles if
+/// twice the capacity fits and is enough, and otherwise takes what is required.
 pub fn growth_rule()
     ensures stays { (size cap required wanted : ℕ) → required ≤ cap
         → growth_to size cap required wanted ≡ Growth.Stays }

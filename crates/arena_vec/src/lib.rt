@@ -1,4 +1,4 @@
-//! Vectors in an arena: lists of values with a byte form, that grow.
+//! Growable vectors in an arena: lists of values with a byte form.
 #![tactic(auto)]
 
 mod bulk;

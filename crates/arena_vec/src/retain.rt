@@ -15,8 +15,8 @@ use arena_chunks::{Allocator, Block, ChunkSource};
 use arena_items::Item;
 use raw_vec::{put_in, value_in};
 
-// Moves the values that a test picks to the front of their bytes, and tells how many they are. A value that it
-// doesn't pick is written as well, where the next one that it picks will stand, so that no jump hangs on the test.
+// Moves the values that a test picks to the front of their bytes, and returns their number. A value that it doesn't
+// pick is written as well, where the next one that it picks will be, so that no branch depends on the test.
 #[inline]
 fn sift<T: Item, F: FnMut(&T) -> bool>(bytes: &mut [u8], len: u32, f: F) -> u32
 where
@@ -38,7 +38,7 @@ where
     kept
 }
 
-// The same with a test that changes the values that it sees.
+// As `sift`, with a test that may change the values.
 #[inline]
 fn sift_mut<T: Item, F: FnMut(&mut T) -> bool>(bytes: &mut [u8], len: u32, f: F) -> u32
 where
@@ -61,7 +61,7 @@ where
     kept
 }
 
-// Moves the values that a test picks to the front, and tells how many they are.
+// Moves the values that a test picks to the front, and returns their number.
 #[tactic(auto, using(arena_chunks::proofs::Layers::layer_laws))]
 #[inline]
 fn keep<T: Item, C: ChunkSource, F: FnMut(&T) -> bool>(
@@ -86,7 +86,7 @@ where
     sift(a.read_mut(block), len, f)
 }
 
-// The same with a test that changes the values that it sees.
+// As `keep`, with a test that may change the values.
 #[tactic(auto, using(arena_chunks::proofs::Layers::layer_laws))]
 #[inline]
 fn keep_mut<T: Item, C: ChunkSource, F: FnMut(&mut T) -> bool>(
@@ -135,7 +135,7 @@ impl<T: Item> Vec<T> {
         self.raw.len = keep_mut(a, self.raw.block, self.raw.len, f);
     }
 
-    /// Keeps the values that a test picks, which sees each once, in order.
+    /// Keeps the values that a test picks. It sees each once, in order.
     #[inline]
     pub fn retain<C: ChunkSource, F: FnMut(&T) -> bool>(&mut self, a: &mut Allocator<C>, f: F)
     where

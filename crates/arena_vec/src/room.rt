@@ -12,11 +12,13 @@ use raw_vec::{reserved, roomy};
 
 #[tactic(auto, using(crate::proofs::VecLemmas::vec_laws))]
 impl<T: Item> Vec<T> {
-    /// Makes room for so many more values: for twice as many as there is room for, or for as many as are required.
+    /// Makes room for `additional` more values. If there is less, the capacity becomes twice what it is, or what is
+    /// required if that is more or if twice the capacity doesn't fit.
     ///
     /// # Errors
     ///
-    /// `CapacityOverflow` where so many don't fit, and else as of the arena's `alloc_layout` or `grow`. Nothing changes.
+    /// `CapacityOverflow` if that many don't fit, and otherwise as for the arena's `alloc_layout` or `grow`. Nothing
+    /// changes.
     pub fn try_reserve<C: ChunkSource>(
         &mut self,
         a: &mut Allocator<C>,
@@ -37,7 +39,7 @@ impl<T: Item> Vec<T> {
     ///
     /// # Errors
     ///
-    /// As of `try_reserve`.
+    /// As for `try_reserve`.
     pub fn reserve<C: ChunkSource>(&mut self, a: &mut Allocator<C>, additional: u64) -> Grown<()>
         requires small { T.SIZE ≤ 2 ^ 24 }
         requires held { IsVecIn T.Item a.old.memory self.old }
@@ -49,11 +51,11 @@ impl<T: Item> Vec<T> {
         self.try_reserve(a, additional)
     }
 
-    /// Makes room for exactly so many more values, where there is less.
+    /// Makes room for exactly `additional` more values, if there is less.
     ///
     /// # Errors
     ///
-    /// As of `try_reserve`.
+    /// As for `try_reserve`.
     pub fn try_reserve_exact<C: ChunkSource>(
         &mut self,
         a: &mut Allocator<C>,
@@ -73,7 +75,7 @@ impl<T: Item> Vec<T> {
     ///
     /// # Errors
     ///
-    /// As of `try_reserve`.
+    /// As for `try_reserve`.
     pub fn reserve_exact<C: ChunkSource>(
         &mut self,
         a: &mut Allocator<C>,
@@ -88,7 +90,8 @@ impl<T: Item> Vec<T> {
         self.try_reserve_exact(a, additional)
     }
 
-    /// Leaves room for no more values than there are. Where there are none the block is given back.
+    /// Shrinks the capacity to the number of values. If there are none the block is given back. For values of no bytes
+    /// nothing changes.
     pub fn shrink_to_fit<C: ChunkSource>(&mut self, a: &mut Allocator<C>)
         requires small { T.SIZE ≤ 2 ^ 24 }
         requires held { IsVecIn T.Item a.old.memory self.old }

@@ -1,4 +1,4 @@
-// A range of a vector on its way out, in whose place an iterator's items come.
+// A range of a vector that is replaced by an iterator's items.
 ghost use Rattle.std.specs.Prelude.{◌≡◌, ℕ, ◌+◌, ◌-◌, ◌*◌, ◌^◌, ◌<◌, ◌≤◌, true, false, IfNone, IfSome, OnSome, Some, length};
 ghost use Rattle.std.specs.List.{replace_range};
 ghost use Rattle.std.specs.Iterator.{IsFinite, YieldsFirst, YieldsLast, UpTo, at_most, item_count};
@@ -15,14 +15,14 @@ use arena_chunks::{Allocator, ChunkSource};
 use arena_items::{Grown, Item, copy_items, move_items, put_item};
 use raw_vec::{has_room, roomy};
 
-/// A range of a vector on its way out, in whose place an iterator's items come. Its values are taken from both ends, and
-/// `finish` puts the items there.
+/// A range of a vector that is replaced by an iterator's items. Its values are taken from both ends, and `finish` puts
+/// the items in its place.
 pub struct Splice<'s, T: Item, C: ChunkSource, I: Drop> {
     /// The vector.
     pub vec: &'s mut Vec<T>,
     /// The arena that it is in.
     pub arena: &'s mut Allocator<C>,
-    /// The iterator whose items come in the range's place.
+    /// The iterator of the items that replace the range.
     pub with: I,
     /// Where the range starts.
     pub start: u32,
@@ -51,8 +51,8 @@ impl<'s, T: Item, C: ChunkSource, I: Drop> Drop for Splice<'s, T, C, I> {
     }
 }
 
-// Puts an iterator's items in a range's place, and tells whether they fill it. Where they are fewer the tail moves down, in one
-// move of memory.
+// Puts an iterator's items in a range's place, and returns whether they fill it. If they are fewer the tail moves down,
+// in one move of memory.
 fn fill<T: Item, C: ChunkSource, I: Iterator<Item = T>>(
     vec: &mut Vec<T>,
     a: &mut Allocator<C>,
@@ -80,7 +80,7 @@ fn fill<T: Item, C: ChunkSource, I: Iterator<Item = T>>(
     true
 }
 
-// Makes room for so many values at an index. What stands from there on moves up, in one move of memory.
+// Makes room for `n` values at an index. What is there and after it moves up, in one move of memory.
 fn widen<T: Item, C: ChunkSource>(
     vec: &mut Vec<T>,
     a: &mut Allocator<C>,
@@ -100,7 +100,7 @@ fn widen<T: Item, C: ChunkSource>(
     Ok(())
 }
 
-// Puts the values of another vector at an index, in one move of memory.
+// Inserts the values of another vector at an index, in one move of memory.
 fn insert_all<T: Item, C: ChunkSource>(
     vec: &mut Vec<T>,
     a: &mut Allocator<C>,
@@ -126,7 +126,7 @@ fn insert_all<T: Item, C: ChunkSource>(
     Ok(())
 }
 
-// Gathers an iterator's items in a new vector, and then puts them at an index.
+// Gathers an iterator's items in a new vector, and then inserts them at an index.
 fn put_rest<T: Item, C: ChunkSource, I: Iterator<Item = T> + Drop>(
     vec: &mut Vec<T>,
     a: &mut Allocator<C>,
@@ -145,7 +145,7 @@ fn put_rest<T: Item, C: ChunkSource, I: Iterator<Item = T> + Drop>(
     insert_all(vec, a, at, rest)
 }
 
-// Makes room for so many items at an index, puts them there, and then all that are left.
+// Makes room for `n` items at an index, puts them there, and then all that are left.
 fn put_hinted<T: Item, C: ChunkSource, I: Iterator<Item = T> + Drop>(
     vec: &mut Vec<T>,
     a: &mut Allocator<C>,
@@ -172,7 +172,7 @@ fn put_hinted<T: Item, C: ChunkSource, I: Iterator<Item = T> + Drop>(
     put_rest(vec, a, at + n, iter)
 }
 
-// How many items are said to come, where it is useful to make room for them.
+// Returns how many items are said to come, if it is useful to make room for them.
 #[tactic(auto, unfolding(raw_vec::specs::Growth::fits, crate::specs::Splicing::is_useful))]
 fn useful_hint(size: u64, len: u32, hint: u64) -> Option<u32>
     requires small { size ≤ 2 ^ 24 }
@@ -186,7 +186,8 @@ fn useful_hint(size: u64, len: u32, hint: u64) -> Option<u32>
     Some(hint as u32)
 }
 
-// Puts an iterator's items at an index: as many as it says are to come, if that is useful, and then all that are left.
+// Inserts an iterator's items at an index: as many as it says are to come, if that is useful, and then all that are
+// left.
 fn put_more<T: Item, C: ChunkSource, I: Iterator<Item = T> + Drop>(
     vec: &mut Vec<T>,
     a: &mut Allocator<C>,
@@ -208,7 +209,7 @@ fn put_more<T: Item, C: ChunkSource, I: Iterator<Item = T> + Drop>(
 }
 
 impl<T: Item> Vec<T> {
-    // Puts an iterator's items in a range's place.
+    // Replaces a range by an iterator's items.
     fn replace_range<C: ChunkSource, I: Iterator<Item = T> + Drop>(
         &mut self,
         a: &mut Allocator<C>,
@@ -239,8 +240,8 @@ impl<T: Item> Vec<T> {
         put_more(self, a, end, with)
     }
 
-    /// Takes a range out, and puts an iterator's items in its place, once `finish` is called. An iterator that is dropped
-    /// before leaves the vector as it is.
+    /// Replaces a range by an iterator's items, once `finish` is called. If the `Splice` is dropped before, the vector
+    /// is as it was.
     #[tactic(auto, using(raw_vec::proofs::Windows::drain_laws))]
     pub fn splice<'s, C: ChunkSource, I: Iterator<Item = T> + Drop>(
         &'s mut self,
@@ -277,15 +278,15 @@ impl<T: Item> Vec<T> {
 }
 
 impl<'s, T: Item, C: ChunkSource, I: Iterator<Item = T> + Drop> Splice<'s, T, C, I> {
-    /// Puts the iterator's items in the range's place, however much of the range was taken. Where nothing stands behind it
-    /// this is `extend`. Else its places are filled first. If the iterator then says that items are to come, and so many
-    /// fit, room is made for them and filled. What is left is gathered in a new vector, whose block stays, and put there
-    /// after one more growth.
+    /// Puts the iterator's items in the range's place, however much of the range was taken. If nothing comes after it
+    /// this is `extend`. Otherwise its places are filled first. If the iterator then says that items are to come, and
+    /// they fit, room is made for them and filled. What is left is gathered in a new vector, whose block stays, and
+    /// inserted after one more growth.
     ///
     /// # Errors
     ///
-    /// As of `try_reserve`. What stood before the range is there, then the first of the items that were taken, then what
-    /// stood behind the range.
+    /// As for `try_reserve`. The values before the range are there, then the first of the items that were taken, then
+    /// the values after the range.
     pub fn finish(self) -> Grown<()>
         requires { IsSplice T.Item I.can_next I.remaining self }
         ensures replaces { let s = self.entry in

@@ -18,16 +18,16 @@ use raw_vec::{RawVec, roomy};
 /// The handle of a list in an arena. It is a name: two of them may name the same list.
 #[derive(Clone, Copy)]
 pub struct Vec<T> {
-    /// Where the values stand.
+    /// The storage of the values.
     pub raw: RawVec<T>,
 }
 
-/// The name by which users of the Rust crate know it.
+/// The Rust crate's name for it.
 pub type ArenaVec<T> = Vec<T>;
 
 #[tactic(auto, using(crate::proofs::VecLemmas::vec_laws))]
 impl<T: Item> Vec<T> {
-    /// No values and no storage.
+    /// Returns a vector without values or storage.
     pub fn new_in() -> Vec<T>
         ensures held { (memory : Memory) → IsVecIn T.Item memory result }
         ensures list { (memory : Memory) → vec_list T.Item memory result ≡ [] }
@@ -40,11 +40,12 @@ impl<T: Item> Vec<T> {
         }
     }
 
-    /// No values, with room for exactly so many.
+    /// Returns a vector without values, with room for exactly `capacity`. For values of no bytes there is room for
+    /// 4,294,967,295.
     ///
     /// # Errors
     ///
-    /// `CapacityOverflow` where so many don't fit, and else as of the arena's `alloc_layout`.
+    /// `CapacityOverflow` if that many don't fit, and otherwise as for the arena's `alloc_layout`.
     pub fn with_capacity_in<C: ChunkSource>(capacity: u64, a: &mut Allocator<C>) -> Grown<Vec<T>>
         requires { T.SIZE ≤ 2 ^ 24 }
         ensures { Makes T.Item (λ v. v.raw) a.old a.new capacity [] result }
@@ -53,11 +54,11 @@ impl<T: Item> Vec<T> {
         Ok(Vec { raw })
     }
 
-    /// One value, with room for it alone.
+    /// Returns a vector of one value, with room for it alone.
     ///
     /// # Errors
     ///
-    /// As of `with_capacity_in`.
+    /// As for `with_capacity_in`.
     pub fn from_value_in<C: ChunkSource>(value: T, a: &mut Allocator<C>) -> Grown<Vec<T>>
         requires { T.SIZE ≤ 2 ^ 24 }
         ensures { Makes T.Item (λ v. v.raw) a.old a.new 1 (value ∷ []) result }
@@ -68,11 +69,11 @@ impl<T: Item> Vec<T> {
         Ok(Vec { raw })
     }
 
-    /// The values of an array, with room for them alone.
+    /// Returns a vector of an array's values, with room for them alone.
     ///
     /// # Errors
     ///
-    /// As of `with_capacity_in`.
+    /// As for `with_capacity_in`.
     pub fn from_array_in<const N: usize, C: ChunkSource>(
         array: [T; N],
         a: &mut Allocator<C>,
@@ -88,7 +89,8 @@ impl<T: Item> Vec<T> {
         Ok(Vec { raw })
     }
 
-    /// The values that stand in a block. For values of no bytes there is room for 4,294,967,295, whatever `capacity` says.
+    /// Returns a vector of the values in a block. For values of no bytes there is room for 4,294,967,295, whatever
+    /// `capacity` says.
     pub fn from_raw_parts_in(block: Block, length: u32, capacity: u32) -> Vec<T>
         requires size { block.size ≡ capacity * T.SIZE }
         requires align { block.align ≡ T.ALIGN }
@@ -106,7 +108,7 @@ impl<T: Item> Vec<T> {
         }
     }
 
-    /// How many values there are.
+    /// Returns the number of values.
     #[inline]
     pub fn len(&self) -> u32
         ensures { result ≡ self.now.raw.len }
@@ -114,7 +116,7 @@ impl<T: Item> Vec<T> {
         self.raw.len
     }
 
-    /// Whether there are none.
+    /// Returns whether there are none.
     #[inline]
     pub fn is_empty(&self) -> bool
         ensures { result ≡ (self.now.raw.len == 0) }
@@ -122,7 +124,7 @@ impl<T: Item> Vec<T> {
         self.raw.len == 0
     }
 
-    /// For how many values there is room.
+    /// Returns the number of values for which there is room.
     #[inline]
     pub fn capacity(&self) -> u32
         ensures { result ≡ self.now.raw.cap }
@@ -130,14 +132,14 @@ impl<T: Item> Vec<T> {
         self.raw.cap
     }
 
-    /// The block of the values.
+    /// Returns the block of the values.
     pub fn as_ptr(&self) -> Block
         ensures { result ≡ self.now.raw.block }
     {
         self.raw.block
     }
 
-    /// The block of the values.
+    /// Returns the block of the values.
     pub fn as_mut_ptr(&mut self) -> Block
         ensures block { result ≡ self.old.raw.block }
         ensures handle { self.new ≡ self.old }
@@ -145,7 +147,7 @@ impl<T: Item> Vec<T> {
         self.raw.block
     }
 
-    /// The value at an index.
+    /// Returns the value at an index.
     #[inline]
     pub fn get<C: ChunkSource>(&self, a: &Allocator<C>, i: u32) -> T
         requires small { T.SIZE ≤ 2 ^ 24 }
@@ -170,7 +172,7 @@ impl<T: Item> Vec<T> {
         put_item(a, self.raw.block, i as u64, value);
     }
 
-    /// The bytes of the values, one after another.
+    /// Returns the bytes of the values, one after another.
     pub fn as_slice<'x, C: ChunkSource>(&self, a: &'x Allocator<C>) -> &'x [u8]
         requires small { T.SIZE ≤ 2 ^ 24 }
         requires held { IsVecIn T.Item a.now.memory self.now }
@@ -183,7 +185,7 @@ impl<T: Item> Vec<T> {
         &a.read(self.raw.block)[..n]
     }
 
-    /// Keeps the first `len` values, or all where they are fewer.
+    /// Keeps the first `len` values, or all if they are fewer.
     #[inline]
     pub fn truncate(&mut self, len: u32)
         ensures held { (m : Memory) → IsVecIn T.Item m self.old → IsVecIn T.Item m self.new }
@@ -195,7 +197,7 @@ impl<T: Item> Vec<T> {
         }
     }
 
-    /// Keeps no value. The storage stays.
+    /// Removes all values. The storage stays.
     #[inline]
     pub fn clear(&mut self)
         ensures held { (m : Memory) → IsVecIn T.Item m self.old → IsVecIn T.Item m self.new }
@@ -204,7 +206,7 @@ impl<T: Item> Vec<T> {
         self.raw.len = 0;
     }
 
-    // Puts a value at the end, with room for this many more values then, and at least for one.
+    // Appends a value, after making room for `additional` more values, of which it is one.
     #[inline(always)]
     pub(crate) fn push_with_room<C: ChunkSource>(
         &mut self,
@@ -226,11 +228,11 @@ impl<T: Item> Vec<T> {
         Ok(())
     }
 
-    /// Puts a value at the end. Below the capacity no memory is taken.
+    /// Appends a value. Below the capacity no memory is taken.
     ///
     /// # Errors
     ///
-    /// As of `try_reserve`.
+    /// As for `try_reserve`.
     #[inline(always)]
     pub fn push<C: ChunkSource>(&mut self, a: &mut Allocator<C>, value: T) -> Grown<()>
         requires small { T.SIZE ≤ 2 ^ 24 }
@@ -246,7 +248,7 @@ impl<T: Item> Vec<T> {
     ///
     /// # Errors
     ///
-    /// As of `try_reserve`.
+    /// As for `try_reserve`.
     #[inline]
     pub fn push_fast<C: ChunkSource>(&mut self, a: &mut Allocator<C>, value: T) -> Grown<()>
         requires small { T.SIZE ≤ 2 ^ 24 }
@@ -258,11 +260,11 @@ impl<T: Item> Vec<T> {
         self.push(a, value)
     }
 
-    /// Puts a value at the end, as `push` does, and answers its index.
+    /// Appends a value, as `push` does, and returns its index.
     ///
     /// # Errors
     ///
-    /// As of `try_reserve`.
+    /// As for `try_reserve`.
     #[inline]
     pub fn push_mut<C: ChunkSource>(&mut self, a: &mut Allocator<C>, value: T) -> Grown<u32>
         requires small { T.SIZE ≤ 2 ^ 24 }
@@ -281,7 +283,7 @@ impl<T: Item> Vec<T> {
     ///
     /// # Errors
     ///
-    /// As of `try_reserve`.
+    /// As for `try_reserve`.
     #[inline]
     pub fn push_fast_mut<C: ChunkSource>(&mut self, a: &mut Allocator<C>, value: T) -> Grown<u32>
         requires small { T.SIZE ≤ 2 ^ 24 }
@@ -294,7 +296,7 @@ impl<T: Item> Vec<T> {
         self.push_mut(a, value)
     }
 
-    /// Takes the last value.
+    /// Removes the last value and returns it.
     #[inline]
     pub fn pop<C: ChunkSource>(&mut self, a: &Allocator<C>) -> Option<T>
         requires small { T.SIZE ≤ 2 ^ 24 }
@@ -311,11 +313,11 @@ impl<T: Item> Vec<T> {
         Some(last)
     }
 
-    /// Puts a value at an index. Those from there on move up by one, in one move of memory.
+    /// Inserts a value at an index. Those from there on move up by one, in one move of memory.
     ///
     /// # Errors
     ///
-    /// As of `try_reserve`.
+    /// As for `try_reserve`.
     pub fn insert<C: ChunkSource>(&mut self, a: &mut Allocator<C>, i: u32, value: T) -> Grown<()>
         requires small { T.SIZE ≤ 2 ^ 24 }
         requires held { IsVecIn T.Item a.old.memory self.old }
@@ -333,7 +335,7 @@ impl<T: Item> Vec<T> {
         Ok(())
     }
 
-    // The vector without a range. What stands behind it moves down, in one move of memory.
+    // Returns the vector without a range. What comes after it moves down, in one move of memory.
     pub(crate) fn without<C: ChunkSource>(
         self,
         a: &mut Allocator<C>,
@@ -358,7 +360,7 @@ impl<T: Item> Vec<T> {
         Vec { raw }
     }
 
-    /// Takes the value at an index. Those behind it move down by one, in one move of memory.
+    /// Removes the value at an index and returns it. Those after it move down by one, in one move of memory.
     pub fn remove<C: ChunkSource>(&mut self, a: &mut Allocator<C>, i: u32) -> T
         requires small { T.SIZE ≤ 2 ^ 24 }
         requires held { IsVecIn T.Item a.old.memory self.old }
@@ -367,14 +369,14 @@ impl<T: Item> Vec<T> {
             Becomes T.Item a.old a.new self.old list self.new }
         ensures value { slice_get (vec_list T.Item a.old.memory self.old) i ≡ Some result }
     {
-        // For the proof: 32 bits hold the length.
+        // For the proof: the length fits in 32 bits.
         let _len = self.raw.len;
         let value = self.get(a, i);
         *self = self.without(a, i, i + 1);
         value
     }
 
-    /// Takes the value at an index. The last one takes its place.
+    /// Removes the value at an index and returns it. The last one takes its place.
     pub fn swap_remove<C: ChunkSource>(&mut self, a: &mut Allocator<C>, i: u32) -> T
         requires small { T.SIZE ≤ 2 ^ 24 }
         requires held { IsVecIn T.Item a.old.memory self.old }

@@ -6,7 +6,7 @@ use Rattle.arena_pool.specs.declared.kind.PoolKind.{PoolKind}
 use Rattle.arena_pool.specs.declared.kind.PoolKind.TheVariants.{Standard, FixedSize}
 use Rattle.arena_workers.specs.Starving.{IsTooSmall}
 
--- An arena that stays one that grows, or keeps its bytes, is of the pool's kind still.
+-- An arena that still grows, or keeps its bytes, is still of the pool's kind.
 pub kind_kept : (old new : State) → new.is_growing ≡ old.is_growing
     → (old.is_growing ≡ false → allocated_bytes new ≡ allocated_bytes old) → (kind : PoolKind) → IsOfKind kind old → IsOfKind kind new
 kind_kept old new growing allocated Standard is = record { growing = growing ∙ is.growing; region = λ bytes e. absurd (cc) }

@@ -1,4 +1,4 @@
--- Outcomes that are put to their places are those of the pieces at these places.
+-- Outcomes that are put into their places are those of the pieces at these places.
 use Rattle.std.proofs.Common.{◌≡◌, ℕ, zero, suc, ◌<◌, List, [], ◌∷◌, ◌++◌, length, get_or, set, All, subst, arith}
 use Rattle.std.specs.List.{AllZip}
 use Rattle.std.proofs.lemmas.List.{get_or_default}
@@ -22,7 +22,7 @@ module _ {P S : Type 0} (served : P → S → Type 0) where
   set_zip (p ∷ pieces) (t ∷ all) zero d s are inside is = (is, are.1)
   set_zip (p ∷ pieces) (t ∷ all) (suc i) d s are inside is = (are.0, set_zip pieces all i d s are.1 (omega (arith, inside)) is)
 
-  -- an outcome of a piece is put to its place
+  -- an outcome of a piece is put into its place
   pub places : (pieces : List P) (all : List S) (i : ℕ) (s : S) → AllZip served pieces all → IsOf served pieces (i, s)
       → AllZip served pieces (set all i s)
   places [] all i s are is = absurd (omega (arith, is.0))

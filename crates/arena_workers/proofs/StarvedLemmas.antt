@@ -15,7 +15,7 @@ use Rattle.arena_workers.specs.declared.served.Starved.{Starved}
 use Rattle.arena_workers.specs.declared.served.Starved.TheVariants.{Refused, Grown}
 use Rattle.arena_workers.proofs.KindLemmas.{grows_standard, full_small}
 
--- What is added ends the list, where something is.
+-- The last item that was appended ends the list, if there is one.
 last_added : (most : ℕ) (before added : List (ℕ × ℕ)) → added ≢ [] → AllByRecursion (IsRequestWithin most) added
     → EndsWithin most (before ++ added)
 last_added most before [] some within = absurd (some refl)
@@ -28,7 +28,7 @@ within_more : (few many : ℕ) (requests : List (ℕ × ℕ)) → few ≤ many �
 within_more few many requests less is =
     record { before = is.before; last = is.last; all = is.all; within = (omega (arith, less, is.within.0), is.within.1) }
 
--- The requests of a run, of which there is one at least.
+-- The requests of a run, of which there is at least one.
 ends_within : (most : ℕ) (some all : List (ℕ × ℕ)) → AddsWithin most some all → length some < length all → EndsWithin most all
 ends_within most some all adds longer =
     subst (EndsWithin most) (sym adds.all) (last_added most some adds.added
@@ -47,7 +47,7 @@ told_last few many before None less adds longer = tt
 told_last few many None (Some all) less adds longer = absurd adds
 told_last few many (Some some) (Some all) less adds longer = within_more few many all less (ends_within few some all adds longer)
 
--- Where the arena lay low and isn't large, a starved run has a source that has refused; and its last request is small.
+-- If the arena was low and isn't large, a starved run has a source that has refused; and its last request is small.
 source_shows : (bytes most : ℕ) (old new : View) → bytes ≤ most → used_bytes old.memory.state ≡ 0
     → top_of old.memory.state.chunks ≤ 2 ^ 62 → allocated_bytes new.memory.state < 2 ^ 60
     → AsksWithin (used_bytes old.memory.state + bytes) old new → IsStarved (2 ^ 62) old new
@@ -64,7 +64,7 @@ source_shows bytes most old new less unused low small asks starved = elim starve
   ]
 ]
 
--- work on an arena of a pool, from before to after, that needs at most so many bytes
+-- work on an arena of a pool, from before to after, that needs at most this many bytes
 module _ {C : Type 0} (source : C → Source) (kind : PoolKind) (old new : View) (unused : IsUnused kind old)
     (low : LiesLow old.memory.state) (bytes : ℕ) where
   pub too_small : IsFull bytes old → IsTooSmall kind bytes
@@ -81,7 +81,7 @@ module _ {C : Type 0} (source : C → Source) (kind : PoolKind) (old new : View)
   shows most less asks starved (Grown a) kept =
       subst (λ (b : View). 2 ^ 60 ≤ allocated_bytes b.memory.state) (sym kept.0) kept.1
 
-  -- what is kept shows it, also of more bytes
+  -- what is kept shows it, also for more bytes
   pub shown : (most : ℕ) → bytes ≤ most → AsksWithin (used_bytes old.memory.state + bytes) old new → IsStarved (2 ^ 62) old new
       → (o : Option (Starved C)) → IsSomeAnd o (IsKept source new) → IsSomeAnd o (ShowsStarved source most)
   shown most less asks starved None kept = absurd kept

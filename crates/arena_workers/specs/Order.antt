@@ -1,7 +1,7 @@
--- Which pieces of work outcomes are of.
+-- The pieces of work that results are of.
 use Rattle.std.specs.Prelude.{ℕ, ◌<◌, List, All, length, slice_index_or}
 
--- It is what came of the piece of this number. `served` says what comes of a piece.
+-- The result is that of the piece with its number. `served` relates a piece to its result.
 abbrev pub IsOf : {P S : Type 0} → (P → S → Type 0) → List P → (ℕ × S) → Type 0
 IsOf served pieces numbered = (numbered.0 < length pieces) × ((p : _) → served (slice_index_or pieces numbered.0 p) numbered.1)
 

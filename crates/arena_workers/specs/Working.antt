@@ -1,4 +1,4 @@
--- What is known of work that is done on lent arenas, and of what comes of a piece of it.
+-- Work that is done on lent arenas, and the results of its pieces.
 use Rattle.std.specs.Prelude.{◌≡◌, ◌<◌, ◌≤◌, ◌^◌, ◌⊎◌, Bool, true, false, None, IsSomeAnd}
 use Rattle.arena_rules.specs.State.{State, allocated_bytes, top_of}
 use Rattle.arena_chunks.specs.Source.{Source, View}
@@ -8,15 +8,15 @@ use Rattle.arena_workers.specs.declared.served.Served.{Served}
 use Rattle.arena_workers.specs.declared.served.Starved.{Starved}
 use Rattle.arena_workers.specs.declared.served.Starved.TheVariants.{Refused, Grown}
 
--- The terms of a kind of work: which pieces it takes; what it does on one, of an arena before and after and the outcome; what is known of
--- the outcome of a piece that wasn't begun; and which outcomes say that an arena refused.
+-- The terms of a kind of work: which pieces it accepts; how a piece relates the arena before and after, and the
+-- outcome; what is known of the outcome of a piece that wasn't begun; and which outcomes say that an arena refused.
 pub record Terms (Piece Outcome : Type 0) : Type 1 where
   pub accepts : Piece → Type 0
   pub done : Piece → View → View → Outcome → Type 0
   pub unserved : Outcome → Type 0
   pub is_refused : Outcome → Bool
 
--- An arena that doesn't grow, or whose newest chunk ends low: behind it there is place for more.
+-- An arena that doesn't grow, or whose newest chunk ends low: there is place for more after it.
 pub record LiesLow (state : State) : Type 0 where
   pub top : state.is_growing ≡ true → top_of state.chunks ≤ 2 ^ 62
 
@@ -25,7 +25,7 @@ pub record LiesHigh (state : State) : Type 0 where
   pub growing : state.is_growing ≡ true
   pub top : 2 ^ 62 < top_of state.chunks
 
--- What is kept of an arena that refused: a large one as it stands, and of another its source.
+-- What is kept of an arena that refused: the arena itself if it is large, otherwise its source.
 abbrev pub IsKept : {C : Type 0} → (C → Source) → View → Starved C → Type 0
 IsKept source arena (Refused c) = (source c ≡ arena.source) × (allocated_bytes arena.memory.state < 2 ^ 60)
 IsKept source arena (Grown a) = (a ≡ arena) × (2 ^ 60 ≤ allocated_bytes arena.memory.state)
@@ -35,8 +35,8 @@ pub record IsUnserved {Piece Outcome C : Type 0} (terms : Terms Piece Outcome) (
   pub unserved : terms.unserved served.outcome
   pub none : served.starved ≡ None
 
--- The work was done on an arena of the pool's kind of which nothing was used, and which lay low. Something is kept of the arena exactly
--- where the outcome says that it refused.
+-- The work was done on an arena of the pool's kind with no bytes in use, which was low. Something is kept of the arena
+-- exactly if the outcome says that it refused.
 pub record IsDone {Piece Outcome C : Type 0} (source : C → Source) (kind : PoolKind) (terms : Terms Piece Outcome) (piece : Piece)
     (served : Served Outcome C) : Type 0 where
   pub old : View

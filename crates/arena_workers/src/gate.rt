@@ -1,15 +1,15 @@
-// Who is told when a piece of work begins and ends.
+// What is called when a piece of work starts and ends.
 
-/// Is told of each piece's begin and end, by the worker that does it.
+/// Is called at the start and at the end of each piece, by the worker that does it.
 pub trait Gate {
-    /// The worker has claimed the piece of this number, and takes an arena next.
+    /// Called after the worker has claimed the piece with this number, before it takes an arena.
     fn started(&self, piece: u32);
 
-    /// It is done, and its arena was given back or given up.
+    /// Called after the piece is done, and its arena, if there was memory for one, was given back or given up.
     fn finished(&self, piece: u32);
 }
 
-/// Does nothing.
+/// A gate that does nothing.
 #[derive(Clone, Copy, Debug)]
 pub struct NoGate;
 

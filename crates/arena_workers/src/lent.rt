@@ -10,20 +10,21 @@ use arena_pool::{AllocatorGuard, AllocatorPool, ChunkMaker, PoolName};
 use std::alloc::Global;
 use std::sync::Wait;
 
-// An arena that grows isn't worked on any more once its newest chunk ends above this: a later one may have no place behind it.
+// An arena that grows isn't used any more once its newest chunk ends above this: a later chunk may have no place after
+// it.
 const HIGH: u64 = 1 << 62;
 
-// An arena that has so many bytes shows by itself that work was starved on it.
+// An arena with this many bytes shows by itself that work on it was starved.
 const LARGE: u64 = 1 << 60;
 
-// Whether an arena that grows lies so high that it isn't worked on any more.
+// Returns whether an arena grows and its newest chunk ends too high for more work.
 fn is_high<C: ChunkSource>(a: &Allocator<C>) -> bool
     ensures { MatchBool result (LiesHigh a.now.memory.state) (LiesLow a.now.memory.state) }
 {
     a.is_growing() && a.data_end() > HIGH
 }
 
-// What is kept of an arena that refused: a large one whole, and of another its source.
+// What is kept of an arena that refused: the arena if it is large, otherwise its source.
 fn kept<C: ChunkSource + Drop>(arena: Allocator<C>) -> Starved<C>
     ensures { IsKept C.source arena result }
 {
@@ -34,7 +35,7 @@ fn kept<C: ChunkSource + Drop>(arena: Allocator<C>) -> Starved<C>
     Starved::Refused(source)
 }
 
-// What comes of a piece for which there is no memory.
+// The result for a piece that there is no memory for.
 pub(crate) fn unserved<C: ChunkSource, W: Work<C>>(alloc: Global, work: &W) -> Served<W::Outcome, C>
     ensures { IsUnserved W.terms result }
 {
@@ -44,7 +45,8 @@ pub(crate) fn unserved<C: ChunkSource, W: Work<C>>(alloc: Global, work: &W) -> S
     }
 }
 
-// Does the work on one piece, on an arena of the pool. One whose newest chunk lies high is given up, and another is taken.
+// Does the work on one piece, on an arena of the pool. An arena whose newest chunk ends too high is given up, and
+// another is taken.
 pub(crate) fn serve<R: Wait, K: ChunkMaker, L: PoolName, W: Work<K::Chunks>>(
     rt: &R,
     alloc: Global,

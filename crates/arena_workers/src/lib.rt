@@ -1,7 +1,7 @@
 //! Workers: threads that share out pieces of work and do each on an arena that they borrow from a pool.
 //!
-//! What the work is doesn't matter here: it is a `Work`, by one trait. `run_all` is what others call; `CALLING.md` says
-//! what it promises and how to use that.
+//! What the work is doesn't matter here: it is a `Work`, by one trait. Others call `run_all`; `CALLING.md` says what it
+//! promises and how to use that.
 #![tactic(auto)]
 
 mod gate;

@@ -33,7 +33,7 @@ pub(crate) fn in_order<K: ChunkMaker, L: PoolName, W: Work<K::Chunks>>(
     Ok(all)
 }
 
-// Puts each outcome of a worker to its place.
+// Puts each outcome of a worker into its place.
 fn place<K: ChunkMaker, L: PoolName, W: Work<K::Chunks>>(
     _pool: &AllocatorPool<K, L>,
     _work: &W,

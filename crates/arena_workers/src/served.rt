@@ -1,4 +1,4 @@
-// What comes of a piece of work.
+// The result of a piece of work.
 use arena_chunks::{Allocator, ChunkSource};
 
 /// What shows that work was starved on an arena that grows: a source that has refused, or an arena that grew large.
@@ -10,11 +10,12 @@ pub enum Starved<C: ChunkSource> {
     Grown(Allocator<C>),
 }
 
-/// What came of a piece of work.
+/// The result of a piece of work.
 #[derive(Drop)]
 pub struct Served<O, C: ChunkSource> {
-    /// What the work gave.
+    /// The outcome of the work.
     pub outcome: O,
-    /// What shows that it was starved, exactly where the outcome says that the arena refused.
+    /// What shows that the work was starved; present exactly if the work was begun and its outcome says that the arena
+    /// refused.
     pub starved: Option<Starved<C>>,
 }

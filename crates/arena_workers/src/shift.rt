@@ -11,10 +11,10 @@ use arena_pool::{AllocatorPool, ChunkMaker, ClaimSeat, Claims, PoolName};
 use std::alloc::Global;
 use std::sync::Wait;
 
-// What came of the pieces that one worker claimed, each with its number.
+// The results of the pieces that one worker claimed, each with the number of its piece.
 pub(crate) type Shift<O, C> = Vec<(usize, Served<O, C>)>;
 
-// Tries each piece once, and does those that it claims. A worker that has no memory to note an outcome claims no more.
+// Tries to claim each piece once, and does those that it claims. A worker without memory for an outcome claims no more.
 pub(crate) fn shift<R: Wait, K: ChunkMaker, L: PoolName, G: Gate, W: Work<K::Chunks>>(
     rt: &R,
     alloc: Global,
@@ -33,7 +33,7 @@ pub(crate) fn shift<R: Wait, K: ChunkMaker, L: PoolName, G: Gate, W: Work<K::Chu
 {
     let mut done = Vec::new(alloc);
     for i in 0..pieces.len() {
-        // Room for the outcome is there before the piece is claimed.
+        // Reserves room for the outcome before the piece is claimed.
         let Ok(()) = done.reserve(1) else {
             return done;
         };

@@ -7,31 +7,31 @@ ghost use Rattle.arena_pool.specs.declared.kind.PoolKind.{PoolKind};
 use arena_chunks::{Allocator, ChunkSource};
 use std::alloc::Global;
 
-/// A kind of work, each piece of which is done on an arena of which nothing is used.
+/// A kind of work. Each piece is done on an arena with no bytes in use.
 pub trait Work<C: ChunkSource> {
     ghost use Rattle.arena_workers.specs.Working.{Terms};
 
-    /// What the work is done on.
+    /// A piece of work.
     type Piece: Sync;
 
-    /// What it gives.
+    /// The outcome of a piece.
     type Outcome: Drop + Send;
 
-    // What is asked of a piece, and what is known of the outcome.
+    // The requirements on a piece, and what is known of the outcome.
     ghost terms: { Terms Self.Piece Self.Outcome };
 
-    /// Does the work on one piece. The arena stays of the kind that it is of.
+    /// Does the work on one piece. The arena keeps its kind.
     fn run(&self, alloc: Global, a: &mut Allocator<C>, piece: &Self::Piece) -> Self::Outcome
         requires unused { used_bytes a.old.memory.state ≡ 0 }
         requires accepted { terms.accepts piece.now }
         ensures done { terms.done piece.now a.old a.new result }
         ensures kind { (kind : PoolKind) → IsOfKind kind a.old.memory.state → IsOfKind kind a.new.memory.state };
 
-    /// The outcome of a piece that no worker had the memory to begin. Takes no memory.
+    /// Returns the outcome of a piece that no worker had the memory to begin. It should take no memory.
     fn unserved(&self, alloc: Global) -> Self::Outcome
         ensures { terms.unserved result };
 
-    /// Whether the outcome says that an arena which grows refused a block. Such an arena isn't put back.
+    /// Returns whether the outcome says that an arena that grows refused a block. Such an arena isn't put back.
     fn is_refused(&self, outcome: &Self::Outcome) -> bool
         ensures { result ≡ terms.is_refused outcome.now };
 }

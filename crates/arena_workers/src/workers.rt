@@ -69,19 +69,20 @@ fn share_out<
     in_order(alloc, pool, work, pieces, shifts)
 }
 
-/// What came of each piece of work, in order, by so many workers at most, each a thread, and never more than there are pieces. Each
-/// claims pieces one after another, and does the work on arenas that it borrows from the pool, one for each piece:
+/// Does each piece of work on at most `workers` threads, and never more than there are pieces, and returns the results
+/// in the order of the pieces. Each worker claims pieces one after another, and borrows an arena from the pool for
+/// each:
 ///
 /// - An arena that grows and whose newest chunk ends above 2^62 is given up, and another is borrowed.
-/// - An arena on which the outcome says that it refused is given up, and what shows why is handed on with the outcome.
-/// - Every other is put back.
+/// An arena that refused, as its outcome says, is given up, and what shows why is returned with the outcome.
+/// Every other arena is put back.
 ///
-/// A piece for which there is no memory, be it for an arena or for its outcome, is unserved. Nothing goes from one thread to another
-/// but the outcomes. The call waits at the pool's lock, and without end over a fixed pool that has no arena.
+/// A piece without memory for its arena or for its outcome is unserved. Threads pass nothing to each other but their
+/// results. The call waits at the pool's lock, and forever over a fixed pool that has no arena.
 ///
 /// # Errors
 ///
-/// Memory for the claims, the workers or their outcomes runs out.
+/// Out of memory for the claims, the workers or their outcomes.
 pub fn run_all<
     R: Threads + Wait + Sync,
     K: ChunkMaker + Drop + Send,

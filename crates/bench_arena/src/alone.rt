@@ -1,4 +1,4 @@
-// The loops that need to know only how many calls they make, and mostly are given a new arena.
+// The loops whose only parameter is the number of calls. Most get a new arena.
 ghost use Rattle.std.specs.Prelude.{◌<◌};
 
 use crate::loops::{
@@ -12,7 +12,7 @@ use crate::loops::{
 };
 use arena_chunks::{Allocator, MemoryChunks};
 
-/// A loop that needs to know only how many calls it makes.
+/// A loop whose only parameter is the number of calls.
 #[derive(Clone, Copy)]
 pub enum Alone {
     AllocWarm,
@@ -57,7 +57,7 @@ pub enum Alone {
 }
 
 impl Alone {
-    /// How many calls the loop makes if no word tells.
+    /// The number of calls that the loop makes by default.
     pub fn calls(self) -> u64
         ensures { 0 < result }
     {
@@ -80,7 +80,7 @@ impl Alone {
         }
     }
 
-    // How many bytes the first chunk of its arena has: as many as the loop needs between two resets.
+    // The size of the first chunk of its arena, which is what the loop needs between two resets.
     fn capacity(self) -> u64 {
         match self {
             Alone::AllocWarm | Alone::GrowAtCursor => 1 << 20,

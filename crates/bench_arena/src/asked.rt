@@ -1,20 +1,20 @@
-// What the words ask for, and what is printed of a loop.
+// The program's arguments, which are called words, and the line that is printed for a loop.
 ghost use Rattle.std.specs.Prelude.{◌<◌, IfSome};
 
 use crate::loops::{Failed, Timed};
 use std::{env, io};
 
-// How often a loop is timed. The best run counts.
+// The number of times that a loop is timed. The best run counts.
 const RUNS: u32 = 5;
 
-// How many calls each loop makes where only its number is printed.
+// The number of calls that each loop makes with `check`.
 const CHECKED: u64 = 2048;
 
-// How many chunks the arena of a loop over older chunks has.
+// The default number of chunks for a loop over older chunks.
 const CHUNKS: u64 = 9;
 
-/// What the words ask for: loops of this name, `check`, or all; how many calls they make; and how many chunks an arena of older
-/// chunks has.
+/// What the words ask for: the loops with a name, `check`, or all loops; the number of calls; and the number of
+/// chunks for loops over older chunks.
 #[derive(Drop)]
 pub struct Asked {
     word: Option<String>,
@@ -22,7 +22,7 @@ pub struct Asked {
     pub chunks: u64,
 }
 
-/// How often a loop is run, and how many calls it makes then.
+/// The number of runs of a loop, and the number of calls in each.
 #[derive(Clone, Copy)]
 pub struct Runs {
     pub count: u32,
@@ -43,7 +43,7 @@ impl Asked {
         })
     }
 
-    /// How the loop of this name is run, if it is asked for. It makes so many calls if no word tells.
+    /// Returns how the loop with this name is run, if it is requested. It makes `calls` calls by default.
     pub fn runs_of(&self, name: &str, calls: u64) -> Option<Runs>
         requires { 0 < calls }
         ensures { IfSome result (λ r. 0 < r.calls) }
@@ -73,7 +73,7 @@ fn number(word: Option<String>) -> Option<u64> {
     word.as_str().parse::<u64>().ok()
 }
 
-/// Prints what came of a loop: its number alone where it was run once.
+/// Prints the result of a loop. If it was run only once, this is its number alone.
 pub fn tell(rt: &HostRuntime, name: &str, runs: Runs, best: Timed) -> Result<(), Failed>
     requires { 0 < runs.calls }
 {

@@ -1,4 +1,5 @@
-// The loops that are timed. Each gives the time of its calls and a number that depends on the calls alone. Most are given a new arena.
+// The loops that are timed. Each returns the time of its calls and a number that depends on the calls alone. Most get
+// a new arena.
 mod arena;
 mod batches;
 mod bits;
@@ -33,16 +34,16 @@ pub use vec::{
     vec_sum,
 };
 
-// How many bytes a loop's chunks may have together.
+// The most bytes that a loop's chunks may have in all.
 const BUDGET: u64 = 1 << 30;
 
-/// An arena with no chunk. Most loops are lent an arena, which is cheaper to prove. A loop that is slower then has one of its own, and is
-/// compiled apart from the others where that is faster.
+/// Returns an arena without a chunk. Most loops borrow an arena, which is cheaper to prove. A loop that is slower
+/// that way owns its arena, and is compiled separately if that is faster.
 pub fn new_allocator(rt: &HostRuntime) -> Allocator<MemoryChunks> {
     Allocator::new(rt.alloc(), MemoryChunks::new(rt.alloc(), BUDGET))
 }
 
-/// An arena whose first chunk has so many bytes; with none for 0.
+/// Returns an arena whose first chunk has `capacity` bytes, or one without a chunk if that is 0.
 pub fn with_capacity(rt: &HostRuntime, capacity: u64) -> Result<Allocator<MemoryChunks>, Failed> {
     let chunks = MemoryChunks::new(rt.alloc(), BUDGET);
     match Allocator::with_capacity(rt.alloc(), chunks, capacity) {
@@ -88,14 +89,14 @@ impl From<io::Error> for Failed {
     }
 }
 
-/// What a loop took, and its number.
+/// The time that a loop took, and its number.
 #[derive(Clone, Copy)]
 pub struct Timed {
     pub time: Duration,
     pub number: u64,
 }
 
-// When a loop began, if the clock could be read.
+// The time at which a loop began, if the clock could be read.
 #[derive(Clone, Copy)]
 struct Clock {
     began: Option<Instant>,

@@ -1,6 +1,6 @@
-//! Times small loops of calls on an arena, in nanoseconds a call: the loop of the name that is given, or all. A second word
-//! tells how many calls are made, a third how many chunks the arena of a loop over older chunks has. With the word `check` it
-//! prints the number of each loop alone, for few calls.
+//! Times small loops of calls on an arena, in nanoseconds per call: the loops with the given name, or all. A second
+//! word is the number of calls, a third the number of chunks for loops over older chunks. With the word `check` it
+//! prints only the number of each loop, for few calls.
 #![tactic(auto)]
 
 ghost use Rattle.std.specs.Prelude.{◌<◌};
@@ -26,7 +26,7 @@ enum Loop {
     ClaimThreads,
 }
 
-// The loops in the order in which they are timed, each with the word that asks for it.
+// The loops in the order in which they are timed, each with its name.
 const LOOPS: &[(&str, Loop)] = &[
     ("alloc_warm", Loop::Alone(Alone::AllocWarm)),
     ("grow_at_cursor", Loop::Alone(Alone::GrowAtCursor)),

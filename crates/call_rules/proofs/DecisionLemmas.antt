@@ -75,7 +75,7 @@ decided_call line = go (fits (read_call (line ++ 10 ∷ []))) (same line (call_l
 abbrev IsRead : List (List ℕ) → Type 0
 IsRead lines = ((calls : List Call) × AreCalls lines calls) ⊎ ((n : ℕ) × IsFirstRefused lines n)
 
--- a line that isn't refused before others
+-- a line that isn't refused, in front of other lines
 behind_good : (line : List ℕ) (lines : List (List ℕ)) (n : ℕ)
     → ((calls : List Call) (before : List (List ℕ)) → AreCalls before calls → (more : List Call) × AreCalls (line ∷ before) more)
     → IsFirstRefused lines n → IsFirstRefused (line ∷ lines) (n + 1)

@@ -27,12 +27,12 @@ use Rattle.arena_rules.proofs.DoublingLemmas.{Doubles, IsMadeFirst, doubling_sum
 abbrev pub DoublesNext : ℕ → Next → Type 0
 DoublesNext z next = IsDoubling z next.1.state.chunks
 
--- a call that asks for nothing leaves this machine
+-- a call that makes no request leaves this machine
 answered : (z k : ℕ) (reply : Reply) (m : Machine) (next : Next) → IsDoubling z m.state.chunks → answers k reply m ≡ Some next
     → DoublesNext z next
 answered z k reply m next double at = subst (DoublesNext z) (cond_some (k == 0) (reply, m) next at).1 double
 
--- a call that places leaves the state of its outcome
+-- a call that places a block leaves the state of its outcome
 settled : (z k name size align : ℕ) (bytes : List ℕ) (m : Machine) (o : Option Outcome) (next : Next)
     → ((outcome : Outcome) → o ≡ Some outcome → Doubles z outcome)
     → option_map (λ (outcome : Outcome). settles m k name size align bytes outcome.state outcome.answer) o ≡ Some next → DoublesNext z next
@@ -54,7 +54,7 @@ found z k m (Some p) (Some bs) go next double each at = each p bs refl at
 found z k m (Some p) None go next double each at = absurd (none-some next at)
 found z k m None bytes go next double each at = answered z k NoSuchName m next double at
 
--- An allocation by name, by whether the name is taken and the layout is one.
+-- An allocation by name, by whether the name is taken and whether the layout is valid.
 alloc_called : (z k name size align fill : ℕ) (m : Machine) (next : Next) → z ≤ 16320 → IsDoubling z m.state.chunks → (taken fine : Bool)
     → IsMadeFirst m.state k (if taken then None else (if fine then Some (size, align) else None))
     → (if taken then answers k NameTaken m else (if not fine then answers k BadLayout m
@@ -67,7 +67,7 @@ alloc_called z k name size align fill m next small double false true made at =
     settled z k name size align (replicate size fill) m (alloc m.state size align k) next
     (λ outcome step. alloc_doubling z m.state size align k outcome small double made step) at
 
--- A layout for a block, by whether it is one and its size on the wrong side.
+-- A layout for a block, by whether it is valid and whether its size is wrong for the call.
 layout_given : (z k name size align : ℕ) (m : Machine) (next : Next) (bytes : List ℕ) (o : Option Outcome) (layout : Option (ℕ × ℕ))
     → IsDoubling z m.state.chunks
     → (IsMadeFirst m.state k layout → (outcome : Outcome) → o ≡ Some outcome → Doubles z outcome) → (fine wrong : Bool)

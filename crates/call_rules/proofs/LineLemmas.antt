@@ -1,4 +1,4 @@
--- The parts of a line, read back: words, numbers behind spaces, and hexadecimal digits.
+-- The parts of a line, read back: words, numbers after spaces, and hexadecimal digits.
 use Rattle.std.proofs.Common.{◌≡◌, ℕ, zero, suc, ◌+◌, ◌-◌, ◌*◌, ◌/◌, ◌%◌, Bool, true, false, ◌&&◌, List, [], ◌∷◌, ◌++◌, length, drop, get_or, refl, ap, ◌∙◌, arith, append_assoc}
 use Rattle.std.specs.Prelude.{nat_lt, ◌==◌, if◌then◌else◌}
 use Rattle.std.specs.List.{AllByRecursion, flat_map}
@@ -11,12 +11,12 @@ begins [] text = true
 begins (c ∷ word) [] = false
 begins (c ∷ word) (d ∷ text) = c == d && begins word text
 
--- Rows are words with what to read behind each: the first one that the text begins with is taken.
+-- A row is a word and what to read after it: the first row whose word the text begins with is taken.
 abbrev pub read_by : {A : Type 0} → A → List (List ℕ × (List ℕ → A)) → List ℕ → A
 read_by other [] text = other
 read_by other (row ∷ rows) text = if begins row.0 text then row.1 (drop (length row.0) text) else read_by other rows text
 
--- so many numbers, and what comes behind them
+-- this many numbers, and the text after them
 pub read_fields : ℕ → List ℕ → List ℕ × List ℕ
 read_fields zero text = ([], text)
 read_fields (suc k) text = let f = read_front 0 (drop 1 text) in let g = read_fields k f.1 in (f.0 ∷ g.0, g.1)
@@ -33,7 +33,7 @@ read_fields_back (n ∷ ns) rest s =
     stops [] = s
     stops (m ∷ ms) = refl
 
--- what is made of one number, and what comes behind it
+-- what is made of one number, and the text after it
 abbrev pub read_field : {A : Type 0} → (ℕ → A) → List ℕ → A × List ℕ
 read_field make text = let f = read_fields 1 text in (make (get_or f.0 0 0), f.1)
 
@@ -44,7 +44,7 @@ read_field_back make n rest s = ap (λ f. (make (get_or f.0 0 0), f.1)) (read_fi
 abbrev digit_value : ℕ → ℕ
 digit_value c = if nat_lt c 58 then c - 48 else c - 87
 
--- the bytes that stand in front of a line feed, and what comes from it on
+-- the bytes whose digits come before a line feed, and the text from it on
 read_pairs : List ℕ → List ℕ × List ℕ
 read_pairs [] = ([], [])
 read_pairs (a ∷ []) = ([], a ∷ [])

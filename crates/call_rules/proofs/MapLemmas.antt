@@ -24,7 +24,7 @@ module _ {X : Type 0} where
   found q [] = refl
   found q (e ∷ es) = ap (λ (o : Option X). cond (eq_by_cmp nat_cmp q e.0) (Some e.1) o) (found q es)
 
-  -- a tree's look-up is that of the finite map of its entries
+  -- a tree's lookup is that of the finite map of its entries
   pub tree_get : (m : BTreeMap ℕ X) (q : ℕ) → map.get (map.from_entries {R = nat_cmp} m.entries) q ≡ get nat_cmp m q
   tree_get m q = get-from_entries nat_cmp_total m.entries q ∙ found q m.entries
 
@@ -51,7 +51,7 @@ module _ {X : Type 0} where
   rising [] sorted = refl
   rising (e ∷ es) sorted = rw (below e.0 es sorted.0) (rising es sorted.1)
 
-  -- a tree's entries stand in order, so they are the finite map's
+  -- a tree's entries are in order, so they are the finite map's
   pub tree_entries : (es : List (ℕ × X)) → IsStrictlySortedBy nat_cmp (keys_of es) → map.entries (map.from_entries {R = nat_cmp} es) ≡ es
   tree_entries es sorted =
       let order = subst T (sym (rising es sorted)) tt in

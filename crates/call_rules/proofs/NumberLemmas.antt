@@ -17,7 +17,7 @@ digits_more : (k n : ℕ) → 10 ≤ n → digits (suc k) n ≡ digits k (n / 10
 unfolding digits
 digits_more k n h = let test : nat_lt n 10 ≡ false = grind (arith, nat_tests) in rw (test, digits)
 
--- What holds of one digit, and of one digit more, holds of each number and its digits.
+-- A property that holds for one digit, and for one digit more, holds for each number and its digits.
 module _
     (P : ℕ → List ℕ → Type 0)
     (one : (n : ℕ) → n < 10 → P n ((48 + n) ∷ []))
@@ -62,7 +62,7 @@ first_number = number_by_steps (λ n ds. 0 < n → 48 < get_or ds 0 0)
     longer [] es h = absurd (omega arith)
     longer (d ∷ ds) es h = h
 
--- the number that the digits at the front spell behind n, and what comes behind them
+-- the number that the digits at the front add to n, and the text after them
 abbrev pub read_front : ℕ → List ℕ → ℕ × List ℕ
 read_front n [] = (n, [])
 read_front n (c ∷ cs) = if is_ascii_digit c then read_front (n * 10 + (c - 48)) cs else (n, c ∷ cs)
@@ -80,12 +80,12 @@ read_number_on = number_by_steps (λ n ds. (cs : List ℕ) → read_front 0 (ds 
     ∙ front ((48 + n % 10) ∷ cs)
     ∙ read_digit (n / 10) (n % 10) n cs (omega arith) (omega arith))
 
--- nothing, or a byte that is no digit
+-- nothing, or a byte that isn't a digit
 abbrev pub Stops : List ℕ → Type 0
 Stops [] = Unit {0}
 Stops (c ∷ cs) = is_ascii_digit c ≡ false
 
--- What is written as a number is read as it.
+-- A number reads back as what was written.
 pub read_number : (n : ℕ) (rest : List ℕ) → Stops rest → read_front 0 (number n ++ rest) ≡ (n, rest)
 read_number n rest s = read_number_on n rest ∙ stopped rest s
   where

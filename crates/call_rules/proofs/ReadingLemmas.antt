@@ -15,11 +15,11 @@ grow_of ns = Grow (get_or ns 0 0) (get_or ns 1 0) (get_or ns 2 0) (get_or ns 3 0
 abbrev pub shrink_of : List ℕ → Call
 shrink_of ns = Shrink (get_or ns 0 0) (get_or ns 1 0) (get_or ns 2 0)
 
--- a name and a place in front of bytes
+-- a name and an offset in front of bytes
 abbrev pub write_of : List ℕ × List ℕ → Call
 write_of f = Write (get_or f.0 0 0) (get_or f.0 1 0) (read_hex (drop 1 f.1)).0
 
--- the call of a line with a line feed
+-- the call of a line that ends with a line feed
 abbrev pub read_call : List ℕ → Call
 read_call = read_by Used
     ((codes "allocated", λ text. Allocated)
@@ -66,7 +66,7 @@ read_calls_back ((b ∷ line) ∷ lines) (c ∷ calls) are =
     let first = ap (λ text. read_call (text ++ 10 ∷ [])) are.0.text ∙ read_call_back c are.0.fits in
     ap (λ call. call ∷ read_calls lines) first ∙ ap (λ more. c ∷ more) (read_calls_back lines calls are.1)
 
--- the lines behind the first are calls where all are
+-- the lines after the first are calls if all are
 later_calls : (line : List ℕ) (lines : List (List ℕ)) (calls : List Call) → AreCalls (line ∷ lines) calls → (later : List Call)
     × AreCalls lines later
 later_calls [] lines calls are = (calls, are)
@@ -82,7 +82,7 @@ none_refused (l ∷ before) after line calls are bad =
     let later = later_calls l (before ++ line ∷ after) calls are in
     none_refused before after line later.0 later.1 bad
 
--- the first refused line stands at one place
+-- there is only one first refused line
 same_place : (a b : List (List ℕ)) (x y : List ℕ) (more others : List (List ℕ)) (c d : List Call)
     → AreCalls a c → AreCalls b d → IsRefused x → IsRefused y → a ++ x ∷ more ≡ b ++ y ∷ others → length a ≡ length b
 same_place [] [] x y more others c d p q r s e = refl

@@ -1,4 +1,4 @@
--- The replies of a run have bytes, where the calls have.
+-- The bytes in the replies of a run are below 256, if those in the calls are.
 use Rattle.std.proofs.Common.{◌≡◌, ℕ, zero, suc, ◌-◌, ◌+◌, Bool, true, false, cond, Option, Some, None, List, [], ◌∷◌, ◌++◌, length, take, drop, refl, subst, Ok, sym, ap, ◌∙◌}
 use Rattle.std.specs.Prelude.{replicate, not, nat_lt, ◌==◌, if◌then◌else◌}
 use Rattle.std.specs.List.{AllByRecursion}
@@ -52,7 +52,7 @@ spliced old new at p q = joined (take at old ++ new) (drop (at + length new) old
 
 -- ---- The bytes of the names
 
--- each name's bytes are bytes
+-- each name's bytes are below 256
 abbrev HoldsBytes : Contents → Type 0
 HoldsBytes contents = (name : ℕ) (bytes : List ℕ) → finite.get contents name ≡ Some bytes → AreBytes bytes
 
@@ -90,12 +90,12 @@ holds_some contents test held other bs found =
 abbrev GivesBytes : Next → Type 0
 GivesBytes next = HasBytes next.0 × HoldsBytes next.1.bytes
 
--- a call that asks for nothing
+-- a call that makes no request
 answered : (k : ℕ) (reply : Reply) (m : Machine) (next : Next) → HasBytes reply → HoldsBytes m.bytes → answers k reply m ≡ Some next
     → GivesBytes next
 answered k reply m next has held at = subst GivesBytes (cond_some (k == 0) (reply, m) next at).1 (has, held)
 
--- a call that places
+-- a call that places a block
 settled : (k name size align : ℕ) (bytes : List ℕ) (m : Machine) (o : Option Outcome) (next : Next) → AreBytes bytes → HoldsBytes m.bytes
     → option_map (λ (outcome : Outcome). settles m k name size align bytes outcome.state outcome.answer) o ≡ Some next → GivesBytes next
 settled k name size align bytes m None next are held at = absurd (none-some next at)
@@ -118,7 +118,7 @@ found k name m place go next held each at = by place (finite.get m.bytes name) r
     by (Some p) None is at = absurd (none-some next at)
     by None bytes is at = answered k NoSuchName m next tt held at
 
--- an allocation, by whether the name is taken and the layout is one
+-- an allocation, by whether the name is taken and whether the layout is valid
 alloc_called : (k name size align fill : ℕ) (m : Machine) (next : Next) → IsByte fill → HoldsBytes m.bytes → (taken fine : Bool)
     → (if taken then answers k NameTaken m else (if not fine then answers k BadLayout m
     else option_map (λ (o : Outcome). settles m k name size align (replicate size fill) o.state o.answer) (alloc m.state size align k)))
@@ -129,7 +129,7 @@ alloc_called k name size align fill m next byte held false false at = answered k
 alloc_called k name size align fill m next byte held false true at =
     settled k name size align (replicate size fill) m (alloc m.state size align k) next (repeated size fill byte) held at
 
--- a grow or a shrink, by whether the layout is one and the size is on the wrong side
+-- a grow or a shrink, by whether the layout is valid and whether the size is wrong for the call
 resize_called : (k name size align : ℕ) (m : Machine) (o : Option Outcome) (bytes : List ℕ) (next : Next) → HoldsBytes m.bytes
     → AreBytes bytes → (fine wrong : Bool)
     → (if not fine then answers k BadLayout m else (if wrong then answers k OutOfRange m
@@ -158,7 +158,7 @@ back_called k name m next None held at = answered k NoSuchName m next tt held at
 back_called k name m next (Some mark) held at =
     answered k Done (goes_back m mark name) next tt (holds_some m.bytes (is_left (back mark m.state) m.held) held) at
 
--- Each call whose numbers fit gives a reply with bytes, and leaves bytes.
+-- Each call whose numbers fit returns a reply with bytes below 256, and leaves such bytes.
 step_bytes : (call : Call) (k : ℕ) (m : Machine) (next : Next) → Fits call → HoldsBytes m.bytes → step call k m ≡ Some next
     → GivesBytes next
 unfolding step
@@ -217,7 +217,7 @@ pub replies_bytes : (state : State) (calls : List Call) (ks : List ℕ) (replies
     → run state calls ks ≡ Some (replies, last) → AllByRecursion HasBytes replies
 replies_bytes state calls ks replies last fit ran = run_bytes (fresh state) calls ks replies last fit holds_none ran
 
--- ---- Calls that a text tells
+-- ---- Calls that were read from a text
 
 lines_fit : (lines : List (List ℕ)) (calls : List Call) → AreCalls lines calls → AllByRecursion Fits calls
 lines_fit [] [] are = tt
@@ -229,7 +229,7 @@ lines_fit ((b ∷ line) ∷ lines) (call ∷ calls) are = (are.0.fits, lines_fit
 pub calls_fit : (bytes : List ℕ) (calls : List Call) → CallsOf bytes (Ok calls) → AllByRecursion Fits calls
 calls_fit bytes calls are = lines_fit (lines_of bytes) calls are
 
--- two runs whose replies have one text have the same replies
+-- two runs whose replies have the same text have the same replies
 pub same_run_replies : (text other : List ℕ) (calls others : List Call) (state from : State) (ks js : List ℕ) (a b : List Reply)
     (last end : Machine)
     → CallsOf text (Ok calls) → CallsOf other (Ok others) → run state calls ks ≡ Some (a, last) → run from others js ≡ Some (b, end)

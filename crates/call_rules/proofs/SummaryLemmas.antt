@@ -1,4 +1,4 @@
--- The lines of a summary tell its numbers.
+-- The lines of a summary determine its numbers.
 use Rattle.std.proofs.Common.{◌≡◌, ℕ, List, [], ◌∷◌, ◌++◌, drop, refl, sym, ap, ◌∙◌, append_assoc, codes}
 use Rattle.std.proofs.lemmas.List.{append_cancel_left}
 use Rattle.call_rules.specs.Grammar.{fields}

@@ -1,4 +1,4 @@
--- A text is that of one list of replies.
+-- A text of replies belongs to one list of replies.
 use Rattle.std.proofs.Common.{◌≡◌, ℕ, List, [], ◌∷◌, ◌++◌, length, length-append, drop, refl, sym, ap, ◌∙◌, arith, append_assoc, codes}
 use Rattle.std.specs.List.{AllByRecursion}
 use Rattle.call_rules.specs.Grammar.{with_feed, fields}
@@ -7,14 +7,14 @@ use Rattle.call_rules.specs.declared.calls.Reply.{Reply}
 use Rattle.call_rules.specs.declared.calls.Reply.TheVariants.{Placed, Done, Bytes, Number, AllocErr, NoSuchName, NameTaken, BadLayout, OutOfRange}
 use Rattle.call_rules.proofs.LineLemmas.{read_by, read_field, read_field_back, read_hex, read_hex_back}
 
--- from an address on: the number of refusals, behind a word
+-- from an address on: the number of refusals, after a word
 abbrev read_refused : (ℕ → Reply) × List ℕ → Reply × List ℕ
 read_refused f = read_field f.0 (drop (length (codes " refused")) f.1)
 
 abbrev placed : ℕ → ℕ → Reply
 placed addr refused = Placed addr refused
 
--- the reply at the front, and what comes behind it
+-- the reply at the front, and the text after it
 abbrev read_reply : List ℕ → Reply × List ℕ
 read_reply = read_by (OutOfRange, [])
     ((codes "placed", λ text. read_refused (read_field placed text))

@@ -12,7 +12,7 @@ use Rattle.call_rules.specs.declared.calls.Call.TheVariants.{Alloc, Grow, Shrink
 use Rattle.call_rules.specs.declared.calls.Reply.{Reply}
 use Rattle.call_rules.specs.declared.calls.Reply.TheVariants.{Placed}
 
--- a call on a block that answered its place
+-- a call on a block that returned its place
 abbrev pub placed_by : Call → Machine → Statistics → Statistics
 placed_by (Alloc name size align fill) m s = one_allocation s
 placed_by (Grow name size align fill) m s =
@@ -21,16 +21,16 @@ placed_by (Shrink name size align) m s =
     option_map_or (λ (p : Place). resized (shrinking m.state p.addr p.size p.align size align) s) (map.get m.held name) s
 placed_by call m s = s
 
--- the reply tells a place
+-- the reply has a place
 abbrev pub is_placed : Reply → Bool
 is_placed (Placed addr refused) = true
 is_placed reply = false
 
--- A call that answers a place counts its block, and one that gives all blocks back begins again.
+-- A call that returns a place counts its block, and a reset starts again at 0.
 abbrev pub call_statistics : Call → Reply → Machine → Statistics → Statistics
 call_statistics call reply m s = if is_reset call then uncounted else (if is_placed reply then placed_by call m s else s)
 
--- of a run: call after call
+-- the counts of a run: call after call
 unfoldable pub statistics_from : Machine → List Call → List ℕ → Statistics → Statistics
 statistics_from m [] ks s = s
 statistics_from m (call ∷ calls) [] s = s

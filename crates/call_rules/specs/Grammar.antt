@@ -4,7 +4,7 @@ use Rattle.std.specs.List.{AllByRecursion, slice_split, flat_map}
 use Rattle.call_rules.specs.declared.calls.Call.{Call}
 use Rattle.call_rules.specs.declared.calls.Call.TheVariants.{Alloc, Grow, Shrink, Dealloc, Write, Read, Mark, Back, Reset, Used, Allocated}
 
--- the decimal digits of n, at most so many. The test is an `elim`, so that no more digits are computed than there are.
+-- the decimal digits of n, up to a limit. The test is an `elim`, so that no more digits are computed than there are.
 unfoldable pub digits : ℕ → ℕ → List ℕ
 digits zero n = []
 digits (suc more) n = elim (nat_lt n 10) [ true ↦ (48 + n) ∷ [] | false ↦ digits more (n / 10) ++ (48 + n % 10) ∷ [] ]
@@ -25,7 +25,7 @@ abbrev pub hex : List ℕ → List ℕ
 hex [] = codes "-"
 hex (b ∷ bytes) = flat_map hex_pair (b ∷ bytes)
 
--- each number behind a space
+-- each number after a space
 abbrev pub fields : List ℕ → List ℕ
 fields [] = []
 fields (n ∷ ns) = 32 ∷ number n ++ fields ns
@@ -65,7 +65,7 @@ Fits Reset = Unit {0}
 Fits Used = Unit {0}
 Fits Allocated = Unit {0}
 
--- the line is the call's
+-- the line is that of the call
 pub record IsCall (line : List ℕ) (call : Call) : Type 0 where
   pub fits : Fits call
   pub text : line ≡ call_line call
@@ -75,11 +75,11 @@ pub record IsRefused (line : List ℕ) : Type 0 where
   pub some : line ≢ []
   pub none : (call : Call) → IsCall line call → ⊥
 
--- the parts between line feeds: the last is empty where the bytes end with a line feed
+-- the parts between line feeds; the last is empty if the bytes end with a line feed
 abbrev pub lines_of : List ℕ → List (List ℕ)
 lines_of bytes = slice_split (λ b. b == 10) bytes
 
--- each line is empty or a call, and these are the calls in their order
+-- each line is empty or a call, and these are the calls in order
 abbrev pub AreCalls : List (List ℕ) → List Call → Type 0
 AreCalls [] [] = Unit {0}
 AreCalls [] (call ∷ calls) = ⊥
@@ -98,7 +98,7 @@ pub record IsFirstRefused (lines : List (List ℕ)) (n : ℕ) : Type 0 where
   pub good : AreCalls before calls
   pub bad : IsRefused line
 
--- what the bytes say: a list of calls, or the number of the first line that is refused
+-- what the bytes mean: a list of calls, or the number of the first line that is refused
 abbrev pub CallsOf : List ℕ → Result (List Call) ℕ → Type 0
 CallsOf bytes (Ok calls) = AreCalls (lines_of bytes) calls
 CallsOf bytes (Err n) = IsFirstRefused (lines_of bytes) n

@@ -1,4 +1,4 @@
--- The placement machine: calls by name, one after another, each told how many of its requests were refused.
+-- The placement machine: calls by name, one after another, each given the number of its requests that were refused.
 use Rattle.std.specs.Prelude.{◌≡◌, ◌≢◌, ℕ, ◌+◌, ◌-◌, ◌%◌, nat_lt, ◌==◌, Bool, true, false, not, if◌then◌else◌, Option, Some, None, List, [], ◌∷◌, ◌++◌, length, take, replicate, map, IsTrue}
 use Rattle.std.specs.Ordering.{nat_cmp}
 use Rattle.std.specs.Option.{is_some, option_map, option_map_or, option_and_then}
@@ -14,7 +14,7 @@ use Rattle.call_rules.specs.declared.calls.Call.TheVariants.{Alloc, Grow, Shrink
 use Rattle.call_rules.specs.declared.calls.Reply.{Reply}
 use Rattle.call_rules.specs.declared.calls.Reply.TheVariants.{Placed, Done, Bytes, Number, AllocErr, NoSuchName, NameTaken, BadLayout, OutOfRange}
 
--- the places of the blocks that names hold, and the bytes of each name
+-- the places of the blocks that names hold, and the bytes of each name's block
 abbrev pub Held : Type 0
 Held = map.FinMap nat_cmp Place
 
@@ -31,7 +31,7 @@ pub record Machine : Type 0 where
   pub bytes : Contents
   pub marks : Marks
 
--- a machine that holds no name, and has no mark
+-- a machine without names and marks
 abbrev pub fresh : State → Machine
 fresh state = record { state = state; held = map.empty; bytes = map.empty; marks = [] }
 
@@ -47,11 +47,11 @@ abbrev pub marks_to : Marks → ℕ → Marks
 marks_to [] name = []
 marks_to (mark ∷ older) name = if mark.0 == name then mark ∷ older else marks_to older name
 
--- the name's block has no bytes, or lies in the used part of one chunk of the state
+-- the name's block has no bytes, or is in the used part of one chunk of the state
 abbrev pub is_left : State → Held → ℕ → Bool
 is_left state held name = option_map_or (is_place_used state) (map.get held name) false
 
--- The machine at a name's mark: blocks that don't lie in what is left are gone, and so are newer marks.
+-- The machine at a name's mark: blocks that aren't in what remains are removed, and so are newer marks.
 abbrev pub goes_back : Machine → Point → ℕ → Machine
 goes_back m mark name = record {
   state = back mark m.state;
@@ -62,11 +62,11 @@ goes_back m mark name = record {
 
 -- ---- One call
 
--- what a call answers, and the machine after it
+-- the reply of a call, and the machine after it
 abbrev pub Next : Type 0
 Next = Reply × Machine
 
--- a call that asks for nothing has a step only where k is 0
+-- a call that makes no request has a step only where k is 0
 abbrev pub answers : ℕ → Reply → Machine → Option Next
 answers k reply m = if k == 0 then Some (reply, m) else None
 
@@ -74,17 +74,18 @@ answers k reply m = if k == 0 then Some (reply, m) else None
 abbrev pub holds : Machine → State → ℕ → Place → List ℕ → Machine
 holds m state name place bytes = record m { state = state; held = map.insert m.held name place; bytes = map.insert m.bytes name bytes }
 
--- the name holds nothing any more
+-- the name no longer holds anything
 abbrev pub lets_go : Machine → State → ℕ → Machine
 lets_go m state name = record m { state = state; held = map.remove m.held name; bytes = map.remove m.bytes name }
 
--- what a call that places answers, by where the block came to lie
+-- the reply of a call that places a block, by where the block is placed
 abbrev pub settles : Machine → ℕ → ℕ → ℕ → ℕ → List ℕ → State → Option ℕ → Next
 settles m k name size align bytes state (Some addr) =
     (Placed addr k, holds m state name (record { addr = addr; size = size; align = align }) bytes)
 settles m k name size align bytes state None = (AllocErr k, record m { state = state })
 
--- A block is given a layout, with these bytes, unless its size is on the wrong side of the block's.
+-- A block is given a layout, with these bytes, unless `wrong`: the size is too small for a grow, or too large for a
+-- shrink.
 abbrev pub gives_layout : Machine → ℕ → ℕ → ℕ → ℕ → Bool → List ℕ → Option Outcome → Option Next
 gives_layout m k name size align wrong bytes outcome =
     if not (is_layout size align) then answers k BadLayout m
@@ -105,7 +106,8 @@ abbrev pub at_mark : Option Point → Option Next → (Point → Option Next) �
 at_mark None missing go = missing
 at_mark (Some mark) missing go = go mark
 
--- What a call answers, where k of its requests were refused, and the machine after it. Refusals come in the order of the cases.
+-- The reply of a call, where k of its requests were refused, and the machine after it. Refusals are checked in the
+-- order of the cases.
 unfoldable pub step : Call → ℕ → Machine → Option Next
 step (Alloc name size align fill) k m =
     if map.contains_key m.held name then answers k NameTaken m
@@ -137,7 +139,7 @@ step Allocated k m = answers k (Number (allocated_bytes m.state)) m
 abbrev pub reply_first : Reply → List Reply × Machine → List Reply × Machine
 reply_first reply rest = (reply ∷ rest.0, rest.1)
 
--- The replies of the calls and the machine after them, where each call has a step for its number.
+-- The replies of the calls and the machine after them, if each call has a step for its number.
 unfoldable pub run_from : Machine → List Call → List ℕ → Option (List Reply × Machine)
 run_from m [] [] = Some ([], m)
 run_from m [] (k ∷ ks) = None
@@ -149,7 +151,7 @@ run_from m (call ∷ calls) (k ∷ ks) =
 abbrev pub run : State → List Call → List ℕ → Option (List Reply × Machine)
 run state calls ks = run_from (fresh state) calls ks
 
--- the refusals that a reply tells
+-- the refusals that a reply reports
 abbrev pub refused_of : Reply → ℕ
 refused_of (Placed addr refused) = refused
 refused_of (AllocErr refused) = refused
@@ -163,9 +165,9 @@ abbrev pub is_reset : Call → Bool
 is_reset Reset = true
 is_reset call = false
 
--- ---- What held blocks are to each other and to the state
+-- ---- How held blocks relate to each other and to the state
 
--- Each held block is aligned and lies in the used part of a chunk, and no two have an address in common.
+-- Each held block is aligned and in the used part of a chunk, and no two have an address in common.
 pub record IsSound (state : State) (held : Held) : Type 0 where
   pub aligned : (name : ℕ) (p : Place) → map.get held name ≡ Some p → p.addr % p.align ≡ 0
   pub used : (name : ℕ) (p : Place) → map.get held name ≡ Some p → IsTrue (is_place_used state p)

@@ -11,13 +11,13 @@ use Rattle.call_rules.specs.declared.calls.Call.{Call}
 abbrev pub call_made_first : Call → ℕ → Machine → Bool
 call_made_first call k m = is_anew_made_first m.state (placed_anew call m) k
 
--- so does each call of a run
+-- the same for each call of a run
 unfoldable pub made_first_from : Machine → List Call → List ℕ → Bool
 made_first_from m [] ks = true
 made_first_from m (call ∷ calls) [] = true
 made_first_from m (call ∷ calls) (k ∷ ks) =
     call_made_first call k m && option_map_or (λ (next : Next). made_first_from next.1 calls ks) (step call k m) true
 
--- A run begins with no names.
+-- A run begins without names.
 abbrev pub made_first : State → List Call → List ℕ → Bool
 made_first state calls ks = made_first_from (fresh state) calls ks

@@ -5,7 +5,7 @@ use Rattle.call_rules.specs.Grammar.{fields, hex, with_feed, IsByte}
 use Rattle.call_rules.specs.declared.calls.Reply.{Reply}
 use Rattle.call_rules.specs.declared.calls.Reply.TheVariants.{Placed, Done, Bytes, Number, AllocErr, NoSuchName, NameTaken, BadLayout, OutOfRange}
 
--- a line without its line feed
+-- a reply's line without its line feed
 abbrev pub reply_line : Reply → List ℕ
 reply_line (Placed addr refused) = codes "placed" ++ fields (addr ∷ []) ++ codes " refused" ++ fields (refused ∷ [])
 reply_line Done = codes "done"

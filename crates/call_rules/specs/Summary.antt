@@ -1,4 +1,4 @@
--- What replies come to, and a state, in eight numbers.
+-- A summary of replies and a state, in eight numbers.
 use Rattle.std.specs.Prelude.{ℕ, Bool, true, false, List, [], ◌∷◌, ◌++◌, length, sum, codes}
 use Rattle.std.specs.List.{filter, flat_map}
 use Rattle.arena_rules.specs.State.{State, used_bytes, allocated_bytes}
@@ -7,12 +7,12 @@ use Rattle.call_rules.specs.Grammar.{fields}
 use Rattle.call_rules.specs.declared.calls.Reply.{Reply}
 use Rattle.call_rules.specs.declared.calls.Reply.TheVariants.{Bytes, AllocErr, NoSuchName, NameTaken, BadLayout, OutOfRange}
 
--- the reply tells that there is no place
+-- the reply says that there is no place
 abbrev pub is_failed : Reply → Bool
 is_failed (AllocErr refused) = true
 is_failed reply = false
 
--- the reply refuses the call: what it names isn't there or is taken, or what it asks for is no layout or out of range
+-- the reply refuses the call: its name doesn't exist or is taken, or the layout isn't valid or is out of range
 abbrev pub is_named_refusal : Reply → Bool
 is_named_refusal NoSuchName = true
 is_named_refusal NameTaken = true
@@ -20,11 +20,11 @@ is_named_refusal BadLayout = true
 is_named_refusal OutOfRange = true
 is_named_refusal reply = false
 
--- how many replies are of a sort
+-- how many replies are of a kind
 abbrev pub count_of : (Reply → Bool) → List Reply → ℕ
 count_of is replies = length (filter is replies)
 
--- the bytes that a reply tells
+-- the bytes of a reply
 abbrev pub bytes_told : Reply → List ℕ
 bytes_told (Bytes bytes) = bytes
 bytes_told reply = []
@@ -33,8 +33,8 @@ bytes_told reply = []
 abbrev pub bytes_read : List Reply → List ℕ
 bytes_read replies = flat_map bytes_told replies
 
--- How many calls were answered, and how many of them placed a block, found no place, or were refused by name; how many bytes
--- were read, and their sum as numbers; and how many bytes of the chunks are used, and how many there are.
+-- How many calls there were, and how many of them placed a block, found no place, or were refused by their reply; how
+-- many bytes were read, and their sum; and how many bytes of the chunks are used, and how many the chunks have.
 pub record Summary : Type 0 where
   pub calls : ℕ
   pub placed : ℕ

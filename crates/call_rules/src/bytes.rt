@@ -6,14 +6,14 @@ use arena_rules::OutOfMemory;
 use std::alloc::{AllocError, Global};
 use std::marker::Model;
 
-// Bytes that lie here, or in memory of their own.
+// Bytes stored inline, or in memory of their own.
 #[derive(Drop, Debug)]
 enum Held {
     Short(Short),
     Long(Box<Vec<u8>>),
 }
 
-/// Bytes, which contracts see as their list. Up to 14 of them take no memory.
+/// A list of bytes. Up to 14 are stored inline, without an allocation.
 #[derive(Drop, Debug)]
 pub struct Bytes {
     alloc: Global,
@@ -51,7 +51,7 @@ impl Eq for Bytes {
     ghost laws = { nat_list_eq_equiv };
 }
 
-// These bytes and one more, in memory of their own with room for 28.
+// Copies these bytes and adds one more, in memory of their own with room for 28.
 fn longer(alloc: Global, bytes: &[u8], b: u8) -> Result<Vec<u8>, AllocError>
     ensures { IfOk result (λ all. all.items ≡ bytes.now ++ b ∷ []) }
 {
@@ -62,7 +62,7 @@ fn longer(alloc: Global, bytes: &[u8], b: u8) -> Result<Vec<u8>, AllocError>
 }
 
 impl Bytes {
-    // Bytes that lie here.
+    // Bytes stored inline.
     fn short(alloc: Global, bytes: Short) -> Bytes
         ensures { result ≡ bytes }
     {
@@ -72,25 +72,25 @@ impl Bytes {
         }
     }
 
-    /// No bytes. Takes no memory.
+    /// Returns an empty list. Doesn't allocate.
     pub fn new(alloc: Global) -> Bytes
         ensures { result ≡ [] }
     {
         Bytes::short(alloc, Short::new())
     }
 
-    /// One byte. Takes no memory.
+    /// Returns a list of one byte. Doesn't allocate.
     pub fn one(alloc: Global, b: u8) -> Bytes
         ensures { result ≡ b ∷ [] }
     {
         Bytes::short(alloc, Short::one(b))
     }
 
-    /// The bytes of a vector. More than 14 stay where they are.
+    /// Takes over the bytes of a vector. If there are more than 14, they aren't copied.
     ///
     /// # Errors
     ///
-    /// `OutOfMemory` where there are more than 14 and memory runs out.
+    /// `OutOfMemory` if there are more than 14 bytes and memory runs out.
     pub fn from_vec(alloc: Global, items: Vec<u8>) -> Result<Bytes, OutOfMemory>
         ensures value { IfOk result (λ bytes. bytes ≡ items.items) }
         ensures short { length items.items ≤ 14 → IsOk result }
@@ -105,11 +105,11 @@ impl Bytes {
         })
     }
 
-    /// A copy of these bytes.
+    /// Copies these bytes.
     ///
     /// # Errors
     ///
-    /// `OutOfMemory` where there are more than 14 and memory runs out.
+    /// `OutOfMemory` if there are more than 14 bytes and memory runs out.
     pub fn of(alloc: Global, src: &[u8]) -> Result<Bytes, OutOfMemory>
         ensures value { IfOk result (λ bytes. bytes ≡ src.now) }
         ensures short { length src.now ≤ 14 → IsOk result }
@@ -124,7 +124,7 @@ impl Bytes {
     ///
     /// # Errors
     ///
-    /// `OutOfMemory` where there are 14 or more and memory runs out. The bytes stay as they are.
+    /// `OutOfMemory` if there are at least 14 bytes and memory runs out. The bytes are unchanged.
     pub fn push(&mut self, b: u8) -> Result<(), OutOfMemory>
         ensures ok { OnOk result (self.new ≡ self.old ++ b ∷ []) }
         ensures err { OnErr result (self.new ≡ self.old) }
@@ -144,7 +144,7 @@ impl Bytes {
         }
     }
 
-    /// The bytes as a slice.
+    /// Returns the bytes as a slice.
     pub fn as_slice(&self) -> &[u8]
         ensures { result.now ≡ self.now }
     {
@@ -154,7 +154,7 @@ impl Bytes {
         }
     }
 
-    /// How many bytes there are.
+    /// Returns the number of bytes.
     pub fn len(&self) -> u64
         ensures { result ≡ length self.now }
     {

@@ -1,7 +1,7 @@
 //! The machine that serves calls by name, and the texts of calls and replies.
 //!
-//! The definitions lie in `specs/`: contracts in the crates above cite them. The code here is the
-//! plain types that they speak of, and the laws that show what the definitions mean. `CALLING.md` says which to cite.
+//! The definitions are in `specs/`: contracts in the crates above cite them. The code here is the plain types that they
+//! use, and the laws that show what the definitions mean. `CALLING.md` says which to cite.
 #![tactic(auto)]
 
 mod bytes;

@@ -1,12 +1,12 @@
-// Few bytes, which lie in the value itself.
+// Up to 14 bytes, stored inline.
 ghost use Rattle.std.specs.Prelude.{◌≡◌, ◌<◌, ◌≤◌, [], ◌∷◌, ◌++◌, length};
 
 use std::marker::Model;
 
-// The most bytes.
+// The capacity.
 pub(crate) const SHORT: usize = 14;
 
-// Bytes, which contracts see as their list.
+// A list of bytes with a fixed capacity.
 #[derive(Drop, Debug)]
 pub(crate) struct Short {
     len: u8,
@@ -24,7 +24,7 @@ impl Model for Short {
 }
 
 impl Short {
-    // No bytes.
+    // Returns an empty list.
     pub(crate) fn new() -> Short
         ensures { result ≡ [] }
     {
@@ -34,7 +34,7 @@ impl Short {
         }
     }
 
-    // One byte.
+    // Returns a list of one byte.
     pub(crate) fn one(b: u8) -> Short
         ensures { result ≡ b ∷ [] }
     {
@@ -43,7 +43,7 @@ impl Short {
         Short { len: 1, bytes }
     }
 
-    // A copy of these bytes.
+    // Copies these bytes.
     pub(crate) fn of(src: &[u8]) -> Short
         requires { length src.now ≤ 14 }
         ensures { result ≡ src.now }
@@ -56,14 +56,14 @@ impl Short {
         }
     }
 
-    // How many bytes there are.
+    // Returns the number of bytes.
     pub(crate) fn len(&self) -> usize
         ensures { result ≡ length self.now }
     {
         self.len as usize
     }
 
-    // Adds a byte at the end, where there is room.
+    // Adds a byte at the end; there must be room.
     pub(crate) fn push(&mut self, b: u8)
         requires { length self.old < 14 }
         ensures { self.new ≡ self.old ++ b ∷ [] }
@@ -72,7 +72,7 @@ impl Short {
         self.len += 1;
     }
 
-    // The bytes as a slice.
+    // Returns the bytes as a slice.
     pub(crate) fn as_slice(&self) -> &[u8]
         ensures { result.now ≡ self.now }
     {

@@ -1,4 +1,4 @@
--- Maps that stand in an arena of their own, as other calls leave them, and lists whose values are tested one after another.
+-- Maps in an arena of their own, after other calls; and lists whose values are checked one by one.
 use Rattle.std.proofs.Common.{◌≡◌, ℕ, zero, suc, inl, inr, ◌+◌, ◌≤◌, List, [], ◌∷◌, Option, Some, None, length, take, add-one, arith, refl, subst, IsTrue}
 use Rattle.std.specs.Prelude.{IfSome, slice_get}
 use Rattle.std.specs.List.{AllByRecursion}
@@ -18,18 +18,18 @@ use Rattle.arena_hash.specs.Slots.{items}
 use Rattle.arena_hash.specs.declared.map.HashMap.{HashMap}
 use Rattle.collection_tests.specs.Held.{ArePlain, IsKept}
 
--- where texts have no bytes
+-- keys whose texts have no bytes are plain
 pub plain : {K : Type 0} (key : Key K) → ((x : K) → (key.text x).size ≡ 0) → ArePlain key
 plain key none = record {
   readable = λ state x. rw (none x) refl;
   apart = λ x b some. absurd (omega (arith, none x, some));
 }
 
--- What holds of the first n, where there are no more, holds of all.
+-- What holds of the first n values holds of all if there are at most n.
 pub held_all : {A : Type 0} (P : A → Type 0) (xs : List A) (n : ℕ) → AllByRecursion P (take n xs) → length xs ≤ n → AllByRecursion P xs
 held_all P xs n all few = rw (take_all n xs few) at all
 
--- What holds of all that stands in the first slots, and of what stands in the next one, holds of all up to that.
+-- What holds of all values in the first slots, and of the value in the next one, holds of all up to that slot.
 pub held_next : {A : Type 0} (P : A → Type 0) (slots : List (Option A)) (i : ℕ) (o : Option A) → slice_get slots i ≡ Some o
     → IfSome o P → AllByRecursion P (items (take i slots)) → AllByRecursion P (items (take (i + 1) slots))
 held_next P [] i o at here all = absurd (cc at)
@@ -38,17 +38,17 @@ held_next P (Some x ∷ slots) zero o at here all = (subst (λ p. IfSome p P) (l
 held_next P (None ∷ slots) (suc i) o at here all = rw add-one (rw add-one at (held_next P slots i o at here all))
 held_next P (Some x ∷ slots) (suc i) o at here all = rw add-one (all.0, rw add-one at (held_next P slots i o at here all.1))
 
--- So all that stands in a table's slots is held, once they were all tested.
+-- So it holds of all values in a table's slots, once all slots are checked.
 pub held_slots : {A : Type 0} (P : A → Type 0) (slots : List (Option A)) (n : ℕ) → length slots ≤ n
     → AllByRecursion P (items (take n slots)) → AllByRecursion P (items slots)
 held_slots P slots n few all = rw (take_all n slots few) at all
 
--- blocks lie apart from none
+-- blocks are disjoint from none
 apart_none : (bs : List Block) → AreAllApart bs []
 apart_none [] = tt
 apart_none (b ∷ bs) = (tt, apart_none bs)
 
--- to lie apart is symmetric
+-- disjointness is symmetric
 apart_turned : (b c : Block) → AreBlocksApart b c → AreBlocksApart c b
 apart_turned b c apart = λ some other. elim (apart other some) [
   | inl before ↦ inr before
@@ -56,7 +56,7 @@ apart_turned b c apart = λ some other. elim (apart other some) [
 ]
 
 module _ {K V S : Type 0} (k : Kind K V S) (m : HashMap K V S) where
-  -- A map stands there after a call on new blocks,
+  -- A map is still held after a call that places blocks,
   pub kept_beside : (old new : Memory) (after : List Block) → Frame old new [] after → IsKept k old m → IsKept k new m
   kept_beside old new after frame kept =
       let held = kept.held in
@@ -68,7 +68,7 @@ module _ {K V S : Type 0} (k : Kind K V S) (m : HashMap K V S) where
         held = held-agree k old new m (stays_agree old new after blocks stays) held (stays_readable old new after blocks stays);
       }
 
-  -- and beside a new block, which may be read.
+  -- and disjoint from a new block, which is readable.
   pub placed_beside : (old new : View) (size align : ℕ) (b : Block) → PlacesBlock old new size align (Placed b) → IsKept k old.memory m
       → IsKept k new.memory m × IsTrue (is_readable new.memory.state b) × AreBlocksApart b m.table.block
   placed_beside old new size align b placed kept =

@@ -1,17 +1,22 @@
-// Worked examples of the rules, one call of each function, and refusals in the midst. Most are tables of calls.
-mod bit_texts;
+// Worked examples of the rules, one call of each function, and refusals of each kind of call. Most are tables of calls.
 mod bits;
 mod copies;
 mod maps;
-mod text_reads;
 mod texts;
 
 use arena_chunks::{Allocator, MemoryChunks};
+use arena_items::AllocError;
 use std::alloc::Global;
 use std::fmt::Debug;
 use std::process::Abort;
 
-// An allocator whose source has so many bytes.
+// No place in an arena that requests no chunk, or none of such a size.
+const NO_PLACE: AllocError = AllocError::AllocErr { refused: 0 };
+
+// The source refused the one request.
+const NO_CHUNK: AllocError = AllocError::AllocErr { refused: 1 };
+
+// An allocator whose source has a budget of `bytes` bytes.
 fn limited(alloc: Global, bytes: u64) -> Allocator<MemoryChunks> {
     Allocator::new(alloc, MemoryChunks::new(alloc, bytes))
 }
@@ -21,7 +26,7 @@ fn ample(alloc: Global) -> Allocator<MemoryChunks> {
     limited(alloc, 1 << 28)
 }
 
-// An allocator over bytes that aren't 0, where so many have a place. It asks for no chunk.
+// An allocator over `bytes` bytes that aren't 0. It requests no chunk.
 fn fixed(rt: &impl Abort, alloc: Global, bytes: usize) -> Allocator<MemoryChunks> {
     assert!(rt; bytes <= 4096 && bytes % 16 == 0);
     let region = vec![in alloc; 7u8; bytes + 48].expect(rt, "bytes");
@@ -29,12 +34,12 @@ fn fixed(rt: &impl Abort, alloc: Global, bytes: usize) -> Allocator<MemoryChunks
     made.ok().expect(rt, "an arena")
 }
 
-// What was found is what is wanted.
+// Fails the test if the two values differ.
 fn same<T: Copy + PartialEq + Debug>(rt: &impl Abort, found: T, wanted: T) {
     assert_eq!(rt; found, wanted);
 }
 
-// What was found there is what is wanted.
+// Fails the test if the two values differ. `at` names the case.
 fn same_at<A: Copy + Debug, T: Copy + PartialEq + Debug>(
     rt: &impl Abort,
     at: A,

@@ -1,17 +1,18 @@
-//! A first program over the arena: places, grows and shrinks blocks within a budget of memory, and says what became of them.
+//! A first program over the arena: places, grows and shrinks blocks within a memory budget, and prints what each call
+//! returns.
 #![tactic(auto)]
 
 ghost use Rattle.std.specs.Prelude.{◌≡◌, ◌≤◌, IfOk, IsTrue};
-ghost use Rattle.arena_chunks.specs.Memory.{is_readable};
+ghost use Rattle.arena.specs.Memory.{is_readable};
 
-use arena_chunks::{Alloc, Allocator, ArenaErr, Block, MemoryChunks, Str};
-use arena_place::Layout;
+use arena::{Alloc, Allocator, ArenaErr, Block, Layout, MemoryChunks, Str};
 use std::io;
 use std::process::ExitCode;
 
-// How many bytes the arena's chunks may have together.
+// The most bytes that the arena's chunks may have in all.
 const BUDGET: u64 = 40_000;
 
+// Why the example ended early: an invalid layout, an error of the arena, or a failed write.
 #[derive(Drop)]
 enum Failed {
     NoLayout,
@@ -31,12 +32,14 @@ impl From<io::Error> for Failed {
     }
 }
 
+// Returns a layout. An invalid size or alignment becomes an error, so that callers can use `?`.
 fn layout(size: u64, align: u64) -> Result<Layout, Failed>
     ensures { IfOk result (λ l. l.size ≡ size) }
 {
     Layout::new(size, align).ok_or(Failed::NoLayout)
 }
 
+// Places a text, and prints it with its address. The contract says that the text is readable after that.
 fn place_text(rt: &HostRuntime, a: &mut Allocator<MemoryChunks>) -> Result<Str, Failed>
     ensures { IfOk result (λ s. IsTrue (is_readable a.new.memory.state s.block)) }
 {
@@ -46,7 +49,7 @@ fn place_text(rt: &HostRuntime, a: &mut Allocator<MemoryChunks>) -> Result<Str, 
     Ok(text)
 }
 
-// Places numbers of four bytes each, grows the block by two of them, and shrinks it to half.
+// Places four numbers of four bytes each, grows the block by two numbers, and shrinks it to half.
 fn resize_numbers(rt: &HostRuntime, a: &mut Allocator<MemoryChunks>) -> Result<(), Failed> {
     let numbers = a.alloc(layout(16, 4)?)?;
     a.write(
@@ -65,7 +68,7 @@ fn resize_numbers(rt: &HostRuntime, a: &mut Allocator<MemoryChunks>) -> Result<(
     Ok(())
 }
 
-// Asks for more than the budget has left.
+// Asks for more bytes than the budget has left. The arena reports how many requests for chunks were refused.
 fn ask_for_too_much(rt: &HostRuntime, a: &mut Allocator<MemoryChunks>) -> Result<(), Failed> {
     match a.alloc_layout(layout(30_000, 1)?) {
         Ok(block) => {
@@ -80,6 +83,7 @@ fn ask_for_too_much(rt: &HostRuntime, a: &mut Allocator<MemoryChunks>) -> Result
     Ok(())
 }
 
+// Prints the bytes in use, the capacity, and the counts of blocks that were placed and of those that were resized.
 fn report(rt: &HostRuntime, a: &Allocator<MemoryChunks>) -> io::Result<()> {
     let used = a.used_bytes();
     let capacity = a.capacity();
@@ -87,6 +91,7 @@ fn report(rt: &HostRuntime, a: &Allocator<MemoryChunks>) -> io::Result<()> {
     println!(rt; "used {used} of {capacity} bytes; placed {placed}, grown or shrunk {resized}")
 }
 
+// Runs all steps, and then resets the arena, after which no block is held any more.
 fn run(rt: &HostRuntime) -> Result<(), Failed> {
     let chunks = MemoryChunks::new(rt.alloc(), BUDGET);
     let mut a = Allocator::new(rt.alloc(), chunks);
@@ -111,7 +116,7 @@ fn main(rt: HostRuntime) -> ExitCode {
         Err(Failed::NoPlace(ArenaErr::OutOfMemory)) => eprintln!(&rt; "out of memory"),
         Err(Failed::Output) => eprintln!(&rt; "write fault"),
     };
-    // Where standard error can't be written the exit status still tells.
+    // If standard error can't be written, the exit status still reports the failure.
     let _ = said;
     ExitCode::FAILURE
 }

@@ -1,4 +1,4 @@
--- What a refusal says, in whatever type it is told.
+-- What a refusal implies, whatever type carries it.
 use Rattle.std.proofs.Common.{◌≡◌, ℕ, ap, Err}
 use Rattle.arena_rules.specs.Moves.{Resizing}
 use Rattle.arena_chunks.specs.Source.{View}
@@ -10,7 +10,7 @@ use Rattle.arena_store.specs.declared.block.Block.{Block}
 use Rattle.example_blocks.specs.Buffers.{buffer_answer}
 use Rattle.example_blocks.specs.declared.buffer.BufferErr.TheVariants.{NoPlace}
 
--- It is the same answer of a result that names its block otherwise,
+-- A property of a refusal's answer holds for a result that contains the block in another form,
 pub refused_by : {X : Type 0} (block : X → Block) (e : ArenaErr) (P : Answer → Type 0) → P (answer_of (Err e))
     → P (answer_by block (Err e))
 refused_by block (AllocErr k) P is = is
@@ -22,7 +22,7 @@ pub refused_buffer : {X : Type 0} (block : X → Block) (e : ArenaErr) (P : Answ
 refused_buffer block (AllocErr k) P is = is
 refused_buffer block OutOfMemory P is = is
 
--- No byte and no place changed.
+-- A refusal leaves the arena's memory as it was.
 pub refused_memory : (old new : View) (size align : ℕ) (e : ArenaErr) → PlacesBlock old new size align (answer_of (Err e))
     → new.memory ≡ old.memory
 refused_memory old new size align (AllocErr k) places = places.1.outcome.1.memory

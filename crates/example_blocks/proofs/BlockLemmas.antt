@@ -6,7 +6,7 @@ use Rattle.arena_store.specs.declared.block.Block.{Block}
 use Rattle.arena_chunks.proofs.Layers.{frame_keeps_new}
 use Rattle.example_blocks.specs.Blocks.{AreReadable}
 
--- All of them may be read.
+-- All of them are readable.
 pub added_readable : (old new : Memory) (bs : List Block) (b : Block) → Frame old new [] (b ∷ []) → AreReadable old bs
     → IsTrue (is_readable new.state b) → AreReadable new (bs ++ b ∷ [])
 added_readable old new [] b frame readable is = (is, tt)

@@ -1,4 +1,4 @@
--- A buffer's bytes, in its own block or in one that grew.
+-- A buffer's bytes, in its own block or in the grown one.
 use Rattle.std.proofs.Common.{◌≡◌, ℕ, ◌+◌, ◌<◌, ◌≤◌, min, refl, ◌∙◌, ap, arith, List, [], ◌∷◌, ◌++◌}
 use Rattle.arena_chunks.specs.Memory.{Memory, image}
 use Rattle.arena_chunks.specs.Source.{View}
@@ -32,7 +32,7 @@ room_made old new buffer b is full grows =
       frame = grown.frame;
     }
 
--- One more byte behind the others.
+-- One more byte after the others.
 pub pushed : (old mid new : Memory) (buffer : Buffer) (b : Block) (byte : ℕ) → HasRoom old mid buffer b
     → WritesBlock mid new b buffer.length (byte ∷ [])
     → Has new (record { block = b; length = buffer.length + 1 }) (contents old buffer ++ byte ∷ [])

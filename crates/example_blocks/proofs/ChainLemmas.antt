@@ -85,7 +85,7 @@ module _ (outer : Ghosts First) (inner : Ghosts Second) (number : Ghosts ℕ) (o
   link_same : box_value inner new (second outer old c) ≡ box_value inner old (second outer old c)
   link_same = box_same inner old new _ _ (second outer old c) frame is.second (is.apart.1.0.0, tt)
 
-  -- Where the last box is set the chain is held,
+  -- If the last box is set, the chain is held,
   pub set_held : IsBoxIn number new (third outer inner old c) → IsChain outer inner number new c
   set_held held = chain_is outer inner number new c _ _ _ head_same link_same value
       (box_held outer old new _ _ c.first frame is.first (is.apart.0.1.0, tt))

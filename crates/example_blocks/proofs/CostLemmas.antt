@@ -1,4 +1,4 @@
--- What a new block costs: it is room that is taken where there was none.
+-- The cost of a new block, as room that is made for a collection that had none.
 use Rattle.std.proofs.Common.{ℕ, ◌+◌, ◌-◌, ◌*◌, ◌^◌, ◌≤◌, refl, arith, IsTrue, Result, Ok, Err}
 use Rattle.arena_rules.specs.Rounding.{is_layout, is_power_among, up}
 use Rattle.arena_rules.specs.State.{State}
@@ -28,7 +28,7 @@ module _ (old between new : View) (size align n : ℕ) (same : SamePlaces betwee
       → TakesRoom old between (no_block align) 0 (n * size) align answer
   taken answer places = record { placed = λ none. places; grown = λ some. absurd (omega (arith, some)) }
 
-  -- A block that is placed for n values, or refused, is their room.
+  -- A block that is placed for n values, or refused, makes room for them.
   pub made : (result : Result Block AllocError) → RoomAnswer (λ b. b) result (PlacesBlock old between (n * size) align)
       → MakesRoom size align old new (no_block align) 0 (GrowsTo n) (λ b. b) result
   made (Ok b) places = record { between = between; took = taken _ places; places = same }
@@ -36,7 +36,7 @@ module _ (old between new : View) (size align n : ℕ) (same : SamePlaces betwee
   made (Err OutOfMemory) places = record { between = between; took = taken _ places; places = same }
   made (Err CapacityOverflow) places = absurd places
 
--- The bytes of a block with its padding cover it.
+-- A block's bytes and its padding cover its cost.
 pub covered : (size align : ℕ) → IsTrue (is_layout size align) → align ≤ 16 → size ≤ 2 ^ 60 → (result : Result Block AllocError)
     → Covers (size + (align - 1)) 0 0 size align result
 covered size align layout small bounded (Ok b) = record {
@@ -60,6 +60,6 @@ number_layout : IsTrue (is_layout 4 4)
 unfolding is_power_among up
 number_layout = refl
 
--- So it is of a number's block.
+-- The instance for the block of a number of four bytes.
 pub number_covered : (result : Result Block AllocError) → Covers 7 0 0 4 4 result
 number_covered result = covered 4 4 number_layout (omega arith) (omega arith) result

@@ -1,4 +1,4 @@
--- A box and then a row in which it is put.
+-- A box, and then a row into which it is written.
 use Rattle.std.proofs.Common.{◌≡◌, ℕ, ◌+◌, ◌∙◌, inl, inr, Ok, Err, List, [], ◌∷◌, ◌++◌, refl}
 use Rattle.arena_chunks.specs.Memory.{Memory}
 use Rattle.arena_chunks.specs.Source.{View}
@@ -49,7 +49,7 @@ module _ (number : Ghosts ℕ) (handle : Ghosts (Box ℕ)) (old mid last : View)
   apart : IsApart box.block.addr box.block.size (row ∷ [])
   apart = box_apart number mid.memory last.memory [] (row ∷ []) box frame places.held tt
 
-  -- The row begins with the box, which means the number.
+  -- The row begins with the box, which has the number as its value.
   pub row_begins : elements handle.SIZE handle.decoded (0 + 1) (bytes_of new row)
       ≡ elements handle.SIZE handle.decoded 0 (bytes_of last.memory row) ++ box ∷ []
       → BeginsWith number handle new row n

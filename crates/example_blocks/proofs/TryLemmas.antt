@@ -1,4 +1,4 @@
--- A block or a value that is placed, and given up again.
+-- A block or a value that is placed, and then rolled back.
 use Rattle.std.proofs.Common.{◌≡◌, ℕ, ap, refl, sym, subst, ◌∙◌, arith, IsTrue, eq-eqb}
 use Rattle.arena_rules.specs.State.{State, is_used, is_range_used}
 use Rattle.arena_rules.specs.Back.{mark_of, back, KeepsMark}
@@ -33,7 +33,7 @@ try_over old mid new size align answer p keeps is goes =
     record { used = used; bytes = λ addr in_use. goes.bytes addr (used addr in_use) ∙ kept.bytes addr in_use }
 
 module _ (old mid : State) (keeps : KeepsMark (mark_of old) old mid) where
-  -- The mark from before is accepted,
+  -- The earlier mark is accepted,
   pub mark_accepted : IsTrue (is_accepted (checkpoint_of old) mid)
   mark_accepted = rw (eq-eqb _ _ (sym keeps.generation), keeps.accepted) refl
 

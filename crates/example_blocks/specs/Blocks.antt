@@ -8,11 +8,11 @@ use Rattle.arena_store.specs.declared.block.Block.{Block}
 abbrev pub bytes_of : Memory → Block → List ℕ
 bytes_of memory b = bytes_from (image memory) b.addr b.size
 
--- The block may be read, and these bytes stand in it.
+-- The block is readable and has these bytes.
 pub record Holds (memory : Memory) (b : Block) (list : List ℕ) : Type 0 where
   pub readable : IsTrue (is_readable memory.state b)
   pub bytes : bytes_of memory b ≡ list
 
--- each of the blocks may be read
+-- each of the blocks is readable
 abbrev pub AreReadable : Memory → List Block → Type 0
 AreReadable memory blocks = AllByRecursion (λ (b : Block). IsTrue (is_readable memory.state b)) blocks

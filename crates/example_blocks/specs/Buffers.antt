@@ -19,23 +19,23 @@ pub record IsBuffer (memory : Memory) (buffer : Buffer) : Type 0 where
 abbrev pub contents : Memory → Buffer → List ℕ
 contents memory buffer = bytes_from (image memory) buffer.block.addr buffer.length
 
--- It is a buffer of these bytes.
+-- A buffer with these bytes.
 pub record Has (memory : Memory) (b : Buffer) (list : List ℕ) : Type 0 where
   pub buffer : IsBuffer memory b
   pub bytes : contents memory b ≡ list
 
--- what the arena answered, as the buffer's own error tells it
+-- the arena's answer, as the buffer's own error type carries it
 abbrev pub buffer_answer : {X : Type 0} → (X → Block) → Result X BufferErr → Answer
 buffer_answer block (Ok x) = Placed (block x)
 buffer_answer block (Err CapacityOverflow) = Refused 0
 buffer_answer block (Err (NoPlace (AllocErr refused))) = Refused refused
 buffer_answer block (Err (NoPlace OutOfMemory)) = Exhausted
 
--- how large a full block becomes
+-- the size to which a full block grows
 abbrev pub doubled : ℕ → ℕ
 doubled size = 2 * max size 4
 
--- The block may stand in for the buffer's own: it has the buffer's bytes, and room for one more.
+-- The block can replace the buffer's own: it has the buffer's bytes, and room for one more.
 pub record HasRoom (old new : Memory) (buffer : Buffer) (b : Block) : Type 0 where
   pub room : buffer.length < b.size
   pub readable : IsTrue (is_readable new.state b)

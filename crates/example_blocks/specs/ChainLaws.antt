@@ -1,4 +1,4 @@
--- A chain by its links; and that it is the same wherever its blocks have the same bytes.
+-- A chain by its links, and that it means the same wherever its blocks have the same bytes.
 use Rattle.std.specs.Prelude.{◌≡◌, ℕ, ◌∷◌, []}
 use Rattle.std.proofs.Common.{ap, ◌∙◌, sym, subst}
 use Rattle.arena_chunks.specs.Memory.{Memory}
@@ -23,7 +23,7 @@ module _ (outer : Ghosts First) (inner : Ghosts Second) (number : Ghosts ℕ) wh
     third_is : third outer inner m v ≡ q.1
     third_is = ap (λ (r : Second). r.1) link_is
 
-    -- They tell its blocks,
+    -- They determine its blocks,
     pub blocks_are : blocks outer inner m v ≡ v.first.block ∷ p.1.block ∷ q.1.block ∷ []
     blocks_are = λ i. v.first.block ∷ (second_is i).block ∷ (third_is i).block ∷ []
 
@@ -31,7 +31,7 @@ module _ (outer : Ghosts First) (inner : Ghosts Second) (number : Ghosts ℕ) wh
     pub numbers_are : numbers outer inner number m v ≡ p.0 ∷ q.0 ∷ z ∷ []
     numbers_are = λ i. (head i).0 ∷ (link_is i).0 ∷ (ap (box_value number m) third_is ∙ last) i ∷ []
 
-    -- and it is held where the boxes are.
+    -- and it is held if the boxes are.
     pub chain_is : IsBoxIn outer m v.first → IsBoxIn inner m p.1 → IsBoxIn number m q.1
         → ArePairwiseApart (v.first.block ∷ p.1.block ∷ q.1.block ∷ []) → IsChain outer inner number m v
     chain_is first_held second_held third_held apart = record {
@@ -41,7 +41,7 @@ module _ (outer : Ghosts First) (inner : Ghosts Second) (number : Ghosts ℕ) wh
       apart = subst ArePairwiseApart (sym blocks_are) apart;
     }
 
-  -- Its blocks may be read.
+  -- Its blocks are readable.
   pub chain_readable : (m : Memory) (v : Chain) → IsChain outer inner number m v → AreReadable m.state (blocks outer inner m v)
   chain_readable m v is = (is.first.readable, (is.second.readable, (is.third.readable, tt)))
 
@@ -55,7 +55,7 @@ module _ (outer : Ghosts First) (inner : Ghosts Second) (number : Ghosts ℕ) wh
     last_same : box_value number c (third outer inner a v) ≡ box_value number a (third outer inner a v)
     last_same = sym (ap number.decoded agree.1.1.0)
 
-    -- Where they have the same bytes the chain has the same blocks,
+    -- If they have the same bytes, the chain has the same blocks,
     pub chain_blocks : blocks outer inner a v ≡ blocks outer inner c v
     chain_blocks = sym (blocks_are c v _ _ _ head_same link_same last_same)
 
@@ -63,7 +63,7 @@ module _ (outer : Ghosts First) (inner : Ghosts Second) (number : Ghosts ℕ) wh
     pub chain_numbers : numbers outer inner number a v ≡ numbers outer inner number c v
     chain_numbers = sym (numbers_are c v _ _ _ head_same link_same last_same)
 
-    -- and is held if they may be read.
+    -- and is held if they are readable.
     pub chain_again : IsChain outer inner number a v → AreReadable c.state (blocks outer inner a v) → IsChain outer inner number c v
     chain_again is readable = chain_is c v _ _ _ head_same link_same last_same
         (held_again outer.SIZE outer.ALIGN a.state c.state _ is.first readable.0)

@@ -1,4 +1,4 @@
--- A chain of three boxes: the first names the second, and that the third.
+-- A chain of three boxes: the first holds the handle of the second, and the second that of the third.
 use Rattle.std.specs.Prelude.{ℕ, List, [], ◌∷◌}
 use Rattle.arena_chunks.specs.Memory.{Memory}
 use Rattle.arena_chunks.specs.Frame.{ArePairwiseApart}
@@ -33,7 +33,7 @@ numbers outer inner number memory c = (box_value outer memory c.first).0
 abbrev pub blocks : Ghosts First → Ghosts Second → Memory → Chain → List Block
 blocks outer inner memory c = c.first.block ∷ (second outer memory c).block ∷ (third outer inner memory c).block ∷ []
 
--- Each of its boxes is held, and their blocks lie apart.
+-- Each of its boxes is held, and their blocks are pairwise disjoint.
 pub record IsChain (outer : Ghosts First) (inner : Ghosts Second) (number : Ghosts ℕ) (memory : Memory) (c : Chain) : Type 0 where
   pub first : IsBoxIn outer memory c.first
   pub second : IsBoxIn inner memory (second outer memory c)

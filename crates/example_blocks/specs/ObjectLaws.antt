@@ -1,4 +1,4 @@
--- An object is the same wherever its blocks have the same bytes.
+-- An object means the same wherever its blocks have the same bytes.
 use Rattle.std.proofs.Common.{◌≡◌, ℕ, inl, inr}
 use Rattle.arena_chunks.specs.Memory.{Memory}
 use Rattle.arena_items.specs.declared.item.Item.{Ghosts}

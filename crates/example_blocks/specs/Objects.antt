@@ -7,7 +7,7 @@ use Rattle.arena_items.specs.Values.{IsBoxIn, box_value, IsSliceIn, slice_list, 
 use Rattle.example_blocks.specs.declared.objects.Object.{Object}
 use Rattle.example_blocks.specs.declared.objects.Object.TheVariants.{Number, Titled}
 
--- the blocks that one names
+-- the blocks to which an object refers
 abbrev pub blocks : Object → List Block
 blocks (Number of) = of.block ∷ []
 blocks (Titled title of) = title.block ∷ of.block ∷ []

@@ -6,14 +6,15 @@ use Rattle.arena_items.specs.declared.boxes.Box.{Box}
 use Rattle.arena_items.specs.declared.placing.ItemErr.{ItemErr}
 use Rattle.arena_items.specs.Typed.{PlacesBox}
 
--- A value was placed, and this is so of the arena then and of the box.
+-- A value was placed, and `next` holds of the arena after that and of the box.
 pub record AfterPlacing {T : Type 0} (item : Ghosts T) (old : View) (is : T → Type 0) (next : View → Box T → Type 0) : Type 0 where
   pub between : View
   pub box : Box T
   pub placed : PlacesBox item old between is (Ok box)
   pub follows : next between box
 
--- A value is placed, and a second call follows, of which `next` says all. Where the first call is refused, that is the answer.
+-- A value is placed, and a second call follows, which `next` describes in full. If the first call fails, its error is
+-- the result.
 abbrev pub PlacesThen : {T X : Type 0} → Ghosts T → View → View → (T → Type 0) → (View → Box T → Type 0) → Result X ItemErr → Type 0
 PlacesThen item old new is next (Ok x) = AfterPlacing item old is next
 PlacesThen item old new is next (Err e) = PlacesBox item old new is (Err e) ⊎ AfterPlacing item old is next

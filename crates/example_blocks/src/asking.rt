@@ -1,4 +1,4 @@
-// What calls ask for, and why they are refused.
+// Bounds on what calls request from the source of chunks, and the causes of their errors.
 ghost use Rattle.std.specs.Prelude.{◌≡◌, ◌+◌, ◌^◌, ◌≤◌, IfOk, IsTrue, [], ◌∷◌};
 ghost use Rattle.arena_rules.specs.State.{used_bytes};
 ghost use Rattle.arena_chunks.specs.Answers.{answer_of};
@@ -11,12 +11,13 @@ use arena_chunks::{Alloc, Allocator, ArenaErr, Block, ChunkSource};
 use arena_place::Layout;
 use arena_rules::laws::{asked_together, starved_together};
 
-/// Places a block and grows it. An arena that grows asks for chunks of at most twice what both sizes need, and five pages.
+/// Places a block and grows it. Each chunk that the arena requests has at most five pages and twice the bytes that
+/// are needed: those in use, and both sizes with their padding.
 ///
 /// # Errors
 ///
-/// As of `alloc_layout`, or of `grow` where the smaller block was placed. That one stays then. A growing arena was
-/// starved, and one that doesn't grow has fewer bytes than both sizes need.
+/// Those of `alloc_layout`; or those of `grow`, and then the smaller block stays placed. After an `AllocErr`, an arena
+/// that grows was starved, and one that doesn't grow has fewer bytes than are needed.
 pub fn place_then_grow<C: ChunkSource>(
     a: &mut Allocator<C>,
     small: Layout,
@@ -39,7 +40,7 @@ pub fn place_then_grow<C: ChunkSource>(
     starved_together();
     used_by_placing();
     used_by_resizing();
-    // So the least alignment is known to be 1.
+    // Shows the prover that the least alignment is 1.
     a.known();
     let block = a.alloc_layout(small)?;
     let grown = a.grow(block, large)?;

@@ -1,4 +1,4 @@
-// Values beside others, and the laws on them.
+// Values next to others, and the laws on them.
 ghost use Rattle.std.specs.Prelude.{◌≡◌, ◌≢◌, ◌+◌, ◌^◌, ◌<◌, ◌≤◌, IfOk, [], ◌∷◌};
 ghost use Rattle.arena_items.specs.ByteForms.{pair_item};
 ghost use Rattle.arena_items.specs.Footprint.{Agree};
@@ -9,7 +9,7 @@ use arena_chunks::{Allocator, ChunkSource};
 use arena_items::laws::{address_law, meaning_law};
 use arena_items::{Address, ArenaItems, Box, Item, ItemErr};
 
-/// The value of a box in whichever of two arenas, which have the same bytes there.
+/// Returns a box's value from either of two arenas that have the same bytes in its block.
 pub fn read_either<T: Item, C: ChunkSource>(
     first: &Allocator<C>,
     second: &Allocator<C>,
@@ -30,11 +30,11 @@ pub fn read_either<T: Item, C: ChunkSource>(
     }
 }
 
-/// Places a value. Its box has another address than an earlier one, and not that of `Address::DUMMY`.
+/// Places a value. The address of its box differs from that of an earlier box and from `Address::DUMMY`.
 ///
 /// # Errors
 ///
-/// As of `alloc`. Nothing changes.
+/// Those of `alloc`. Nothing changes.
 pub fn place_another<T: Item, U: Item, A: ArenaItems>(
     a: &mut A,
     earlier: Box<U>,
@@ -57,7 +57,7 @@ pub fn place_another<T: Item, U: Item, A: ArenaItems>(
 ///
 /// # Errors
 ///
-/// As of `alloc`. Nothing changes.
+/// Those of `alloc`. Nothing changes.
 pub fn place_pair<T: Item, A: ArenaItems>(
     a: &mut A,
     value: T,

@@ -1,4 +1,4 @@
-// A list of blocks that lie pairwise apart.
+// A list of blocks that are pairwise disjoint.
 ghost use Rattle.std.specs.Prelude.{◌≡◌, ◌⊎◌, ◌++◌, [], ◌∷◌, IfOk, IfErr, Err};
 ghost use Rattle.arena_chunks.specs.Answers.{answer_of};
 ghost use Rattle.arena_chunks.specs.Answers.Answer.{Placed};
@@ -12,13 +12,12 @@ use arena_chunks::laws::{apart, placed};
 use arena_chunks::{Allocator, ArenaErr, Block, ChunkSource};
 use arena_place::Layout;
 
-/// Places one more block, and puts it behind the others. All of them may be read then, and lie pairwise
-/// apart.
+/// Places a block and appends it to the list. All blocks of the list stay readable and pairwise disjoint.
 ///
 /// # Errors
 ///
-/// As of `alloc_layout`, and `OutOfMemory` where memory for the list runs out, before the arena is called.
-/// The list and the arena stay as they were.
+/// Those of `alloc_layout`; and `OutOfMemory` if there is no memory for the list, before the arena is called.
+/// The list is unchanged.
 pub fn add_block<C: ChunkSource>(
     a: &mut Allocator<C>,
     blocks: &mut Vec<Block>,

@@ -14,9 +14,9 @@ use arena_place::Layout;
 /// Why a buffer has no room for more.
 #[derive(Clone, Copy, Debug)]
 pub enum BufferErr {
-    /// The size that is wanted is no layout. The arena wasn't asked.
+    /// The requested size isn't a valid layout. The arena wasn't called.
     CapacityOverflow,
-    /// The arena has no place.
+    /// The arena returned this error.
     NoPlace(ArenaErr),
 }
 
@@ -29,11 +29,12 @@ pub struct Buffer {
 
 #[tactic(auto, using(arena_chunks::proofs::Layers::layer_laws, crate::proofs::BufferLemmas::buffer_laws))]
 impl Buffer {
-    /// A buffer of no bytes, with room for so many.
+    /// Returns an empty buffer with room for `capacity` bytes.
     ///
     /// # Errors
     ///
-    /// `CapacityOverflow` where so many bytes are no layout, and otherwise as of `alloc_layout`. Nothing changes.
+    /// `CapacityOverflow` if `capacity` bytes aren't a valid layout, and nothing changes; otherwise those of
+    /// `alloc_layout`.
     pub fn with_capacity<C: ChunkSource>(
         a: &mut Allocator<C>,
         capacity: u64,
@@ -52,7 +53,7 @@ impl Buffer {
         }
     }
 
-    /// The bytes.
+    /// Returns the buffer's bytes.
     pub fn bytes<C: ChunkSource>(self, a: &Allocator<C>) -> &[u8]
         requires { IsBuffer a.now.memory self }
         ensures { result.now ≡ contents a.now.memory self }
@@ -60,13 +61,12 @@ impl Buffer {
         &a.read(self.block)[..self.length as usize]
     }
 
-    /// Puts a byte behind the others: into its own block, or where that is full into one twice as large, of 8
-    /// bytes at least.
+    /// Appends a byte. If the block is full, it grows to twice its size, and to at least 8 bytes.
     ///
     /// # Errors
     ///
-    /// Where its block is full: `CapacityOverflow` if twice its size is no layout, and otherwise as of `grow`.
-    /// Nothing changes.
+    /// Only if the block is full: `CapacityOverflow` if the new size isn't a valid layout, otherwise those of `grow`.
+    /// The buffer and the arena's memory are unchanged.
     pub fn push<C: ChunkSource>(&mut self, a: &mut Allocator<C>, byte: u8) -> Result<(), BufferErr>
         requires { IsBuffer a.old.memory self.old }
         ensures room { self.old.length < self.old.block.size → IsOk result × (self.new.block ≡ self.old.block)
@@ -93,7 +93,7 @@ impl Buffer {
         Ok(())
     }
 
-    // A block with room for one more byte: its own, or where that is full one twice as large.
+    // Returns a block with room for one more byte: the buffer's own, or if that is full, the grown one.
     fn make_room<C: ChunkSource>(self, a: &mut Allocator<C>) -> Result<Block, BufferErr>
         requires { IsBuffer a.old.memory self }
         ensures own { self.length < self.block.size → (result ≡ Ok self.block) × (a.new ≡ a.old) }
@@ -112,7 +112,7 @@ impl Buffer {
     }
 }
 
-// Grows a block to twice its size, or to 8 bytes.
+// Grows a block to twice its size, and to at least 8 bytes.
 fn double<C: ChunkSource>(a: &mut Allocator<C>, block: Block) -> Result<Block, BufferErr>
     requires { IsTrue (is_readable a.old.memory.state block) }
     ensures overflow { is_layout (doubled block.size) 1 ≡ false

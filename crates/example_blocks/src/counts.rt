@@ -1,4 +1,4 @@
-// How many bytes calls bring out of use.
+// By how much calls lower the number of bytes in use.
 ghost use Rattle.std.specs.Prelude.{◌≡◌, ℕ, ◌+◌, ◌-◌, ◌≤◌, IsTrue, [], ◌∷◌};
 ghost use Rattle.arena_rules.specs.State.{cursor_of, used_bytes};
 ghost use Rattle.arena_rules.specs.Doubling.{IsDoubling};
@@ -12,7 +12,8 @@ use arena_chunks::laws::{doubling, given_back, used_by_giving_back, used_by_resi
 use arena_chunks::{Alloc, Allocator, Block, ChunkSource};
 use arena_place::Layout;
 
-/// Gives a block back. At least alignment 1 that touches the block alone, and a block at the cursor gives back its size.
+/// Gives a block back. Other blocks stay, with their bytes. If the block is at the cursor, the bytes in use fall by
+/// its size.
 pub fn give_back<C: ChunkSource>(a: &mut Allocator<C>, block: Block)
     requires { IsTrue (is_readable a.old.memory.state block) }
     ensures given { GivesBack a.old.memory a.new.memory block }
@@ -24,7 +25,7 @@ pub fn give_back<C: ChunkSource>(a: &mut Allocator<C>, block: Block)
     ensures doubling { (z : ℕ)
         → IsDoubling z a.old.memory.state.chunks → IsDoubling z a.new.memory.state.chunks }
 {
-    // So the least alignment is known to be 1.
+    // Shows the prover that the least alignment is 1.
     a.known();
     doubling();
     given_back();
@@ -32,7 +33,7 @@ pub fn give_back<C: ChunkSource>(a: &mut Allocator<C>, block: Block)
     a.dealloc(block);
 }
 
-/// Shrinks a block, which is never refused. If it moves up to q, so many bytes come out of use.
+/// Shrinks a block, which never fails. If the block moves up to an address `q`, the bytes in use fall by the distance.
 pub fn shrink_in_place<C: ChunkSource>(a: &mut Allocator<C>, block: Block, layout: Layout) -> Block
     requires readable { IsTrue (is_readable a.old.memory.state block) }
     requires size { layout.size ≤ block.size }

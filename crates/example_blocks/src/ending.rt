@@ -3,7 +3,7 @@ ghost use Rattle.std.specs.Prelude.{◌≡◌, ◌-◌, ◌≤◌, ◌++◌, len
 
 use arena_region::Region;
 
-/// Writes these bytes at the end of a region, which is made ready as far as they need.
+/// Writes bytes at the end of a region. No more of the region is made ready than they need.
 pub fn put_last(region: &mut Region, list: &[u8])
     requires { length list.now ≤ length region.old.items }
     ensures items { let kept = length region.old.items - length list.now in

@@ -1,4 +1,4 @@
-// The same over whatever places blocks in an arena.
+// Blocks that are placed and grown through the trait `Alloc`.
 ghost use Rattle.std.specs.Prelude.{◌≡◌, ◌≤◌, IfOk, IsTrue, [], ◌∷◌};
 ghost use Rattle.arena_rules.specs.Blocks.{IsBlock};
 ghost use Rattle.arena_chunks.specs.Memory.{is_readable, image, bytes_from};
@@ -12,11 +12,11 @@ use arena_chunks::laws::{frames, placed, resized};
 use arena_chunks::{Alloc, ArenaErr, Block};
 use arena_place::Layout;
 
-/// Grows a block beside another, which stays with its bytes. The grown block begins with the bytes that it had.
+/// Grows a block. Its bytes are kept, and so is another block that is disjoint from it, with its bytes.
 ///
 /// # Errors
 ///
-/// As of `grow`. Nothing changes.
+/// Those of `grow`. No block and no byte changes.
 #[tactic(auto, using(arena_chunks::proofs::Layers::layer_laws))]
 pub fn grow_beside<A: Alloc>(
     a: &mut A,
@@ -37,11 +37,11 @@ pub fn grow_beside<A: Alloc>(
     Ok(grown)
 }
 
-/// Places a block and grows it. What is answered is one of the arena's blocks, and nothing else changed.
+/// Places a block and grows it. The result is a block of the arena, and all that was in use is unchanged.
 ///
 /// # Errors
 ///
-/// As of `alloc`, or of `grow` where the smaller block was placed. That one stays then.
+/// Those of `alloc`; or those of `grow`, and then the smaller block stays placed.
 #[tactic(auto, using(arena_chunks::proofs::Layers::layer_laws))]
 pub fn place_and_grow<A: Alloc>(a: &mut A, small: Layout, large: Layout) -> Result<Block, ArenaErr>
     requires { small.size ≤ large.size }

@@ -1,4 +1,4 @@
-// A value that is placed and room that is taken, in one function.
+// One function that places a value and takes room for a row.
 ghost use Rattle.std.specs.Prelude.{◌≡◌, ◌+◌, ◌-◌, ◌*◌, ◌^◌, ◌≤◌, IfOk};
 ghost use Rattle.arena_items.specs.Costs.{Costs, farthest};
 ghost use Rattle.example_blocks.specs.Rows.{BeginsWith, BoxThenRow};
@@ -8,13 +8,13 @@ use arena_items::laws::{costs_law, room_law};
 use arena_items::{AllocError, Box, Grown, Item, put_item, take_room};
 use arena_place::Layout;
 
-/// Places a number in a box, and a row with room for so many boxes, of which this is the first. Together they cost at most their
-/// bytes and the padding of both blocks.
+/// Places a number in a box, and a row with room for `cap` boxes that begins with this box. Together they cost at
+/// most their bytes and the padding of both blocks, if the row has at most 2 ^ 60 bytes.
 ///
 /// # Errors
 ///
-/// `CapacityOverflow` where so many boxes have no layout; else as of `Box::new_in` and of `take_room`. Where the row is
-/// refused the box stays placed.
+/// `CapacityOverflow` if `cap` boxes aren't a valid layout; otherwise those of `Box::new_in`, or those of
+/// `take_room`, and then the box stays placed.
 pub fn begin_row<C: ChunkSource>(a: &mut Allocator<C>, n: u32, cap: u64) -> Grown<Block>
     requires { 1 ≤ cap }
     ensures calls { BoxThenRow ⟦<u32 as Item>⟧ a.old a.new n (cap * 32) 8 result }
@@ -24,7 +24,7 @@ pub fn begin_row<C: ChunkSource>(a: &mut Allocator<C>, n: u32, cap: u64) -> Grow
 {
     room_law::<Block>();
     costs_law::<Block, Block>();
-    // So the least alignment is known to be 1.
+    // Shows the prover that the least alignment is 1.
     a.known();
     let Some(layout) = Layout::array(cap, 32, 8) else {
         return Err(AllocError::CapacityOverflow);

@@ -1,4 +1,4 @@
-// What is known of a block that may be read, and a write behind its bytes.
+// What is known about a readable block, and a write after its bytes.
 ghost use Rattle.std.specs.Prelude.{◌≡◌, ◌+◌, ◌<◌, ◌≤◌, ◌++◌, IfOk, IsTrue, length};
 ghost use Rattle.arena_chunks.specs.Memory.{is_readable, image, bytes_from};
 ghost use Rattle.arena_chunks.specs.Answers.{answer_of};
@@ -9,23 +9,23 @@ use arena_chunks::laws::readable;
 use arena_chunks::{Alloc, Allocator, ArenaErr, Block, ChunkSource};
 use arena_place::Layout;
 
-/// The address past a block's last byte, which 64 bits hold.
+/// Returns the address after a block's last byte, which fits in 64 bits.
 pub fn end_of<C: ChunkSource>(a: &Allocator<C>, block: Block) -> u64
     requires readable { IsTrue (is_readable a.now.memory.state block) }
     requires filled { 0 < block.size }
     ensures { result ≡ block.addr + block.size }
 {
     readable();
-    // So the arena's state is known to be valid.
+    // Shows the prover that the arena's state is valid.
     a.known();
     block.addr + block.size
 }
 
-/// Grows a block and writes these bytes behind its own. That is a growth, after which both stand there.
+/// Grows a block and appends bytes to its own. The whole is described as one growth.
 ///
 /// # Errors
 ///
-/// As of `grow`.
+/// Those of `grow`.
 #[tactic(auto, using(arena_chunks::proofs::Layers::layer_laws))]
 pub fn extend<C: ChunkSource>(
     a: &mut Allocator<C>,

@@ -1,4 +1,4 @@
-// A change of a block's bytes in their place.
+// A block's bytes, changed in place.
 ghost use Rattle.std.specs.Prelude.{◌≡◌, IsTrue, reverse};
 ghost use Rattle.arena_chunks.specs.Memory.{is_readable};
 ghost use Rattle.arena_chunks.specs.BlockCalls.{WritesBlock};
@@ -7,7 +7,7 @@ ghost use Rattle.example_blocks.specs.Blocks.{bytes_of, Holds};
 use arena_chunks::laws::{bytes, written};
 use arena_chunks::{Allocator, Block, ChunkSource, Edit};
 
-/// Turns the order of the bytes of a place.
+/// The edit that reverses the bytes of a place.
 #[derive(Drop)]
 pub struct Reverse;
 
@@ -21,7 +21,7 @@ impl Edit for Reverse {
     }
 }
 
-/// Turns the order of a block's bytes.
+/// Reverses a block's bytes in place.
 pub fn reverse_block<C: ChunkSource>(a: &mut Allocator<C>, block: Block)
     requires { IsTrue (is_readable a.old.memory.state block) }
     ensures writes { WritesBlock a.old.memory a.new.memory block 0 (reverse (bytes_of a.old.memory block)) }

@@ -1,6 +1,6 @@
-//! Small callers of blocks and of values in an arena, for who builds on them: what a layer above may know of its blocks, boxes,
-//! slices and texts, and how it is proved. Nothing of the crates below is opened here: each proof uses the records of their calls and
-//! their laws alone.
+//! Small callers of blocks and values in an arena: examples of what a layer above can prove about its blocks, boxes,
+//! slices and texts, and how. The proofs use the contracts and laws of the crates below alone, never their bodies or
+//! private definitions.
 #![tactic(auto)]
 
 mod asking;

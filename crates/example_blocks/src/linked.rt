@@ -1,4 +1,4 @@
-// A chain of boxes, each of which names the next.
+// A chain of boxes, in which each one holds the handle of the next.
 ghost use Rattle.std.specs.Prelude.{◌≡◌, ◌+◌, ◌<◌, ◌^◌, ℕ, List, IfOk, IfErr, [], ◌∷◌, sum, slice_set};
 ghost use Rattle.arena_chunks.specs.Frame.{Frame, AreAllApart};
 ghost use Rattle.arena_items.specs.Typed.{PlacesBox};
@@ -14,10 +14,10 @@ use arena_items::{Box, InArena, Item, ItemErr};
 /// The value of a chain's first box: a number and the second box.
 pub type First = (u32, Box<Second>);
 
-/// The value of its second box: a number and the third box.
+/// The value of a chain's second box: a number and the third box.
 pub type Second = (u32, Box<u32>);
 
-/// Three numbers, each in a box. The first box names the second, and that the third.
+/// Three numbers, each in a box. The first box holds the handle of the second, and the second that of the third.
 #[derive(Clone, Copy)]
 pub struct Chain {
     pub first: Box<First>,
@@ -44,11 +44,11 @@ impl InArena for Chain {
 
 #[tactic(auto, unfolding(arena_rules::specs::Rounding::up, arena_items::specs::Layout::pair_size, arena_items::specs::Layout::second_at))]
 impl Chain {
-    /// Places a chain.
+    /// Places a chain of three numbers.
     ///
     /// # Errors
     ///
-    /// As of `alloc`. The boxes before the one that is refused stay placed; all else is as it was.
+    /// Those of `Box::new_in`. The boxes that were placed before the failure stay placed; nothing else changes.
     pub fn make<C: ChunkSource>(
         a: &mut Allocator<C>,
         x: u32,
@@ -70,7 +70,7 @@ impl Chain {
         Ok(Chain { first })
     }
 
-    /// The sum of its numbers.
+    /// Returns the sum of the chain's numbers.
     pub fn sum<C: ChunkSource>(self, a: &Allocator<C>) -> u64
         requires { ⟦<Chain as InArena>⟧.is_held a.now.memory self }
         ensures { result ≡ sum (⟦<Chain as InArena>⟧.means a.now.memory self) }
@@ -80,7 +80,7 @@ impl Chain {
         u64::from(x) + u64::from(y) + u64::from(third.get(a))
     }
 
-    // Its third box.
+    // Returns the chain's third box.
     fn third<C: ChunkSource>(self, a: &Allocator<C>) -> Box<u32>
         requires { ⟦<Chain as InArena>⟧.is_held a.now.memory self }
         ensures { result ≡ third ⟦<First as Item>⟧ ⟦<Second as Item>⟧ a.now.memory self }
@@ -90,7 +90,7 @@ impl Chain {
         third
     }
 
-    /// Replaces its third number. The first two boxes mean the same.
+    /// Replaces the chain's third number. The first two numbers and all three blocks are unchanged.
     pub fn set_last<C: ChunkSource>(self, a: &mut Allocator<C>, z: u32)
         requires held { ⟦<Chain as InArena>⟧.is_held a.old.memory self }
         ensures held { ⟦<Chain as InArena>⟧.is_held a.new.memory self }

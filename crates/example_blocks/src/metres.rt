@@ -1,4 +1,4 @@
-// A type of one's own that stands in an arena.
+// A type of the caller's own that can be placed in an arena.
 ghost use Rattle.std.specs.Prelude.{◌≡◌, ◌^◌, ◌<◌, ◌≤◌, List, ℕ, length, refl};
 ghost use Rattle.std.specs.Int.{w32, to_le_bytes, from_le_bytes};
 ghost use Rattle.arena_items.specs.LayoutLaws.{plain_4};

@@ -1,4 +1,4 @@
-// A handle of one of several kinds, which names one block or two.
+// A handle of several kinds, which refers to one block or two.
 ghost use Rattle.std.specs.Prelude.{◌≡◌, ℕ, ◌⊎◌, ◌^◌, ◌≤◌, [], ◌∷◌, List, refl};
 ghost use Rattle.arena_chunks.specs.Frame.{AreAllApart};
 ghost use Rattle.arena_items.specs.Values.{IsBoxIn, IsSliceIn, box_value, slice_list};
@@ -9,12 +9,12 @@ use arena_chunks::{Allocator, ChunkSource, Str};
 use arena_items::laws::frame_law;
 use arena_items::{Box, BoxSlice, InArena, Item};
 
-/// What a name of a script may stand for: a number in a box, or numbers that have a title.
+/// An object of a script: a number in a box, or a slice of numbers with a title.
 #[derive(Clone, Copy)]
 pub enum Object {
     /// A number.
     Number { of: Box<u32> },
-    /// Numbers with their title, each in a block of its own.
+    /// Numbers and their title, in a block each.
     Titled { title: Str, of: BoxSlice<u32> },
 }
 
@@ -36,7 +36,7 @@ impl InArena for Object {
     ghost held_again = { λ a c v held agree readable. object_again ⟦<u32 as Item>⟧ a c v held readable };
 }
 
-/// Sets a box beside two others, which are told of as one value of both: they mean the same then.
+/// Sets a box's value. Two other handles, which one law covers as a pair, are still held and mean the same.
 pub fn set_beside_both<T: Item, U: Item, W: Item, C: ChunkSource>(
     a: &mut Allocator<C>,
     one: Box<T>,

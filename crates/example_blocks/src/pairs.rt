@@ -1,4 +1,4 @@
-// Blocks with bytes, beside each other.
+// Blocks with their bytes, next to each other.
 ghost use Rattle.std.specs.Prelude.{◌≡◌, IfOk, IsTrue, [], ◌∷◌, length};
 ghost use Rattle.arena_chunks.specs.Memory.{is_readable};
 ghost use Rattle.arena_chunks.specs.Answers.{answer_of, answer_by};
@@ -23,7 +23,7 @@ pub fn write_beside<C: ChunkSource>(a: &mut Allocator<C>, one: Block, other: Blo
     a.write(one, 0, bytes);
 }
 
-// Places a block with these bytes.
+// Places a block with the given bytes.
 #[tactic(auto, using(arena_chunks::proofs::Layers::layer_laws))]
 fn place_bytes<C: ChunkSource>(
     a: &mut Allocator<C>,
@@ -39,11 +39,11 @@ fn place_bytes<C: ChunkSource>(
     Ok(block)
 }
 
-/// Places two blocks with their bytes. Both hold them then, and they lie apart.
+/// Places two blocks with the given bytes. The blocks are disjoint, and all that was in use is unchanged.
 ///
 /// # Errors
 ///
-/// As of `alloc_layout`. Where the second block is refused, the first stays placed.
+/// Those of `alloc_layout`. If the second block fails, the first stays placed.
 #[tactic(auto, using(arena_chunks::proofs::Layers::layer_laws))]
 pub fn place_two<C: ChunkSource>(
     a: &mut Allocator<C>,

@@ -1,4 +1,4 @@
-// Blocks that lie apart, together.
+// Several disjoint blocks together.
 ghost use Rattle.std.specs.Prelude.{◌≡◌, ◌+◌, ◌≤◌, IsTrue, [], ◌∷◌, length};
 ghost use Rattle.std.specs.List.{AllByRecursion};
 ghost use Rattle.arena_rules.specs.State.{used_bytes};
@@ -9,7 +9,7 @@ ghost use Rattle.example_blocks.specs.Blocks.{AreReadable, Holds};
 use arena_chunks::laws::{all_apart, frames, readable, written};
 use arena_chunks::{Allocator, Block, ChunkSource};
 
-/// How many bytes two blocks have that lie apart: no more than are in use, so 64 bits hold the sum.
+/// Returns the number of bytes of two disjoint blocks. It is at most the number of bytes in use, so it fits in 64 bits.
 pub fn size_of_both<C: ChunkSource>(a: &Allocator<C>, one: Block, other: Block) -> u64
     requires one { IsTrue (is_readable a.now.memory.state one) }
     requires other { IsTrue (is_readable a.now.memory.state other) }
@@ -18,12 +18,13 @@ pub fn size_of_both<C: ChunkSource>(a: &Allocator<C>, one: Block, other: Block) 
     ensures within { result ≤ used_bytes a.now.memory.state }
 {
     readable();
-    // So what is in use is known to be a number of 64 bits.
+    // Shows the prover that the number of bytes in use fits in 64 bits.
     let _ = a.used_bytes();
     one.size + other.size
 }
 
-/// Writes two whole blocks that lie apart. Others that lie apart from each of the two stay, with their bytes.
+/// Writes the same bytes to two disjoint blocks, whole. Other blocks that are disjoint from both stay, with their
+/// bytes.
 pub fn write_two<C: ChunkSource>(
     a: &mut Allocator<C>,
     one: Block,

@@ -1,4 +1,4 @@
-// A try that is given up.
+// Placements that are rolled back.
 ghost use Rattle.std.specs.Prelude.{◌≡◌, ◌^◌, ◌≤◌, Err, IfOk, IfErr};
 ghost use Rattle.arena_chunks.specs.Memory.{KeepsUsed};
 ghost use Rattle.arena_chunks.specs.Source.{View, view};
@@ -16,12 +16,12 @@ use arena_items::{Box, Item, ItemErr};
 use arena_place::Layout;
 use arena_rules::laws::kept_marks;
 
-/// Where a block of this layout would lie: it is placed, and the arena goes back to where it was. What was in use is in use still,
-/// with its bytes.
+/// Returns the block that a layout would get: places it, and rolls the arena back. What was in use stays in use, with
+/// its bytes.
 ///
 /// # Errors
 ///
-/// As of the arena's `try_alloc_layout`.
+/// Those of the arena's `try_alloc_layout`.
 pub fn would_lie<const M: usize, C: ChunkSource>(
     arena: &mut Arena<M>,
     chunks: &mut C,
@@ -40,12 +40,12 @@ pub fn would_lie<const M: usize, C: ChunkSource>(
     placed
 }
 
-/// Places a value and gives the try up: the arena goes back to where it was, and the value's box is dead. What was boxed
-/// before stays so and means what it did: its value is told.
+/// Places a value and rolls the arena back, so the value's box isn't held any more. A box from before is still held
+/// and has its value, which is returned.
 ///
 /// # Errors
 ///
-/// As of `Box::new_in`. Nothing changes.
+/// Those of `Box::new_in`. Nothing changes.
 pub fn try_beside<T: Item, U: Item, C: ChunkSource>(
     a: &mut Allocator<C>,
     kept: Box<U>,

@@ -1,4 +1,4 @@
--- A copy's blocks beside the block of a list that a call on the list alone gives another.
+-- A copy's blocks next to a list, whose block is replaced by a call on the list alone.
 use Rattle.std.proofs.Common.{List, [], ◌∷◌}
 use Rattle.arena_chunks.specs.Frame.{Frame, AreAllApart, ArePairwiseApart}
 use Rattle.arena_chunks.specs.Memory.{Memory}
@@ -8,19 +8,20 @@ use Rattle.arena_items.specs.Footprint.{AreReadable}
 use Rattle.arena_items.proofs.Layers.{stays_apart}
 use Rattle.arena_clone.proofs.Layers.{all_turned}
 
--- What lies apart from blocks lies apart from the first of them.
+-- What is disjoint from blocks is disjoint from the first of them.
 pub first_apart : (bs cs : List Block) (c : Block) → AreAllApart bs (c ∷ cs) → AreAllApart bs (c ∷ [])
 first_apart [] cs c all = tt
 first_apart (b ∷ bs) cs c all = ((all.0.0, tt), first_apart bs cs c all.1)
 
--- Where a call gives a list's block for another, that one lies apart from what it left.
+-- If a call replaces a list's block, the new block is disjoint from the blocks that stay.
 pub beside_apart : (mid new : Memory) (blocks : List Block) (before after : Block) → Frame mid new (before ∷ []) (after ∷ [])
     → AreReadable mid.state blocks → AreAllApart blocks (before ∷ []) → ArePairwiseApart blocks → ArePairwiseApart (after ∷ blocks)
 beside_apart mid new blocks before after frame readable apart each =
     let stays = frame_keeps_all mid new (before ∷ []) (after ∷ []) blocks frame readable apart in
     ((all_turned blocks (after ∷ []) (stays_apart mid new (after ∷ []) blocks stays)).0, each)
 
--- A call that places blocks, and such a call after it, had the list's block, and have the other one and these.
+-- A call that places blocks, followed by one that replaces the list's block: together they replace that block and add
+-- these.
 pub beside_frame : (old mid new : Memory) (blocks : List Block) (before after : Block) → Frame old mid [] blocks
     → Frame mid new (before ∷ []) (after ∷ []) → Frame old new (before ∷ []) (after ∷ blocks)
 beside_frame old mid new blocks before after first second =

@@ -19,28 +19,28 @@ use Rattle.example_collections.specs.Branches.{inside_of, branch_of}
 use Rattle.example_collections.specs.declared.branches.Branch.{Branch}
 
 module _ {L : Type 0} (leaves : Kind (Vec L)) (ids : CloneInSemanticIds) (source : Memory) (b : Branch L) where
-  -- Where the name is refused, so is the branch,
+  -- If the copy of the name fails, so does that of the branch,
   pub name_refused : {old new : View} {e : AllocError} → Copies text ids source old new b.name (Err e)
       → Copies (branch_of leaves) ids source old new b (Err e)
   name_refused name = makes_refused ((inside_of leaves).asks source b) name
 
   module _ {old first second new : View} {name : Str} {id : SemanticId} (named : Copies text ids source old first b.name (Ok name))
       (known : Copies semantic_id ids source first second b.id (Ok id)) where
-    -- and where the leaves are.
+    -- and so it does if the copy of the leaves fails.
     pub leaves_refused : {e : AllocError} → Copies leaves ids source second new b.leaves (Err e)
         → Copies (branch_of leaves) ids source old new b (Err e)
     leaves_refused rest =
         second_refused text (inside_of leaves) (λ b. b.name) (λ b. b) text_lawful named
         (second_refused semantic_id leaves (λ b. b.id) (λ b. b.leaves) semantic_id_lawful known rest)
 
-    -- Where nothing is refused the branch has the copies.
+    -- If nothing fails, the branch has the copies.
     pub branch_made : {list : Vec L} → Copies leaves ids source second new b.leaves (Ok list)
         → Copies (branch_of leaves) ids source old new b (Ok (record { name = name; id = id; leaves = list }))
     branch_made rest =
         makes_both text (inside_of leaves) (λ b. b.name) (λ b. b) text_lawful named refl refl
         (makes_both semantic_id leaves (λ b. b.id) (λ b. b.leaves) semantic_id_lawful known refl refl rest)
 
--- The leaves are as they were once the name and the id were copied.
+-- The leaves are unchanged after the name and the id are copied.
 module _ {there : Memory → Memory} {is_beside : Block → List Block → Type 0} (origin : IsOrigin there is_beside) {L : Type 0}
     {leaves : Kind (Vec L)} (are : IsLawful leaves) (b : Branch L) (ids : CloneInSemanticIds) {old first second : View} {name : Str}
     {id : SemanticId} (named : Copies text ids (there old.memory) old first b.name (Ok name))

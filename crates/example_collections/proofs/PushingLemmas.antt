@@ -1,4 +1,4 @@
--- What calls that put a value at the end ask for together.
+-- The bytes for which calls that append a value together ask.
 use Rattle.std.proofs.Common.{◌≡◌, ℕ, suc, ◌+◌, ◌*◌, ◌^◌, ◌<◌, ◌≤◌, ◌++◌, [], ◌∷◌, refl, sym, subst, arith, Ok, add-one}
 use Rattle.std.proofs.Math.Nat.{mul-le-mul_right}
 use Rattle.arena_chunks.specs.Source.{View}
@@ -11,7 +11,7 @@ use Rattle.arena_vec.specs.declared.vec.Vec.{Vec}
 use Rattle.example_collections.specs.Pushing.{PushesInTurn}
 
 module _ {T : Type 0} (item : Ghosts T) (value : T) where
-  -- so many calls in turn, and what they cost as long as twice as many values would fit
+  -- `n` calls in sequence, and their cost as long as twice as many values would fit
   abbrev pub CostsAtMost : ℕ → View → View → Vec T → Vec T → Type 0
   CostsAtMost n old new v w = (asked : ℕ) × PushesInTurn item value n old new v asked w
       × (0 < item.SIZE → (v.raw.len + n) * (2 * item.SIZE) ≤ 2 ^ 32
@@ -20,7 +20,7 @@ module _ {T : Type 0} (item : Ghosts T) (value : T) where
   pub none_asked : (old : View) (v : Vec T) → CostsAtMost 0 old old v v
   none_asked old v = (0, (refl, refl, refl), λ some few. omega arith)
 
-  -- One call more asks for as much as it does.
+  -- One more call adds the bytes for which it asks.
   pub one_more : (n : ℕ) (old mid new : View) (v u w : Vec T) → u.raw.len ≡ v.raw.len + n → CostsAtMost n old mid v u
       → Grows {X = Unit {0}} item mid new u (amortised_growth item.SIZE u.raw.cap (u.raw.len + 1))
       (vec_list item mid.memory u ++ value ∷ []) w (Ok tt)

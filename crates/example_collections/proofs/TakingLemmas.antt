@@ -1,4 +1,4 @@
--- Values that are taken from the front of a range on its way out, and those that are put in its place.
+-- Values that are taken from the front of a range that is removed, and those that replace it.
 use Rattle.std.proofs.Common.{◌≡◌, ℕ, suc, ◌+◌, ◌<◌, List, [], ◌∷◌, ◌++◌, length, take, drop, set, get_or, refl, sym, ap, ◌∙◌, add-one, Option, Result, OnOk, OnErr}
 use Rattle.std.proofs.Math.Seq.{drop-cons}
 use Rattle.std.proofs.lemmas.Iterator.{YieldsList, items_from_drains}
@@ -17,7 +17,7 @@ use Rattle.arena_vec.specs.Vecs.{vec_list}
 use Rattle.arena_vec.specs.declared.drain.Drain.{Drain}
 use Rattle.arena_vec.specs.declared.vec.Vec.{Vec}
 
--- Once the first n values are out the rest is left.
+-- After the first n values are removed, the rest is left.
 pub rest_left : {T S : Type 0} (item : Ghosts T) (d e : Drain T S) (old : View) (v : Vec T) (n : ℕ) (new : View) (w : Vec T)
     → SameDrain item d e → d.vec.now ≡ v → d.arena.now ≡ old → d.start ≡ 0 → d.end ≡ n
     → Becomes item e.arena.now new e.vec.now (remove_range (vec_list item e.arena.now.memory e.vec.now) e.start e.end) w
@@ -26,7 +26,7 @@ rest_left item d e old v n new w same of in_arena start end becomes =
     rw (same.vec ∙ of, same.arena ∙ in_arena, same.start ∙ start, same.end ∙ end) at becomes
 
 module _ {T : Type 0} (list : List T) (i : ℕ) (within : i < length list) where
-  -- There is one to take,
+  -- There is a value to take,
   pub some_left : T → drop i list ≡ [] → ⊥
   some_left d none = let cut : drop i list ≡ get_or list i d ∷ drop (suc i) list = drop-cons list i d within in cc
 
@@ -34,23 +34,23 @@ module _ {T : Type 0} (list : List T) (i : ℕ) (within : i < length list) where
     cut : drop i list ≡ get_or list i x ∷ drop (suc i) list
     cut = drop-cons list i x within
 
-    -- and what is left then is the rest,
+    -- what is left then is the rest,
     pub left_more : next ≡ drop (i + 1) list
     left_more = let parts = cut in rw add-one cc
 
-    -- and it was the next in the list.
+    -- and the value was the next one of the list.
     pub taken_more : (out : List T) → i < length out → take i out ≡ take i list → take (i + 1) (set out i x) ≡ take (i + 1) list
     taken_more out space so_far =
         let same : get_or list i x ≡ x = (let parts = cut in cc) in
         take_more_set out i x space ∙ ap (λ l. l ++ x ∷ []) so_far ∙ sym (take_more list i x within ∙ ap (λ y. take i list ++ y ∷ []) same)
 
--- Of a front the front too.
+-- The front of a front is a front.
 front : {X : Type 0} (xs ys all : List X) → xs ++ ys ≡ take (length (xs ++ ys)) all → xs ≡ take (length xs) all
 front [] ys all is = refl
 front (x ∷ xs) ys [] is = cc
 front (x ∷ xs) ys (z ∷ all) is = let rest = front xs ys all (ap (drop 1) is) in cc
 
--- Of an iterator that gives these values all stand in a range's place, or after a refusal the first of them.
+-- The values of an iterator replace the range: all of them, or the first ones if a call failed.
 module _ {T I : Type 0} {item : Ghosts T} {steps : I → Option T → I → Type 0} {iter : I} {old new : Memory} {v w : Vec T} {start end : ℕ}
     {result : Result (Unit {0}) AllocError} {values : List T} (gives : YieldsList steps (λ x. x) iter values)
     (is : Replaces item steps iter old new v start end w result) where

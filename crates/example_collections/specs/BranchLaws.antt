@@ -1,4 +1,4 @@
--- The blocks of a branch determine what it is.
+-- The bytes of a branch's blocks determine what it means.
 use Rattle.arena_items.specs.declared.item.Item.{Ghosts}
 use Rattle.arena_clone.specs.Kinds.{Kind, text, semantic_id, vec_of}
 use Rattle.arena_clone.specs.KindLaws.{IsLawful, text_lawful, semantic_id_lawful, vec_lawful, both_lawful}

@@ -1,4 +1,4 @@
--- A list that is copied, and then gets one more value.
+-- A list that is copied, and to which a value is then appended.
 use Rattle.std.specs.Prelude.{◌≡◌, ◌+◌, ◌++◌, Result, Ok, Err, [], ◌∷◌}
 use Rattle.arena_chunks.specs.Source.{View}
 use Rattle.arena_items.specs.declared.item.Item.{Ghosts}
@@ -12,7 +12,7 @@ use Rattle.arena_clone.specs.Kinds.{Kind, vec_of}
 use Rattle.arena_clone.specs.Placing.{answer_of}
 use Rattle.arena_exchange.specs.declared.ids.CloneInSemanticIds.TheVariants.{With}
 
--- A value is put at the end of a list, if it was copied; the answer is the copy, or the refusal of the one call or the other.
+-- If the list was copied, a value is appended to it. The result is the copy, or the first error.
 abbrev pub PushesAfter : {T : Type 0} → Ghosts T → View → View → Vec T → T → Result (Vec T) AllocError → Vec T
     → Result (Vec T) AllocError → Type 0
 PushesAfter item between new v value (Err e) w result = (result ≡ Err e) × (w ≡ v) × (new ≡ between)
@@ -20,7 +20,7 @@ PushesAfter item between new v value (Ok copy) w result = (pushed : Result (Unit
     × Grows item between new v (amortised_growth item.SIZE v.raw.cap (v.raw.len + 1)) (vec_list item between.memory v ++ value ∷ []) w
     pushed × (result ≡ answer_of (λ u. copy) pushed)
 
--- The copy's call comes first, with ids and all.
+-- The list is copied first, with its ids.
 pub record CopiesThenPushes {T : Type 0} (item : Ghosts T) (kind : Kind T) (old new : View) (v : Vec T) (value : T) (w : Vec T)
     (result : Result (Vec T) AllocError) : Type 0 where
   pub between : View

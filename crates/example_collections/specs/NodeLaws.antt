@@ -1,4 +1,4 @@
--- The blocks of a node determine what it is.
+-- The bytes of a node's blocks determine what it means.
 use Rattle.arena_items.specs.declared.item.Item.{Ghosts}
 use Rattle.arena_clone.specs.Kinds.{Kind, text, vec_of}
 use Rattle.arena_clone.specs.KindLaws.{IsLawful, text_lawful, vec_lawful}

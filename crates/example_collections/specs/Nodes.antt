@@ -7,7 +7,7 @@ use Rattle.arena_clone.specs.EitherKind.{sum_of, either_of}
 use Rattle.example_collections.specs.declared.nodes.Node.{Node}
 use Rattle.example_collections.specs.declared.nodes.Node.TheVariants.{Name, Leaf, Leaves}
 
--- the sort of a node: a name, or else a leaf, or else a list
+-- a node as a sum: a name, a leaf, or a list
 abbrev pub sort_of : {L : Type 0} → Node L → Str ⊎ (L ⊎ Vec L)
 sort_of (Name s) = inl s
 sort_of (Leaf l) = inr (inl l)

@@ -1,4 +1,4 @@
--- A value put at the end many times, and what the calls ask the arena for together.
+-- A value that is appended many times, and the bytes for which the calls together ask the arena.
 use Rattle.std.specs.Prelude.{◌≡◌, ℕ, zero, suc, ◌+◌, ◌++◌, [], ◌∷◌, Ok}
 use Rattle.arena_chunks.specs.Source.{View}
 use Rattle.arena_items.specs.declared.item.Item.{Ghosts}
@@ -8,7 +8,7 @@ use Rattle.arena_vec.specs.Growth.{amortised_growth}
 use Rattle.arena_vec.specs.Vecs.{vec_list}
 use Rattle.arena_vec.specs.declared.vec.Vec.{Vec}
 
--- So many calls, one after another, which each put the value at the end and ask for so many bytes together.
+-- Calls in sequence, each of which appends the value, and which together ask for `asked` bytes.
 abbrev pub PushesInTurn : {T : Type 0} → Ghosts T → T → ℕ → View → View → Vec T → ℕ → Vec T → Type 0
 PushesInTurn item value zero old new v asked w = (new ≡ old) × (w ≡ v) × (asked ≡ 0)
 PushesInTurn {T} item value (suc n) old new v asked w = (between : View) × (u : Vec T) × (before : ℕ)

@@ -8,7 +8,7 @@ use Rattle.arena_text.specs.Builders.{IsBuilderIn, builder_bytes}
 use Rattle.arena_text.specs.Changes.{Grows}
 use Rattle.arena_text.specs.declared.text.StringBuilder.{StringBuilder}
 
--- A new text of one byte, so many times, in a block that was free.
+-- A new text of `n` times the same byte, in a block that was free.
 pub record IsRow (old new : View) (byte n : ℕ) (t : StringBuilder) : Type 0 where
   pub held : IsBuilderIn new.memory t
   pub bytes : builder_bytes new.memory t ≡ replicate n byte
@@ -16,7 +16,7 @@ pub record IsRow (old new : View) (byte n : ℕ) (t : StringBuilder) : Type 0 wh
   pub room : IsRoomFor t.len t.cap
   pub frame : Frame old.memory new.memory [] (t.block ∷ [])
 
--- Behind some of the bytes one more was refused.
+-- After some of the bytes, the push of one more failed.
 pub record IsRefusedRow (old new : View) (byte n : ℕ) (e : AllocError) : Type 0 where
   pub i : ℕ
   pub more : i < n

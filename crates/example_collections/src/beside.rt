@@ -1,4 +1,4 @@
-// A list that changes beside its copy, and a map that changes beside others.
+// A list that changes next to its copy, and a map that changes next to others.
 ghost use Rattle.std.specs.Prelude.{◌≡◌, ◌+◌, ◌*◌, ◌^◌, ◌≤◌, ◌++◌, IsTrue, IfOk, OnOk, OnErr, List, [], ◌∷◌};
 ghost use Rattle.arena_chunks.specs.Frame.{AreAllApart, AreBlocksApart, ArePairwiseApart, Frame};
 ghost use Rattle.arena_chunks.specs.Memory.{is_readable};
@@ -21,12 +21,12 @@ use arena_items::Item;
 use arena_items::laws::frame_law;
 use arena_vec::Vec;
 
-/// A copy of a list as it is, and then one more value at the end of the list. The copy doesn't have it, and
-/// shares no memory with the list.
+/// Copies a list, and then appends a value to the list. Returns the copy, which doesn't have the value and shares no
+/// memory with the list.
 ///
 /// # Errors
 ///
-/// As of `clone_within` and of `push`, at the first of them that is refused. The list is as it was.
+/// The first error of `clone_within` and `push`. The list is unchanged.
 pub fn copy_and_push<T: CloneIn + Item, C: ChunkSource>(
     a: &mut Allocator<C>,
     list: &mut Vec<T>,
@@ -52,12 +52,12 @@ pub fn copy_and_push<T: CloneIn + Item, C: ChunkSource>(
     Ok(copy)
 }
 
-/// Puts a pair into a map. Each other map whose blocks lie apart from the table says what it did, under every hasher. What is in use
-/// and the map's credit rise together by two units at most.
+/// Inserts a pair into a map. All other maps whose blocks are disjoint from the table keep their pairs, with any
+/// hasher. The sum of the bytes in use and the map's credit rises by at most two units.
 ///
 /// # Errors
 ///
-/// As of `insert`. Nothing changes.
+/// Those of `insert`. Nothing changes.
 pub fn put_beside<K: ArenaKey, V: Item, S: KeyHasher, C: ChunkSource>(
     map: &mut HashMap<K, V, S>,
     a: &mut Allocator<C>,

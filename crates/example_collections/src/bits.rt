@@ -1,4 +1,4 @@
-// Callers of sets, for who builds on them: each uses the records of the calls and the laws alone.
+// Callers of bit sets. The proofs use the contracts of the calls and the laws alone.
 ghost use Rattle.std.specs.Prelude.{◌≡◌, ◌*◌, ◌<◌, length, not};
 ghost use Rattle.arena_chunks.specs.Frame.{AreBlocksApart};
 ghost use Rattle.arena_bits.specs.Bits.{with_bit, members};
@@ -10,7 +10,7 @@ use arena_chunks::{Allocator, ChunkSource};
 use arena_items::Grown;
 use arena_items::laws::frame_law;
 
-/// Puts a number into a set, and tells whether it is new there. Another set stays as it was.
+/// Adds a number to a set, and returns whether it is new there. Another set is unchanged.
 pub fn insert_beside<C: ChunkSource>(
     a: &mut Allocator<C>,
     set: &mut BitSet,
@@ -33,12 +33,12 @@ pub fn insert_beside<C: ChunkSource>(
     is_new
 }
 
-/// A new set with the numbers of another, for as many bits. It lies apart from the other, which was there before,
-/// so that they are joined with no test.
+/// Returns a new set with the numbers and the capacity of another. The two are disjoint in memory, so they can be
+/// joined without a check.
 ///
 /// # Errors
 ///
-/// As of `new_in`.
+/// Those of `new_in`.
 pub fn copied<C: ChunkSource>(a: &mut Allocator<C>, set: &BitSet) -> Grown<BitSet>
     requires { IsSetIn a.old.memory set.now }
     ensures { PlacesSet a.old a.new set.now.capacity (set_of a.old.memory set.now) result }
@@ -51,7 +51,7 @@ pub fn copied<C: ChunkSource>(a: &mut Allocator<C>, set: &BitSet) -> Grown<BitSe
     Ok(copy)
 }
 
-/// How many numbers a set has below its capacity.
+/// Returns the number of elements that a set has below its capacity.
 pub fn count<C: ChunkSource>(a: &Allocator<C>, set: &BitSet) -> usize
     requires { IsSetIn a.now.memory set.now }
     ensures { result ≡ length (members (set_of a.now.memory set.now) 0 set.now.capacity) }

@@ -1,4 +1,4 @@
-// A book of one thread's own.
+// A book that belongs to one thread.
 ghost use Rattle.std.specs.Prelude.{◌≡◌, ◌^◌, ◌≤◌, None, IfOk, IfErr, IfSome};
 
 use crate::borrow::read_back;
@@ -6,12 +6,13 @@ use arena_items::Item;
 use arena_pool::laws::{events, puts};
 use arena_pool::{Book, ChunkMaker, PoolErr};
 
-/// Sends a value through an arena of a book. None where there is no place for it. The arena goes back: a book without a
-/// limit stores it, and one with a limit drops it where it passes that. Either way as many are lent as before.
+/// Places a value in an arena of a book and reads it back, or returns `None` if there is no place for it. The arena
+/// is given back: a book without a limit stores it, and one with a limit drops an arena that exceeds it. As many are
+/// lent as before.
 ///
 /// # Errors
 ///
-/// The book lends none. It is as before then.
+/// The book has no arena to lend. It is unchanged.
 #[tactic(auto, using(arena_pool::proofs::Layers::event_laws))]
 pub fn through_book<T: Item, K: ChunkMaker>(
     book: &mut Book<K>,

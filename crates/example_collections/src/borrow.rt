@@ -1,4 +1,4 @@
-// One arena that is borrowed, used and given back.
+// An arena that is borrowed, used and given back.
 ghost use Rattle.std.specs.Prelude.{◌≡◌, ◌^◌, ◌≤◌, IfSome};
 ghost use Rattle.arena_items.specs.Typed.{PlacesBox};
 ghost use Rattle.arena_items.specs.Values.{IsBoxIn, box_value};
@@ -12,7 +12,7 @@ use arena_pool::laws::kinds_by_values;
 use arena_pool::{AllocatorGuard, AllocatorPool, ChunkMaker, PoolName};
 use std::sync::Wait;
 
-/// Places a value and reads it where it stands. None where there is no place for it. The arena is of the kind that it was of.
+/// Places a value and reads it back, or returns `None` if there is no place for it. The arena keeps its kind.
 #[tactic(auto, using(arena_pool::proofs::Layers::kind_laws))]
 pub fn read_back<T: Item, C: ChunkSource>(a: &mut Allocator<C>, value: T) -> Option<T>
     requires { T.SIZE ≤ 2 ^ 24 }
@@ -26,8 +26,9 @@ pub fn read_back<T: Item, C: ChunkSource>(a: &mut Allocator<C>, value: T) -> Opt
     }
 }
 
-/// Sends a value through a borrowed arena, which goes back to its pool. It comes back as it was; that it stood in the arena
-/// `take_out` and `put_in` show. None where there is no place for it, or memory for an arena runs out.
+/// Places a value in a borrowed arena, reads it back, and gives the arena back to its pool. Returns `None` if there
+/// is no place for the value or no memory for an arena. That the value is in the arena meanwhile is stated by
+/// `take_out` and `put_in`.
 pub fn through<T: Item, K: ChunkMaker, L: PoolName, R: Wait>(
     rt: &R,
     pool: &AllocatorPool<K, L>,
@@ -42,8 +43,8 @@ pub fn through<T: Item, K: ChunkMaker, L: PoolName, R: Wait>(
     found
 }
 
-/// Places a value in a borrowed arena, and takes the arena out of its pool, with the value's box. None where there is no place for it,
-/// or memory for an arena runs out; then the arena, if there was one, goes back.
+/// Places a value in a borrowed arena, and takes the arena out of its pool, with the value's box. Returns `None` if
+/// there is no place for the value or no memory for an arena; an arena that was borrowed is given back then.
 pub fn take_out<T: Item, K: ChunkMaker, L: PoolName, R: Wait>(
     rt: &R,
     pool: &AllocatorPool<K, L>,
@@ -64,11 +65,12 @@ pub fn take_out<T: Item, K: ChunkMaker, L: PoolName, R: Wait>(
     }
 }
 
-/// Places a value in a guard's arena, by the call for whatever has an allocator. The guard's id stays.
+/// Places a value in a guard's arena, through the function for all types that have an allocator. The guard's id is
+/// unchanged.
 ///
 /// # Errors
 ///
-/// As of `alloc`. Nothing changes.
+/// Those of `alloc`. Nothing changes.
 pub fn put_in<T: Item, K: ChunkMaker, L: PoolName>(
     guard: &mut AllocatorGuard<'_, K, L>,
     value: T,

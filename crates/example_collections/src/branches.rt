@@ -1,4 +1,4 @@
-// A tree of one's own, which is copied part by part.
+// A tree of the caller's own types, which is copied part by part.
 ghost use Rattle.arena_clone.specs.Kinds.{vec_of};
 ghost use Rattle.example_collections.specs.Branches.{branch_of};
 ghost use Rattle.example_collections.specs.BranchLaws.{branch_lawful};
@@ -8,7 +8,7 @@ use arena_clone::{CloneIn, CloneInSemanticIds, Grown, Origin, SemanticId};
 use arena_items::Item;
 use arena_vec::Vec;
 
-/// A branch of a tree: its name, the number by which an analysis knows it, and its leaves.
+/// A branch of a tree: its name, the id that an analysis gives it, and its leaves.
 #[derive(Clone, Copy)]
 pub struct Branch<L> {
     pub name: Str,

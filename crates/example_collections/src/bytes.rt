@@ -1,4 +1,4 @@
-// How many bytes a copy brings into use.
+// By how much a copy raises the number of bytes in use.
 ghost use Rattle.std.specs.Prelude.{◌≡◌, ◌+◌, ◌*◌, ◌≤◌, IfOk, OnOk, OnErr};
 ghost use Rattle.arena_vec.specs.Vecs.{IsVecIn, vec_list};
 ghost use Rattle.arena_clone.specs.AskBytes.{used};
@@ -13,7 +13,7 @@ use arena_vec::Vec;
 ///
 /// # Errors
 ///
-/// As of `clone_in`. Then no byte more is in use.
+/// Those of `clone_in`. The number of bytes in use doesn't rise.
 pub fn copy_numbers<C: ChunkSource, D: ChunkSource>(
     list: &Vec<u32>,
     from: &Allocator<C>,

@@ -1,4 +1,4 @@
-// Words that threads share out among themselves.
+// Words that threads claim, each word by one thread.
 ghost use Rattle.std.specs.Prelude.{◌≡◌, ℕ, ◌<◌, ◌≤◌, ◌++◌, IfOk};
 ghost use Rattle.arena_pool.specs.Claiming.{new_view, times};
 
@@ -6,11 +6,11 @@ use arena_pool::{ClaimErr, ClaimSeat, Claims};
 use std::alloc::Global;
 use std::thread::{Threads, join};
 
-/// Goes through so many words and claims what it can. The words that it claimed.
+/// Tries to claim each of the first `words` words, and returns those that it claimed.
 ///
 /// # Errors
 ///
-/// Memory for them runs out. None is claimed.
+/// Out of memory for the list of words. None is claimed.
 pub fn claim_all(
     alloc: Global,
     claims: &Claims,
@@ -31,7 +31,7 @@ pub fn claim_all(
     Ok(mine)
 }
 
-// The same, in a thread of its own.
+// `claim_all` as the work of one thread, with a seat of its own that hasn't been used yet.
 fn shift(
     alloc: Global,
     claims: &Claims,
@@ -49,7 +49,8 @@ fn shift(
     Ok((mine, seat))
 }
 
-/// Two threads share out so many words. What each of them claimed: no word is claimed twice, by one or by both.
+/// Two threads claim words of one table. Returns what each of them claimed: no word is claimed twice, by one or by
+/// both.
 ///
 /// # Errors
 ///
@@ -72,7 +73,7 @@ pub fn claim_by_two<R: Threads>(
     let (ours, mut seat) = ours?;
     let (theirs, other) = theirs?;
     claims.join(&mut seat, other);
-    // Each look at a word tells that the seat claimed none twice, and by now it is the seat of both.
+    // Each look at a word shows that the seat claimed none twice, and by now this seat has the claims of both.
     let _ = claims.is_claimed(&mut seat, 0);
     Ok((ours, theirs))
 }

@@ -1,4 +1,4 @@
-// Vectors compared.
+// Vectors that are compared and hashed.
 ghost use Rattle.std.specs.Prelude.{◌≡◌, ◌^◌, ◌≤◌, ◌⊎◌, IsTrue, IsFalse, fold};
 ghost use Rattle.std.specs.Cmp.Lexicographic.{pointwise, slice_cmp};
 ghost use Rattle.std.specs.Hash as fed;
@@ -11,7 +11,7 @@ use arena_vec::Vec;
 use arena_vec::laws::{hash_law, order_law};
 use std::hash::{Hash, Hasher};
 
-/// The one of two vectors that comes first. It comes after neither, and of equal ones it is the first.
+/// Returns the lesser of two vectors, or the first if they are equal. The result is greater than neither.
 pub fn earlier<T: Item + Ord, C: ChunkSource>(
     a: &Allocator<C>,
     one: Vec<T>,
@@ -36,7 +36,7 @@ pub fn earlier<T: Item + Ord, C: ChunkSource>(
     }
 }
 
-/// Feeds equal vectors to two hashers in the same state, which they are in afterwards too.
+/// Feeds equal vectors to two hashers in the same state. They are in the same state after that too.
 pub fn feed_alike<T: Item + Hash, C: ChunkSource, H: Hasher>(
     a: &Allocator<C>,
     one: Vec<T>,

@@ -1,4 +1,4 @@
-// Many pairs that are put, and what that costs.
+// Many pairs that are inserted into a map, and their cost.
 ghost use Rattle.std.specs.Prelude.{◌≡◌, ◌-◌, ◌*◌, ◌^◌, [], ◌∷◌, OnOk, length};
 ghost use Rattle.arena_chunks.specs.Frame.{Frame};
 ghost use Rattle.arena_hash.specs.Accounts.{credit_of};
@@ -12,12 +12,12 @@ use arena_hash::{ArenaKey, FxHasher, HashMap, KeyHasher, insert_law};
 use arena_items::laws::costs_law;
 use arena_items::{Grown, Item};
 
-/// Puts pairs one after another. Over an arena of least alignment 1 they cost at most 320 bytes each, with the credit that the map
-/// had: two units of a pair of 12 bytes.
+/// Inserts pairs in order. In an arena of least alignment 1 they cost at most the credit that the map had and 320
+/// bytes each, which is two units for a pair of 12 bytes.
 ///
 /// # Errors
 ///
-/// As of the map's `insert`. The pairs before are put.
+/// Those of `insert`. The pairs before the failure stay inserted.
 pub fn put_all<C: ChunkSource>(
     map: &mut HashMap<u64, u32>,
     a: &mut Allocator<C>,

@@ -1,4 +1,4 @@
-// What has an allocator and lends it.
+// A type that contains an allocator and lends it.
 ghost use Rattle.std.specs.Prelude.{◌≡◌, ◌^◌, ◌≤◌, IfOk, [], ◌∷◌, refl};
 ghost use Rattle.arena_chunks.specs.Source.{View};
 ghost use Rattle.arena_chunks.specs.Frame.{Frame};
@@ -7,11 +7,11 @@ ghost use Rattle.arena_items.specs.Typed.{PlacesBox};
 use arena_chunks::{Allocator, ChunkSource};
 use arena_items::{ArenaItems, Box, GetAllocator, Item, ItemErr, allocator_of};
 
-/// An allocator with a number beside it.
+/// An allocator with a number.
 pub struct Guard<C: ChunkSource> {
     /// The allocator that it lends.
     pub arena: Allocator<C>,
-    /// What stays as it was.
+    /// Isn't changed by any call on the allocator.
     pub id: u64,
 }
 
@@ -33,11 +33,11 @@ impl<C: ChunkSource> GetAllocator for Guard<C> {
     }
 }
 
-/// Places a value in whatever has an allocator. The rest of that stays as it was.
+/// Places a value through any type that has an allocator. The rest of it is unchanged.
 ///
 /// # Errors
 ///
-/// As of `alloc`. Nothing changes.
+/// Those of `alloc`. Nothing changes.
 pub fn put<A: GetAllocator, T: Item>(a: &mut A, value: T) -> Result<Box<T>, ItemErr>
     requires { T.SIZE ≤ 2 ^ 24 }
     ensures places { PlacesBox T.Item (A.lent a.old) (A.lent a.new) (λ v. v ≡ value) result }

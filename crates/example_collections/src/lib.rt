@@ -1,10 +1,14 @@
-//! Small callers of the collections in an arena and of pools, for who builds on them. Of vectors: numbers are put in order, picked,
-//! taken out, put in the place of others, compared and read back. Of maps: pairs are put beside other maps and many into one, at a known
-//! cost, and a hasher has a seed where others choose the keys. Of texts and sets: lines are put together, numbers put in beside another
-//! set. Of copies: a tree of one's own that is copied part by part, an enum that
-//! is copied by its variants, a list that changes beside its copy, and a copy whose bytes are counted. Of pools: what a thread knows of
-//! the arena that it borrows, the words that it claims and the arena that it owns with another. Nothing of the crates below is opened
-//! here: each proof uses the records of their calls, their laws and the lemmas of `Layers` alone.
+//! Small callers of the arena's collections and of pools: examples of what a layer above can prove, and how.
+//!
+//! - Vectors: values are sorted, filtered, removed, replaced, compared and added up.
+//! - Maps: pairs are inserted next to other maps, many pairs are inserted at a known cost, and a hasher has a seed for
+//!   keys that others choose.
+//! - Texts and sets: texts are built, and numbers are added to a set next to another.
+//! - Copies: a tree of the caller's own types is copied part by part, an enum by its variants, a list changes next to
+//!   its copy, and a copy's bytes are counted.
+//! - Pools: a thread borrows an arena, claims words, and owns an arena together with another thread.
+//!
+//! The proofs use the contracts and laws of the crates below and the lemmas of `Layers` alone, never their bodies.
 #![tactic(auto)]
 
 mod beside;

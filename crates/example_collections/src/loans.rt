@@ -1,4 +1,4 @@
-// Bare arenas with their loans.
+// Arenas that are borrowed without a guard, as a bare arena and its loan.
 ghost use Rattle.std.specs.Prelude.{◌≡◌, ◌^◌, ◌≤◌, IfOk, IfSome};
 ghost use Rattle.example_collections.specs.Through.{ComeBack};
 
@@ -12,7 +12,7 @@ use std::alloc::Global;
 use std::sync::Wait;
 use std::thread::Threads;
 
-/// Sends a value through a bare arena of a fixed pool.
+/// Places a value in a bare arena of a fixed-size pool, reads it back, and gives the arena back.
 pub fn through_fixed<T: Item, K: ChunkMaker, L: PoolName, R: Wait>(
     rt: &R,
     pool: &FixedSizeAllocatorPool<K, L>,
@@ -29,7 +29,7 @@ pub fn through_fixed<T: Item, K: ChunkMaker, L: PoolName, R: Wait>(
     found
 }
 
-/// The same over a standard pool.
+/// Places a value in a bare arena of a standard pool, reads it back, and gives the arena back.
 pub fn through_standard<T: Item, K: ChunkMaker, L: PoolName, R: Wait>(
     rt: &R,
     pool: &StandardAllocatorPool<K, L>,
@@ -44,11 +44,11 @@ pub fn through_standard<T: Item, K: ChunkMaker, L: PoolName, R: Wait>(
     found
 }
 
-/// Sends values through bare arenas of a fixed pool, each in a thread of its own. Each comes back as it was, or not at all.
+/// Runs `through_fixed` for each value, in a thread of its own. Each value comes back unchanged, or not at all.
 ///
 /// # Errors
 ///
-/// Memory for the results runs out.
+/// Out of memory for the results.
 pub fn all_through_fixed<K: ChunkMaker + Send, L: PoolName + Send + Sync, R: Threads + Wait + Sync>(
     rt: &R,
     alloc: Global,
@@ -60,11 +60,11 @@ pub fn all_through_fixed<K: ChunkMaker + Send, L: PoolName + Send + Sync, R: Thr
     all_sent(rt, alloc, &AnyPool::FixedSize(pool), values)
 }
 
-/// The same over a standard pool.
+/// Runs `through_standard` for each value, in a thread of its own. Each value comes back unchanged, or not at all.
 ///
 /// # Errors
 ///
-/// Memory for the results runs out.
+/// Out of memory for the results.
 pub fn all_through_standard<
     K: ChunkMaker + Send,
     L: PoolName + Send + Sync,

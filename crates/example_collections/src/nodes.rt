@@ -1,4 +1,4 @@
-// An enum of one's own, which is copied by its variants.
+// An enum of the caller's own, which is copied by its variants.
 ghost use Rattle.arena_clone.specs.Kinds.{vec_of};
 ghost use Rattle.example_collections.specs.Nodes.{node_of};
 ghost use Rattle.example_collections.specs.NodeLaws.{node_lawful};

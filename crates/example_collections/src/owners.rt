@@ -8,7 +8,8 @@ use arena_pool::{GaveUp, Owner, ShareErr, share};
 use std::alloc::Global;
 use std::thread::{Threads, join};
 
-/// Gives up. The arena, where the other owner gave up before: none only to an owner that hasn't found so.
+/// Gives up an owner's share. Returns the arena if the other owner has given up before. An owner that has already
+/// found that the other has given up never gets `None`.
 pub fn freed<C: ChunkSource + Drop>(owner: Owner<C>) -> Option<Allocator<C>>
     ensures arena { IfSome result (λ a. a ≡ owner.shared) }
     ensures none { IfNone result (times 0 owner.lists.taken ≡ 0) }
@@ -19,11 +20,11 @@ pub fn freed<C: ChunkSource + Drop>(owner: Owner<C>) -> Option<Allocator<C>>
     }
 }
 
-/// The arena, where the other owner has given up.
+/// Returns the arena if the other owner has given up.
 ///
 /// # Errors
 ///
-/// The other hasn't. The owner comes back.
+/// The other owner hasn't given up. The owner is returned.
 pub fn alone<C: ChunkSource + Drop>(owner: Owner<C>) -> Result<Allocator<C>, Owner<C>>
     ensures arena { IfOk result (λ a. a ≡ owner.shared) }
     ensures owner { IfErr result (λ o. o.shared ≡ owner.shared) }
@@ -35,16 +36,17 @@ pub fn alone<C: ChunkSource + Drop>(owner: Owner<C>) -> Result<Allocator<C>, Own
     }
     match owner.give_up() {
         GaveUp::Freed(arena, _) => Ok(arena),
-        // The look found that the other has given up, so the arena doesn't stay with it.
+        // `is_double_owned` found that the other has given up, so the arena doesn't stay with it.
         GaveUp::Stays(_) => unreachable!(),
     }
 }
 
-/// Two threads own an arena, and both give up. What each of them freed is the arena, as it was shared.
+/// Two threads own an arena, and both give it up. An arena that one of them gets back is the one that was shared,
+/// unchanged.
 ///
 /// # Errors
 ///
-/// Out of memory. The arena comes back.
+/// Out of memory. The arena is returned.
 pub fn freed_by_two<C: ChunkSource + Drop + Send, R: Threads>(
     rt: &R,
     alloc: Global,

@@ -1,4 +1,4 @@
-// Values put at the end, and numbers added up.
+// Values that are appended, and numbers that are added up.
 ghost use Rattle.std.specs.Prelude.{◌≡◌, ℕ, ◌+◌, ◌*◌, ◌%◌, ◌^◌, ◌<◌, ◌≤◌, ◌++◌, [], ◌∷◌, replicate, Err, IsOk, OnOk};
 ghost use Rattle.std.specs.List.{sum};
 ghost use Rattle.arena_rules.specs.State.{used_bytes};
@@ -16,7 +16,7 @@ use arena_items::{Box, Item};
 use arena_vec::laws::{growth_rule, vector_costs};
 use arena_vec::{Grown, Vec};
 
-/// Puts a value into a vector, beside a box.
+/// Appends a value to a vector. A box that is disjoint from it keeps its value.
 pub fn push_beside<T: Item, U: Item, C: ChunkSource>(
     a: &mut Allocator<C>,
     vec: &mut Vec<T>,
@@ -37,7 +37,7 @@ pub fn push_beside<T: Item, U: Item, C: ChunkSource>(
     vec.push(a, value)
 }
 
-/// Below the capacity a value is put with no memory taken.
+/// Appends a value to a vector below its capacity. It doesn't fail, and takes no memory.
 pub fn push_below<T: Item, C: ChunkSource>(
     a: &mut Allocator<C>,
     vec: &mut Vec<T>,
@@ -54,12 +54,13 @@ pub fn push_below<T: Item, C: ChunkSource>(
     vec.push(a, value)
 }
 
-/// Puts a value at the end so many times. The bytes that the calls ask for are together at most those of four times as many
-/// values, with what the vector had saved up.
+/// Appends a value `n` times. As long as twice all values fit in 2 ^ 32 bytes, the calls together ask for at most the
+/// bytes of `4 * n` values and the vector's credit.
 ///
 /// # Errors
 ///
-/// As of `push`, and no `CapacityOverflow` where all of them fit. The copies before stay.
+/// Those of `push`, without `CapacityOverflow` if all values fit. The values that were appended before the failure
+/// stay.
 pub fn push_copies<T: Item, C: ChunkSource>(
     a: &mut Allocator<C>,
     vec: &mut Vec<T>,

@@ -1,4 +1,4 @@
-// A task that takes several calls.
+// A task of several calls.
 ghost use Rattle.std.specs.Prelude.{◌≡◌, ◌^◌, ◌≤◌, [], ◌∷◌, IfOk, OnErr, length};
 ghost use Rattle.arena_chunks.specs.Frame.{Frame};
 ghost use Rattle.arena_vec.specs.Growth.{new_growth, empty_capacity};
@@ -14,12 +14,13 @@ use arena_chunks::{Allocator, ChunkSource};
 use arena_items::Item;
 use arena_vec::{Grown, Vec};
 
-/// Sorts values, drops those below `least`, and writes the lowest of the others into `out`. The rest stays, in a vector. Where
-/// fewer are left than `out` has space for, all of them stay there, and `out` is as it was: `false` says so.
+/// Sorts values, drops those below `least`, moves the lowest of the others to `out`, and returns a vector of the rest
+/// and `true`. If fewer are left than `out` has space for, returns a vector of all of them and `false`, and leaves
+/// `out` unchanged.
 ///
 /// # Errors
 ///
-/// As of `with_capacity_in`. Nothing changes.
+/// Those of `with_capacity_in`. Nothing changes.
 pub fn split_lowest<T: Item + Ord, C: ChunkSource>(
     a: &mut Allocator<C>,
     values: &[T],

@@ -1,14 +1,15 @@
-// A hasher with a seed of one's own, for keys that others choose.
+// A hasher with a seed, for keys that others choose.
 ghost use Rattle.std.specs.Prelude.{◌≡◌, ◌*◌, ◌+◌, ◌%◌};
 ghost use Rattle.example_collections.specs.Seeded.{prime, at_seed, seeded};
 
 use arena_hash::KeyHasher;
 
-/// Hashes a content as a polynomial, at a seed: two contents of n bytes and less hash alike at n seeds at most, of
-/// 2^61 - 1. So draw the seed again for each run, below 2^61 - 1, and keep it from who chooses the keys.
+/// Hashes a content as the value of a polynomial at the seed. Two different contents of at most n bytes have the same
+/// hash for at most n of the 2^61 - 1 seeds. So draw a new seed below 2^61 - 1 for each run, and keep it secret from
+/// those who choose the keys.
 #[derive(Clone, Copy, Default)]
 pub struct SeededHasher {
-    /// Where the polynomials are taken.
+    /// The point at which the polynomials are evaluated.
     pub seed: u64,
 }
 
@@ -16,7 +17,7 @@ const PRIME: u128 = 0x1fff_ffff_ffff_ffff;
 
 const SPREAD: u64 = 0x9e37_79b9_7f4a_7c15;
 
-// The value with one byte more.
+// The value of the polynomial with one more byte.
 #[inline]
 fn with_byte(value: u64, seed: u64, byte: u8) -> u64
     ensures { result ≡ (value * seed + byte) % prime }

@@ -1,4 +1,4 @@
-// Values picked, taken out, and put in the place of others.
+// Values that are filtered, removed and replaced.
 ghost use Rattle.std.specs.Prelude.{◌≡◌, ℕ, ◌-◌, ◌^◌, ◌≤◌, [], ◌∷◌, length, take, drop, filter, OnOk, OnErr};
 ghost use Rattle.std.specs.List.{replace_range, range_with_len};
 ghost use Rattle.std.specs.Iterator.{IsFinite};
@@ -13,7 +13,7 @@ use arena_items::Item;
 use arena_vec::{Grown, Vec};
 use std::ops::Range;
 
-/// Keeps the values that are no less than this one, in their order.
+/// Keeps the values that are at least `least`, in their order.
 pub fn keep_from<T: Item + Ord, C: ChunkSource>(a: &mut Allocator<C>, vec: &mut Vec<T>, least: T)
     requires small { T.SIZE ≤ 2 ^ 24 }
     requires held { IsVecIn T.Item a.old.memory vec.old }
@@ -23,7 +23,7 @@ pub fn keep_from<T: Item + Ord, C: ChunkSource>(a: &mut Allocator<C>, vec: &mut 
     vec.retain(a, |x| least.cmp(x).is_le());
 }
 
-/// Takes the first values out, and writes them into `out`, which has space for no more than there are.
+/// Removes the first values and writes them to `out`, which has space for at most as many as there are.
 pub fn take_front<T: Item, C: ChunkSource>(a: &mut Allocator<C>, vec: &mut Vec<T>, out: &mut [T])
     requires small { T.SIZE ≤ 2 ^ 24 }
     requires held { IsVecIn T.Item a.old.memory vec.old }
@@ -42,11 +42,11 @@ pub fn take_front<T: Item, C: ChunkSource>(a: &mut Allocator<C>, vec: &mut Vec<T
     gone.finish();
 }
 
-/// Puts numbers one after another in the place of a range.
+/// Replaces a range of a vector by numbers.
 ///
 /// # Errors
 ///
-/// As of `try_reserve`. The first of the numbers stand in the range's place then.
+/// Those of `try_reserve`. The range is replaced by some of the numbers then, the first ones.
 pub fn put_numbers<C: ChunkSource>(
     a: &mut Allocator<C>,
     vec: &mut Vec<u32>,
@@ -69,7 +69,7 @@ pub fn put_numbers<C: ChunkSource>(
     vec.splice(a, start, end, numbers).finish()
 }
 
-/// Looks at both ends of a range, and puts an iterator's items in its place.
+/// Takes one value from each end of a range, and replaces the range by an iterator's items.
 pub fn exchange<T: Item, C: ChunkSource, I: Iterator<Item = T> + Drop>(
     vec: &mut Vec<T>,
     a: &mut Allocator<C>,

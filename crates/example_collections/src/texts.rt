@@ -17,11 +17,11 @@ use arena_text::StringBuilder;
 use arena_text::laws::{pushed_rule, utf8_rule, within_room};
 use std::alloc::Global;
 
-/// Makes a text of one ASCII byte, so many times. Room is made once, which alone can be refused.
+/// Makes a text of an ASCII byte, `n` times. Room is reserved once, and only that can fail.
 ///
 /// # Errors
 ///
-/// As of `with_capacity_in`.
+/// Those of `with_capacity_in`.
 pub fn rule_of<C: ChunkSource>(byte: u8, n: u64, a: &mut Allocator<C>) -> Grown<StringBuilder>
     requires { byte < 128 }
     ensures { Makes a.old a.new n (replicate n byte) result }
@@ -32,11 +32,12 @@ pub fn rule_of<C: ChunkSource>(byte: u8, n: u64, a: &mut Allocator<C>) -> Grown<
     Ok(text)
 }
 
-/// Makes a text of ASCII bytes, put one after another. Its room is no more than twice its bytes and eight.
+/// Makes a text of an ASCII byte, `n` times, by one push for each. Its capacity is at most eight more than twice its
+/// length.
 ///
 /// # Errors
 ///
-/// As of `push_ascii_byte`, at one of the bytes. What was made stays in the arena.
+/// Those of `push_ascii_byte`, for one of the bytes. The text so far stays in the arena.
 pub fn row_of<C: ChunkSource>(byte: u8, n: u64, a: &mut Allocator<C>) -> Grown<StringBuilder>
     requires { byte < 128 }
     ensures row { IfOk result (IsRow a.old a.new byte n) }
@@ -51,11 +52,11 @@ pub fn row_of<C: ChunkSource>(byte: u8, n: u64, a: &mut Allocator<C>) -> Grown<S
     Ok(text)
 }
 
-/// Puts a line at the end: a text and a line feed. Room is made once, so that a refusal leaves all as it was.
+/// Appends a line: a text and a line feed. Room is reserved once, so an error leaves everything unchanged.
 ///
 /// # Errors
 ///
-/// As of `reserve`.
+/// Those of `reserve`.
 pub fn push_line<C: ChunkSource>(
     text: &mut StringBuilder,
     a: &mut Allocator<C>,
@@ -72,11 +73,11 @@ pub fn push_line<C: ChunkSource>(
     text.push_ascii_byte(a, b'\n')
 }
 
-/// Puts a text at the end of one builder, beside another.
+/// Appends a text to a builder. Another builder is unchanged.
 ///
 /// # Errors
 ///
-/// As of `push_str`.
+/// Those of `push_str`.
 pub fn push_text_beside<C: ChunkSource>(
     text: &mut StringBuilder,
     a: &mut Allocator<C>,
@@ -97,11 +98,11 @@ pub fn push_text_beside<C: ChunkSource>(
     text.push_str(a, s)
 }
 
-/// Puts a character at the end where there is room for its bytes: no memory is taken.
+/// Appends a character to a text with room for its bytes. It takes no memory.
 ///
 /// # Errors
 ///
-/// None comes.
+/// None: the result is always `Ok`.
 pub fn push_char_below<C: ChunkSource>(
     text: &mut StringBuilder,
     a: &mut Allocator<C>,
@@ -120,11 +121,11 @@ pub fn push_char_below<C: ChunkSource>(
     text.push(a, c)
 }
 
-/// Puts a character at the end of a text, and counts the characters that there are then.
+/// Appends a character to a text, and returns the number of its characters after that.
 ///
 /// # Errors
 ///
-/// As of `push`.
+/// Those of `push`.
 pub fn push_and_count<C: ChunkSource>(
     text: &mut StringBuilder,
     a: &mut Allocator<C>,
@@ -143,12 +144,12 @@ pub fn push_and_count<C: ChunkSource>(
     Ok(text.as_str(a).chars().count())
 }
 
-/// Puts a number in decimal digits at the end. The digits are made outside the arena first, so that a refusal leaves all
-/// as it was.
+/// Appends a number in decimal digits. The digits are first made outside the arena, so an error leaves everything
+/// unchanged.
 ///
 /// # Errors
 ///
-/// `OutOfMemory` where memory for the digits runs out, and else as of `push_str`.
+/// `OutOfMemory` if there is no memory for the digits, and otherwise those of `push_str`.
 pub fn push_number<C: ChunkSource>(
     text: &mut StringBuilder,
     a: &mut Allocator<C>,

@@ -25,7 +25,7 @@ pub(crate) enum AnyPool<'a, K: ChunkMaker, L: PoolName> {
     Standard(&'a StandardAllocatorPool<K, L>),
 }
 
-// Sends a value through an arena of a pool.
+// Places a value in an arena of a pool and reads it back.
 fn sent<K: ChunkMaker, L: PoolName, R: Wait>(
     rt: &R,
     pool: &AnyPool<'_, K, L>,
@@ -40,7 +40,7 @@ fn sent<K: ChunkMaker, L: PoolName, R: Wait>(
     }
 }
 
-// Sends values through arenas of a pool, each in a thread of its own.
+// Runs `sent` for each value, in a thread of its own.
 pub(crate) fn all_sent<K: ChunkMaker + Send, L: PoolName + Send + Sync, R: Threads + Wait + Sync>(
     rt: &R,
     alloc: Global,
@@ -61,11 +61,12 @@ pub(crate) fn all_sent<K: ChunkMaker + Send, L: PoolName + Send + Sync, R: Threa
     back.map_err(|_| OutOfMemory)
 }
 
-/// Sends values through borrowed arenas, each in a thread of its own. Each comes back as it was, or not at all.
+/// Places each value in a borrowed arena and reads it back, in a thread of its own. Each comes back unchanged, or not
+/// at all.
 ///
 /// # Errors
 ///
-/// Memory for the results runs out.
+/// Out of memory for the results.
 pub fn all_through<K: ChunkMaker + Send, L: PoolName + Send + Sync, R: Threads + Wait + Sync>(
     rt: &R,
     alloc: Global,
@@ -77,7 +78,7 @@ pub fn all_through<K: ChunkMaker + Send, L: PoolName + Send + Sync, R: Threads +
     all_sent(rt, alloc, &AnyPool::Pool(pool), values)
 }
 
-/// The same over a new standard pool of so many arenas, each with a budget of bytes.
+/// Runs `all_through` over a new standard pool of `arenas` arenas, each with a budget in bytes.
 ///
 /// # Errors
 ///
@@ -94,7 +95,7 @@ pub fn over_standard<R: Threads + Wait + Sync>(
     in_standard::<Brand, R>(rt, alloc, arenas, budget, Blank::new(MOST_LENT), values)
 }
 
-// The pool is named by L, which stands in no type of the signature.
+// The pool is named by `L`, which occurs in no type of the signature.
 fn in_standard<L: PoolName + Send + Sync, R: Threads + Wait + Sync>(
     rt: &R,
     alloc: Global,
@@ -113,7 +114,7 @@ fn in_standard<L: PoolName + Send + Sync, R: Threads + Wait + Sync>(
     all_through(rt, alloc, &pool, values)
 }
 
-/// The same over a new standard pool that keeps no arena of more than so many bytes.
+/// Runs `all_through` over a new standard pool that keeps no arena of more than `limit` bytes.
 ///
 /// # Errors
 ///
@@ -158,8 +159,8 @@ fn in_limited<L: PoolName + Send + Sync, R: Threads + Wait + Sync>(
     all_through(rt, alloc, &pool, values)
 }
 
-/// The same over a new pool of so many arenas, each over a region of `bytes`. It waits without end where there are values and no
-/// arena.
+/// Runs `all_through` over a new pool of `arenas` arenas, each over a region of `bytes` bytes. If there are values
+/// and no arenas, it waits forever.
 ///
 /// # Errors
 ///

@@ -1,10 +1,10 @@
--- Slots under two homes or contents that are the same for what stands there.
+-- Slots under two home functions or two content functions that agree on the items in them.
 use Rattle.std.proofs.Common.{◌≡◌, ℕ, List, sym, ◌∙◌, Option}
 use Rattle.hash_ring.specs.AgreeLaws.{ordered-agree}
 use Rattle.hash_ring.specs.Slots.{Has, IsOnce}
 use Rattle.hash_ring.proofs.Close.{Closing}
 
--- no content stands twice
+-- no content occurs twice
 pub once-agree : {X : Type 0} (one other : X → List ℕ) (slots : List (Option X)) → ((x : X) → Has slots x → other x ≡ one x)
     → IsOnce one slots → IsOnce other slots
 once-agree one other slots same once i j x y s t e = once i j x y s t (sym (same x (i, s)) ∙ (e ∙ same y (j, t)))

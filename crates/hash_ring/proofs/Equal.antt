@@ -32,7 +32,7 @@ none-member : (ks : List (List ℕ)) (q : List ℕ) → is_member bytes_eq ks q 
 none-member [] q e = tt
 none-member (k ∷ ks) q e = let r = or_parts (bytes_eq q k) (is_member bytes_eq ks q) e in (r.0, none-member ks q r.1)
 
--- where values are equal, or there are none, something stands in both or in neither
+-- if values are equal or both missing, both options are some or both are none
 pub both-has : {K V : Type 0} (eq : V → V → Bool) (one other : Option (K × V)) → AreBoth eq (value_of one) (value_of other)
     → is_some one ≡ is_some other
 both-has eq None None b = refl
@@ -41,7 +41,7 @@ both-has eq (Some x) None b = absurd b
 both-has eq (Some x) (Some y) b = refl
 
 module _ {K V : Type 0} (content : K → List ℕ) where
-  -- a content stands in the list where the map has it
+  -- a content is in the list if the map has it
   has-member : (pairs : List (K × V)) (q : List ℕ) → is_member bytes_eq (map (λ p. content p.0) pairs) q ≡ has (first_of content pairs) q
   has-member [] q = refl
   has-member (p ∷ ps) q = elim (cases_Bool (bytes_eq (content p.0) q)) [
@@ -53,7 +53,8 @@ module _ {K V : Type 0} (content : K → List ℕ) where
         ∙ (has-member ps q ∙ ap is_some (sym (cond-false (bytes_eq (content p.0) q) (Some p) (first_of content ps q) t)))
   ]
 
--- Pairs whose contents another list has are at most as many, whatever tells the contents of each list.
+-- A list with no content twice, all of whose contents another list has, is at most as long, whatever gives the contents
+-- of each.
 pub few-contents : {K V : Type 0} (one other : K → List ℕ) (xs ys : List (K × V)) → AreOnce one xs
     → ((q : List ℕ) → has (first_of one xs) q ≡ true → has (first_of other ys) q ≡ true) → length xs ≤ length ys
 few-contents one other xs ys once within =
@@ -63,7 +64,7 @@ few-contents one other xs ys once within =
     omega (arith, l, length-map xs (λ p. one p.0), length-map ys (λ p. other p.0))
 
 module _ {K V : Type 0} (content : K → List ℕ) where
-  -- where they are as many, the other list has no more
+  -- if they are as many, the other list has no more
   pub no-more-pairs : (xs ys : List (K × V)) → AreOnce content xs → length ys ≤ length xs
       → ((q : List ℕ) → has (first_of content xs) q ≡ true → has (first_of content ys) q ≡ true)
       → (q : List ℕ) → has (first_of content ys) q ≡ true → has (first_of content xs) q ≡ true
@@ -92,7 +93,7 @@ module _ {K V : Type 0} (content : K → List ℕ) where
         few-contents content content ys xs other (λ q e. both-has eq (first_of content xs q) (first_of content ys q) (equal q) ∙ e) in
         omega arith
 
-    -- Maps with as many pairs are equal where each pair of one list has its content in the other, with an equal value.
+    -- Maps with as many pairs are equal if each pair of one list has its content in the other, with an equal value.
     pub equal-found : AreOnce content xs → length ys ≤ length xs
         → ((i : ℕ) (p : K × V) → slice_get xs i ≡ Some p → AreBoth eq (Some p.1) (value_of (first_of content ys (content p.0))))
         → AreEqual {K = K} eq (first_of content xs) (first_of content ys)
@@ -123,7 +124,7 @@ module _ {K V : Type 0} (content : K → List ℕ) where
 
 -- ---- A search for each pair of a list in another map
 
--- where one of two lists stands behind the other, what a place of both holds
+-- what a place of a list holds that others were appended to
 get-push : {X : Type 0} (xs : List X) (x : X) (i : ℕ) (y : X) → slice_get (xs ++ x ∷ []) i ≡ Some y → (slice_get xs i ≡ Some y) ⊎ (y ≡ x)
 get-push [] x zero y s = inr (sym (same_Some x y s))
 get-push [] x (suc i) y s = absurd (none-some y s)

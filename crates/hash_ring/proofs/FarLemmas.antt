@@ -8,7 +8,7 @@ use Rattle.hash_ring.proofs.Find.{IsReached, Stops, reached-less, place-for}
 use Rattle.hash_ring.proofs.Passing.{mark-passed-reached}
 use Rattle.hash_ring.proofs.RingLemmas.{wrap-mod, spot-home}
 
--- What stands before `low` is no nearer to its home, and what stands at `high` is nearer, or a round is over.
+-- The items before `low` are no nearer to their homes, and the item at `high` is nearer, or a round is over.
 pub record IsBetween {X : Type 0} (home : X → ℕ) (n start : ℕ) (slots : List (Option X)) (low high : ℕ) : Type 0 where
   pub far : 14 ≤ low
   pub ordered : low ≤ high
@@ -35,7 +35,7 @@ module _ {X : Type 0} (home : X → ℕ) (n : ℕ) (homes : (x : X) → home x <
 
   module _ (low high probe at : ℕ) (s : IsBetween home n start slots low high) (over : low ≤ probe) (under : probe < high)
       (place : at ≡ spot n start probe) where
-    -- what stands there is as far: the search goes on behind it
+    -- the item there is as far: the search continues after it
     pub between-behind : IsBehind home n slots at probe → IsBetween home n start slots (probe + 1) high
     between-behind behind = record {
       far = omega (arith, s.far);

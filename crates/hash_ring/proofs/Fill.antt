@@ -30,12 +30,12 @@ filled-room old n i new h f = omega (arith, f.count)
 
 module _ {X : Type 0} (n : ℕ) (marks : List ℕ) (old : List (Option X)) (long : length old ≡ n)
     (free : (i : ℕ) → i < n → slice_index marks i ≡ 0 → slice_get old i ≡ Some None) where
-  -- nothing stands where no mark is set
+  -- no item is in a slot whose mark isn't set
   nothing : (i j : ℕ) → AreFree marks i j → (k : ℕ) (x : X) → i ≤ k → k < j → slice_get old k ≡ Some (Some x) → ⊥
   nothing i j none k x from to s =
       not_free x (sym s ∙ free k (omega (arith, long, slice_get_within old k (Some x) s)) (none k from to))
 
-  -- before the walk nothing is there
+  -- before the walk no item is there
   pub filled-start : (s : Scan) (m : ℕ) → AreFree marks 0 (front_of s) → Filled old (front_of s) (replicate m None)
   filled-start s m none = record {
     count = omega (arith, ap length (items-none {X = X} m), ap length (left-clear n marks old long free 0 (front_of s) (omega arith) none));
@@ -44,7 +44,7 @@ module _ {X : Type 0} (n : ℕ) (marks : List ℕ) (old : List (Option X)) (long
     once = λ content o i j x y there other e. absurd (none-there m i x there);
   }
 
-  -- what the walk comes to is put
+  -- the item that the walk comes to is inserted
   pub filled-goes : (s t : Scan) (at : ℕ) (x : X) (new new' : List (Option X)) → GoesOn n marks s at t → slice_get old at ≡ Some (Some x)
       → Settled new new' x → Filled old (front_of s) new
       → Filled old (front_of t) new'
@@ -71,7 +71,7 @@ module _ {X : Type 0} (n : ℕ) (marks : List ℕ) (old : List (Option X)) (long
         absurd (omega (arith, r.1, g.before, o r.0 at y x r.2 there e)));
   }
 
-  -- at its end all are there
+  -- at its end all items are there
   pub filled-whole : (s : Scan) (new : List (Option X)) → AreFree marks (front_of s) n → Filled old (front_of s) new → Moved old new
   filled-whole s new none f = record {
     count = omega (arith, f.count, ap length (left-end n marks old long free (front_of s) none));

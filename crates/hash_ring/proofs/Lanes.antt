@@ -13,7 +13,7 @@ use Rattle.std.specs.Int.{bit_at, trailing_zeros}
 use Rattle.std.specs.Simd.Lanes.{chunk, mask_l}
 use Rattle.hash_ring.specs.Walks.{AreTaken}
 
--- a bit that tells whether a byte isn't 0
+-- a bit that says whether a byte isn't 0
 tells : (x : ℕ) → (cond {A = ℕ} (not (eqb x 0)) 1 0 ≡ 1) ↔ (x ≢ 0)
 tells x = elim (cases_eq x 0) [
   | inl e ↦ ((λ one. absurd (omega (arith, one, ap (λ b. cond {A = ℕ} (not b) 1 0) (eq-eqb x 0 e)))), (λ other. absurd (other e)))
@@ -41,7 +41,7 @@ padded [] n m j = get_or-drop m (replicate n 0) j 0 ∙ no-more n (m + j)
 padded (x ∷ xs) n m zero = refl
 padded (x ∷ xs) n m (suc j) = padded xs n m j
 
--- zeros behind the bytes change nothing
+-- zeros after the bytes change nothing
 pub taken-padded : (xs : List ℕ) (n m bits : ℕ) → AreTaken (xs ++ drop m (replicate n 0)) 0 bits → AreTaken xs 0 bits
 taken-padded xs n m bits taken j k = subst (λ v. (bit_at bits j ≡ 1) ↔ (v ≢ 0)) (padded xs n m (0 + j)) (taken j k)
 
@@ -60,7 +60,7 @@ module _ (word : ℕ) (some : 0 < word) (fits : word < 2 ^ 64) where
   abbrev high : ℕ
   high = word / 2 ^ (low + 1)
 
-  -- behind the lowest bit there are higher ones alone
+  -- above the lowest bit there are only higher ones
   split : word ≡ high * 2 ^ (low + 1) + 2 ^ low
   split =
       let bits = bit_at-trailing_zeros w64 word some fits in

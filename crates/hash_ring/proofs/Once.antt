@@ -1,4 +1,4 @@
--- Slots and the list of what stands in them.
+-- Slots and the list of their items.
 use Rattle.std.proofs.Common.{◌≡◌, ℕ, suc, zero, List, [], ◌∷◌, map, refl, sym, ap, ◌∙◌, arith, Some, None, Option, false}
 use Rattle.std.proofs.lemmas.Option.{none-some}
 use Rattle.std.proofs.lemmas.Bool.{both_ways, false_from_ne_true}
@@ -10,7 +10,7 @@ use Rattle.hash_ring.specs.Finite.{AreOnce}
 use Rattle.hash_ring.specs.Slots.{items, Has, IsOnce}
 use Rattle.hash_ring.proofs.Places.{same_item, not_free}
 
--- what is true of all that stands in slots, is of each in the list
+-- what is true of the items in all slots is true of each item in the list
 pub all-items : {X Y : Type 0} (P : Y → Type 0) (f : X → Y) (slots : List (Option X)) → ((x : X) → Has slots x → P (f x))
     → AllByRecursion P (map f (items slots))
 all-items P f [] each = tt
@@ -18,7 +18,7 @@ all-items P f (None ∷ xs) each = all-items P f xs (λ x h. each x (suc h.0, h.
 all-items P f (Some z ∷ xs) each = (each z (0, refl), all-items P f xs (λ x h. each x (suc h.0, h.1)))
 
 module _ {K V : Type 0} (content : K → List ℕ) where
-  -- no content stands twice in the list where none does in the slots
+  -- no content occurs twice in the list if none does in the slots
   pub are_once : (slots : List (Option (K × V))) → IsOnce (λ p. content p.0) slots → AreOnce content (items slots)
   unfolding IsDistinct
   are_once [] once = tt
@@ -37,7 +37,7 @@ module _ {K V : Type 0} (content : K → List ℕ) where
       both_ways (bytes_eq (content z.0) (content x.0)) (has-items (λ q. bytes_eq (content z.0) q ≡ false) (λ p. content p.0) xs j x s all)
       ((bytes_eq-Decides (content z.0) (content x.0)).1 e)
 
-  -- and in the slots where none does in the list
+  -- no content occurs twice in the slots if none does in the list
   pub is_once : (slots : List (Option (K × V))) → AreOnce content (items slots) → IsOnce (λ p. content p.0) slots
   unfolding IsDistinct
   is_once [] once i j x y s t e = absurd (none-some (Some x) s)

@@ -12,7 +12,7 @@ use Rattle.hash_ring.proofs.Order.{away-of}
 use Rattle.hash_ring.proofs.Places.{slot-cases, not_free}
 use Rattle.hash_ring.proofs.RingLemmas.{below-next, spot-less}
 
--- ---- What marks tell
+-- ---- What marks show
 
 tag-less : (hash : ℕ) → hash / 2 ^ 60 % 16 < 16
 tag-less hash = mod-lt (hash / 2 ^ 60) (omega arith)
@@ -21,11 +21,11 @@ tag-less hash = mod-lt (hash / 2 ^ 60) (omega arith)
 pub mark-least : (hash d : ℕ) → mark_of hash d / 16 * 16 ≡ min (d + 1) 15 * 16
 mark-least hash d = omega (arith, tag-less hash)
 
--- a lesser mark is of a free slot, or of something nearer
+-- a lower mark is of a free slot, or of an item that is nearer
 pub mark-near : (hash hash' d e : ℕ) → mark_of hash' e < mark_of hash d / 16 * 16 → (e < d) × (e < 14)
 mark-near hash hash' d e h = (omega (arith, mark-least hash d, h), omega (arith, mark-least hash d, h))
 
--- any other is of what is as far, as far as marks tell
+-- any other mark is of an item that is as far, as far as marks show
 pub mark-far : (hash hash' d e : ℕ) → mark_of hash d / 16 * 16 ≤ mark_of hash' e → min d 14 ≤ e
 mark-far hash hash' d e h = omega (arith, mark-least hash d, tag-less hash', h)
 
@@ -56,13 +56,13 @@ module _ {X : Type 0} (home : X → ℕ) (n start : ℕ) (slots : List (Option X
   pub mark-passed-taken : (d : ℕ) → IsPassed home n slots start d → AreTaken n start slots d
   mark-passed-taken d p = record { taken = λ e h t. let b = p.behind e h in not_free b.item (sym b.away.there ∙ t) }
 
-  -- as far as marks tell, the walk is the one by distance
+  -- as far as marks show, the walk is the one by distance
   pub mark-passed-reached : (d : ℕ) → d ≤ 15 → IsPassed home n slots start d → IsReached home n start slots d
   mark-passed-reached d h p = record {
     behind = λ e g. subst (λ m. IsBehind home n slots (spot n start e) m) (omega arith) (p.behind e (omega arith));
   }
 
--- Slots with a mark for each: 0 where it is free, and else by the hash of what stands there and its distance.
+-- Slots with a mark for each: 0 if it is free, and otherwise by the hash of its item and its distance.
 module _ {X : Type 0} (hash : X → ℕ) (n : ℕ) (some : 0 < n) (slots : List (Option X)) (mark : ℕ → ℕ) where
   home : X → ℕ
   home x = home_of n (hash x)
@@ -76,7 +76,7 @@ module _ {X : Type 0} (hash : X → ℕ) (n : ℕ) (some : 0 < n) (slots : List 
     pub marks : (i d : ℕ) (x : X) → IsAway (λ x. home_of n (hash x)) n slots i x d → mark i ≡ mark_of (hash x) d
 
   module _ (are : AreMarked) where
-    -- a slot is free, or something stands there, some way from its home, with its mark
+    -- a slot is free, or holds an item at some distance from its home, with its mark
     pub marked-cases : (i : ℕ) → i < n → ((slice_get slots i ≡ Some None) × (mark i ≡ 0))
         ⊎ ((x : X) × (d : ℕ) × IsAway (λ x. home_of n (hash x)) n slots i x d × (mark i ≡ mark_of (hash x) d))
     marked-cases i h = elim (slot-cases slots i (omega (arith, are.ordered.long))) [
@@ -90,7 +90,7 @@ module _ {X : Type 0} (hash : X → ℕ) (n : ℕ) (some : 0 < n) (slots : List 
       at_less : spot n (home_of n h) d < n
       at_less = spot-less n (home_of n h) d (mod-lt h some) less
 
-      -- a mark that isn't less: the slot is passed
+      -- a mark that isn't lower: the slot is passed
       pub marked-passes : IsPassed (λ x. home_of n (hash x)) n slots (home_of n h) d → mark_of h d / 16 * 16 ≤ mark (spot n (home_of n h) d)
           → IsPassed (λ x. home_of n (hash x)) n slots (home_of n h) (d + 1)
       marked-passes p m = elim (marked-cases (spot n (home_of n h) d) at_less) [
@@ -100,7 +100,7 @@ module _ {X : Type 0} (hash : X → ℕ) (n : ℕ) (some : 0 < n) (slots : List 
             mark-passed-more (λ x. home_of n (hash x)) n (home_of n h) slots d a.0 a.1 p a.2 far
       ]
 
-      -- a lesser one: the walk stops there
+      -- a lower one: the walk stops there
       pub marked-stops : mark (spot n (home_of n h) d) < mark_of h d / 16 * 16 → Stops (λ x. home_of n (hash x)) n (home_of n h) slots d
       marked-stops m = record {
         nearer =
@@ -120,7 +120,7 @@ module _ {X : Type 0} (hash : X → ℕ) (n : ℕ) (some : 0 < n) (slots : List 
         far = λ m. mark-passed-fewer (λ x. home_of n (hash x)) n (home_of n h) slots d 14 (far-away h d m) p;
       }
 
-      -- something with the hash has that mark there
+      -- an item with the hash has that mark there
       pub marked-same : (x : X) → slice_get slots (spot n (home_of n h) d) ≡ Some (Some x) → hash x ≡ h
           → mark (spot n (home_of n h) d) ≡ mark_of h d
       marked-same x s e =
@@ -129,7 +129,7 @@ module _ {X : Type 0} (hash : X → ℕ) (n : ℕ) (some : 0 < n) (slots : List 
           ≡ d = away-start (λ x. home_of n (hash x)) n homes (home_of n h) slots d x a.0 (mod-lt h some) less a.1 (ap (home_of n) e) in
           are.marks (spot n (home_of n h) d) a.0 x a.1 ∙ (ap (λ k. mark_of k a.0) e ∙ ap (mark_of h) far)
 
-    -- a mark that tells the distance stops a walk of 14 slots or more
+    -- a mark that gives the distance stops a walk of 14 slots or more
     pub marked-far-stops : (h d : ℕ) → d < n → 14 ≤ d → mark (spot n (home_of n h) d) < far_mark
         → Stops (λ x. home_of n (hash x)) n (home_of n h) slots d
     marked-far-stops h d less far m = record {

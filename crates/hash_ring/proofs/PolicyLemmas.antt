@@ -38,7 +38,7 @@ power-eights n is least = elim (less_or_not is.0 3) [
       (2 ^ (is.0 - 3), is.1 ∙ split, one-le-pow (is.0 - 3) 2 (omega arith)))
 ]
 
--- The table for so many pairs is a ring,
+-- The table for n pairs is a ring,
 pub slots-ring : (pairs slots : ℕ) → pairs < 2 ^ 32 → IsSlotsFor pairs slots → IsRing slots
 slots-ring pairs slots few is = (is.0, omega (arith, is.1), power-below slots 33 is.0 (omega (arith, is.1, is.2)))
 
@@ -72,11 +72,11 @@ next-room slots len ring within few = elim ring [
 
 -- ---- Bytes
 
--- Eight slots and the padding of a block cost at most a unit, also where the arena's least alignment is the greater.
+-- Eight slots and the padding of a block cost at most a unit, even if the arena's least alignment is greater.
 pub unit-covers : (k v ka va : ℕ) → 8 * slot_size k v + (max (table_align ka va) 16 - 1) ≤ unit k v ka va
 unit-covers k v ka va = omega arith
 
--- the size of a table is below 2 ^ 62
+-- the size of a table is at most 2 ^ 60
 pub table-small : (k v slots : ℕ) → k ≤ 2 ^ 24 → v ≤ 2 ^ 24 → slots ≤ 2 ^ 33 → slots * slot_size k v ≤ 2 ^ 60
 table-small k v slots small small' few =
     let a : slots * slot_size k v ≤ slots * 2 ^ 26 = mul-le-mul_left slots (let s : slot_size k v ≤ 2 ^ 26 = omega arith in s) in
@@ -93,14 +93,14 @@ table-holds k v slots len within =
     omega (arith, a, b, mul_comm (k + v) slots)
 
 module _ (size pad u : ℕ) (covers : 8 * size + pad ≤ u) where
-  -- so many times eight slots, and the padding of a block
+  -- this many times eight slots, and the padding of a block
   eights : (m : ℕ) → 8 * m * size + pad ≤ u * m + u
   eights m =
       let a : m * (8 * size) ≤ m * u = mul-le-mul_left m (let le : 8 * size ≤ u = omega arith in le) in
       let b : m * (8 * size) ≡ 8 * m * size = omega arith in
       omega (arith, a, b, mul_comm m u)
 
-  -- the table for so many pairs
+  -- the table for n pairs
   pub capacity-bytes : (pairs slots : ℕ) → 0 < pairs → IsSlotsFor pairs slots → slots * size + pad ≤ u * pairs
   capacity-bytes pairs slots some is = elim (less_or_not 4 pairs) [
     | inl many ↦ (
@@ -161,7 +161,7 @@ credit-falls u slots a b h = mul-le-mul_left u (fewer a b (slots / 4 + 1) h)
 pub credit-none : (u slots : ℕ) → credit u slots 0 ≡ 0
 credit-none u slots = ap (λ n. u * n) (let none : 0 - (slots / 4 + 1) ≡ 0 = omega arith in none) ∙ omega arith
 
--- a table for so many pairs, with them in it, has half as much saved up at most
+-- a table for n pairs, with them in it, has at most half as much saved up
 pub full-credit : (u pairs slots : ℕ) → IsSlotsFor pairs slots → 2 * credit u slots pairs ≤ u * pairs
 full-credit u pairs slots is =
     let past : 2 * (pairs - (slots / 4 + 1)) ≤ pairs = omega (arith, is.1) in

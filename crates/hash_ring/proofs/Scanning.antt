@@ -13,23 +13,23 @@ use Rattle.hash_ring.specs.declared.scan.Scan.{Scan}
 use Rattle.hash_ring.proofs.Lanes.{cleared-above, cleared-below}
 use Rattle.hash_ring.proofs.Left.{left-over, left-none, left-taken}
 
--- where no bit is set, the walk stands behind its sixty-four
+-- if no bit is set, the walk is at the end of its sixty-four
 pub front-none : (s : Scan) → s.rest ≡ 0 → front_of s ≡ s.base + 64
 front-none s e = cond-true (eqb s.rest 0) (s.base + 64) (s.base + trailing_zeros w64 s.rest) (eq-eqb s.rest 0 e)
 
--- else at its lowest one
+-- otherwise it is at its lowest bit
 pub front-some : (s : Scan) → 0 < s.rest → front_of s ≡ s.base + trailing_zeros w64 s.rest
 front-some s h =
     cond-false (eqb s.rest 0) (s.base + 64) (s.base + trailing_zeros w64 s.rest) (ne_eqb s.rest 0 (λ e. absurd (omega arith)))
 
--- below the place where it stands no bit is set
+-- no bit below its position is set
 front-clear : (s : Scan) → s.rest < 2 ^ 64 → (j : ℕ) → s.base + j < front_of s → bit_at s.rest j ≡ 1 → ⊥
 front-clear s fits j below bit = elim (cases_lt 0 s.rest) [
   | inl some ↦ absurd (omega (arith, bit, (bit_at-trailing_zeros w64 s.rest some fits).2 j (omega (arith, below, front-some s some))))
   | inr none ↦ let zero : s.rest ≡ 0 = omega arith in absurd (omega (arith, bit, ap (λ w. bit_at w j) zero, bit_at-zero j))
 ]
 
--- it stands in the sixty-four, or behind them
+-- its position is in the sixty-four, or at their end
 front-in : (s : Scan) → s.rest < 2 ^ 64 → (s.base ≤ front_of s) × (front_of s ≤ s.base + 64)
 front-in s fits = elim (cases_lt 0 s.rest) [
   | inl some ↦
@@ -48,7 +48,7 @@ taken-take n bytes base bits h taken j k =
     subst (λ m. (bit_at bits j ≡ 1) ↔ (m ≢ 0)) (sym (get_or-take n bytes (base + j) 0 (omega arith))) (taken j k)
 
 module _ (n : ℕ) (marks : List ℕ) where
-  -- The walk stands at a taken slot.
+  -- The walk is at a taken slot.
   module _ (s : Scan) (scan : IsScan n marks s) (some : 0 < s.rest) (fits : s.rest < 2 ^ 64) where
     lowest : (trailing_zeros w64 s.rest < 64) × (bit_at s.rest (trailing_zeros w64 s.rest) ≡ 1)
     lowest = let r = bit_at-trailing_zeros w64 s.rest some fits in (r.0, r.1)
@@ -70,7 +70,7 @@ module _ (n : ℕ) (marks : List ℕ) where
       less : t.rest < 2 ^ 64
       less = omega (arith, rest, and_le_l s.rest (s.rest - 1))
 
-      -- the walk stands farther on
+      -- the walk has moved on
       scan-farther : s.base + trailing_zeros w64 s.rest < front_of t
       scan-farther = elim (cases_lt 0 t.rest) [
         | inl some' ↦
@@ -80,7 +80,7 @@ module _ (n : ℕ) (marks : List ℕ) where
         | inr none ↦ omega (arith, lowest.0, base, front-none t (omega arith))
       ]
 
-      -- it is where the walk stands behind the slot
+      -- its position is the one after the slot
       pub scan-step : IsScan n marks t
       scan-step = record {
         aligned = ap (λ b. b % 64) base ∙ scan.aligned;
@@ -119,7 +119,7 @@ module _ (n : ℕ) (marks : List ℕ) where
         behind = scan-between;
       }
 
-  -- sixty-four that the walk comes to: up to where it stands, no mark is set
+  -- sixty-four that the walk comes to: up to its position, no mark is set
   pub taken-free : (s : Scan) → s.rest < 2 ^ 64 → AreTaken marks s.base s.rest → AreFree marks s.base (front_of s)
   taken-free s fits taken i a b = elim (cases_eq (slice_index marks i) 0) [
     | inl e ↦ e
@@ -130,7 +130,7 @@ module _ (n : ℕ) (marks : List ℕ) where
         ((taken (i - s.base) few).1 (subst (λ p. slice_index marks p ≢ 0) (sym at) m)))
   ]
 
-  -- where none is left, the walk comes to the next
+  -- if none is left, the walk comes to the next sixty-four
   pub scan-group : (first s t : Scan) → IsScan n marks s → s.rest ≡ 0 → t.base ≡ s.base + 64 → t.base < n → t.rest < 2 ^ 64
       → AreTaken marks t.base t.rest → front_of first ≤ front_of s → AreFree marks (front_of first) (front_of s)
       → IsScan n marks t × (front_of first ≤ front_of t) × AreFree marks (front_of first) (front_of t)
@@ -156,7 +156,7 @@ module _ (n : ℕ) (marks : List ℕ) where
     behind = g.behind;
   }
 
--- ---- What is left in slots that are free where their marks are 0
+-- ---- What is left in slots that are free if their marks are 0
 
 module _ {X : Type 0} (n : ℕ) (marks : List ℕ) (slots : List (Option X)) (long : length slots ≡ n)
     (free : (i : ℕ) → i < n → slice_index marks i ≡ 0 → slice_get slots i ≡ Some None) where
@@ -169,14 +169,14 @@ module _ {X : Type 0} (n : ℕ) (marks : List ℕ) (slots : List (Option X)) (lo
         | inr l ↦ inr (omega (arith, long))
       ]) ∙ ap (λ k. items (drop k slots)) to
 
-  -- nothing where no mark is set behind it
+  -- no item is left if no mark after it is set
   pub left-end : (i : ℕ) → AreFree marks i n → items (drop i slots) ≡ []
   left-end i none = elim (cases_lt i n) [
     | inl l ↦ left-clear i n (omega arith) none ∙ left-none slots n (omega (arith, long))
     | inr l ↦ left-none slots i (omega (arith, long))
   ]
 
-  -- at a taken slot its item, and what is left behind it
+  -- at a taken slot its item, and what is left after it
   pub left-goes : (s t : Scan) (at : ℕ) (x : X) → GoesOn n marks s at t → slice_get slots at ≡ Some (Some x)
       → items (drop (front_of s) slots) ≡ x ∷ items (drop (front_of t) slots)
   left-goes s t at x g there =

@@ -1,4 +1,4 @@
--- What stands in slots under each content.
+-- The items in slots, by their contents.
 use Rattle.std.proofs.Common.{◌≡◌, ℕ, suc, zero, ◌⊎◌, inl, inr, List, [], ◌∷◌, map, refl, sym, ap, subst, ◌∙◌, Some, None, Option, Bool}
 use Rattle.std.proofs.Common.{true, set}
 use Rattle.std.proofs.Math.Path.{fun_ext}
@@ -14,7 +14,7 @@ use Rattle.hash_ring.proofs.Places.{same_item, not_free, one-item, put-cases, ge
 
 -- ---- The first that a test finds
 
--- it stands there, and passes
+-- the item that a test finds is in a slot, and passes
 pub find-has : {X : Type 0} (test : X → Bool) (slots : List (Option X)) (x : X) → find test (items slots) ≡ Some x
     → Has slots x × (test x ≡ true)
 find-has test [] x e = absurd (none-some x e)
@@ -28,7 +28,7 @@ find-has {X} test (Some z ∷ xs) x e = elim (cases_Bool (test z)) [
       ((suc r.0.0, r.0.1), r.1)
 ]
 
--- where it finds none, none passes
+-- if it finds none, no item passes
 pub find-none : {X : Type 0} (test : X → Bool) (slots : List (Option X)) (i : ℕ) (x : X) → find test (items slots) ≡ None
     → slice_get slots i ≡ Some (Some x)
     → test x ≡ true → ⊥
@@ -42,7 +42,7 @@ find-none test (Some z ∷ xs) (suc i) x e s t = elim (cases_Bool (test z)) [
   | inr u ↦ find-none test xs i x (sym (cond-false (test z) (Some z) (find test (items xs)) u) ∙ e) s t
 ]
 
--- a map that has this under one content, and elsewhere is as another
+-- a map that has this pair under one content, and otherwise equals another
 pub at-content : {A : Type 0} (f g : List ℕ → A) (q : List ℕ) (here : A) → f q ≡ here → ((r : List ℕ) → (r ≡ q → ⊥) → f r ≡ g r)
     → f ≡ (λ r. if bytes_eq r q then here else g r)
 at-content f g q here e others = fun_ext (λ r. elim (cases_Bool (bytes_eq r q)) [
@@ -50,7 +50,7 @@ at-content f g q here e others = fun_ext (λ r. elim (cases_Bool (bytes_eq r q))
   | inr t ↦ others r (λ s. both_ways (bytes_eq r q) t ((bytes_eq-Decides r q).1 s)) ∙ sym (cond-false (bytes_eq r q) here (g r) t)
 ])
 
--- nothing, or something
+-- an option is none or some
 pub option-cases : {X : Type 0} (o : Option X) → (o ≡ None) ⊎ ((x : X) × (o ≡ Some x))
 option-cases None = inl refl
 option-cases (Some x) = inr (x, refl)
@@ -58,17 +58,17 @@ option-cases (Some x) = inr (x, refl)
 module _ {K V : Type 0} (content : K → List ℕ) where
   -- ---- By what the slots hold
 
-  -- what stands under a content is in a slot, and has it
+  -- the item of a content is in a slot, and has the content
   pub under-has : (slots : List (Option (K × V))) (q : List ℕ) (p : K × V) → first_of content (items slots) q ≡ Some p
       → Has slots p × (content p.0 ≡ q)
   under-has slots q p e = let r = find-has (λ p. bytes_eq (content p.0) q) slots p e in (r.0, (bytes_eq-Decides (content p.0) q).0 r.1)
 
-  -- where nothing stands under it, no slot has it
+  -- if a content has no item, no slot has the content
   pub under-lacks : (slots : List (Option (K × V))) (q : List ℕ) → first_of content (items slots) q ≡ None
       → Lacks (λ p. content p.0) slots q
   under-lacks slots q e j p s c = find-none (λ p. bytes_eq (content p.0) q) slots j p e s ((bytes_eq-Decides (content p.0) q).1 c)
 
-  -- and the other way round
+  -- and conversely
   pub lacks-under : (slots : List (Option (K × V))) (q : List ℕ) → Lacks (λ p. content p.0) slots q
       → first_of content (items slots) q ≡ None
   lacks-under slots q lacks = elim (option-cases (first_of content (items slots) q)) [
@@ -76,7 +76,7 @@ module _ {K V : Type 0} (content : K → List ℕ) where
     | inr r ↦ let h = under-has slots q r.0 r.1 in absurd (lacks h.0.0 r.0 h.0.1 h.1)
   ]
 
-  -- what a slot holds stands under its content, where no content stands twice
+  -- the item in a slot is the item of its content, if no content occurs twice
   pub has-under : (slots : List (Option (K × V))) (i : ℕ) (p : K × V) (q : List ℕ) → IsOnce (λ p. content p.0) slots
       → slice_get slots i ≡ Some (Some p)
       → content p.0 ≡ q → first_of content (items slots) q ≡ Some p
@@ -88,7 +88,7 @@ module _ {K V : Type 0} (content : K → List ℕ) where
         r.1 ∙ ap Some (one-item slots i r.0 p (ap (slice_get slots) (sym place) ∙ h.0.1) s)
   ]
 
-  -- slots that hold the same of a content have the same under it
+  -- slots that hold the same items of a content have the same item for it
   pub under-same : (old new : List (Option (K × V))) (q : List ℕ) → IsOnce (λ p. content p.0) new
       → ((p : K × V) → content p.0 ≡ q → Has old p → Has new p) → ((p : K × V) → content p.0 ≡ q → Has new p → Has old p)
       → first_of content (items new) q ≡ first_of content (items old) q
@@ -99,13 +99,13 @@ module _ {K V : Type 0} (content : K → List ℕ) where
 
   -- ---- What calls do
 
-  -- the same things stand in other slots
+  -- other slots hold the same items
   pub under-moved : (old new : List (Option (K × V))) → IsOnce (λ p. content p.0) old → Moved old new
       → first_of content (items new) ≡ first_of content (items old)
   under-moved old new once m =
       fun_ext (λ q. under-same old new q (m.once (λ p. content p.0) once) (λ p c h. m.keeps p h) (λ p c h. m.only p h))
 
-  -- a pair was put
+  -- a pair was inserted
   pub under-settled : (old new : List (Option (K × V))) (k : K) (v : V) → IsOnce (λ p. content p.0) old
       → Lacks (λ p. content p.0) old (content k) → Settled old new (k, v)
       → first_of content (items new) ≡ with_pair (first_of content (items old)) (content k) k v
@@ -127,7 +127,7 @@ module _ {K V : Type 0} (content : K → List ℕ) where
         | inr e ↦ absurd (apart (sym c ∙ ap (λ p. content p.0) e))
       ])
 
-  -- a pair was taken out
+  -- a pair was removed
   pub under-closed : (old new : List (Option (K × V))) (at : ℕ) (p : K × V) → IsOnce (λ p. content p.0) old
       → slice_get old at ≡ Some (Some p)
       → Closed old new at → first_of content (items new) ≡ without (first_of content (items old)) (content p.0)
@@ -144,7 +144,7 @@ module _ {K V : Type 0} (content : K → List ℕ) where
           same : (x : K × V) (h : Has old x) → h.0 ≡ at → content x.0 ≡ content p.0
           same x h e = ap (λ p. content p.0) (one-item old at x p (ap (slice_get old) (sym e) ∙ h.1) there)
 
-  -- a value was put in place of another
+  -- a value was replaced
   module _ (old : List (Option (K × V))) (at : ℕ) (l : K) (u v : V) (once : IsOnce (λ p. content p.0) old)
       (there : slice_get old at ≡ Some (Some (l, u))) where
     pub once-value : IsOnce (λ p. content p.0) (set old at (Some (l, v)))
@@ -197,7 +197,7 @@ pub items-some : {X : Type 0} (xs : List X) → items (map (λ x. Some x) xs) �
 items-some [] = refl
 items-some (x ∷ xs) = ap (λ ys. x ∷ ys) (items-some xs)
 
--- what stands in such a slot
+-- the item in such a slot
 pub get-some : {X : Type 0} (xs : List X) (i : ℕ) (x : X) → slice_get xs i ≡ Some x → slice_get (map (λ x. Some x) xs) i ≡ Some (Some x)
 get-some [] i x s = absurd (none-some x s)
 get-some (z ∷ xs) zero x s = ap Some s
@@ -209,14 +209,14 @@ some-get (z ∷ xs) zero x s = same_Some (Some z) (Some x) s
 some-get (z ∷ xs) (suc i) x s = some-get xs i x s
 
 module _ {K V : Type 0} (content : K → List ℕ) where
-  -- what stands under a content is in the list, and has it
+  -- the item of a content is in the list, and has the content
   pub under-in : (pairs : List (K × V)) (q : List ℕ) (p : K × V) → first_of content pairs q ≡ Some p
       → (i : ℕ) × (slice_get pairs i ≡ Some p) × (content p.0 ≡ q)
   under-in pairs q p e =
       let r = under-has content (map (λ p. Some p) pairs) q p (ap (λ ps. first_of content ps q) (items-some pairs) ∙ e) in
       (r.0.0, some-get pairs r.0.0 p r.0.1, r.1)
 
-  -- what is in the list stands under its content, where no content stands twice
+  -- an item of the list is the item of its content, if no content occurs twice
   pub in-under : (pairs : List (K × V)) (i : ℕ) (p : K × V) → AreOnce content pairs → slice_get pairs i ≡ Some p
       → first_of content pairs (content p.0) ≡ Some p
   in-under pairs i p once s =

@@ -4,7 +4,7 @@ use Rattle.std.specs.Int.{w32, w64, to_le_bytes, from_le_bytes}
 use Rattle.std.proofs.lemmas.List.{drop-drop, take-append-drop, get_or-drop, length-take-le, length-drop}
 use Rattle.std.proofs.lemmas.Nat.{le_bytes_4, le_bytes_8}
 
--- bytes of one number are the same
+-- bytes with the same number are equal
 pub same-half : (xs ys : List ℕ) (m n : ℕ) → length xs ≡ 4 → length ys ≡ 4 → ((i : ℕ) → get_or xs i 0 < 256)
     → ((i : ℕ) → get_or ys i 0 < 256)
     → m ≡ from_le_bytes w32 xs → n ≡ from_le_bytes w32 ys → m ≡ n → xs ≡ ys
@@ -15,7 +15,7 @@ pub same-word : (xs ys : List ℕ) (m n : ℕ) → length xs ≡ 8 → length ys
     → m ≡ from_le_bytes w64 xs → n ≡ from_le_bytes w64 ys → m ≡ n → xs ≡ ys
 same-word xs ys m n long other b c is too e = sym (le_bytes_8 xs m long b is) ∙ ap (to_le_bytes w64) e ∙ le_bytes_8 ys n other c too
 
--- two lists of which the first k and the last k are the same, and that have no more than twice as many
+-- two lists of equal length, at most 2 * k, are equal if their first k and their last k are
 pub overlap : (xs ys : List ℕ) (k : ℕ) → length xs ≡ length ys → k ≤ length xs → length xs ≤ 2 * k → take k xs ≡ take k ys
     → drop (length xs - k) xs ≡ drop (length xs - k) ys → xs ≡ ys
 overlap xs ys k e least most first last =
@@ -36,7 +36,7 @@ bytes-take [] (suc k) small i = small i
 bytes-take (x ∷ xs) (suc k) small zero = small 0
 bytes-take (x ∷ xs) (suc k) small (suc i) = bytes-take xs k (λ j. small (suc j)) i
 
--- bytes of which the first number and the last are the same
+-- bytes are equal if the numbers of their first and of their last bytes are
 pub same-halves : (xs ys : List ℕ) (a b c d : ℕ) → length xs ≡ length ys → 4 ≤ length xs → length xs ≤ 8
     → ((i : ℕ) → get_or xs i 0 < 256) → ((i : ℕ) → get_or ys i 0 < 256)
     → a ≡ from_le_bytes w32 (take 4 xs) → b ≡ from_le_bytes w32 (take 4 ys)

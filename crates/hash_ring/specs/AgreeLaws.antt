@@ -1,4 +1,4 @@
--- Slots by two hashes, and by two contents, that are the same for what stands there.
+-- Slots under two home functions, and under two content functions, that agree on the items in them.
 use Rattle.std.proofs.Common.{◌≡◌, ℕ, zero, suc, ◌+◌, List, [], ◌∷◌, map, refl, sym, ap, subst, ◌∙◌, Option, Some, None, cond}
 use Rattle.std.proofs.Math.Path.{fun_ext}
 use Rattle.std.specs.Prelude.{slice_get, bytes_eq}
@@ -6,7 +6,7 @@ use Rattle.std.specs.List.{AllByRecursion}
 use Rattle.hash_ring.specs.Finite.{first_of}
 use Rattle.hash_ring.specs.Slots.{spot, items, Has, IsAway, IsBehind, IsOrdered}
 
--- what is true of each in the list, is of what stands in a slot
+-- what is true of each item in the list is true of the item in a slot
 pub has-items : {X Y : Type 0} (P : Y → Type 0) (f : X → Y) (slots : List (Option X)) (i : ℕ) (x : X) → slice_get slots i ≡ Some (Some x)
     → AllByRecursion P (map f (items slots)) → P (f x)
 has-items P f [] i x s all = absurd (cc)
@@ -15,7 +15,7 @@ has-items P f (None ∷ xs) (suc i) x s all = has-items P f xs i x s all
 has-items P f (Some z ∷ xs) zero x s all = let same : z ≡ x = cc in subst (λ w. P (f w)) same all.0
 has-items P f (Some z ∷ xs) (suc i) x s all = has-items P f xs i x s all.1
 
--- tables by two hashes that are the same for what stands there
+-- slots under two home functions that agree on the items in them
 module _ {X : Type 0} (one other : X → ℕ) (n : ℕ) (slots : List (Option X)) (same : (x : X) → Has slots x → other x ≡ one x) where
   pub away-agree : (i : ℕ) (x : X) (d : ℕ) → IsAway one n slots i x d → IsAway other n slots i x d
   away-agree i x d a = record { there = a.there; less = a.less; place = a.place ∙ ap (λ h. spot n h d) (sym (same x (i, a.there))) }
@@ -33,7 +33,7 @@ module _ {X : Type 0} (one other : X → ℕ) (n : ℕ) (slots : List (Option X)
         subst (λ h. IsBehind other n slots (spot n h d) d) (sym home) (behind-agree (spot n (one x) d) d (o.order x d l there));
   }
 
--- Contents that are the same for what stands in slots.
+-- Two content functions that agree on the items in slots.
 module _ {K V : Type 0} (one other : K → List ℕ) where
   pub contents-same : (slots : List (Option (K × V))) → ((p : K × V) → Has slots p → other p.0 ≡ one p.0)
       → map (λ p. other p.0) (items slots) ≡ map (λ p. one p.0) (items slots)

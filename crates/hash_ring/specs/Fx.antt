@@ -1,4 +1,4 @@
--- The fixed hash. No other file rests on its values.
+-- The fixed hash. No other file depends on its values.
 use Rattle.std.specs.Prelude.{ℕ, zero, suc, ◌+◌, ◌-◌, ◌*◌, ◌/◌, ◌%◌, ◌^◌, List, take, drop, length, fold, bit_xor, ◌==◌, nat_lt, if◌then◌else◌}
 use Rattle.std.specs.Int.{w32, w64, from_le_bytes, rotate_left}
 
@@ -6,7 +6,7 @@ use Rattle.std.specs.Int.{w32, w64, from_le_bytes, rotate_left}
 abbrev pub factor : ℕ
 factor = 0xf1357aea2e62a9c5
 
--- the two halves of a product, joined; and of one with the factor
+-- the two halves of a product, combined by xor; and those of a product with the factor
 abbrev pub crossed : ℕ → ℕ → ℕ
 crossed one other = let product = one * other in bit_xor (product % 2 ^ 64) (product / 2 ^ 64)
 
@@ -33,22 +33,23 @@ medium_of content =
     let n = length content in
     crossed (bit_xor (from_le_bytes w64 (take 8 content)) (spread n)) ((from_le_bytes w64 (drop (n - 8) content) + factor) % 2 ^ 64)
 
--- a hash, and one more word of eight bytes, to which the factor is added: so a hash that became 0 doesn't stay 0 over words of 0
+-- a hash with one more word of eight bytes. The factor is added to the word, so that a hash of 0 doesn't stay 0 over
+-- words of 0
 abbrev pub joined : ℕ → List ℕ → ℕ
 joined hash word = mixed (bit_xor hash ((from_le_bytes w64 word + factor) % 2 ^ 64))
 
--- a hash, and so many words more
+-- a hash with this many more words
 unfoldable pub folded : ℕ → ℕ → List ℕ → ℕ
 folded hash zero bytes = hash
 folded hash (suc words) bytes = folded (joined hash (take 8 bytes)) words (drop 8 bytes)
 
--- the words that the last byte isn't in, and then the last eight bytes, of which some may be in the word before
+-- the words before the one with the last byte, and then the last eight bytes, which may overlap the word before
 abbrev pub long_of : List ℕ → ℕ
 long_of content =
     let n = length content in
     joined (folded (spread n) ((n - 1) / 8) content) (drop (n - 8) content)
 
--- A number of four bytes is multiplied and rotated, one of eight is mixed, and any other content is mixed with its length.
+-- Four bytes are multiplied and rotated, eight are mixed, and any other content is mixed with its length.
 unfoldable pub fx_of : List ℕ → ℕ
 fx_of content =
     let n = length content in

@@ -2,16 +2,17 @@
 use Rattle.std.specs.Prelude.{ℕ, ◌+◌, ◌*◌, ◌/◌, ◌%◌, ◌≤◌, ◌^◌, ◌==◌, min, Option, Some, None, List, [], ◌∷◌, if◌then◌else◌}
 use Rattle.std.specs.Int.{IsPowerOfTwo}
 
--- the number of slots: none, or a power of two from 8 to 2 ^ 33
+-- a number of slots: a power of two from 8 to 2 ^ 33
 abbrev pub IsRing : ℕ → Type 0
 IsRing n = IsPowerOfTwo n × (8 ≤ n) × (n ≤ 2 ^ 33)
 
--- a slot is free where its mark is 0
+-- the slots by their marks and pairs: a slot is free if its mark is 0
 abbrev pub marked : {X : Type 0} → List ℕ → List X → List (Option X)
 marked (mark ∷ marks) (x ∷ xs) = (if mark == 0 then None else Some x) ∷ marked marks xs
 marked marks xs = []
 
--- The home of a hash, and the mark of a pair so far from it: the distance and one, up to 15, above the hash's top four bits.
+-- The home of a hash, and the mark of a pair at this distance from it: the distance plus 1, at most 15, in the high
+-- half, and the hash's top four bits in the low half.
 abbrev pub home_of : ℕ → ℕ → ℕ
 home_of n hash = hash % n
 

@@ -1,4 +1,4 @@
--- How many slots a map takes, and the two numbers by which callers reckon its bytes.
+-- The number of slots of a map's table, and the two numbers, spare and credit, that bound its bytes.
 use Rattle.std.specs.Prelude.{ℕ, ◌+◌, ◌-◌, ◌*◌, ◌/◌, ◌^◌, ◌==◌, min, max, if◌then◌else◌}
 use Rattle.std.specs.Int.{IsNextPowerOfTwo}
 
@@ -10,29 +10,29 @@ most_pairs = 2 ^ 32 - 1
 abbrev pub table_align : ℕ → ℕ → ℕ
 table_align key value = max 8 (max key value)
 
--- the bytes of a slot with its mark
+-- the size of a slot with its mark, in bytes
 abbrev pub slot_size : ℕ → ℕ → ℕ
 slot_size key value = key + value + 1
 
--- how many pairs may stand in so many slots
+-- the maximum number of pairs in a table of this many slots
 abbrev pub limit : ℕ → ℕ
 limit slots = min (slots / 2) most_pairs
 
--- the slots of a new table for so many pairs, and of the table after one of so many slots
+-- the number of slots of a new table for this many pairs, and of the table that replaces one of this many slots
 abbrev pub IsSlotsFor : ℕ → ℕ → Type 0
 IsSlotsFor pairs slots = IsNextPowerOfTwo (max (2 * pairs) 8) slots
 
 abbrev pub next_slots : ℕ → ℕ
 next_slots slots = if slots == 0 then 16 else 2 * slots
 
--- the bytes that one pair may cost: eight times its own and one alignment's
+-- the bytes that one pair may cost: eight times its size and the table's alignment
 abbrev pub unit : ℕ → ℕ → ℕ → ℕ → ℕ
 unit key value key_align value_align = 8 * (key + value + table_align key_align value_align)
 
--- how many new keys can come before a table is placed
+-- the number of new keys that fit before another table is placed
 abbrev pub spare : ℕ → ℕ → ℕ
 spare slots len = limit slots - len
 
--- the bytes saved up for the next table: a unit for each pair past half of the limit and one
+-- the bytes saved up for the next table: a unit for each pair beyond slots / 4 + 1
 abbrev pub credit : ℕ → ℕ → ℕ → ℕ
 credit u slots len = u * (len - (slots / 4 + 1))

@@ -5,16 +5,18 @@ use Rattle.hash_ring.specs.Marks.{home_of, mark_of}
 use Rattle.hash_ring.specs.declared.marks.Spot.{Spot}
 use Rattle.hash_ring.specs.declared.marks.Spot.TheVariants.{Taken, Open}
 
--- the least mark that doesn't tell the distance
+-- the least mark that doesn't give the distance
 abbrev pub far_mark : ℕ
 far_mark = 240
 
 module _ {X : Type 0} (home : X → ℕ) (n : ℕ) (slots : List (Option X)) where
-  -- The slots from a home on, up to d from it, hold what is no nearer to its own home, as far as marks tell: up to 14.
+  -- For each e < d, the slot e after a home holds an item at least e from its own home; from 14 on, marks only show
+  -- that it is at least 14.
   pub record IsPassed (start d : ℕ) : Type 0 where
     pub behind : (e : ℕ) → e < d → IsBehind home n slots (spot n start e) (min e 14)
 
-  -- Where a pair with this hash goes, and its mark. Where that is far, marks tell the place but for those from 14 on.
+  -- Where a pair with this hash goes, and its mark. If the mark is far, the first 14 slots are passed, and no more is
+  -- said.
   pub record IsSpotFor (hash at mark : ℕ) : Type 0 where
     pub distance : ℕ
     pub mark_is : mark ≡ mark_of hash distance

@@ -6,18 +6,18 @@ ghost use Rattle.hash_ring.specs.Fx.{fx_of};
 
 use crate::words::{long_word, short_word};
 
-/// Hashes contents. Nothing is promised of a hash but that it is a function of the hasher and of the
-/// content. A map is right under every hasher; it is fast where few keys have one hash.
+/// Hashes contents. A hash depends on the hasher and the content alone; nothing else is promised of it. A map is
+/// correct under every hasher, and fast where few keys have the same hash.
 pub trait KeyHasher: Default + Drop {
     // The hash of a content.
     ghost hash_of: { Self → List ℕ → ℕ };
 
-    /// The hash.
+    /// Returns the hash of a content.
     fn hash(&self, content: &[u8]) -> u64
         ensures { result ≡ hash_of self.now content.now };
 
-    /// Whether all hashers of the type make the same of each content, so that one may stand in another's place. A type that
-    /// doesn't say so may have a seed.
+    /// Returns `true` only if all hashers of the type give the same hash for each content, so that any of them can
+    /// replace another. A type that keeps the default promises nothing: its hashers may have seeds.
     fn is_fixed() -> bool
         ensures { IsTrue result → IsFixed hash_of }
     {
@@ -25,9 +25,9 @@ pub trait KeyHasher: Default + Drop {
     }
 }
 
-/// A fixed hasher, by words of eight bytes. Its hashes may change from version to version. It has no secret:
-/// who chooses the keys can choose many that hash alike, and then each look-up of such a key takes time in
-/// their number. Where that matters, take a hasher with a seed of your own.
+/// A fixed hasher, by words of eight bytes. Its hashes may change from version to version. It has no secret: anyone who
+/// chooses the keys can choose many with the same hash, and then each look-up of such a key takes time linear in their
+/// number. Where that matters, use a hasher with a seed.
 #[derive(Clone, Copy, Default, PartialEq, Eq, Debug)]
 pub struct FxHasher {}
 
@@ -37,7 +37,7 @@ const SPAN: u128 = 0x1_0000_0000_0000_0000;
 
 const HALF: u64 = 0x1_0000_0000;
 
-// The two halves of a product, joined.
+// The two halves of a product, combined by xor.
 #[inline]
 fn crossed(one: u64, other: u64) -> u64
     ensures { result ≡ crossed one other }
@@ -46,7 +46,7 @@ fn crossed(one: u64, other: u64) -> u64
     (product % SPAN) as u64 ^ (product / SPAN) as u64
 }
 
-// The same of a product with the factor.
+// The two halves of a word's product with the factor, combined by xor.
 #[inline]
 fn mixed(word: u64) -> u64
     ensures { result ≡ mixed word }
@@ -54,7 +54,7 @@ fn mixed(word: u64) -> u64
     crossed(word, FACTOR)
 }
 
-// The number of a few bytes.
+// A few bytes as a number, the first byte the highest.
 #[inline]
 fn number_of(bytes: &[u8]) -> u64
     ensures { result ≡ number_of bytes.now }
@@ -72,8 +72,8 @@ fn spread(n: usize) -> u64
     (n as u64).wrapping_mul(FACTOR)
 }
 
-// The hash with the word of eight bytes at an index. The factor is added to each word, so that a hash that
-// became 0 doesn't stay 0 over words of 0.
+// Mixes the eight bytes at an index into a hash. The factor is added to the word, so that a hash of 0 doesn't stay 0
+// over words of 0.
 #[inline]
 fn joined(hash: u64, content: &[u8], at: usize) -> u64
     requires { at + 8 ≤ length content.now }
@@ -111,8 +111,8 @@ fn medium_of(content: &[u8]) -> u64
     crossed(first ^ spread(n), last.wrapping_add(FACTOR))
 }
 
-// The hash of a content of more than eight bytes, word after word. The last eight bytes are a word of their own, which
-// may overlap the one before it.
+// The hash of a content of more than eight bytes, word by word. The last eight bytes are a word of their own, which may
+// overlap the one before it.
 #[inline]
 fn long_of(content: &[u8]) -> u64
     requires { 8 < length content.now }

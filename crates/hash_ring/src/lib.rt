@@ -1,5 +1,5 @@
-//! A hash table as a ring of slots, with no arena: which slot has a content, or where it would go, by marks of one byte, and the
-//! hashes of contents. The table is a list here; its bytes are the affair of the crate above.
+//! A hash table as a ring of slots, without an arena: which slot has a content, or where it would go, by marks of one
+//! byte, and the hashes of contents. The table is a list here; the crate above, `arena_table`, stores it as bytes.
 #![tactic(auto)]
 
 mod hasher;

@@ -6,16 +6,16 @@ ghost use Rattle.hash_ring.specs.Walks.{front_of, AreFree, AreTaken, IsByGroups,
 
 use std::simd::prelude::*;
 
-/// A place in a walk over marks.
+/// A position in a walk over marks.
 #[derive(Clone, Copy)]
 pub struct Scan {
-    /// The first slot of sixty-four.
+    /// The first slot of the current group of 64.
     pub base: u64,
-    /// A bit for each of them that is taken and was not given.
+    /// A bit for each taken slot of the group that the walk hasn't returned yet.
     pub rest: u64,
 }
 
-// The taken slots of sixty-four.
+// The taken slots among the 64 from `base` on.
 #[inline(always)]
 fn taken_of_many(bytes: &[u8], base: u64) -> u64
     requires { base + 64 ≤ length bytes.now }
@@ -26,7 +26,7 @@ fn taken_of_many(bytes: &[u8], base: u64) -> u64
         .to_bitmask()
 }
 
-// The taken slots of a table that has fewer.
+// The taken slots of a table with fewer than 64.
 fn taken_of_few(bytes: &[u8], slots: u64) -> u64
     requires few { slots < 64 }
     requires long { slots ≤ length bytes.now }
@@ -38,7 +38,7 @@ fn taken_of_few(bytes: &[u8], slots: u64) -> u64
     taken_of_many(&marks, 0)
 }
 
-/// The place of a walk that gave nothing yet.
+/// Returns the position at the start of a walk.
 #[inline(always)]
 pub fn start(bytes: &[u8], slots: u64) -> Scan
     requires long { slots ≤ length bytes.now }
@@ -55,7 +55,7 @@ pub fn start(bytes: &[u8], slots: u64) -> Scan
     }
 }
 
-/// The next taken slot, and the place behind it.
+/// Returns the next taken slot, if there is one, and the position after it.
 #[inline(always)]
 pub fn step(bytes: &[u8], slots: u64, scan: Scan) -> (Option<u64>, Scan)
     requires groups { IsByGroups slots }

@@ -1,8 +1,8 @@
-// Contents by words. They are compared at once, since the call that compares slices takes longer.
+// Contents by words. Short contents are compared word by word, since the call that compares slices takes longer.
 ghost use Rattle.std.specs.Prelude.{◌≡◌, ◌≤◌, ◌↔◌, IsTrue, length};
 ghost use Rattle.std.specs.Int.{w32, w64, from_le_bytes};
 
-// Bytes as an array. Cut to a length that the compiler knows, they are loaded at once.
+// Copies bytes into an array. Its length is known at compile time, so the bytes are loaded at once.
 #[tactic(auto, using(std::proofs::Common::take_all))]
 #[inline]
 fn array<const N: usize>(bytes: &[u8]) -> [u8; N]
@@ -14,7 +14,7 @@ fn array<const N: usize>(bytes: &[u8]) -> [u8; N]
     copy
 }
 
-// Four bytes as a number, the lowest first.
+// Four bytes as a number, the lowest byte first.
 #[inline]
 pub(crate) fn short_word(bytes: &[u8]) -> u32
     requires { length bytes.now ≡ 4 }
@@ -23,7 +23,7 @@ pub(crate) fn short_word(bytes: &[u8]) -> u32
     u32::from_le_bytes(array(bytes))
 }
 
-// Eight bytes as a number, the lowest first.
+// Eight bytes as a number, the lowest byte first.
 #[inline]
 pub(crate) fn long_word(bytes: &[u8]) -> u64
     requires { length bytes.now ≡ 8 }
@@ -32,7 +32,7 @@ pub(crate) fn long_word(bytes: &[u8]) -> u64
     u64::from_le_bytes(array(bytes))
 }
 
-// From four to eight bytes: two words of four, which may overlap.
+// Compares four to eight bytes, as two words of four, which may overlap.
 #[inline(always)]
 fn same_halves(one: &[u8], other: &[u8]) -> bool
     requires equal { length one.now ≡ length other.now }
@@ -45,7 +45,7 @@ fn same_halves(one: &[u8], other: &[u8]) -> bool
         && short_word(&one[last..]) == short_word(&other[last..])
 }
 
-// From eight to sixteen bytes: two words of eight, which may overlap.
+// Compares eight to sixteen bytes, as two words of eight, which may overlap.
 #[inline(always)]
 fn same_words(one: &[u8], other: &[u8]) -> bool
     requires equal { length one.now ≡ length other.now }
@@ -58,7 +58,7 @@ fn same_words(one: &[u8], other: &[u8]) -> bool
         && long_word(&one[last..]) == long_word(&other[last..])
 }
 
-/// Whether two contents are equal.
+/// Returns whether two contents are equal.
 #[tactic(auto, using(crate::proofs::WordLemmas::word_laws))]
 #[inline(always)]
 pub fn same(one: &[u8], other: &[u8]) -> bool

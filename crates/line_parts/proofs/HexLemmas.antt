@@ -28,7 +28,7 @@ read_more bytes items left b rest h next =
     longer [] fit = (next.0, tt)
     longer (x ∷ xs) fit = (fit.0, longer xs fit.1)
 
--- less is left behind a byte
+-- less is left after a byte
 pub less_left : (left : List ℕ) (b : ℕ) (rest : List ℕ) → left ≡ hex_pair b ++ rest → length rest < length left
 less_left left b rest e = omega (arith, ap length e)
 
@@ -76,7 +76,7 @@ one_way (x ∷ xs) (y ∷ ys) left rest p q none end e =
 abbrev pub ReadsHex : List ℕ → Option (List ℕ × List ℕ) → Type 0
 ReadsHex bytes read = ReadsFront (AllByRecursion IsByte) hex bytes read
 
--- what stands at the front is what was read
+-- what is at the front is what was read
 abbrev OnlyHex : List ℕ → Option (List ℕ × List ℕ) → Type 0
 OnlyHex bytes read = (items rest : List ℕ) → AllByRecursion IsByte items → IsTrue (is_word_end rest) → bytes ≡ hex items ++ rest
     → ◌≡◌ {A = Option (List ℕ × List ℕ)} read (Some (items, rest))

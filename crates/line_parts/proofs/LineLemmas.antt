@@ -15,7 +15,7 @@ abbrev pub has_feed : List ℕ → Bool
 has_feed [] = false
 has_feed (b ∷ bs) = b == 10 || has_feed bs
 
--- no line feed stands in two lists that are joined
+-- two lists without a line feed have none when they are joined
 pub plain : (xs ys : List ℕ) → has_feed xs ≡ false → has_feed ys ≡ false → has_feed (xs ++ ys) ≡ false
 plain [] ys p q = q
 plain (x ∷ xs) ys p q = step (x == 10) p (λ e. plain xs ys e q)
@@ -46,7 +46,7 @@ plain_hex (b ∷ bytes) = plain_pairs (b ∷ bytes)
 
 -- ---- The first line
 
--- a line, and what comes behind it
+-- a line, and what follows it
 pub ended : (line rest : List ℕ) → has_feed line ≡ false → is_line_end rest ≡ true → lines_of (line ++ rest) ≡ line ∷ lines_behind rest
 ended [] [] p e = refl
 ended [] (c ∷ cs) p e = slice_split-cons_yes (λ b. b == 10) c cs e

@@ -12,7 +12,7 @@ number-decimal_wide = number_by_steps (λ n ds. n < 10 ^ 64 → ds ≡ decimal n
     (λ n low h. sym (decimal_digit n low))
     (λ n ds high front h. ap (λ es. es ++ (48 + n % 10) ∷ []) (front (omega arith)) ∙ sym (decimal_step_wide n high h))
 
--- a space was put, and then a number's digits
+-- a space was appended, and then a number's digits
 pub field_put_wide : (old mid new text : List ℕ) (n : ℕ) → n < 10 ^ 64 → mid ≡ old ++ 32 ∷ [] → text ≡ decimal n
     → new ≡ mid ++ text → new ≡ old ++ fields (n ∷ [])
 field_put_wide old mid new text n h space digits all =

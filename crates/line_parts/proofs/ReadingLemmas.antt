@@ -26,7 +26,7 @@ stops (c ∷ cs) e = grind (arith, nat_tests)
 number-digit : (n : ℕ) → n < 10 → number n ≡ (48 + n) ∷ []
 number-digit n h = number-decimal n (omega arith) ∙ decimal_digit n h
 
--- a digit behind a number that isn't 0
+-- a digit after a number that isn't 0
 number_longer : (n c : ℕ) → 0 < n → is_ascii_digit c ≡ true → n * 10 + (c - 48) < 2 ^ 64 → number (n * 10 + (c - 48)) ≡ number n ++ c ∷ []
 number_longer n c some digit h =
     let low : (48 ≤ c) × (c < 58) = (grind (arith, nat_tests), grind (arith, nat_tests)) in
@@ -89,7 +89,7 @@ pub number_no_digit : (max : ℕ) (bytes : List ℕ) (c : ℕ) (cs : List ℕ) �
 number_no_digit max bytes c cs front other =
     record { found = tt; only = λ n rest within ends e. let digit = starts_digit n c cs rest (sym front ∙ e) in cc }
 
--- a digit above 0 and the digits behind it
+-- a digit above 0 and the digits after it
 pub number_by_digit : (max : ℕ) (bytes : List ℕ) (c : ℕ) (cs : List ℕ) (read : Option (ℕ × List ℕ)) → bytes ≡ c ∷ cs → c ≢ 48
     → is_ascii_digit c ≡ true
     → ReadsNumber max (number (c - 48) ++ cs) read → ReadsNumber max bytes read
@@ -144,7 +144,7 @@ no_smaller n (c ∷ cs) = step (is_ascii_digit c) (no_smaller (n * 10 + (c - 48)
     step true h = omega arith
     step false h = omega arith
 
--- one digit more makes too great a number, and so do all others behind it
+-- one digit more makes too great a number, and so do all others after it
 spells_over : (max n : ℕ) (bytes : List ℕ) (m c : ℕ) (left cs : List ℕ) → Spells max n bytes m left → left ≡ c ∷ cs
     → is_ascii_digit c ≡ true → max < m * 10 + (c - 48)
     → ReadsNumber max (number n ++ bytes) None
@@ -160,7 +160,7 @@ spells_over max n bytes m c left cs s front digit large = record {
       absurd (omega arith);
 }
 
--- the byte at this index, and those behind it
+-- the byte at this index, and those after it
 at_byte : (bytes : List ℕ) (i : ℕ) → i < length bytes → drop i bytes ≡ get_or bytes i 0 ∷ drop (i + 1) bytes
 at_byte bytes i h = drop-cons bytes i 0 h ∙ ap (λ k. get_or bytes i 0 ∷ drop k bytes) (sym (add-one i))
 
@@ -182,7 +182,7 @@ pub too_great : (max n : ℕ) (bytes : List ℕ) (m i : ℕ) → Spells max n by
 too_great max n bytes m i s h digit large = spells_over max n bytes m (get_or bytes i 0) (drop i bytes) (drop (i + 1) bytes) s
     (at_byte bytes i h) digit large
 
--- no digit stands at this index
+-- there is no digit at this index
 pub digits_stopped : (max n : ℕ) (bytes : List ℕ) (m i : ℕ) → Spells max n bytes m (drop i bytes) → i < length bytes
     → is_ascii_digit (get_or bytes i 0) ≡ false
     → ReadsNumber max (number n ++ bytes) (Some (m, take (length bytes - i) (drop i bytes)))

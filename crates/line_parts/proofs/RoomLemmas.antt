@@ -40,7 +40,7 @@ all_taken room [] (suc i) end = omega arith
 all_taken room (x ∷ xs) zero end = absurd (omega (arith, end))
 all_taken room (x ∷ xs) (suc i) end = omega (arith, all_taken room xs i (omega (arith, end)))
 
--- the text of one more was put
+-- the text of one more was appended
 pub text_more : {A : Type 0} (text : A → List ℕ) (old mid new : List ℕ) (xs : List A) (i : ℕ) (x : A) → i < length xs → x ≡ get_or xs i x
     → mid ≡ old ++ flat_map text (take i xs) → new ≡ mid ++ text x → new ≡ old ++ flat_map text (take (i + 1) xs)
 text_more text old mid new xs i x h is before put =

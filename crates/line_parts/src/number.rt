@@ -37,7 +37,7 @@ fn number(bytes: &[u8], max: u64) -> Option<(u64, &[u8])>
     digits(rest, u64::from(*first - b'0'), max)
 }
 
-/// The number that the bytes are.
+/// Returns the number that the bytes are, or `None` if they are no number of at most `max`, which must be at least 9.
 pub fn whole_number(bytes: &[u8], max: u64) -> Option<u64>
     requires { 9 ≤ max }
     ensures { IsNumber max bytes.now result }
@@ -49,7 +49,7 @@ pub fn whole_number(bytes: &[u8], max: u64) -> Option<u64>
     Some(n)
 }
 
-/// A space and a number, and what comes behind them.
+/// Reads a space and a number of at most `max`, which must be at least 9. Returns the number and the rest.
 pub fn field(bytes: &[u8], max: u64) -> Option<(u64, &[u8])>
     requires { 9 ≤ max }
     ensures { Reads (λ n. n ≤ max) (λ n. 32 ∷ number n) bytes.now result }
@@ -61,7 +61,7 @@ pub fn field(bytes: &[u8], max: u64) -> Option<(u64, &[u8])>
     number(rest, max)
 }
 
-/// A space and a name.
+/// Reads a space and a name. Returns the name and the rest.
 pub fn name_field(bytes: &[u8]) -> Option<(u32, &[u8])>
     ensures { Reads (λ n. n ≤ 2 ^ 32 - 1) (λ n. 32 ∷ number n) bytes.now result }
 {

@@ -6,31 +6,35 @@ ghost use Rattle.line_parts.specs.Room.{rooms};
 
 use arena_rules::OutOfMemory;
 
-/// Makes room for so many bytes more. Where memory runs out the text stays.
+/// Reserves room for `more` bytes.
+///
+/// # Errors
+///
+/// Out of memory. The text is unchanged.
 pub fn make_room(out: &mut Vec<u8>, more: usize) -> Result<(), OutOfMemory>
     ensures same { out.new.items ≡ out.old.items }
     ensures room { OnOk result (vec_len out.new + more ≤ vec_capacity out.new) }
     ensures succeeds { vec_len out.old + more ≤ vec_capacity out.old → IsOk result }
 {
-    // Room may grow by doubling: what lies past the text's end isn't touched, and so takes no memory.
+    // The capacity may double: what is past the text's end isn't touched, and so takes no memory.
     Ok(out.reserve(more)?)
 }
 
-/// How things are printed one after another.
+/// Prints things one after another.
 pub trait Printer<T> {
     ghost use Rattle.std.specs.Prelude.{ℕ, List};
 
-    // How many bytes are enough for a thing's text.
+    // A size that is enough for a thing's text.
     ghost room: { T → ℕ };
 
     // A thing's text.
     ghost text: { T → List ℕ };
 
-    /// How many bytes are enough for its text; none where that is past the largest number.
+    /// Returns a size that is enough for its text, or `None` where it exceeds 64 bits.
     fn room(&self, thing: &T) -> Option<usize>
         ensures { SomeIff result (room thing.now < 2 ^ 64) (room thing.now) };
 
-    /// Puts its text, for which there is room.
+    /// Appends its text, for which there must be room.
     fn put(&self, out: &mut Vec<u8>, thing: &T)
         requires { vec_len out.old + room thing.now ≤ vec_capacity out.old }
         ensures items { out.new.items ≡ out.old.items ++ text thing.now }
@@ -38,7 +42,7 @@ pub trait Printer<T> {
         ensures capacity { vec_capacity out.old ≤ vec_capacity out.new };
 }
 
-/// How many bytes are enough for the texts of all of these; none where that is past the largest number.
+/// Returns a size that is enough for the texts of all things, or `None` where it exceeds 64 bits.
 pub fn room_of<T, P: Printer<T>>(printer: &P, all: &[T]) -> Option<usize>
     ensures { SomeIff result (rooms P.room all.now < 2 ^ 64) (rooms P.room all.now) }
 {
@@ -49,7 +53,7 @@ pub fn room_of<T, P: Printer<T>>(printer: &P, all: &[T]) -> Option<usize>
     Some(room)
 }
 
-/// Puts the texts of all of these, for which there is room.
+/// Appends the texts of all things, for which there must be room.
 pub fn put_all<T, P: Printer<T>>(printer: &P, out: &mut Vec<u8>, all: &[T])
     requires { vec_len out.old + rooms P.room all.now ≤ vec_capacity out.old }
     ensures items { out.new.items ≡ out.old.items ++ flat_map P.text all.now }

@@ -12,7 +12,7 @@ use Rattle.lint_reports.specs.declared.report.FileReport.{FileReport}
 
 -- ---- A line
 
--- two parts and a line feed were put
+-- two parts and a line feed were appended
 pub line_put : (old a b new first second : List ℕ) → a ≡ old ++ first → b ≡ a ++ second → new ≡ b ++ 10 ∷ []
     → new ≡ old ++ with_feed (first ++ second)
 line_put old a b new first second on_a on_b on_new =
@@ -36,7 +36,7 @@ report_put old a new i report first rest =
     rest ∙ ap (λ xs. xs ++ flat_map with_feed (report_lines report)) first
     ∙ append_assoc old (with_feed (codes "source" ++ fields (i ∷ []))) (flat_map with_feed (report_lines report))
 
--- the lines of a report and of those behind it
+-- the lines of a report and of those after it
 pub reports_more : (i : ℕ) (report : FileReport) (reports : List FileReport)
     → flat_map with_feed (lines_from i (report ∷ reports)) ≡ report_text i report ++ flat_map with_feed (lines_from (i + 1) reports)
 reports_more i report reports = flat_map-append with_feed (source_lines i report) (lines_from (i + 1) reports)

@@ -142,7 +142,7 @@ passed bytes n within unsigned ends = record { within = within; are = passed_on 
 
 -- ---- Lines one after another
 
--- Some sources were cut off, and so many bytes of the next one's lines were seen.
+-- Some sources were cut off, and this many bytes of the next one's lines were seen.
 pub record Cut (bytes : List ℕ) (all : List (List ℕ)) (rest : List ℕ) (seen : ℕ) : Type 0 where
   pub inside : length rest ≤ length bytes
   pub within : seen ≤ length rest

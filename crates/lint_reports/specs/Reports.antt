@@ -11,7 +11,7 @@ use Rattle.tree_rules.specs.declared.finding.FindKind.TheVariants.{Undefined, Re
 use Rattle.lint_reports.specs.declared.report.FileReport.{FileReport}
 use Rattle.lint_reports.specs.declared.report.FileReport.TheVariants.{Checked, Syntax, TooDeep, NumberTooBig, Full, Refused, OutOfMemory}
 
--- what a report says of the text: findings, or why it is refused; none where an arena or the memory ended
+-- what a report says of the text: findings, or why it is refused; `None` if the arena or memory ran out
 abbrev pub said : FileReport → Option (Result (List Finding) Reason)
 said (Checked findings) = Some (Ok findings)
 said (Syntax at) = Some (Err (reason.Syntax at))
@@ -49,7 +49,7 @@ report_lines OutOfMemory = codes "out of memory" ∷ []
 abbrev pub source_lines : ℕ → FileReport → List (List ℕ)
 source_lines i report = (codes "source" ++ fields (i ∷ [])) ∷ report_lines report
 
--- the lines of reports, the first of which is of the source of this number
+-- the lines of reports, the first of which is of source number i
 abbrev pub lines_from : ℕ → List FileReport → List (List ℕ)
 lines_from i [] = []
 lines_from i (report ∷ reports) = source_lines i report ++ lines_from (i + 1) reports

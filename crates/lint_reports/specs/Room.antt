@@ -21,6 +21,6 @@ findings_room Full = 0
 findings_room Refused = 0
 findings_room OutOfMemory = 0
 
--- a finding's line with its feed
+-- a finding's line with its line feed
 abbrev pub fed_finding : Finding → List ℕ
 fed_finding finding = with_feed (finding_line finding)

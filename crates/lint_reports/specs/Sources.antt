@@ -16,7 +16,7 @@ is_mark line = pointwise nat_eq line (codes "%%") || pointwise nat_eq line (code
 abbrev pub joined : List (List ℕ) → List ℕ
 joined lines = flat_map (λ line. line) lines
 
--- Marks stand between sources, and belong to none. So there is one source more than there are marks.
+-- Marks are between sources, and belong to none. So there is one source more than there are marks.
 abbrev pub sources : List ℕ → List (List ℕ)
 sources bytes = map joined (slice_split is_mark (fed_lines bytes))
 

@@ -23,7 +23,7 @@ impl Model for Findings {
 }
 
 impl Findings {
-    /// No findings. Takes no memory.
+    /// Returns an empty list of findings. Takes no memory.
     pub fn new(alloc: Global) -> Findings
         ensures { result ≡ [] }
     {
@@ -32,7 +32,11 @@ impl Findings {
         }
     }
 
-    /// Adds a finding at the end. Where memory runs out the findings stay as they are.
+    /// Appends a finding.
+    ///
+    /// # Errors
+    ///
+    /// Out of memory. The findings are unchanged.
     pub fn push(&mut self, kind: FindKind, name: Bytes) -> Result<(), OutOfMemory>
         ensures ok { OnOk result (self.new ≡ self.old ++ record { kind = kind; name = name } ∷ []) }
         ensures err { OnErr result (self.new ≡ self.old) }
@@ -40,14 +44,14 @@ impl Findings {
         Ok(self.items.push(Finding { kind, name })?)
     }
 
-    /// The findings as a slice.
+    /// Returns the findings as a slice.
     pub fn as_slice(&self) -> &[Finding]
         ensures { result.now ≡ self.now }
     {
         self.items.as_slice()
     }
 
-    /// How many there are.
+    /// Returns how many findings there are.
     pub fn len(&self) -> u64
         ensures { result ≡ length self.now }
     {

@@ -1,4 +1,4 @@
-// What the sources of an input are like.
+// How many sources an input has, and how long they are.
 ghost use Rattle.std.specs.Prelude.{ℕ, ◌+◌, ◌≤◌, List, length};
 ghost use Rattle.std.specs.List.{AllByRecursion};
 ghost use Rattle.lint_reports.specs.Sources.{sources};

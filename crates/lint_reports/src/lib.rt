@@ -1,7 +1,7 @@
 //! What a linter says of texts: the reports of sources, their lines, and the sources of an input.
 //!
-//! The definitions lie in `specs/`: `Reports` what a report says of a source and how it is printed, `Sources` where an
-//! input is cut. What is found in a text is said in `tree_rules`.
+//! The definitions are in `specs/`: `Reports` defines what a report says of a source and how it is printed, and
+//! `Sources` where an input is cut. `tree_rules` defines what is found in a text.
 #![tactic(auto)]
 
 mod findings;

@@ -1,4 +1,4 @@
-// Puts the text of reports.
+// Prints reports.
 ghost use Rattle.std.specs.Prelude.{◌≡◌, ◌+◌, ◌^◌, ◌++◌, ◌∷◌, [], ◌<◌, ◌≤◌, OnOk, OnErr, length, vec_len, vec_capacity};
 ghost use Rattle.std.specs.Option.{SomeIff};
 ghost use Rattle.std.specs.List.{flat_map};
@@ -11,7 +11,8 @@ use arena_rules::OutOfMemory;
 use line_parts::{Printer, make_room, put, put_all, put_field, room_of};
 use tree_rules::{FindKind, Finding};
 
-// How many bytes are enough for what a report has found: only findings take more than the line that each report may have.
+// A size that is enough for the findings of a report, or `None` where it exceeds 64 bits. Other reports need only the
+// line that each may have.
 fn room_held(report: &FileReport) -> Option<usize>
     ensures { SomeIff result (findings_room report.now < 2 ^ 64) (findings_room report.now) }
 {
@@ -21,7 +22,7 @@ fn room_held(report: &FileReport) -> Option<usize>
     }
 }
 
-// The word for a kind, and a space.
+// Appends the word for a kind, and a space.
 fn put_kind(out: &mut Vec<u8>, kind: FindKind)
     requires { vec_len out.old + 10 ≤ vec_capacity out.old }
     ensures items { out.new.items ≡ out.old.items ++ kind_word kind }
@@ -35,7 +36,7 @@ fn put_kind(out: &mut Vec<u8>, kind: FindKind)
     }
 }
 
-// Prints a finding as its line with its feed.
+// Prints a finding as its line, with a line feed.
 struct FindingLine;
 
 impl Printer<Finding> for FindingLine {
@@ -54,7 +55,7 @@ impl Printer<Finding> for FindingLine {
     }
 }
 
-// A line that ends with a number, for which there is room.
+// Appends a line that ends with a number, for which there is room.
 fn put_at(out: &mut Vec<u8>, words: &[u8], at: u64)
     requires { vec_len out.old + length words.now + 22 ≤ vec_capacity out.old }
     ensures len { vec_len out.new ≤ vec_len out.old + length words.now + 22 }
@@ -66,7 +67,7 @@ fn put_at(out: &mut Vec<u8>, words: &[u8], at: u64)
     put(out, b"\n");
 }
 
-// The lines of a report behind the one of its source.
+// Appends the lines of a report after the one of its source.
 fn put_lines(out: &mut Vec<u8>, report: &FileReport)
     requires { vec_len out.old + (findings_room report.now + 39) ≤ vec_capacity out.old }
     ensures { out.new.items ≡ out.old.items ++ flat_map with_feed (report_lines report.now) }
@@ -82,7 +83,11 @@ fn put_lines(out: &mut Vec<u8>, report: &FileReport)
     }
 }
 
-/// The lines of the report of source number `i`. Memory is taken once, and where it runs out the text stays.
+/// Appends the lines of the report of source number `i`. Reserves memory once.
+///
+/// # Errors
+///
+/// Out of memory. The text is unchanged.
 pub fn put_report(out: &mut Vec<u8>, i: u64, report: &FileReport) -> Result<(), OutOfMemory>
     ensures ok { OnOk result (out.new.items ≡ out.old.items ++ report_text i report.now) }
     ensures err { OnErr result (out.new.items ≡ out.old.items) }

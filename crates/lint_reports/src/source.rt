@@ -3,7 +3,7 @@ ghost use Rattle.std.specs.Prelude.{◌≡◌};
 
 use std::marker::Model;
 
-/// One source of an input: bytes that lie in it, which contracts see as their list.
+/// One source of an input: a part of its bytes, which contracts see as their list.
 #[derive(Drop, Debug)]
 pub struct Source<'a> {
     bytes: &'a [u8],
@@ -18,14 +18,14 @@ impl<'a> Model for Source<'a> {
 }
 
 impl<'a> Source<'a> {
-    /// The source of these bytes.
+    /// Returns the source of these bytes.
     pub fn new(bytes: &'a [u8]) -> Source<'a>
         ensures { result ≡ bytes.now }
     {
         Source { bytes }
     }
 
-    /// The bytes as a slice.
+    /// Returns the bytes as a slice.
     pub fn as_slice(&self) -> &'a [u8]
         ensures { result.now ≡ self.now }
     {

@@ -33,7 +33,7 @@ fn unsigned_len(bytes: &[u8]) -> usize
     }
 }
 
-// How many bytes can be passed at once, since no mark is among their lines.
+// How many bytes can be skipped at once, since no mark is among their lines.
 fn passed_len(bytes: &[u8]) -> usize
     ensures { IsPassed bytes.now result }
 {
@@ -52,7 +52,7 @@ fn first_line(bytes: &[u8]) -> &[u8]
     }
 }
 
-// What comes behind so many bytes.
+// What follows the first `n` bytes.
 fn after(bytes: &[u8], n: usize) -> &[u8]
     requires { n ≤ length bytes.now }
     ensures { result.now ≡ drop n bytes.now }
@@ -60,7 +60,7 @@ fn after(bytes: &[u8], n: usize) -> &[u8]
     &bytes[n..]
 }
 
-// Whether the line, with its feed if it has one, is exactly `%%`.
+// Whether the line, with its line feed if it has one, is exactly `%%`.
 fn is_mark(line: &[u8]) -> bool
     ensures { result ≡ is_mark line.now }
 {
@@ -74,7 +74,7 @@ fn add<'a>(all: &mut Vec<Source<'a>>, bytes: &'a [u8]) -> Result<(), OutOfMemory
     Ok(all.push(Source::new(bytes))?)
 }
 
-/// The sources of an input, of which no byte is copied.
+/// Returns the sources of an input. Copies no byte.
 ///
 /// # Errors
 ///
@@ -83,7 +83,7 @@ pub fn sources_of<'a>(alloc: Global, bytes: &'a [u8]) -> Result<Vec<Source<'a>>,
     ensures { IfOk result (λ all. all.items ≡ sources bytes.now) }
 {
     let mut all = Vec::new(alloc);
-    // The source at hand and what comes behind it, and how many bytes of its lines were seen.
+    // The current source and what follows it, and how many bytes of its lines were seen.
     let mut rest = bytes;
     let mut seen: usize = 0;
     'lines: loop {

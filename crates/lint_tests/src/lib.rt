@@ -1,5 +1,6 @@
-//! Tests of texts with numbers and scopes of names, of the judge and of trees, of the linter over pools, and of what it tells: where
-//! an input is cut into sources, and the lines of their reports. With proved callers.
+//! Tests of interners and scoped tables, of the checker and the trees of programs, of the linter over pools, and of
+//! its input and output: where an input is split into sources, and the lines of their reports. `uses` has proved
+//! callers.
 #![tactic(auto)]
 
 #[cfg(test)]

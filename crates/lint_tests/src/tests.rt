@@ -1,20 +1,19 @@
-// Worked inputs, beside plain code for the same, and arenas that are full or get no chunk. What is expected follows from the rules.
+// Worked inputs, calls that succeed, long inputs, and arenas that are full or get no chunk. Expected values are worked
+// out by hand from the rules.
 mod linter;
 mod reports;
 mod symbols;
 mod trees;
 
-ghost use Rattle.arena_pool.specs.Kinds.{IsFresh};
-
-use arena_chunks::{Allocator, ChunkSource, MemoryChunks, RefusingChunks};
+use arena_chunks::{Allocator, MemoryChunks, RefusingChunks};
 use std::alloc::Global;
 use std::fmt::Debug;
 use std::process::Abort;
 
-// A text in parts, each so often.
+// A text in parts, each with the number of its repetitions.
 type Parts<'a> = &'a [(&'a [u8], u32)];
 
-// What was found there is what is wanted.
+// Fails the test if the two values differ. `at` names the case.
 fn same_at<A: Copy + Debug, T: Copy + PartialEq + Debug>(
     rt: &impl Abort,
     at: A,
@@ -41,7 +40,7 @@ fn ample(alloc: Global) -> Allocator<MemoryChunks> {
     Allocator::new(alloc, MemoryChunks::new(alloc, 1 << 31))
 }
 
-// An allocator that has so many bytes, a multiple of 16, and asks for no chunk.
+// An allocator over `bytes` bytes, a multiple of 16, that requests no chunk.
 fn fixed(rt: &impl Abort, alloc: Global, bytes: usize) -> Allocator<MemoryChunks> {
     assert!(rt; bytes < 1 << 20 && bytes % 16 == 0);
     let region = vec![in alloc; 7; bytes + 48].expect(rt, "bytes");
@@ -51,13 +50,9 @@ fn fixed(rt: &impl Abort, alloc: Global, bytes: usize) -> Allocator<MemoryChunks
     }
 }
 
-// A source of chunks that refuses so many requests from this one on, from 1.
-fn refusing(alloc: Global, first: u64, count: u64) -> RefusingChunks
-    ensures { IsFresh (⟦<RefusingChunks as ChunkSource>⟧.source result) }
-{
+// A source of chunks that refuses one request. The first request has number 1.
+fn refusing(alloc: Global, number: u64) -> RefusingChunks {
     let mut refuse = Vec::new(alloc);
-    for i in 0..count {
-        let _ = refuse.push(first.saturating_add(i));
-    }
+    let _ = refuse.push(number);
     RefusingChunks::new(alloc, refuse)
 }

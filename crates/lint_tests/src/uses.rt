@@ -1,4 +1,4 @@
-// Callers of the judge, of trees, and of what prints reports.
+// Proved callers of the checker of programs, of trees, and of the printer of reports.
 ghost use Rattle.std.specs.Prelude.{◌≡◌, ◌^◌, ◌≤◌, [], ◌∷◌, ◌++◌, length, Ok, Err, IfOk, OnOk, IsTrue, IsFalse};
 ghost use Rattle.arena_vec.specs.Vecs.{IsVecIn, vec_list};
 ghost use Rattle.lint_reports.specs.Reports.{report_text};
@@ -18,7 +18,7 @@ use std::alloc::Global;
 use tree_reader::refusal;
 use tree_rules::laws::{one_reading, well_formed};
 
-/// Whether a text is a program within the limits. Then its tree is well formed.
+/// Returns whether a text is a program within the limits. If so, its tree is well formed.
 pub fn is_program(src: &[u8]) -> bool
     ensures program { IsTrue result → (trees : Stmts) × TreeOf src.now (Ok trees) × AreStmts trees }
     ensures refused { IsFalse result → (r : Refused) × TreeOf src.now (Err r) }
@@ -30,11 +30,11 @@ pub fn is_program(src: &[u8]) -> bool
     }
 }
 
-/// Places the tree of a text, and gives its text.
+/// Places the tree of a text, and returns the tree's text.
 ///
 /// # Errors
 ///
-/// As of `Tree::parse`, and `OutOfMemory` where memory for the text runs out.
+/// Those of `Tree::parse`, and `OutOfMemory` if there is no memory for the text.
 pub fn set_out<C: ChunkSource>(
     alloc: Global,
     a: &mut Allocator<C>,
@@ -51,11 +51,11 @@ pub fn set_out<C: ChunkSource>(
     }
 }
 
-/// Places the tree of a text, copies it into another arena, and gives the copy's text.
+/// Places the tree of a text, copies it to another arena, and returns the copy's text.
 ///
 /// # Errors
 ///
-/// As of `Tree::parse` and `Tree::clone_in`, and `OutOfMemory` where memory for the text runs out.
+/// Those of `Tree::parse` and `Tree::clone_in`, and `OutOfMemory` if there is no memory for the text.
 pub fn set_out_copy<C: ChunkSource, D: ChunkSource>(
     alloc: Global,
     a: &mut Allocator<C>,
@@ -74,11 +74,11 @@ pub fn set_out_copy<C: ChunkSource, D: ChunkSource>(
     }
 }
 
-/// Places the tree of a text and folds it. Gives its text then, and how many of its nodes were folded.
+/// Places the tree of a text and folds it. Returns the folded tree's text, and the number of nodes that were folded.
 ///
 /// # Errors
 ///
-/// As of `set_out`.
+/// Those of `set_out`.
 pub fn set_out_folded<C: ChunkSource>(
     alloc: Global,
     a: &mut Allocator<C>,
@@ -97,7 +97,7 @@ pub fn set_out_folded<C: ChunkSource>(
     }
 }
 
-// Why no list was placed, told as of a tree.
+// The error of a list that can't be placed, as one of a tree.
 fn not_placed(e: AllocError) -> TreeErr {
     match e {
         AllocError::AllocErr { refused } => TreeErr::AllocErr { refused },
@@ -105,12 +105,12 @@ fn not_placed(e: AllocError) -> TreeErr {
     }
 }
 
-/// Places the tree of a text, and a list of one value beside it, and folds the tree. Gives its text then, and the list, which
-/// is as it was placed.
+/// Places the tree of a text and a list of one value, and folds the tree. Returns the folded tree's text, and the
+/// list, which is unchanged.
 ///
 /// # Errors
 ///
-/// As of `set_out`, and where the list has no place.
+/// Those of `set_out`, and the error of the list's placement.
 pub fn set_out_beside<T: Item, C: ChunkSource>(
     alloc: Global,
     a: &mut Allocator<C>,
@@ -137,11 +137,11 @@ pub fn set_out_beside<T: Item, C: ChunkSource>(
     }
 }
 
-/// Puts the lines of two reports, as those of sources 0 and 1.
+/// Appends the lines of two reports, as those of sources 0 and 1.
 ///
 /// # Errors
 ///
-/// Memory for the text runs out.
+/// Out of memory for the text.
 pub fn put_two(
     out: &mut std::vec::Vec<u8>,
     a: &FileReport,

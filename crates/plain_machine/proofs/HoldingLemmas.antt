@@ -45,7 +45,7 @@ end_remove top held name below other p found = go (eq_by_cmp nat_cmp other name)
     go true same = absurd (none-some p same)
     go false same = below other p same
 
--- The blocks that are left lie in what is left.
+-- The remaining blocks end below the newest data end.
 pub end_left : (state : State) (held : Held) → IsValid state → EndBelow (top_of state.chunks) (map.retain_keys held (is_left state held))
 end_left state held valid name p found some =
     used_high state p.addr p.size valid some (used_filled state p some (go (map.get held name)

@@ -32,7 +32,7 @@ named_later marks i mark name low is other = named_at marks i mark name low is �
 pub named_none : (marks : Marks) (i : ℕ) (name : ℕ) → length marks ≤ i → mark_named (drop i marks) name ≡ None
 named_none marks i name past = rw (drop_all i marks past) refl
 
--- ---- The first of a list goes
+-- ---- The first of a list is removed
 
 pub one_chunk_less : (n : ℕ) (chunks : List Chunk) → n < length chunks → first_chunks n (remove chunks 0) ≡ first_chunks n chunks
 one_chunk_less n [] more = absurd (omega arith)
@@ -91,7 +91,7 @@ each_back newer state n (m ∷ older) low holds are =
     let lower : m.1.chunks ≤ newer.chunks = omega (arith, low, are.0) in
     (are.0, (back_keeps m.1 newer state lower are.1 holds).accepted, each_back newer state m.1.chunks older lower holds are.2)
 
--- The state accepts a name's mark, and there the mark and the older ones stand.
+-- The state accepts a name's mark, and after going back to it, that mark and the older ones.
 pub marks_back : (state : State) (n : ℕ) (marks : Marks) (name : ℕ) (mark : Point) → AreMarks state n marks
     → mark_named marks name ≡ Some mark
     → IsTrue (accepts mark state) × AreMarks (back mark state) (length (back mark state).chunks) (marks_to marks name)

@@ -49,7 +49,7 @@ shrink_moved state block size align valid power at end =
     (omega (arith, down_le (block.size - size) (max align state.min_align), block_top state block.addr block.size valid at end))
     (step_aligned state block size align valid power at)
 
--- a block that was answered at p ends there or before, if one at p does
+-- a block that was placed at p ends at `top` or below, if one at p does
 pub ends_within : (size p top : ℕ) (told : Option (Option ℕ)) → IfSome told (λ answer. answer ≡ Some p) → (0 < size → p + size ≤ top)
     → EndsWithin size told top
 ends_within size p top None is end = tt

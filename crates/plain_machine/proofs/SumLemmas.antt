@@ -27,7 +27,7 @@ ends_below m top (newest ∷ older) valid below zero d low = (valid.0.cursor_hig
 ends_below m top (newest ∷ older) valid below (suc k) d low =
     ends_below m top older valid.2 (omega (arith, valid.0.cursor_low, valid.0.cursor_high, valid.1)) k d (omega arith)
 
--- what passes 64 bits lies in no chunk
+-- a range that exceeds 64 bits is in no chunk
 pub none_past : (addr n : ℕ) (chunks : List Chunk) → 2 ^ 64 ≤ addr + n → All (λ c. (c.cursor ≤ data_end c) × (data_end c < 2 ^ 64)) chunks
     → is_range_used chunks addr n ≡ false
 none_past addr n [] past fit = refl

@@ -1,4 +1,4 @@
--- A state, and answers and replies with what they leave.
+-- A state, answers and replies, with what they leave.
 use Rattle.std.specs.Prelude.{ℕ, ◌+◌, ◌<◌, ◌≤◌, Option, List, [], Vec, true, IfSome}
 use Rattle.std.specs.declared.alloc.Global.{Global}
 use Rattle.std.specs.Option.{option_map}
@@ -20,7 +20,7 @@ first_state min_align = growing_state min_align 0 []
 abbrev pub leaves : State → Option (Option ℕ) → Option Outcome
 leaves state answer = option_map {T = Option ℕ} {U = Outcome} (λ a. record { answer = a; state = state }) answer
 
--- a block of some bytes that is answered ends there or before
+-- a block with bytes, if one is placed, ends at `top` or below
 abbrev pub EndsWithin : ℕ → Option (Option ℕ) → ℕ → Type 0
 EndsWithin size answer top = IfSome answer (λ a. IfSome a (λ p. 0 < size → p + size ≤ top))
 

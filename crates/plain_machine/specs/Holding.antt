@@ -15,11 +15,11 @@ held_code = map.code coded_ℕ place.the_row.coded
 abbrev pub contents_code : Coded Contents
 contents_code = map.code coded_ℕ (coded_list coded_ℕ)
 
--- Each held block of some bytes ends there or before.
+-- Each held block with bytes ends at `top` or below.
 abbrev pub EndBelow : ℕ → Held → Type 0
 EndBelow top held = (name : ℕ) (p : Place) → map.get held name ≡ Some p → 0 < p.size → p.addr + p.size ≤ top
 
--- The state accepts each mark. The newest has so many chunks or fewer, and none has more than a newer one.
+-- The state accepts each mark. The newest has at most `n` chunks, and none has more than a newer one.
 abbrev pub AreMarks : State → ℕ → Marks → Type 0
 AreMarks state n [] = Unit {0}
 AreMarks state n (mark ∷ older) = (mark.1.chunks ≤ n) × IsTrue (accepts mark.1 state) × AreMarks state mark.1.chunks older

@@ -13,7 +13,7 @@ pub(crate) fn filled(alloc: Global, size: u64, fill: u8) -> Result<Bytes, OutOfM
     Bytes::from_vec(alloc, items)
 }
 
-// The old bytes and so many more, each the fill byte.
+// The old bytes, and then `more` fill bytes.
 pub(crate) fn grown(alloc: Global, old: &[u8], more: u64, fill: u8) -> Result<Bytes, OutOfMemory>
     ensures { IfOk result (λ bytes. bytes ≡ old.now ++ replicate more fill) }
 {
@@ -23,7 +23,7 @@ pub(crate) fn grown(alloc: Global, old: &[u8], more: u64, fill: u8) -> Result<By
     Bytes::from_vec(alloc, all)
 }
 
-// The first bytes, so many or all.
+// The first `size` bytes, or all.
 pub(crate) fn shrunk(alloc: Global, old: &[u8], size: u64) -> Result<Bytes, OutOfMemory>
     ensures { IfOk result (λ bytes. bytes ≡ take size old.now) }
 {
@@ -32,7 +32,7 @@ pub(crate) fn shrunk(alloc: Global, old: &[u8], size: u64) -> Result<Bytes, OutO
     Bytes::from_vec(alloc, all)
 }
 
-// So many bytes from this one on pass the end of a block.
+// Whether `n` bytes from `at` on exceed a block of `size` bytes.
 pub(crate) fn is_past(size: u64, at: u64, n: u64) -> bool
     ensures { result ≡ nat_lt size (at + n) }
 {

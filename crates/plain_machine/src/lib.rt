@@ -1,5 +1,5 @@
-//! The placement machine as a plain program: numbers and lists, with no arena behind it. The contract of each call is
-//! the definition itself, so a test can compute what the definitions say, beside what an arena does.
+//! The placement machine as a plain program: numbers and lists, with no arena. The contract of each call is the
+//! definition itself, so a test can compare what the definitions say with what an arena does.
 #![tactic(auto)]
 
 mod bytes;

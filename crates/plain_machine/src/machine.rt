@@ -45,7 +45,7 @@ impl Model for PlainMachine {
 }
 
 impl PlainMachine {
-    /// A machine with no chunk that holds no name and has no mark.
+    /// Returns a machine with no chunk, no names and no marks.
     pub fn new(alloc: Global, min_align: u64) -> PlainMachine
         requires { IsTrue (is_min_align min_align) }
         ensures { result ≡ machine.fresh (first_state min_align) }
@@ -58,8 +58,12 @@ impl PlainMachine {
         }
     }
 
-    /// What the call answers where so many of its requests are refused, or none where there is no such step. Where
-    /// memory runs out, what the machine holds is open.
+    /// Returns the reply to the call where this many of its requests are refused, or `None` where there is no such
+    /// step.
+    ///
+    /// # Errors
+    ///
+    /// Out of memory. What the machine then holds is unspecified.
     pub fn step(
         &mut self,
         alloc: Global,
@@ -282,7 +286,7 @@ impl PlainMachine {
         unasked(refused, Reply::Number(self.state.allocated_bytes()))
     }
 
-    // The name holds this block, and the reply tells where it lies.
+    // Gives the name this block. The reply has its address.
     fn holds(
         &mut self,
         name: u32,

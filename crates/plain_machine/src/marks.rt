@@ -81,7 +81,7 @@ fn mark_named(marks: &[(u32, PlainPoint)], name: u32) -> Option<PlainPoint>
     None
 }
 
-// Marks that are newer than the name's go.
+// Removes the marks that are newer than the name's.
 fn keep_to(marks: &mut Vec<(u32, PlainPoint)>, name: u32)
     ensures { marks.new.items ≡ machine.marks_to marks.old.items name }
 {
@@ -93,7 +93,7 @@ fn keep_to(marks: &mut Vec<(u32, PlainPoint)>, name: u32)
     }
 }
 
-// The oldest chunks stay, so many.
+// Keeps the `n` oldest chunks.
 pub(crate) fn keep_first(chunks: &mut Vec<PlainChunk>, n: u64)
     ensures { chunks.new.items ≡ first_chunks n chunks.old.items }
 {
@@ -102,7 +102,7 @@ pub(crate) fn keep_first(chunks: &mut Vec<PlainChunk>, n: u64)
     }
 }
 
-// The newest cursor is at this address or above.
+// Raises the newest cursor to this address, if it is below.
 pub(crate) fn raise(chunks: &mut Vec<PlainChunk>, addr: u64)
     ensures { chunks.new.items ≡ raised addr chunks.old.items }
 {

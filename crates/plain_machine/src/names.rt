@@ -51,7 +51,7 @@ impl<V: Drop> Names<V> {
         self.get(name).is_some()
     }
 
-    /// The name holds this value. Where memory runs out, it holds what it held.
+    /// Sets the value of a name. Where memory runs out, the map is unchanged.
     pub(crate) fn insert(&mut self, name: u32, value: V) -> Result<(), OutOfMemory>
         ensures ok { OnOk result (self.new ≡ map.insert self.old name value) }
         ensures err { OnErr result (self.new ≡ self.old) }
@@ -74,7 +74,7 @@ impl<V: Drop> Names<V> {
 }
 
 impl Names<Place> {
-    // Whether the name's block has no bytes, or lies in the used part of one chunk.
+    // Whether the name's block has no bytes, or is in the used part of one chunk.
     fn is_left(&self, state: &PlainState, name: u32) -> bool
         ensures { result ≡ machine.is_left state.now self.now name }
     {
@@ -84,7 +84,7 @@ impl Names<Place> {
         }
     }
 
-    /// The names stay whose blocks have no bytes, or lie in the used part of one chunk.
+    /// Keeps the names whose blocks have no bytes, or are in the used part of one chunk.
     pub(crate) fn keep_used(&mut self, state: &PlainState)
         ensures { self.new ≡ map.retain_keys self.old (machine.is_left state.now self.old) }
     {
@@ -93,7 +93,7 @@ impl Names<Place> {
 }
 
 impl Names<Bytes> {
-    /// The names stay whose blocks have no bytes, or lie in the used part of one chunk.
+    /// Keeps the names whose blocks have no bytes, or are in the used part of one chunk.
     pub(crate) fn keep_left(&mut self, held: &Names<Place>, state: &PlainState)
         ensures { self.new ≡ map.retain_keys self.old (machine.is_left state.now held.now) }
     {

@@ -14,7 +14,7 @@ use arena_rules::{OutOfMemory, Place};
 use std::alloc::Global;
 
 impl PlainState {
-    /// A block of a greater size, or the same, in place of this one.
+    /// Grows the block to a size that is greater or the same.
     pub(crate) fn grow(
         &mut self,
         alloc: Global,
@@ -38,7 +38,7 @@ impl PlainState {
         }
     }
 
-    // Downwards, where there is a place, and otherwise again.
+    // Grows downwards where there is a place, and else allocates a new block.
     fn grow_at_cursor(
         &mut self,
         alloc: Global,
@@ -75,7 +75,7 @@ impl PlainState {
         round_up_to_unchecked(layout.size, self.min_align())
     }
 
-    /// A block of a smaller size, or the same, in place of this one.
+    /// Shrinks the block to a size that is smaller or the same.
     pub(crate) fn shrink(
         &mut self,
         alloc: Global,
@@ -104,7 +104,7 @@ impl PlainState {
         Ok(Some(Some(self.shrink_here(block, layout))))
     }
 
-    // The block moves up where it lies at the cursor and that saves at least half of it. Answers its address.
+    // Moves the block up if it is at the cursor and that saves at least half of it. Returns its address.
     fn shrink_here(&mut self, block: Place, layout: Layout) -> u64
         requires align { layout.align ≤ block.align }
         requires size { layout.size ≤ block.size }
@@ -122,7 +122,7 @@ impl PlainState {
         block.addr + step
     }
 
-    // How far a block of this size moves up at most.
+    // The most that a block of this size moves up.
     fn shrink_step(&self, size: u64, layout: Layout) -> u64
         requires { layout.size ≤ size }
         ensures value { result ≡ moves.shrink_step self.now size layout.size layout.align }

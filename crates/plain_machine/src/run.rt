@@ -11,7 +11,12 @@ use call_rules::{Call, Reply};
 use std::alloc::Global;
 
 impl PlainMachine {
-    /// The replies of the calls, where so many requests of each are refused, or none where there is no such run.
+    /// Returns the replies to the calls, where `refused` says how many requests of each are refused, or `None` where
+    /// there is no such run.
+    ///
+    /// # Errors
+    ///
+    /// Out of memory.
     pub fn run_from(
         &mut self,
         alloc: Global,
@@ -34,7 +39,12 @@ impl PlainMachine {
         Ok(Some(replies))
     }
 
-    /// The replies of a whole run of an arena with this least alignment, which begins with no chunk.
+    /// Returns the replies of a whole run of an arena with this least alignment, which begins with no chunk, or `None`
+    /// where there is no such run.
+    ///
+    /// # Errors
+    ///
+    /// Out of memory.
     pub fn run(
         alloc: Global,
         min_align: u64,

@@ -1,4 +1,4 @@
-// The chunks that are asked for.
+// The chunks that an arena asks for.
 ghost use Rattle.std.specs.Prelude.{◌≡◌, ◌<◌, IfOk, slice_get};
 ghost use Rattle.arena_rules.specs.Search.{possible, entries};
 
@@ -41,7 +41,7 @@ pub(crate) fn entries(
     Ok(all)
 }
 
-// The entry that is asked for after so many were refused.
+// The entry that is asked for after this many refusals.
 pub(crate) fn entry_at(asked: &[(u64, u64)], refused: u32) -> Option<(u64, u64)>
     ensures { result ≡ slice_get asked.now refused }
 {

@@ -19,7 +19,7 @@ use arena_rules::{OutOfMemory, Place};
 use std::alloc::Global;
 use std::marker::Model;
 
-/// An address, or none where a call fails.
+/// An address, or `None` where a call fails.
 pub(crate) type Answer = Option<u64>;
 
 /// The chunks of a growing arena, newest first.
@@ -42,7 +42,7 @@ impl Model for PlainState {
 }
 
 impl PlainState {
-    /// A state with no chunk.
+    /// Returns a state with no chunk.
     pub(crate) fn new(alloc: Global, min_align: u64) -> PlainState
         requires { IsTrue (is_min_align min_align) }
         ensures { result ≡ first_state min_align }
@@ -126,7 +126,7 @@ impl PlainState {
         }
     }
 
-    // The newest chunk gets another cursor.
+    // Sets the cursor of the newest chunk.
     pub(crate) fn set_cursor(&mut self, addr: u64)
         requires { IsValid (with_cursor addr self.old) }
         ensures state { self.new ≡ with_cursor addr self.old }
@@ -137,7 +137,7 @@ impl PlainState {
         }
     }
 
-    // A block at its place in the newest chunk, which asks for nothing.
+    // Places a block in the newest chunk, at this address. Asks for no chunk.
     pub(crate) fn place_at(&mut self, addr: u64, refused: u32) -> Option<Answer>
         requires { IsValid (with_cursor addr self.old) }
         ensures step { leaves self.new result ≡ moves.unasked refused (moves.placed self.old addr) }
@@ -152,7 +152,7 @@ impl PlainState {
         Some(Some(addr))
     }
 
-    // A new block in this chunk, which becomes the newest.
+    // Places a block in this chunk, which becomes the newest.
     fn alloc_in_chunk(
         &mut self,
         base: u64,
@@ -182,7 +182,7 @@ impl PlainState {
         Ok(Some(Some(cursor)))
     }
 
-    // A new block where there is no place in the newest chunk.
+    // Allocates a block for which there is no place in the newest chunk.
     fn alloc_in_new(
         &mut self,
         alloc: Global,
@@ -207,7 +207,7 @@ impl PlainState {
         Ok(None)
     }
 
-    /// A new block, where so many requests are refused. There may be no step.
+    /// Allocates a block where this many requests are refused. Returns `None` where there is no such step.
     pub(crate) fn alloc(
         &mut self,
         alloc: Global,
@@ -228,7 +228,7 @@ impl PlainState {
         }
     }
 
-    /// A block is given back.
+    /// Frees a block.
     pub(crate) fn dealloc(&mut self, addr: u64, size: u64)
         requires { 0 < size → addr + size ≤ top_of self.old.chunks }
         ensures { self.new ≡ moves.dealloc self.old addr size }
@@ -239,7 +239,7 @@ impl PlainState {
         }
     }
 
-    /// All blocks are given back, and all chunks but the newest.
+    /// Frees all blocks, and all chunks but the newest.
     pub(crate) fn reset(&mut self)
         ensures { self.new ≡ moves.reset self.old }
     {
@@ -247,7 +247,7 @@ impl PlainState {
         keep_newest(&mut self.chunks);
     }
 
-    /// A mark of the present state.
+    /// Returns a mark of the present state.
     pub(crate) fn mark(&self) -> PlainPoint
         ensures value { result ≡ mark_of self.now }
         ensures accepted { IsTrue (accepts (mark_of self.now) self.now) }
@@ -258,7 +258,7 @@ impl PlainState {
         }
     }
 
-    /// The chunks that there were, and the cursor where it was or above.
+    /// Goes back to a mark: removes the newer chunks, and raises the cursor to the mark's if it is below.
     pub(crate) fn back(&mut self, mark: PlainPoint)
         requires { IsTrue (accepts mark self.old) }
         ensures state { self.new ≡ back mark self.old }
@@ -268,7 +268,7 @@ impl PlainState {
         raise(&mut self.chunks, mark.cursor);
     }
 
-    /// Whether the block has no bytes, or lies in the used part of one chunk.
+    /// Returns whether the block has no bytes, or is in the used part of one chunk.
     pub(crate) fn is_place_used(&self, place: Place) -> bool
         ensures { result ≡ places.is_place_used self.now place }
     {
@@ -288,7 +288,7 @@ impl PlainState {
     }
 }
 
-// The newest chunk stays, with nothing used.
+// Keeps the newest chunk, with nothing used.
 fn keep_newest(chunks: &mut Vec<PlainChunk>)
     requires { top_of chunks.old.items < 2 ^ 64 }
     ensures { chunks.new.items ≡ moves.emptied chunks.old.items }
@@ -299,7 +299,7 @@ fn keep_newest(chunks: &mut Vec<PlainChunk>)
     }
 }
 
-// The addresses from this one on, so many, lie in the used part of one chunk.
+// Whether the `n` addresses from this one on are in the used part of one chunk.
 fn is_range_used(chunks: &[PlainChunk], addr: u64, n: u64) -> bool
     requires { All (λ c. (c.cursor ≤ data_end c) × (data_end c < 2 ^ 64)) chunks.now }
     ensures { result ≡ is_range_used chunks.now addr n }

@@ -1,7 +1,7 @@
 // Calls that ask for nothing.
 ghost use Rattle.std.specs.Prelude.{◌≡◌, ◌==◌, Some, None, if◌then◌else◌};
 
-// Such a call has a step for no refusals alone.
+// The answer of such a call, which has a step only where nothing is refused.
 pub(crate) fn unasked<T: Drop>(refused: u32, answer: T) -> Option<T>
     ensures { result ≡ (if refused == 0 then Some answer else None) }
 {

@@ -1,4 +1,4 @@
--- What a loop does in one turn, to lists, sets and runs.
+-- What one turn of a loop does to lists, sets and runs.
 use Rattle.std.proofs.Common.{◌≡◌, ℕ, suc, ◌+◌, ◌-◌, ◌*◌, ◌<◌, ◌≤◌, refl, sym, ap, ◌∙◌, arith, Bool, true, false, List, [], ◌∷◌, ◌++◌, length, drop, get_or, drop-cons, add-one, append_assoc}
 use Rattle.std.specs.Prelude.{nat_lt, ◌==◌, if◌then◌else◌}
 use Rattle.std.specs.List.{filter, list_any, range_with_len}
@@ -10,7 +10,7 @@ use Rattle.script_rules.specs.Objects.{Bits, bind, united}
 use Rattle.script_rules.specs.Machine.{Ran, step, run_from, ran_on}
 use Rattle.script_rules.specs.declared.commands.Command.{Command}
 
--- the item of a list at an index stands in front of those behind it
+-- a list from an index on: the item there, and those after it
 pub drop_at : {X : Type 0} (xs : List X) (i : ℕ) (x : X) → i < length xs → x ≡ get_or xs i x → drop i xs ≡ x ∷ drop (i + 1) xs
 drop_at xs i x low is = rw add-one (drop-cons xs i x low ∙ ap (λ y. y ∷ drop (suc i) xs) (sym is))
 
@@ -34,7 +34,7 @@ pub members_none : (set : Set) (from to : ℕ) → to ≤ from → members set f
 unfolding members
 members_none set from to h = ap (filter set) (range_none from to h)
 
--- whether one of the numbers from this one on passes
+-- whether one of the numbers from this one on passes the test
 abbrev pub some_from : (ℕ → Bool) → ℕ → ℕ → Bool
 some_from p from to = list_any p (range_with_len from (to - from))
 

@@ -1,4 +1,4 @@
--- What the program's own types say in the definitions' terms.
+-- The program's own types in the definitions' terms.
 use Rattle.script_rules.specs.Objects.{Objects}
 use Rattle.script_rules.specs.Effects.{Effect, Tells, Gives, LetsGo}
 use Rattle.script_rules.specs.Machine.{Answer, Ran}

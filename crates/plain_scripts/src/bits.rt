@@ -22,7 +22,7 @@ fn bits_end(capacity: u32) -> u64
     64 * words_for(capacity)
 }
 
-// The bits, with those of more bits that lie below the end.
+// The bits, with those of `more` that are below the end.
 fn united(end: u64, bits: &Names<()>, more: &Names<()>) -> Result<Names<()>, OutOfMemory>
     ensures { IfOk result (λ all. all ≡ united end bits.now more.now) }
 {

@@ -5,7 +5,7 @@ ghost use Rattle.std.specs.List.{insert, remove};
 use arena_rules::OutOfMemory;
 use std::alloc::Global;
 
-// The same items.
+// A copy of the items.
 pub(crate) fn copied<T: Copy>(alloc: Global, old: &[T]) -> Result<Vec<T>, OutOfMemory>
     ensures { IfOk result (λ all. all.items ≡ old.now) }
 {
@@ -21,7 +21,7 @@ pub(crate) fn pushed(alloc: Global, old: &[u32], value: u32) -> Result<Vec<u32>,
     Ok(all)
 }
 
-// The items with one more at a place.
+// The items with one more at an index.
 pub(crate) fn inserted(
     alloc: Global,
     old: &[u32],
@@ -36,7 +36,7 @@ pub(crate) fn inserted(
     Ok(all)
 }
 
-// The items without the one at a place.
+// The items without the one at an index.
 pub(crate) fn removed(alloc: Global, old: &[u32], at: usize) -> Result<Vec<u32>, OutOfMemory>
     requires { at < length old.now }
     ensures { IfOk result (λ all. all.items ≡ remove old.now at) }
@@ -46,7 +46,7 @@ pub(crate) fn removed(alloc: Global, old: &[u32], at: usize) -> Result<Vec<u32>,
     Ok(all)
 }
 
-// The items with another one at a place.
+// The items with another one at an index.
 pub(crate) fn replaced(
     alloc: Global,
     old: &[u32],
@@ -61,7 +61,7 @@ pub(crate) fn replaced(
     Ok(all)
 }
 
-// The first items, so many or all.
+// The first `len` items, or all.
 pub(crate) fn first(alloc: Global, old: &[u32], len: usize) -> Result<Vec<u32>, OutOfMemory>
     ensures { IfOk result (λ all. all.items ≡ take len old.now) }
 {
@@ -70,7 +70,7 @@ pub(crate) fn first(alloc: Global, old: &[u32], len: usize) -> Result<Vec<u32>, 
     Ok(all)
 }
 
-// Bytes behind bytes.
+// The bytes of `front`, then those of `back`.
 pub(crate) fn joined(alloc: Global, front: &[u8], back: &[u8]) -> Result<Vec<u8>, OutOfMemory>
     ensures { IfOk result (λ all. all.items ≡ front.now ++ back.now) }
 {

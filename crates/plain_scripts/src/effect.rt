@@ -7,7 +7,7 @@ ghost use Rattle.plain_scripts.specs.Answers.{effect_of};
 use crate::object::{Kind, PlainObject};
 use script_rules::ScriptReply;
 
-/// It tells something and changes nothing, or a name gets an object, or a name is let go.
+/// Reports something and changes nothing, or gives a name an object, or removes a name.
 #[derive(Drop)]
 pub(crate) enum PlainEffect {
     Tells(ScriptReply),

@@ -1,6 +1,5 @@
-//! The machine of scripts as a plain program: numbers, lists and maps, with no arena behind them. The
-//! contract of each command is the definition itself, so a test can compute what the definitions say, beside
-//! what an arena does.
+//! The machine of scripts as a plain program: numbers, lists and maps, with no arena. The contract of each command is
+//! the definition itself, so a test can compare what the definitions say with what an arena does.
 #![tactic(auto)]
 
 mod bits;

@@ -15,7 +15,7 @@ use script_rules::{Command, ScriptReply};
 use std::alloc::Global;
 use std::marker::Model;
 
-/// What a command answers, and what it costs.
+/// The reply to a command, and its cost.
 #[derive(Drop)]
 pub struct Answered {
     /// The reply, which may be a refusal.
@@ -45,7 +45,7 @@ impl Model for PlainScripts {
 }
 
 impl PlainScripts {
-    /// No objects.
+    /// Returns a machine with no objects.
     pub fn new(alloc: Global) -> PlainScripts
         ensures { result ≡ [] }
     {
@@ -54,7 +54,7 @@ impl PlainScripts {
         }
     }
 
-    // What a name holds.
+    // The object of a name.
     pub(crate) fn get(&self, name: u32) -> Option<&PlainObject>
         ensures value { option_copied result ≡ get self.now name }
         ensures is { IfSome result (λ o. IsObject o.now) }
@@ -62,7 +62,7 @@ impl PlainScripts {
         self.objects.get(name)
     }
 
-    // Does what was said.
+    // Applies an effect.
     fn settle(&mut self, effect: PlainEffect) -> Result<Answered, OutOfMemory>
         requires { AreObjects self.old → AreObjects (machine.settle self.old (effect_of effect)).objects }
         ensures ok { IfOk result (λ a. gives self.new a ≡ machine.settle self.old (effect_of effect)) }
@@ -89,7 +89,7 @@ impl PlainScripts {
         }
     }
 
-    // What a command does.
+    // The effect of a command.
     fn effect(&self, alloc: Global, command: &Command) -> Result<PlainEffect, OutOfMemory>
         ensures { IfOk result (λ e. effect_of e ≡ effects.effect command.now (get self.now)) }
     {
@@ -126,11 +126,11 @@ impl PlainScripts {
         }
     }
 
-    /// Serves a command. Where memory runs out, the objects stay as they are.
+    /// Serves a command.
     ///
     /// # Errors
     ///
-    /// Out of memory.
+    /// Out of memory. The objects are unchanged.
     pub fn step(&mut self, alloc: Global, command: &Command) -> Result<Answered, OutOfMemory>
         ensures ok { IfOk result (λ a. gives self.new a ≡ machine.step command.now self.old) }
         ensures err { OnErr result (self.new ≡ self.old) }

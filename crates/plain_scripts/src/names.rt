@@ -42,14 +42,14 @@ impl<V: Drop> Names<V> {
         self.values.get(&name)
     }
 
-    /// How many names hold a value.
+    /// Returns how many names hold a value.
     pub(crate) fn len(&self) -> usize
         ensures { result ≡ length self.now }
     {
         self.values.len()
     }
 
-    /// The name holds this value. Where memory runs out, it holds what it held.
+    /// Sets the value of a name. Where memory runs out, the map is unchanged.
     pub(crate) fn insert(&mut self, name: u32, value: V) -> Result<(), OutOfMemory>
         ensures ok { OnOk result (self.new ≡ bind self.old name value) }
         ensures err { OnErr result (self.new ≡ self.old) }
@@ -66,7 +66,7 @@ impl<V: Drop> Names<V> {
 }
 
 impl<V: Drop + Clone> Names<V> {
-    /// The same names with the same values.
+    /// Returns a copy with the same names and values.
     pub(crate) fn copied(&self) -> Result<Names<V>, OutOfMemory>
         requires { (v w : V) → V.is_clone v w → w ≡ v }
         ensures { IfOk result (λ all. all ≡ self.now) }
@@ -77,7 +77,7 @@ impl<V: Drop + Clone> Names<V> {
 }
 
 impl Names<()> {
-    /// Whether a bit is in the set.
+    /// Returns whether a bit is in the set.
     pub(crate) fn has(&self, bit: u32) -> bool
         ensures { result ≡ has self.now bit }
     {

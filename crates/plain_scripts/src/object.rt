@@ -10,7 +10,7 @@ use call_rules::Bytes;
 use std::alloc::Global;
 use std::marker::Model;
 
-/// What an object is.
+/// The kind of an object, with its content.
 #[derive(Drop)]
 pub(crate) enum Kind {
     List(Vec<u32>),
@@ -37,7 +37,7 @@ impl Model for PlainObject {
     ghost view = { λ o. object_of o.kind };
 }
 
-/// How many words of 64 bits have so many bits.
+/// Returns how many words of 64 bits hold this many bits.
 pub(crate) fn words_for(bits: u32) -> u64
     ensures { result ≡ words_for bits }
 {
@@ -45,7 +45,7 @@ pub(crate) fn words_for(bits: u32) -> u64
 }
 
 impl PlainObject {
-    /// What an equal object costs.
+    /// Returns the cost of a copy.
     pub(crate) fn copy_cost(&self) -> u64
         requires { IsObject self.now }
         ensures { result ≡ copy_cost self.now }
@@ -59,7 +59,7 @@ impl PlainObject {
         }
     }
 
-    /// An equal object.
+    /// Returns an equal object.
     pub(crate) fn copied(&self, alloc: Global) -> Result<PlainObject, OutOfMemory>
         ensures { IfOk result (λ o. o ≡ self.now) }
     {

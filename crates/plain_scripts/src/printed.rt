@@ -21,7 +21,7 @@ fn has_byte(bits: &Names<()>, k: u64) -> bool
     false
 }
 
-// The highest of so many bytes that isn't zero; the first where all are.
+// The highest of the first `bytes` bytes that isn't zero, or 0 where all are.
 fn highest(bits: &Names<()>, bytes: u64) -> u64
     requires { 8 * bytes ≤ 2 ^ 32 }
     ensures value { result ≡ highest (has bits.now) bytes }
@@ -42,7 +42,7 @@ fn digit(is_set: bool) -> u8
     if is_set { b'1' } else { b'0' }
 }
 
-// Puts binary digits of the n numbers from this one on at the end, the highest first.
+// Appends the binary digits of the `n` bits from this one on, the highest first.
 fn push_digits(text: &mut Bytes, bits: &Names<()>, from: u64, n: u64) -> Result<(), OutOfMemory>
     requires { from + n ≤ 2 ^ 32 }
     ensures { OnOk result (text.new ≡ text.old ++ digits (has bits.now) from n) }
@@ -53,7 +53,7 @@ fn push_digits(text: &mut Bytes, bits: &Names<()>, from: u64, n: u64) -> Result<
     Ok(())
 }
 
-// Puts each of the k lowest bytes behind `_` at the end, the highest of them first.
+// Appends each of the `k` lowest bytes, after a `_`, the highest of them first.
 fn push_lower(text: &mut Bytes, bits: &Names<()>, k: u64) -> Result<(), OutOfMemory>
     requires { 8 * k ≤ 2 ^ 32 }
     ensures { OnOk result (text.new ≡ text.old ++ lower (has bits.now) k) }
@@ -65,7 +65,7 @@ fn push_lower(text: &mut Bytes, bits: &Names<()>, k: u64) -> Result<(), OutOfMem
     Ok(())
 }
 
-// The printed form of a set of so many words.
+// The printed form of a set of this many words.
 pub(crate) fn printed(alloc: Global, words: u64, bits: &Names<()>) -> Result<Bytes, OutOfMemory>
     requires { 64 * words ≤ 2 ^ 32 }
     ensures { IfOk result (λ text. text ≡ printed words (has bits.now)) }

@@ -8,7 +8,7 @@ use arena_rules::OutOfMemory;
 use script_rules::{Command, Replies, Script};
 use std::alloc::Global;
 
-/// What commands answered and cost, one after another.
+/// The replies and the costs of commands, one after another.
 #[derive(Drop)]
 pub struct PlainRun {
     /// One reply for each command.
@@ -22,7 +22,7 @@ impl PlainScripts {
     ///
     /// # Errors
     ///
-    /// Out of memory. The objects are then as after a first part of the commands.
+    /// Out of memory. What the objects then are is unspecified.
     pub fn run_from(&mut self, alloc: Global, commands: &[Command]) -> Result<PlainRun, OutOfMemory>
         ensures { IfOk result (λ run. gives_all self.new run ≡ machine.run_from self.old commands.now) }
     {
@@ -36,7 +36,7 @@ impl PlainScripts {
         Ok(PlainRun { replies, costs })
     }
 
-    /// The whole run of a script, which begins with no objects.
+    /// Runs a whole script, which begins with no objects.
     ///
     /// # Errors
     ///

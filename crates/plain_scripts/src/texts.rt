@@ -19,7 +19,7 @@ use std::alloc::Global;
 /// The most bytes of a text.
 const MOST_BYTES: usize = 4_294_967_295;
 
-// Whether a byte is none of ASCII.
+// Whether some byte isn't ASCII.
 fn has_other(bytes: &[u8]) -> bool
     ensures { result ≡ list_any effects.not_ascii bytes.now }
 {

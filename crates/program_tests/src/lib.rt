@@ -1,5 +1,5 @@
-//! Tests of the program by its words: calls and their endings, lines of scripts and of outcomes, and scripts by the plain machine
-//! and by the engine. With two proved callers.
+//! Tests of the program through its arguments: calls and how they end, lines of scripts and outcomes, and scripts on
+//! the plain machine and on the engine. Expected values follow from the rules. `uses` and `two` have proved callers.
 #![tactic(auto)]
 
 #[cfg(test)]

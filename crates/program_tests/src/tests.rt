@@ -1,6 +1,5 @@
-// What tests of the program share.
+// Helpers for the tests of the program. Arguments are called words.
 mod calls;
-mod faults;
 mod lines;
 mod programs;
 mod rows;
@@ -13,7 +12,8 @@ use std::alloc::Global;
 use std::process::Abort;
 use std::test::Fail;
 
-// Words and an input. A read gives and a write takes at most so many bytes, but always one, and the listed ones fail.
+// Words and an input. A read gives at most `given` bytes and a write takes at most `taken`, but at least one. The
+// reads and writes with the listed numbers fail.
 #[derive(Drop)]
 struct Asked<'a> {
     words: &'a [&'a str],
@@ -39,7 +39,7 @@ fn words(alloc: Global, list: &[&str]) -> Result<Vec<Bytes>, Fail> {
     Ok(words)
 }
 
-// It is so of this row.
+// Fails the test unless the condition holds for the row.
 fn holds(rt: &impl Abort, is_so: bool, row: &str) {
     assert!(rt; is_so, "{row:?}");
 }

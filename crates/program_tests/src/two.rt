@@ -1,4 +1,4 @@
-// A caller of the engine.
+// A proved caller of the engine.
 ghost use Rattle.std.specs.Prelude.{◌≡◌, ℕ, ◌≤◌, false};
 ghost use Rattle.arena_rules.specs.State.{used_bytes, allocated_bytes};
 ghost use Rattle.script_rules.specs.Machine as machine;
@@ -11,8 +11,8 @@ use script_rules::laws::prefixes;
 use script_rules::{Ended, Outcome, Script};
 use std::alloc::Global;
 
-/// Runs two scripts one after another on an arena that doesn't grow, with a reset between them. Whatever the first took, the
-/// second has all bytes of the arena: it ends full only where it costs more than these.
+/// Runs two scripts in order in an arena that doesn't grow, with a reset between them. Whatever the first one took,
+/// the second has all bytes of the arena: it ends `full` only if it costs more than these.
 pub fn run_two<C: ChunkSource>(
     alloc: Global,
     a: &mut Allocator<C>,

@@ -1,4 +1,4 @@
-// A caller of the plain machine.
+// A proved caller of the plain machine.
 ghost use Rattle.std.specs.Prelude.{◌≡◌, IfOk, OnOk};
 ghost use Rattle.script_rules.specs.Machine.{step, is_refusal};
 
@@ -7,7 +7,7 @@ use plain_scripts::PlainScripts;
 use script_rules::{Command, ScriptReply};
 use std::alloc::Global;
 
-/// Serves a command, and tells whether it was refused.
+/// Serves a command, and returns whether it was refused.
 pub fn is_refused(
     alloc: Global,
     machine: &mut PlainScripts,

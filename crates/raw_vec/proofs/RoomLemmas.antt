@@ -22,11 +22,11 @@ use Rattle.raw_vec.specs.declared.raw.RawVec.{RawVec}
 
 module _ (old new : View) (size align : ℕ) (b c : Block) (cap more : ℕ) (held : IsHeld (cap * size) align old.memory.state b)
     (takes : TakesRoom old new b cap (more * size) align (Placed c)) where
-  -- with no room there are no bytes
+  -- without room there are no bytes
   no_bytes : cap ≡ 0 → b.size ≡ 0
   no_bytes none = held.of_size ∙ ap (λ (n : ℕ). n * size) none ∙ omega arith
 
-  -- It has the layout of so many.
+  -- It has the layout of `more` values.
   pub row_held : IsHeld (more * size) align new.memory.state c
   row_held = taken_held old new b c cap (more * size) align takes
 
@@ -47,7 +47,7 @@ module _ (old new : View) (size align : ℕ) (b c : Block) (cap more : ℕ) (hel
 -- for a growth
 pub ruleset taken = (row_held, row_frame, row_values, frame_reflexive)
 
--- What is required is there after a growth that was made.
+-- After a growth that succeeded there is room for what is required.
 pub enough : {X : Type 0} (size align : ℕ) (old new : View) (b : Block) (cap required : ℕ) (growth : Growth) (f : X → Block) (x : X)
     → MakesRoom size align old new b cap growth f (Ok x) → Suffices size cap required growth → required ≤ capacity_after growth cap
 enough size align old new b cap required Stays f x made suffices = suffices
@@ -60,7 +60,7 @@ pub ruleset growths = (enough)
 
 module _ {T : Type 0} (item : Ghosts T) (old new : View) (empty : RawVec T) (room : ℕ)
     (block : empty.block ≡ empty_block item.ALIGN) (none : empty.len ≡ 0) (cap : empty.cap ≡ empty_capacity item.SIZE) where
-  -- Room for so many was made for an empty handle.
+  -- Room was made for an empty handle.
   pub made_storage : (raw : RawVec T)
       → MakesRoom item.SIZE item.ALIGN old new empty.block empty.cap (growth_by true item.SIZE empty.cap (0 + room)) (λ r. r.block) (Ok raw)
       → IsGrown item old.memory new.memory empty (growth_by true item.SIZE empty.cap (0 + room)) raw

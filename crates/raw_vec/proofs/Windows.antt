@@ -51,7 +51,7 @@ window-last xs f (suc b) x h e =
     let at : slice_get xs b ≡ Some x = rw k at e in
     rw k (last xs f b x (omega arith) at)
 
--- What stands first in a window,
+-- The first value of a window,
 pub window_start : {T : Type 0} (xs : List T) (f b : ℕ) → f < b → slice_get xs f ≡ slice_get (window xs f b) 0
 unfolding window
 window_start [] f zero h = absurd (omega arith)
@@ -68,7 +68,7 @@ first_left rest s t (Some x) gives = ap (λ xs. slice_get xs 0) gives
 
 pub ruleset window_laws = (length-window, window-whole, window-none, window-first, window-last, length-elements)
 
--- The same of values in a block, which have their length whatever stands there.
+-- Windows of values in a block, whose lengths don't depend on the bytes.
 module _ {T : Type 0} (size : ℕ) (dec : List ℕ → T) (n f b : ℕ) (bs : List ℕ) (order : f ≤ b) (within : b ≤ n) where
   pub window_left : elements size dec (b - f) (drop (f * size) bs) ≡ window (elements size dec n bs) f b
   unfolding window

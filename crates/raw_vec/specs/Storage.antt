@@ -13,7 +13,7 @@ use Rattle.arena_items.specs.declared.room.Growth.{Growth}
 use Rattle.arena_items.specs.declared.room.AllocError.{AllocError}
 use Rattle.raw_vec.specs.declared.raw.RawVec.{RawVec}
 
--- The handle after a growth: as many values, and those that there was room for are as they were.
+-- The handle after a growth: the length is the same, and so are all values that the old capacity had room for.
 pub record IsGrown {T : Type 0} (item : Ghosts T) (old new : Memory) (r : RawVec T) (growth : Growth) (s : RawVec T) : Type 0 where
   pub held : IsRawIn item new s
   pub len : s.len ≡ r.len
@@ -21,7 +21,7 @@ pub record IsGrown {T : Type 0} (item : Ghosts T) (old new : Memory) (r : RawVec
   pub values : (n : ℕ) → n ≤ r.cap → raw_values item new s n ≡ raw_values item old r n
   pub frame : Frame old new (r.block ∷ []) (s.block ∷ [])
 
--- A call that makes room, by this growth. Refused, it leaves the storage and the arena as they were.
+-- A call that makes room, by this growth. If it is refused, storage and arena are as they were.
 pub record Reserves {X T : Type 0} (item : Ghosts T) (old new : View) (r : RawVec T) (growth : Growth) (s : RawVec T)
     (result : Result X AllocError) : Type 0 where
   pub made : MakesRoom item.SIZE item.ALIGN old new r.block r.cap growth (λ _. s.block) result
@@ -30,7 +30,8 @@ pub record Reserves {X T : Type 0} (item : Ghosts T) (old new : View) (r : RawVe
   pub err : OnErr result ((s ≡ r) × (new.memory ≡ old.memory))
   pub frame : Frame old.memory new.memory (r.block ∷ []) (s.block ∷ [])
 
--- A call that makes storage of its own for so many values, which holds this list. Refused, it leaves the arena as it was.
+-- A call that makes storage with room for `room` values, which holds this list. If it is refused, the arena is as it
+-- was.
 pub record Makes {X T : Type 0} (item : Ghosts T) (storage : X → RawVec T) (old new : View) (room : ℕ) (list : List T)
     (result : Result X AllocError) : Type 0 where
   pub made : MakesRoom item.SIZE item.ALIGN old new (empty_block item.ALIGN) (empty_capacity item.SIZE)
@@ -44,7 +45,7 @@ pub record Makes {X T : Type 0} (item : Ghosts T) (storage : X → RawVec T) (ol
   pub frame : IfOk result (λ x. Frame old.memory new.memory [] ((storage x).block ∷ []))
   pub err : OnErr result (new.memory ≡ old.memory)
 
--- The storage after its capacity became this amount, or none where that is 0. For values of no bytes nothing changes.
+-- The storage after its capacity became `amount`, with no block if that is 0. For values of no bytes nothing changes.
 pub record ShrinksTo {T : Type 0} (item : Ghosts T) (old new : View) (r : RawVec T) (amount : ℕ) (s : RawVec T) : Type 0 where
   pub no_bytes : item.SIZE ≡ 0 → (s ≡ r) × (new ≡ old)
   pub stays : amount ≡ r.cap → (s.block ≡ r.block) × (new ≡ old)

@@ -8,7 +8,7 @@ use arena_items::Growth;
 
 const LIMIT: u64 = u32::MAX as u64;
 
-/// Whether so many values of this size may be in a vector.
+/// Returns whether a vector may have `n` values of this size.
 #[inline(always)]
 pub fn has_room(size: u64, n: u64) -> bool
     requires small { size ≤ 2 ^ 24 }
@@ -17,7 +17,8 @@ pub fn has_room(size: u64, n: u64) -> bool
     n <= LIMIT && n * size <= LIMIT
 }
 
-// Growth for so many values more: to twice the capacity or what is required, if both are wanted, and else to what is required.
+// Plans the growth for `additional` values after the first `len`: to what is required if `exact`, and otherwise to the
+// amortised capacity.
 #[inline(always)]
 pub(crate) fn plan(size: u64, cap: u32, len: u32, additional: u64, exact: bool) -> Growth
     requires small { size ≤ 2 ^ 24 }

@@ -7,8 +7,8 @@ use arena_chunks::{Allocator, ChunkSource};
 use arena_items::Item;
 
 impl<T: Item> RawVec<T> {
-    /// Whether the handle is well formed in this arena: its block has the layout of its capacity and may be read, and there are
-    /// no more values than there is room for.
+    /// Returns whether the handle is well formed in this arena: its block has the layout of its capacity and is
+    /// readable, and the length is at most the capacity. For values of no bytes the capacity must be 4,294,967,295.
     pub fn is_held<C: ChunkSource>(&self, a: &Allocator<C>) -> bool
         requires { T.SIZE ≤ 2 ^ 24 }
         ensures { IsTrue result ↔ IsRawIn T.Item a.now.memory self.now }

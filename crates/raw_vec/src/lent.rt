@@ -1,10 +1,10 @@
-// Values in bytes that were lent.
+// Values in borrowed bytes.
 ghost use Rattle.std.specs.Prelude.{◌≡◌, ℕ, ◌+◌, ◌*◌, ◌^◌, ◌<◌, ◌≤◌, Some, length, slice_get, slice_set};
 ghost use Rattle.arena_items.specs.Values.{elements};
 
 use arena_items::Item;
 
-/// The value at an index.
+/// Returns the value at an index.
 #[tactic(auto, using(crate::proofs::ByteLemmas::list_laws))]
 #[inline]
 pub fn value_in<T: Item>(bytes: &[u8], i: usize) -> T

@@ -14,21 +14,20 @@ use arena_items::{AllocError, Grown, Growth, Item, take_room};
 use arena_place::Layout;
 use std::marker::PhantomData;
 
-/// A block with room for values, how many are there, and for how many there is room. It is a name: two of them may name the
-/// same block.
+/// A block with room for values, their number, and the capacity. It is a name: two of them may name the same block.
 #[derive(Clone, Copy)]
 pub struct RawVec<T> {
-    /// For how many values there is room.
+    /// The number of values for which there is room.
     pub cap: u32,
-    /// How many values there are.
+    /// The number of values.
     pub len: u32,
     /// The block of the values' bytes.
     pub block: Block,
-    /// The type of the values, which takes no place in the handle.
+    /// The type of the values, which takes no space in the handle.
     pub of: PhantomData<T>,
 }
 
-// The layout of so many values.
+// Returns the layout of `n` values.
 #[tactic(auto, using(arena_items::proofs::Layers::row_is_layout))]
 #[inline(always)]
 fn layout_of<T: Item>(n: u64) -> Layout
@@ -40,7 +39,7 @@ fn layout_of<T: Item>(n: u64) -> Layout
     Layout::of(n * T::SIZE, T::ALIGN)
 }
 
-// The same block, whose layout the compiler knows then.
+// Returns the same block, with a layout that the compiler knows.
 #[inline(always)]
 pub(crate) fn known_block<T: Item>(block: Block, cap: u64) -> Block
     requires small { T.SIZE ≤ 2 ^ 24 }
@@ -57,7 +56,7 @@ pub(crate) fn known_block<T: Item>(block: Block, cap: u64) -> Block
     }
 }
 
-// The storage after a growth.
+// Returns the storage after a growth.
 #[tactic(auto, using(crate::proofs::RoomLemmas::taken))]
 #[inline(always)]
 fn grown<T: Item, C: ChunkSource>(
@@ -89,12 +88,12 @@ fn grown<T: Item, C: ChunkSource>(
     }
 }
 
-/// The storage with room for so many values behind the first `len`: for exactly so many, or by amortised growth. Inlined with the
-/// arena's call, so that the storage stays in registers.
+/// Returns the storage with room for `additional` values after the first `len`: for exactly these if `exact`, and
+/// otherwise by amortised growth. Inlined together with the arena's call, so that the storage stays in registers.
 ///
 /// # Errors
 ///
-/// `CapacityOverflow` where so many don't fit, and else as of the arena's `alloc_layout` or `grow`.
+/// `CapacityOverflow` if that many don't fit, and otherwise as for the arena's `alloc_layout` or `grow`.
 #[tactic(auto, using(crate::proofs::RoomLemmas::growths))]
 #[inline(always)]
 pub fn reserved<T: Item, C: ChunkSource>(
@@ -119,7 +118,7 @@ pub fn reserved<T: Item, C: ChunkSource>(
 
 #[tactic(auto, using(crate::proofs::RoomLemmas::room_laws))]
 impl<T: Item> RawVec<T> {
-    /// No storage. For values of no bytes there is room for 4,294,967,295.
+    /// Returns storage without values or block. For values of no bytes there is room for 4,294,967,295.
     pub fn new_in() -> RawVec<T>
         ensures held { (memory : Memory) → IsRawIn T.Item memory result }
         ensures len { result.len ≡ 0 }
@@ -134,11 +133,12 @@ impl<T: Item> RawVec<T> {
         }
     }
 
-    /// Storage for exactly so many values, none of which are there.
+    /// Returns storage without values, with room for exactly `cap`. For values of no bytes there is room for
+    /// 4,294,967,295.
     ///
     /// # Errors
     ///
-    /// `CapacityOverflow` where so many don't fit, and else as of the arena's `alloc_layout`.
+    /// `CapacityOverflow` if that many don't fit, and otherwise as for the arena's `alloc_layout`.
     pub fn with_capacity_in<C: ChunkSource>(cap: u64, a: &mut Allocator<C>) -> Grown<RawVec<T>>
         requires { T.SIZE ≤ 2 ^ 24 }
         ensures { Makes T.Item (λ r. r) a.old a.new cap [] result }
@@ -147,7 +147,8 @@ impl<T: Item> RawVec<T> {
         Ok(raw)
     }
 
-    /// These parts. For values of no bytes there is room for 4,294,967,295, whatever `cap` says.
+    /// Returns storage made of these parts. For values of no bytes there is room for 4,294,967,295, whatever `cap`
+    /// says.
     pub fn from_raw_parts_in(block: Block, len: u32, cap: u32) -> RawVec<T>
         requires size { block.size ≡ cap * T.SIZE }
         requires align { block.align ≡ T.ALIGN }
@@ -166,42 +167,42 @@ impl<T: Item> RawVec<T> {
         }
     }
 
-    /// The block.
+    /// Returns the block.
     pub fn ptr(&self) -> Block
         ensures { result ≡ self.now.block }
     {
         self.block
     }
 
-    /// How many values there are.
+    /// Returns the number of values.
     pub fn len_u32(&self) -> u32
         ensures { result ≡ self.now.len }
     {
         self.len
     }
 
-    /// How many values there are.
+    /// Returns the number of values.
     pub fn len_usize(&self) -> usize
         ensures { result ≡ self.now.len }
     {
         self.len as usize
     }
 
-    /// For how many values there is room.
+    /// Returns the number of values for which there is room.
     pub fn capacity_u32(&self) -> u32
         ensures { result ≡ self.now.cap }
     {
         self.cap
     }
 
-    /// For how many values there is room.
+    /// Returns the number of values for which there is room.
     pub fn capacity_usize(&self) -> usize
         ensures { result ≡ self.now.cap }
     {
         self.cap as usize
     }
 
-    /// Has so many values more.
+    /// Increases the number of values by `n`.
     pub fn increase_len(&mut self, n: u32)
         requires { self.old.len + n ≤ self.old.cap }
         ensures { self.new ≡ record self.old { len = self.old.len + n } }
@@ -209,7 +210,7 @@ impl<T: Item> RawVec<T> {
         self.len += n;
     }
 
-    /// Has so many values less.
+    /// Decreases the number of values by `n`.
     pub fn decrease_len(&mut self, n: u32)
         requires within { n ≤ self.old.len }
         ensures { self.new ≡ record self.old { len = self.old.len - n } }
@@ -217,7 +218,7 @@ impl<T: Item> RawVec<T> {
         self.len -= n;
     }
 
-    // Makes room for so many values behind the first `len`.
+    // Makes room for `additional` values after the first `len`.
     fn reserve_by<C: ChunkSource>(
         &mut self,
         a: &mut Allocator<C>,
@@ -235,12 +236,13 @@ impl<T: Item> RawVec<T> {
         Ok(())
     }
 
-    /// Makes room for so many values behind the first `len`: for twice as many as there is room for, or for as many as are
-    /// required.
+    /// Makes room for `additional` values after the first `len`. If there is less, the capacity becomes twice what it
+    /// is, or what is required if that is more or if twice the capacity doesn't fit.
     ///
     /// # Errors
     ///
-    /// `CapacityOverflow` where so many don't fit, and else as of the arena's `alloc_layout` or `grow`. Nothing changes.
+    /// `CapacityOverflow` if that many don't fit, and otherwise as for the arena's `alloc_layout` or `grow`. Nothing
+    /// changes.
     pub fn try_reserve<C: ChunkSource>(
         &mut self,
         a: &mut Allocator<C>,
@@ -260,7 +262,8 @@ impl<T: Item> RawVec<T> {
     ///
     /// # Errors
     ///
-    /// `CapacityOverflow` where so many don't fit, and else as of the arena's `alloc_layout` or `grow`. Nothing changes.
+    /// `CapacityOverflow` if that many don't fit, and otherwise as for the arena's `alloc_layout` or `grow`. Nothing
+    /// changes.
     pub fn reserve<C: ChunkSource>(
         &mut self,
         a: &mut Allocator<C>,
@@ -276,11 +279,12 @@ impl<T: Item> RawVec<T> {
         self.reserve_by(a, len, additional, false)
     }
 
-    /// Makes room for exactly so many values behind the first `len`, where there is less.
+    /// Makes room for exactly `additional` values after the first `len`, if there is less.
     ///
     /// # Errors
     ///
-    /// `CapacityOverflow` where so many don't fit, and else as of the arena's `alloc_layout` or `grow`. Nothing changes.
+    /// `CapacityOverflow` if that many don't fit, and otherwise as for the arena's `alloc_layout` or `grow`. Nothing
+    /// changes.
     pub fn try_reserve_exact<C: ChunkSource>(
         &mut self,
         a: &mut Allocator<C>,
@@ -300,7 +304,8 @@ impl<T: Item> RawVec<T> {
     ///
     /// # Errors
     ///
-    /// `CapacityOverflow` where so many don't fit, and else as of the arena's `alloc_layout` or `grow`. Nothing changes.
+    /// `CapacityOverflow` if that many don't fit, and otherwise as for the arena's `alloc_layout` or `grow`. Nothing
+    /// changes.
     pub fn reserve_exact<C: ChunkSource>(
         &mut self,
         a: &mut Allocator<C>,
@@ -316,11 +321,11 @@ impl<T: Item> RawVec<T> {
         self.reserve_by(a, len, additional, true)
     }
 
-    /// Makes room for one value more than there is room for.
+    /// Makes room for at least one value more than the capacity.
     ///
     /// # Errors
     ///
-    /// As of `try_reserve`.
+    /// As for `try_reserve`.
     pub fn grow_one<C: ChunkSource>(&mut self, a: &mut Allocator<C>) -> Grown<()>
         requires small { T.SIZE ≤ 2 ^ 24 }
         requires held { IsRawIn T.Item a.old.memory self.old }
@@ -332,7 +337,8 @@ impl<T: Item> RawVec<T> {
         self.reserve_by(a, cap, 1, false)
     }
 
-    /// Leaves room for this many values, which is no more than there is. For none the block is given back, and no value stays.
+    /// Shrinks the capacity to `amount`. With 0 the block is given back and all values are lost. For values of no bytes
+    /// nothing changes.
     pub fn shrink_to_fit<C: ChunkSource>(&mut self, a: &mut Allocator<C>, amount: u32)
         requires small { T.SIZE ≤ 2 ^ 24 }
         requires held { IsRawIn T.Item a.old.memory self.old }
@@ -356,7 +362,7 @@ impl<T: Item> RawVec<T> {
         }
     }
 
-    /// Gives the block back. The handle keeps its numbers.
+    /// Gives the block back. The handle stays as it is.
     pub fn dealloc_buffer<C: ChunkSource>(&mut self, a: &mut Allocator<C>)
         requires held { IsRawIn T.Item a.old.memory self.old }
         ensures given { GivesBack a.old.memory a.new.memory self.old.block }

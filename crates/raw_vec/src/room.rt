@@ -9,11 +9,11 @@ use crate::raw::{RawVec, reserved};
 use arena_chunks::{Allocator, ChunkSource};
 use arena_items::{Grown, Item};
 
-/// The storage with room for so many more values, by amortised growth.
+/// Returns the storage with room for `additional` more values, by amortised growth.
 ///
 /// # Errors
 ///
-/// As of `reserved`.
+/// As for `reserved`.
 #[tactic(auto, unfolding(crate::specs::Growth::growth_to), using(crate::proofs::RoomLemmas::room_laws))]
 #[inline(always)]
 pub fn roomy<T: Item, C: ChunkSource>(

@@ -9,7 +9,7 @@ ghost use Rattle.arena_items.specs.Room.{SamePlaces};
 use arena_chunks::{Allocator, Block, ChunkSource};
 use arena_items::{Item, put_items};
 
-/// How many values slices have together, up to 2^64 - 1.
+/// Returns how many values the slices have together, up to 2^64 - 1.
 pub fn count_all<T>(slices: &[&[T]]) -> u64
     ensures { result ≡ min (length (flat_map (λ s. s.now) slices.now)) (2 ^ 64 - 1) }
 {
@@ -20,7 +20,7 @@ pub fn count_all<T>(slices: &[&[T]]) -> u64
     n
 }
 
-/// Puts the values of slices behind the first `at` of a block, one slice after another.
+/// Writes the values of slices after the first `at` of a block, one slice after another.
 #[tactic(auto, using(crate::proofs::ByteLemmas::block_laws))]
 pub fn put_all<T: Item, C: ChunkSource>(
     a: &mut Allocator<C>,

@@ -1,4 +1,4 @@
--- How many scripts bytes can be.
+-- How many scripts bytes can have.
 use Rattle.std.proofs.Common.{◌≡◌, ℕ, ◌+◌, ◌≤◌, Bool, true, false, List, [], ◌∷◌, length, map, refl, ap, arith, length-append}
 use Rattle.std.specs.Prelude.{◌==◌, Ok}
 use Rattle.std.specs.List.{filter, flat_map, onto_first}
@@ -30,6 +30,6 @@ scripts_few : (scripts : List (List Command)) → length scripts ≤ length (fla
 scripts_few [] = omega arith
 scripts_few (script ∷ scripts) = omega (arith, scripts_few scripts, length-append (map command_line script) (flat_map script_lines scripts))
 
--- a script has a line, and a line behind the first has a line feed
+-- a script has a line, and a line after the first has a line feed
 pub few : (bytes : List ℕ) (scripts : List (List Command)) → ScriptsOf bytes (Ok scripts) → length scripts ≤ length bytes + 1
 few bytes scripts are = omega (arith, scripts_few scripts, ap length are.text, some_few (lines_of bytes), lines_few bytes)

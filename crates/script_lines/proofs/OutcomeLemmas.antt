@@ -66,7 +66,7 @@ length_map : {X : Type 0} (f : X → Told) (xs : List X) → length (map f xs) �
 length_map f [] = refl
 length_map f (x ∷ xs) = ap suc (length_map f xs)
 
--- the lines of one more, of whatever each outcome is told by
+-- the lines of one more outcome, whatever it is printed from
 pub outcome_more : {X : Type 0} (f : X → Told) (old mid new : List ℕ) (xs : List X) (i : ℕ) (x : X) → i < length xs → x ≡ get_or xs i x
     → mid ≡ old ++ flat_map with_feed (lines_from 0 (map f (take i xs))) → new ≡ mid ++ outcome_text i (f x)
     → new ≡ old ++ flat_map with_feed (lines_from 0 (map f (take (i + 1) xs)))

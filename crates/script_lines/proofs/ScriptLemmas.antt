@@ -167,7 +167,7 @@ takes_script bytes behind old new front e pushed = record {
   });
 }
 
--- the lines of the last script with a command more
+-- the lines of the last script with one more command
 last_lines : (front : List (List Command)) (last : List Command) (command : Command)
     → flat_map script_lines (front ++ (last ++ command ∷ []) ∷ []) ≡ flat_map script_lines (front ++ last ∷ []) ++ command_line command ∷ []
 last_lines front last command =

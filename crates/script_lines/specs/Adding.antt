@@ -1,8 +1,8 @@
--- Where a command goes.
+-- Where a command is added.
 use Rattle.std.specs.Prelude.{◌≡◌, List, [], ◌∷◌, ◌++◌}
 use Rattle.script_rules.specs.declared.commands.Command.{Command}
 
--- the last script has this command more
+-- the last script has this command added
 pub record AddsLast (command : Command) (old new : List (List Command)) : Type 0 where
   pub front : List (List Command)
   pub last : List Command

@@ -1,6 +1,6 @@
-//! Reads the lines of scripts, and prints what scripts answered.
+//! Reads the lines of scripts, and prints the outcomes of scripts.
 //!
-//! Which bytes are scripts, and what the text of outcomes is, is said in `script_rules`.
+//! `script_rules` defines which bytes are scripts, and what the text of outcomes is.
 #![tactic(auto)]
 
 mod commands;

@@ -1,4 +1,4 @@
--- What a command gives: an object that is one, which needs no more than what the name held and what the command costs.
+-- What a command gives: a well-formed object, which needs no more than what the name held and what the command costs.
 use Rattle.std.proofs.Common.{◌≡◌, ℕ, zero, suc, ◌==◌, ◌+◌, ◌-◌, ◌*◌, ◌<◌, ◌≤◌, min, refl, ap, ◌∙◌, arith, Bool, true, false, cond, not, ◌||◌, is_some, Some, None, Option, List, [], ◌∷◌, ◌++◌, length, length-append, length-take, length-set, slice_get, true≢false}
 use Rattle.std.specs.Prelude.{nat_lt, nat_le, IfSome, if◌then◌else◌}
 use Rattle.std.specs.Ordering.{nat_cmp, eq_by_cmp}

@@ -105,7 +105,7 @@ none_below k m (e ∷ es) h all =
     apart : (x y : ℕ) → x < y → eq_by_cmp nat_cmp x y ≡ false
     apart x y l = grind (arith, nat_tests)
 
--- a key that is let go is one entry less, where it was among them
+-- removing a key removes one entry, where the key was among them
 pub length_unbind : {X : Type 0} (es : Entries X) (k : ℕ) → IsTrue (are_rising es)
     → length (unbind es k) ≡ cond (is_some (get es k)) (length es - 1) (length es)
 length_unbind {X} es k h =
@@ -130,11 +130,11 @@ length_unbind {X} es k h =
           | false ↦ λ t. omega arith
         ] refl
 
--- what all entries weigh, by their values
+-- the total weight of entries, by their values
 abbrev weight : {X : Type 0} → (X → ℕ) → Entries X → ℕ
 weight {X} w es = total (λ (e : ℕ × X). w e.1) es
 
--- what a key holds weighs no more than all
+-- the value of a key weighs no more than all
 pub total_get : {X : Type 0} (w : X → ℕ) (es : Entries X) (k : ℕ) → option_map_or w (get es k) 0 ≤ weight w es
 total_get w [] k = omega arith
 total_get w (e ∷ es) k =
@@ -143,7 +143,7 @@ total_get w (e ∷ es) k =
       | false ↦ omega (arith, total_get w es k)
     ]
 
--- what a key gets takes the place of what it held
+-- the weight of a key's new value replaces that of the old one
 pub total_bind : {X : Type 0} (w : X → ℕ) (es : Entries X) (k : ℕ) (v : X) → IsTrue (are_rising es)
     → weight w (bind es k v) + option_map_or w (get es k) 0 ≡ weight w es + w v
 total_bind w [] k v h = omega arith
@@ -163,7 +163,7 @@ total_bind {X} w (e ∷ es) k v h =
     sooner : (x y : ℕ) → nat_cmp x y ≡ Less → x < y
     sooner x y c = let t : IsTrue (is_lt (nat_cmp x y)) = ap is_lt c in grind (arith, nat_tests)
 
--- a key that is let go takes its weight along
+-- removing a key doesn't add weight
 pub total_unbind : {X : Type 0} (w : X → ℕ) (es : Entries X) (k : ℕ) → weight w (unbind es k) ≤ weight w es
 total_unbind w [] k = omega arith
 total_unbind w (e ∷ es) k =

@@ -1,4 +1,4 @@
--- What is found under names, and which set bits are.
+-- What is found under names, and which sets of bits there are.
 use Rattle.std.proofs.Common.{◌≡◌, ℕ, refl, sym, ap, ◌∙◌, arith, Bool, true, false, true≢false, cond, not, ◌&&◌, ◌||◌, is_some, IsTrue, Some, None, Option, [], ◌∷◌, nat_cmp}
 use Rattle.std.specs.Prelude.{◌==◌, nat_lt, if◌then◌else◌}
 use Rattle.std.specs.Ordering.{eq_by_cmp}
@@ -51,7 +51,7 @@ none_if false (Some u) = refl
 pub has_unbind : (bits : Bits) (b q : ℕ) → has (unbind bits b) q ≡ without_bit (has bits) b q
 has_unbind bits b q = ap is_some (get_unbind bits b q) ∙ none_if (q == b) (get bits q)
 
--- a bit is in the union through this one of the other bits or not, where this one lies below the end or does not
+-- one step of a union: a bit is added by this one of the other bits, if this one is below the end
 one_more : (a l m s : Bool) → (s ≡ true → l ≡ true) → ((a || s) || l && m) ≡ (a || l && (m || s))
 one_more true l m s h = refl
 one_more false true true true h = refl

@@ -169,7 +169,7 @@ good_lines (script ∷ scripts) h = (tt, good_does script (flat_map begun script
 abbrev pub Gathered : Type 0
 Gathered = List Command × List (List Command)
 
--- from the last line on: the commands of a script that is not begun, and the scripts behind it
+-- from the last line on: the commands of a script that has not begun, and the scripts after it
 unfoldable pub gather : List Line → Gathered
 gather [] = ([], [])
 gather (Begins ∷ ls) = let p = gather ls in ([], p.0 ∷ p.1)

@@ -1,4 +1,4 @@
--- Examples of scripts, computed: what they answer, need and cost, and the lines of their outcomes.
+-- Examples of scripts, computed: their replies, needs and costs, and the lines of their outcomes.
 use Rattle.std.proofs.Common.{◌≡◌, ℕ, ◌++◌, arith, Ok, refl, false, List, [], ◌∷◌, codes}
 use Rattle.call_rules.specs.Grammar.{number, digits}
 use Rattle.arena_rules.specs.Bits.{members}
@@ -51,7 +51,7 @@ list_and_text_lines : script_lines list_and_text
 unfolding number digits
 list_and_text_lines = refl
 
--- what is told of it where it was done
+-- its printed outcome where it ended done
 abbrev list_and_text_done : Told
 list_and_text_done = record { replies = (run list_and_text).replies; ended = ended.Done }
 

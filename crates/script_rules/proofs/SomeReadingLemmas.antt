@@ -40,12 +40,12 @@ is_line line = go (is_good (found line)) (same line (line_text (found line)))
 
 -- ---- Many lines
 
--- all lines but empty ones are such
+-- the lines that aren't empty are these
 pub record AreLines (lines : List (List ℕ)) (ls : List Line) : Type 0 where
   pub good : AllByRecursion IsGood ls
   pub text : filter is_some_line lines ≡ texts ls
 
--- the first that is none has this number
+-- the first line that is neither has this number
 pub record IsFirstBad (lines : List (List ℕ)) (n : ℕ) : Type 0 where
   pub before : List (List ℕ)
   pub ls : List Line

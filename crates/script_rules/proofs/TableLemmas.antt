@@ -36,7 +36,7 @@ module _ {X : Type 0} where
       no_items [] e = refl
       no_items (e ∷ es) h = absurd (omega (arith, h))
 
-  -- What a table holds by its look-up, another holds but for one key: then one entry more or less is the whole difference.
+  -- Two tables that agree by look-up at all keys but one: they differ in that entry alone.
   module _ (before after : List (ℕ × X)) (k : ℕ) (was is : ℕ → Option X) (one : (q : ℕ) → get (entries_of before) q ≡ was q)
       (other : (q : ℕ) → get (entries_of after) q ≡ is q) where
     with_key : (v : X) → ((q : ℕ) → is q ≡ cond (q == k) (Some v) (was q)) → entries_of after ≡ bind (entries_of before) k v

@@ -13,13 +13,13 @@ use Rattle.script_rules.specs.declared.commands.Ended.TheVariants as ended
 use Rattle.script_rules.specs.declared.commands.ScriptReply.{ScriptReply}
 use Rattle.script_rules.specs.declared.commands.ScriptReply.TheVariants.{Done, Number, Nothing, Truth, Bytes, Numbers, Printed, NoSuchName, NameTaken, WrongKind, OutOfRange, NotAscii, CapacityOverflow}
 
--- ---- Numbers behind spaces, and printed forms, read back
+-- ---- Numbers after spaces, and printed forms, read back
 
 begins_with : ℕ → List ℕ → Bool
 begins_with b [] = false
 begins_with b (c ∷ cs) = b == c
 
--- numbers as long as a space stands in front of them, at most so many
+-- reads numbers while a space comes before each, at most this many
 read_many : ℕ → List ℕ → List ℕ × List ℕ
 read_many zero text = ([], text)
 read_many (suc k) [] = ([], [])
@@ -44,7 +44,7 @@ length_fields : (ns : List ℕ) → length ns ≤ length (fields ns)
 length_fields [] = omega arith
 length_fields (n ∷ ns) = omega (arith, length_fields ns, length-append (number n) (fields ns))
 
--- a dash where a number could stand says that there is none
+-- a dash in the place of a number says that there is none
 undashed : List ℕ × List ℕ → List ℕ × List ℕ
 undashed f = if begins_with 45 f.1 then ([], drop 1 f.1) else f
 
@@ -111,7 +111,7 @@ said make f = (Says (make f.0), f.1)
 abbrev says : ScriptReply → List ℕ → Line × List ℕ
 says reply text = (Says reply, text)
 
--- the line at the front, and what comes behind it
+-- the first line, and what follows it
 abbrev read_line : List ℕ → Line × List ℕ
 read_line = read_by (Says OutOfRange, [])
     ((codes "script", read_field Begins)
@@ -225,7 +225,7 @@ all_good i (o ∷ os) h = (
       (good_append (map Says o.replies) (Ends o.ended ∷ []) (good_replies o.replies h.0) (tt, tt)) (all_good (i + 1) os h.1),
 )
 
--- from the last line on: the replies and the ending of an outcome that is not begun, and the outcomes behind it
+-- from the last line on: the replies and the ending of an outcome that has not begun, and the outcomes after it
 gather : List Line → List ScriptReply × Ended × List Told
 gather [] = ([], ended.Done, [])
 gather (Begins i ∷ ls) = let p = gather ls in ([], ended.Done, record { replies = p.0; ended = p.1 } ∷ p.2)

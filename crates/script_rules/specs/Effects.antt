@@ -9,13 +9,13 @@ use Rattle.script_rules.specs.declared.commands.Command.TheVariants.{MakeList, M
 use Rattle.script_rules.specs.declared.commands.ScriptReply.{ScriptReply}
 use Rattle.script_rules.specs.declared.commands.ScriptReply.TheVariants.{Done, Number, Nothing, Truth, Bytes, Numbers, Printed, NoSuchName, NameTaken, WrongKind, OutOfRange, NotAscii, CapacityOverflow}
 
--- What a command does: it tells something and changes nothing, or a name gets an object, or a name is let go.
+-- The effect of a command: it reports something and changes nothing, or a name gets an object, or a name is removed.
 pub data Effect : Type 0 where
   Tells : (reply : ScriptReply) → Effect
   Gives : (name : ℕ) (object : Object) (reply : ScriptReply) (cost : ℕ) → Effect
   LetsGo : (name : ℕ) → Effect
 
--- ---- Refusals. What is refused tells why.
+-- ---- Refusals: a refused command reports why
 
 -- the name holds an object
 abbrev pub held : Option Object → (Object → Effect) → Effect
@@ -57,7 +57,7 @@ abbrev pub at_index : Option ℕ → (ℕ → Effect) → Effect
 at_index None go = Tells OutOfRange
 at_index (Some n) go = go n
 
--- all bytes are ASCII, and there is room for them in a text of so many bytes
+-- all bytes are ASCII, and a text of `len` bytes has room for them
 abbrev pub not_ascii : ℕ → Bool
 not_ascii byte = nat_lt 127 byte
 

@@ -5,7 +5,7 @@ use Rattle.call_rules.specs.Grammar.{number, hex, IsByte, lines_of}
 use Rattle.script_rules.specs.declared.commands.Command.{Command}
 use Rattle.script_rules.specs.declared.commands.Command.TheVariants.{MakeList, MakeText, MakeBits, MakeMap, MakeValue, Push, Insert, Pop, Remove, At, Put, Truncate, Byte, Front, Append, SetBit, UnsetBit, HasBit, Union, Ones, Bind, Find, Unbind, Load, Store, Len, Show, CopyTo, DropName}
 
--- A part of a line behind its first word: a number of so many bits, or bytes.
+-- A part of a line after its first word: a number of `width` bits, or bytes.
 pub data Part : Type 0 where
   Bits : (width n : ℕ) → Part
   Hex : (bytes : List ℕ) → Part
@@ -13,7 +13,7 @@ pub data Part : Type 0 where
 abbrev pub word : ℕ → Part
 word n = Bits 32 n
 
--- a part's text, behind a space
+-- a part's text, after a space
 abbrev pub part_text : Part → List ℕ
 part_text (Bits width n) = 32 ∷ number n
 part_text (Hex bytes) = 32 ∷ hex bytes
@@ -80,8 +80,8 @@ pub record AreScripts (lines : List (List ℕ)) (scripts : List (List Command)) 
   pub fit : AllByRecursion (AllByRecursion Fits) scripts
   pub text : filter is_some_line lines ≡ flat_map script_lines scripts
 
--- Behind these scripts the line is refused: it is not empty and begins no script, and where a script was begun it is no
--- command either. So each other line before the first script is refused, also a command's.
+-- After these scripts the line is refused: it is not empty and begins no script, and if a script has begun it is no
+-- command either. So before the first script every other line is refused, even a command.
 pub record IsRefused (scripts : List (List Command)) (line : List ℕ) : Type 0 where
   pub some : line ≢ []
   pub begins_none : line ≢ codes "script"
@@ -98,7 +98,7 @@ pub record IsFirstRefused (lines : List (List ℕ)) (n : ℕ) : Type 0 where
   pub good : AreScripts before scripts
   pub bad : IsRefused scripts line
 
--- what the bytes say: a list of scripts, or the number of the first line that is refused
+-- what the bytes mean: a list of scripts, or the number of the first line that is refused
 abbrev pub ScriptsOf : List ℕ → Result (List (List Command)) ℕ → Type 0
 ScriptsOf bytes (Ok scripts) = AreScripts (lines_of bytes) scripts
 ScriptsOf bytes (Err n) = IsFirstRefused (lines_of bytes) n

@@ -6,7 +6,7 @@ use Rattle.script_rules.specs.declared.commands.Command.{Command}
 use Rattle.script_rules.specs.declared.commands.ScriptReply.{ScriptReply}
 use Rattle.script_rules.specs.declared.commands.ScriptReply.TheVariants.{Done, Number, Nothing, Truth, Bytes, Numbers, Printed, NoSuchName, NameTaken, WrongKind, OutOfRange, NotAscii, CapacityOverflow}
 
--- what a command answers and costs, and the objects after it
+-- the reply and the cost of a command, and the objects after it
 pub record Answer : Type 0 where
   pub reply : ScriptReply
   pub cost : ℕ
@@ -20,7 +20,7 @@ settle objects (LetsGo name) = record { reply = Done; cost = 0; objects = unbind
 abbrev pub step : Command → Objects → Answer
 step command objects = settle objects (effect command (get objects))
 
--- what a refused command answers
+-- whether a reply is a refusal
 abbrev pub is_refusal : ScriptReply → Bool
 is_refusal Done = false
 is_refusal (Number n) = false
@@ -36,13 +36,13 @@ is_refusal OutOfRange = true
 is_refusal NotAscii = true
 is_refusal CapacityOverflow = true
 
--- what commands answer and cost, one after another, and the last objects
+-- the replies and the costs of commands, one after another, and the last objects
 pub record Ran : Type 0 where
   pub replies : List ScriptReply
   pub costs : List ℕ
   pub objects : Objects
 
--- an answer, and then what the commands behind it do
+-- an answer, and then the run of the commands after it
 abbrev pub answer_first : Answer → Ran → Ran
 answer_first answer rest = record { replies = answer.reply ∷ rest.replies; costs = answer.cost ∷ rest.costs; objects = rest.objects }
 
@@ -54,7 +54,7 @@ run_from objects (command ∷ commands) = answer_first (step command objects) (r
 abbrev pub run : List Command → Ran
 run script = run_from [] script
 
--- a run, and then more commands
+-- a run, continued with more commands
 abbrev pub ran_on : Ran → List Command → Ran
 ran_on ran commands = let more = run_from ran.objects commands in
     record { replies = ran.replies ++ more.replies; costs = ran.costs ++ more.costs; objects = more.objects }
@@ -65,6 +65,6 @@ sum ns = total (λ n. n) ns
 abbrev pub cost_of : List Command → ℕ
 cost_of script = sum (run script).costs
 
--- what the first so many commands cost
+-- the cost of the first `i` commands
 abbrev pub cost_of_first : ℕ → List Command → ℕ
 cost_of_first i script = sum (take i (run script).costs)

@@ -1,4 +1,4 @@
--- What names hold in a script: lists, texts, sets of bits, maps and values, with no arena behind them.
+-- What names hold in a script: lists, texts, sets of bits, maps and values, with no arena.
 use Rattle.std.specs.Prelude.{ℕ, ◌+◌, ◌*◌, ◌<◌, ◌≤◌, nat_lt, Bool, IsTrue, if◌then◌else◌, not, Option, is_some, List, [], ◌∷◌, length}
 use Rattle.std.specs.Ordering.{nat_cmp, eq_by_cmp}
 use Rattle.std.specs.FinMap.{find, put, is_sorted}
@@ -6,7 +6,7 @@ use Rattle.std.specs.FinMap.Entries.{where_key}
 use Rattle.std.specs.List.{AllByRecursion}
 use Rattle.arena_rules.specs.Bits.{Set, words_for}
 
--- ---- Entries, which stand by rising keys
+-- ---- Entries, sorted by rising keys
 
 abbrev pub Entries : Type 0 → Type 0
 Entries X = List (ℕ × X)
@@ -24,12 +24,12 @@ unbind entries key = where_key nat_cmp (λ k. not (eq_by_cmp nat_cmp key k)) ent
 abbrev pub are_rising : {X : Type 0} → Entries X → Bool
 are_rising entries = is_sorted nat_cmp entries
 
--- what items weigh together
+-- the total weight of items
 abbrev pub total : {X : Type 0} → (X → ℕ) → List X → ℕ
 total weight [] = 0
 total weight (x ∷ xs) = weight x + total weight xs
 
--- ---- Bits: entries with nothing at each
+-- ---- Bits: entries that hold no values
 
 abbrev pub Bits : Type 0
 Bits = Entries (Unit {0})
@@ -38,7 +38,7 @@ Bits = Entries (Unit {0})
 abbrev pub has : Bits → Set
 has bits bit = is_some (get bits bit)
 
--- with those of more bits that lie below the end
+-- with those of `more` that are below the end
 abbrev pub united : ℕ → Bits → Bits → Bits
 united end bits [] = bits
 united end bits (e ∷ more) = united end (if nat_lt e.0 end then bind bits e.0 tt else bits) more
@@ -90,7 +90,7 @@ most_bytes = 4294967295
 abbrev pub most_pairs : ℕ
 most_pairs = 4294967295
 
--- No list, text or map is too long, a text is ASCII, and a set's bits lie in its words. Bits and keys stand in order.
+-- No list, text or map is too long, a text is ASCII, and a set's bits are in its words. Bits and keys rise.
 abbrev pub IsObject : Object → Type 0
 IsObject (AList items) = length items ≤ most_items
 IsObject (AText bytes) = AllByRecursion (λ b. b < 128) bytes × (length bytes ≤ most_bytes)

@@ -1,4 +1,4 @@
--- The lines of what scripts answered.
+-- The lines of the outcomes of scripts.
 use Rattle.std.specs.Prelude.{◌≢◌, ℕ, ◌+◌, true, false, List, [], ◌∷◌, ◌++◌, map, codes}
 use Rattle.std.specs.List.{flat_map, AllByRecursion}
 use Rattle.call_rules.specs.Grammar.{fields, hex, IsByte, with_feed}
@@ -40,7 +40,7 @@ ended_line ended.Full = codes "ended full"
 ended_line ended.Refused = codes "ended refused"
 ended_line ended.OutOfMemory = codes "ended out of memory"
 
--- What of an outcome is printed: not the bytes used, since they may differ with the arena.
+-- The printed part of an outcome: not the bytes used, since those depend on the arena.
 pub record Told : Type 0 where
   pub replies : List ScriptReply
   pub ended : Ended

@@ -1,8 +1,7 @@
 //! The rules of scripts: plain objects under names, and the machine that serves commands on them.
 //!
-//! The definitions lie in `specs/`: contracts in the crates above cite them. The code here is the
-//! plain types that they speak of, and the laws that show what the definitions mean. `CALLING.md` says which
-//! to cite.
+//! The definitions are in `specs/`; contracts in the crates above cite them. The code here is the plain types that the
+//! definitions use, and the laws that show what they mean. `CALLING.md` says which to cite.
 #![tactic(auto)]
 
 mod commands;

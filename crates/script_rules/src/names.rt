@@ -7,9 +7,9 @@ use std::alloc::Global;
 use std::collections::BTreeMap;
 use std::marker::Model;
 
-/// A table of what names hold, which contracts see as its entries by rising names. It is a tree on the host's memory: each
-/// call takes time in the logarithm of the names, whichever they are. A hash of names that anyone may choose could be made
-/// slow by who chooses them.
+/// A table of the values of names, which contracts see as its entries by rising names. It is a tree on the host's heap:
+/// each call takes time logarithmic in the number of names, whatever they are. A hash table could be made slow by a
+/// caller that chooses the names.
 #[derive(Drop)]
 pub struct Names<V> {
     values: BTreeMap<u32, V>,
@@ -29,7 +29,7 @@ impl<V> Model for Names<V> {
 }
 
 impl<V: Drop> Names<V> {
-    /// No names. Takes no memory.
+    /// Returns a table with no names. Takes no memory.
     pub fn new(alloc: Global) -> Names<V>
         ensures { result ≡ [] }
     {
@@ -38,11 +38,11 @@ impl<V: Drop> Names<V> {
         }
     }
 
-    /// The name holds this value, in the place of what it held. A name that held one takes no memory.
+    /// Sets the value of a name, replacing the old one. Never fails for a name that has a value.
     ///
     /// # Errors
     ///
-    /// Out of memory. The names hold what they held.
+    /// Out of memory. The table is unchanged.
     pub fn insert(&mut self, name: u32, value: V) -> Result<(), OutOfMemory>
         ensures ok { OnOk result (self.new ≡ bind self.old name value) }
         ensures err { OnErr result (self.new ≡ self.old) }
@@ -53,7 +53,7 @@ impl<V: Drop> Names<V> {
         Ok(())
     }
 
-    /// The name holds nothing. Takes no memory.
+    /// Removes a name. Takes no memory.
     pub fn remove(&mut self, name: u32)
         ensures { self.new ≡ unbind self.old name }
     {
@@ -62,7 +62,7 @@ impl<V: Drop> Names<V> {
 }
 
 impl<V: Copy> Names<V> {
-    /// What the name holds, if it holds something.
+    /// Returns the value of a name, if it has one.
     pub fn get(&self, name: u32) -> Option<V>
         ensures { result ≡ get self.now name }
     {

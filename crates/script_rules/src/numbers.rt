@@ -38,28 +38,28 @@ impl Eq for Numbers {
 }
 
 impl Numbers {
-    /// The numbers of a vector, which takes no memory.
+    /// Wraps a vector. Takes no memory.
     pub fn from_vec(items: Vec<u64>) -> Numbers
         ensures { result ≡ items.items }
     {
         Numbers { items }
     }
 
-    /// The vector of the numbers, which takes no memory.
+    /// Returns the numbers as a vector. Takes no memory.
     pub fn into_vec(self) -> Vec<u64>
         ensures { result.items ≡ self }
     {
         self.items
     }
 
-    /// The numbers as a slice.
+    /// Returns the numbers as a slice.
     pub fn as_slice(&self) -> &[u64]
         ensures { result.now ≡ self.now }
     {
         self.items.as_slice()
     }
 
-    /// How many numbers there are.
+    /// Returns how many numbers there are.
     pub fn len(&self) -> u64
         ensures { result ≡ length self.now }
     {

@@ -1,4 +1,4 @@
-// What running a script gives.
+// The outcome of a script.
 ghost use Rattle.std.specs.Prelude.{◌≡◌, [], ◌∷◌, ◌++◌, length, OnOk, OnErr};
 
 use crate::commands::{Ended, ScriptReply};
@@ -22,7 +22,7 @@ impl Model for Replies {
 }
 
 impl Replies {
-    /// No replies. Takes no memory.
+    /// Returns an empty list of replies. Takes no memory.
     pub fn new(alloc: Global) -> Replies
         ensures { result ≡ [] }
     {
@@ -31,7 +31,11 @@ impl Replies {
         }
     }
 
-    /// Adds a reply at the end. Where memory runs out the replies stay as they are.
+    /// Appends a reply.
+    ///
+    /// # Errors
+    ///
+    /// Out of memory. The replies are unchanged.
     pub fn push(&mut self, reply: ScriptReply) -> Result<(), OutOfMemory>
         ensures ok { OnOk result (self.new ≡ self.old ++ reply ∷ []) }
         ensures err { OnErr result (self.new ≡ self.old) }
@@ -39,28 +43,28 @@ impl Replies {
         Ok(self.items.push(reply)?)
     }
 
-    /// The replies of a vector, which takes no memory.
+    /// Wraps a vector. Takes no memory.
     pub fn from_vec(items: Vec<ScriptReply>) -> Replies
         ensures { result ≡ items.items }
     {
         Replies { items }
     }
 
-    /// The vector of the replies, which takes no memory.
+    /// Returns the replies as a vector. Takes no memory.
     pub fn into_vec(self) -> Vec<ScriptReply>
         ensures { result.items ≡ self }
     {
         self.items
     }
 
-    /// The replies as a slice.
+    /// Returns the replies as a slice.
     pub fn as_slice(&self) -> &[ScriptReply]
         ensures { result.now ≡ self.now }
     {
         self.items.as_slice()
     }
 
-    /// How many replies there are.
+    /// Returns how many replies there are.
     pub fn len(&self) -> u64
         ensures { result ≡ length self.now }
     {
@@ -68,12 +72,12 @@ impl Replies {
     }
 }
 
-/// What a script answered on an arena, how it ended, and how many bytes the arena then used.
+/// The replies of a script on an arena, how it ended, and how many bytes the arena then used.
 #[derive(Drop, Debug)]
 pub struct Outcome {
     /// One reply for each command that was served, in order.
     pub replies: Replies,
-    /// Why there are no more.
+    /// How the script ended.
     pub ended: Ended,
     /// The bytes of the arena in use at the end.
     pub used: u64,

@@ -22,7 +22,7 @@ impl Model for Script {
 }
 
 impl Script {
-    /// A script of no commands. Takes no memory.
+    /// Returns a script with no commands. Takes no memory.
     pub fn new(alloc: Global) -> Script
         ensures { result ≡ [] }
     {
@@ -31,7 +31,11 @@ impl Script {
         }
     }
 
-    /// Adds a command at the end. Where memory runs out the script stays as it is.
+    /// Appends a command.
+    ///
+    /// # Errors
+    ///
+    /// Out of memory. The script is unchanged.
     pub fn push(&mut self, c: Command) -> Result<(), OutOfMemory>
         ensures ok { OnOk result (self.new ≡ self.old ++ c ∷ []) }
         ensures err { OnErr result (self.new ≡ self.old) }
@@ -39,14 +43,14 @@ impl Script {
         Ok(self.commands.push(c)?)
     }
 
-    /// The commands as a slice.
+    /// Returns the commands as a slice.
     pub fn as_slice(&self) -> &[Command]
         ensures { result.now ≡ self.now }
     {
         self.commands.as_slice()
     }
 
-    /// How many commands there are.
+    /// Returns how many commands there are.
     pub fn len(&self) -> u64
         ensures { result ≡ length self.now }
     {

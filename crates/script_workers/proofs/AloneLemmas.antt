@@ -1,4 +1,4 @@
--- What comes of work on a lent arena, where the work is a script, is what comes of the script alone.
+-- What is promised of work on a lent arena, where the work is a script, is what is promised of the script alone.
 use Rattle.std.proofs.Common.{◌≡◌, ◌≢◌, ◌+◌, ◌⊎◌, inl, inr, false, List, [], ◌∷◌, length, take, sym, refl, ap, ◌∙◌, arith}
 use Rattle.std.specs.List.{AllZip}
 use Rattle.arena_chunks.specs.Source.{Source, View}
@@ -21,7 +21,7 @@ use Rattle.script_workers.specs.Serving.{IsUnserved, IsServedAlone, is_refused, 
 
 -- ---- Kinds
 
--- An arena that keeps its kind is of the pool's still.
+-- An arena that keeps its kind is still of the pool's kind.
 pub kind_kept : (old new : View) → KeepsKind old.memory new.memory → (kind : PoolKind) → IsOfKind kind old.memory.state
     → IsOfKind kind new.memory.state
 kind_kept old new keeps = still_of_kind old.memory.state new.memory.state keeps.is_growing keeps.allocated
@@ -36,7 +36,7 @@ not_refused ended.OutOfMemory other = refl
 
 module _ {C : Type 0} (source : C → Source) (kind : PoolKind) (worked : List Command → Outcome → Type 0) (script : List Command)
     (served : Served Outcome C) where
-  -- ---- A script that wasn't begun
+  -- ---- A script that wasn't started
 
   unserved_alone : HasNoArena (script_terms worked) served → IsServedAlone source kind worked script served
   unserved_alone none = let u = none.unserved in record {

@@ -23,15 +23,16 @@ pub record IsUnserved (outcome : Outcome) : Type 0 where
   pub ended : outcome.ended ≡ ended.OutOfMemory
   pub used : outcome.used ≡ 0
 
--- An arena of the pool, of which nothing was used before the script, refused what its next command asked for.
+-- An arena of the pool, of which nothing was used before the script, refused what the script's next command asked for.
 pub record IsDeniedAlone (kind : PoolKind) (script : List Command) (outcome : Outcome) : Type 0 where
   pub old : View
   pub new : View
   pub unused : IsUnused kind old
   pub denied : IsDenied script outcome old new
 
--- What comes of a script alone, over a pool of this kind: the first replies of the plain machine, bytes within what it needs and
--- costs, and the causes of its ending. Unless no memory was there for it, it has the job's relation.
+-- What is promised of each script over a pool of this kind: the first replies of the plain machine, bytes within what
+-- it needs and costs, and the causes of its ending. Unless memory ran out before its first command, it has the job's
+-- relation.
 pub record IsServedAlone {C : Type 0} (source : C → Source) (kind : PoolKind) (worked : List Command → Outcome → Type 0)
     (script : List Command) (served : Served Outcome C) : Type 0 where
   pub replies : Replies script served.outcome

@@ -1,6 +1,6 @@
-//! Scripts on workers: each of many scripts is run on an arena that a worker borrows from a pool, by whatever runs one.
+//! Scripts on workers: each of many scripts is run by a `Job`, on an arena that a worker borrows from a pool.
 //!
-//! `run_scripts` is what others call; `CALLING.md` says what it promises and how to use that.
+//! The entry point is `run_scripts`; `CALLING.md` says what it promises and how to use that.
 #![tactic(auto)]
 
 mod run;

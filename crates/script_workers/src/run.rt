@@ -12,13 +12,13 @@ use std::alloc::Global;
 use std::sync::Wait;
 use std::thread::Threads;
 
-/// What came of a script: its outcome, and what shows that it was starved, exactly where it ended refused.
+/// What came of a script: its outcome, and what shows that it was starved, exactly if it ended refused.
 pub type Served<C> = arena_workers::Served<Outcome, C>;
 
-/// Why no script was run to an outcome.
+/// Why no outcomes are returned.
 #[derive(Clone, Copy, PartialEq, Eq, Debug, thiserror::Error)]
 pub enum ScriptsErr {
-    /// Memory for the claims, the workers or their outcomes runs out.
+    /// Out of memory for the claims, the workers or their outcomes.
     #[error("out of memory")]
     OutOfMemory,
 }
@@ -29,21 +29,21 @@ impl From<OutOfMemory> for ScriptsErr {
     }
 }
 
-/// What came of each script, in order, by so many workers at most, each a thread, and never more than there are scripts. Each
-/// script has an arena of the pool to itself, of which nothing is used, and what comes of it is what comes of it alone:
-/// whatever ran before or beside it, by however many workers.
+/// Runs scripts over a pool, on at most `workers` threads and never more than there are scripts. Returns what came of
+/// each script, in order. Each script has an arena of the pool to itself, of which nothing is used, and the promises
+/// about its outcome don't depend on what runs before it or at the same time, nor on how many workers there are.
 ///
-/// - It ends `Full` only over a fixed pool, where the arenas have fewer bytes than the script costs up to the next command.
-/// - It ends `Refused` only over a standard pool, and then `starved` has what shows that the arena's source refused, or that
-///   the arena grew large. Such an arena doesn't go back to the pool.
-/// - A script for which there is no memory, be it for an arena or for its outcome, ends `OutOfMemory` with no reply.
+/// - It ends `Full` only over a fixed pool whose arenas have fewer bytes than the script costs up to the next command.
+/// - It ends `Refused` only over a standard pool, and then `starved` shows that the arena's source refused, or that the
+///   arena grew large. Such an arena doesn't go back to the pool.
+/// - A script for which there is no memory, for an arena or for its outcome, ends `OutOfMemory` with no reply.
 ///
-/// The gate is told of each script's begin and end, by the worker that runs it. The call waits at the pool's lock, and without
-/// end over a fixed pool that has no arena, where there are scripts.
+/// The worker that runs a script calls the gate when it begins and when it ends. The call waits at the pool's lock;
+/// over a fixed pool with no arena, it waits forever if there are scripts.
 ///
 /// # Errors
 ///
-/// Memory for the claims, the workers or their outcomes runs out.
+/// Out of memory for the claims, the workers or their outcomes.
 #[tactic(auto, using(crate::proofs::AloneLemmas::all_alone))]
 pub fn run_scripts<
     R: Threads + Wait + Sync,

@@ -1,5 +1,4 @@
-// The allocator and the two traits of blocks beside bumpalo's.
-use crate::kinds::never;
+// Public items of the allocator, and of the two traits of blocks other than bumpalo's.
 use arena_chunks::{
     Alloc, Allocator, Arena, ArenaErr, Block, BlockAlloc, ChunkSource, RawErr, Str,
 };
@@ -31,63 +30,55 @@ fn over<C: ChunkSource>(
     region: Vec<u8>,
     chunks: C,
 ) -> Result<Allocator<C>, (RawErr, C)> {
-    if never() {
-        return Allocator::from_raw_parts(alloc, region, chunks);
-    }
-    Err((RawErr::OutOfMemory { region }, chunks))
+    return Err((RawErr::OutOfMemory { region }, chunks));
+    return Allocator::from_raw_parts(alloc, region, chunks);
 }
 
 fn blocks<C: ChunkSource>(a: &mut Allocator<C>, layout: Layout, block: Block, bytes: &[u8]) {
-    if never() {
-        let _: Result<Block, ArenaErr> = a.alloc_layout(layout);
-        let _: () = a.reset();
-        let _: &[u8] = a.read(block);
-        let _: () = a.write(block, 8u64, bytes);
-        let _: bool = a.is_held_place(block);
-    }
+    return;
+    let _: Result<Block, ArenaErr> = a.alloc_layout(layout);
+    let _: () = a.reset();
+    let _: &[u8] = a.read(block);
+    let _: () = a.write(block, 8u64, bytes);
+    let _: bool = a.is_held_place(block);
 }
 
 fn texts<C: ChunkSource>(a: &mut Allocator<C>, s: &str, t: &str) {
-    if never() {
-        let _: Result<Str, ArenaErr> = a.alloc_str(s);
-        let _: Result<Str, ArenaErr> = a.alloc_concat_strs_array([s, t]);
-        let _: Result<Str, ArenaErr> = a.alloc_concat_strs_array::<&str, 3>([s, t, s]);
-    }
+    return;
+    let _: Result<Str, ArenaErr> = a.alloc_str(s);
+    let _: Result<Str, ArenaErr> = a.alloc_concat_strs_array([s, t]);
+    let _: Result<Str, ArenaErr> = a.alloc_concat_strs_array::<&str, 3>([s, t, s]);
 }
 
 fn text<C: ChunkSource>(text: Str, a: &Allocator<C>) {
-    if never() {
-        let _: Option<&str> = text.get(a);
-    }
+    return;
+    let _: Option<&str> = text.get(a);
 }
 
 fn numbers<C: ChunkSource>(a: &Allocator<C>) {
-    if never() {
-        let _: u64 = a.capacity();
-        let _: u64 = a.used_bytes();
-        let _: (u64, u64) = a.get_allocation_stats();
-        let _: u64 = a.data_end();
-        let _: bool = a.is_growing();
-    }
+    return;
+    let _: u64 = a.capacity();
+    let _: u64 = a.used_bytes();
+    let _: (u64, u64) = a.get_allocation_stats();
+    let _: u64 = a.data_end();
+    let _: bool = a.is_growing();
 }
 
 fn alloc<A: Alloc>(a: &mut A, layout: Layout, block: Block) {
-    if never() {
-        let _: Result<Block, ArenaErr> = a.alloc(layout);
-        let _: () = a.dealloc(block);
-        let _: Result<Block, ArenaErr> = a.grow(block, layout);
-        let _: Result<Block, ArenaErr> = a.shrink(block, layout);
-    }
+    return;
+    let _: Result<Block, ArenaErr> = a.alloc(layout);
+    let _: () = a.dealloc(block);
+    let _: Result<Block, ArenaErr> = a.grow(block, layout);
+    let _: Result<Block, ArenaErr> = a.shrink(block, layout);
 }
 
 fn block_alloc<A: BlockAlloc>(a: &mut A, layout: Layout, block: Block) {
-    if never() {
-        let _: Result<Block, ArenaErr> = a.allocate(layout);
-        let _: () = a.deallocate(block);
-        let _: Result<Block, ArenaErr> = a.grow(block, layout);
-        let _: Result<Block, ArenaErr> = a.grow_zeroed(block, layout);
-        let _: Result<Block, ArenaErr> = a.shrink(block, layout);
-    }
+    return;
+    let _: Result<Block, ArenaErr> = a.allocate(layout);
+    let _: () = a.deallocate(block);
+    let _: Result<Block, ArenaErr> = a.grow(block, layout);
+    let _: Result<Block, ArenaErr> = a.grow_zeroed(block, layout);
+    let _: Result<Block, ArenaErr> = a.shrink(block, layout);
 }
 
 fn allocators<C: ChunkSource>(a: &mut Allocator<C>, layout: Layout, block: Block) {

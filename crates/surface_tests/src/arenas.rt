@@ -1,5 +1,5 @@
-// The arena.
-use crate::kinds::{is_copy, never};
+// Public items of the arena.
+use crate::kinds::is_copy;
 use arena_chunks::{
     Arena, ArenaErr, Block, Checkpoint, ChunkIter, ChunkRawIter, ChunkSource, RawErr,
 };
@@ -48,10 +48,8 @@ fn try_with_both<C: ChunkSource>(
 }
 
 fn over(alloc: Global, region: Vec<u8>) -> Result<Arena<16>, RawErr> {
-    if never() {
-        return Arena::<16>::from_raw_parts(alloc, region);
-    }
-    Err(RawErr::OutOfMemory { region })
+    return Err(RawErr::OutOfMemory { region });
+    return Arena::<16>::from_raw_parts(alloc, region);
 }
 
 fn blocks<C: ChunkSource, const M: usize>(
@@ -60,58 +58,53 @@ fn blocks<C: ChunkSource, const M: usize>(
     layout: Layout,
     block: Block,
 ) {
-    if never() {
-        let _: Result<Block, ArenaErr> = arena.try_alloc_layout(chunks, layout);
-        let _: Result<Block, ArenaErr> = arena.alloc_layout(chunks, layout);
-        let _: () = arena.dealloc(block);
-        let _: Result<Block, ArenaErr> = arena.shrink(chunks, block, layout);
-        let _: Result<Block, ArenaErr> = arena.grow(chunks, block, layout);
-        let _: Result<Block, ArenaErr> = arena.grow_zeroed(chunks, block, layout);
-        let _: Result<Block, ArenaErr> = arena.realloc(chunks, block, 8u64);
-        let _: () = arena.reset();
-    }
+    return;
+    let _: Result<Block, ArenaErr> = arena.try_alloc_layout(chunks, layout);
+    let _: Result<Block, ArenaErr> = arena.alloc_layout(chunks, layout);
+    let _: () = arena.dealloc(block);
+    let _: Result<Block, ArenaErr> = arena.shrink(chunks, block, layout);
+    let _: Result<Block, ArenaErr> = arena.grow(chunks, block, layout);
+    let _: Result<Block, ArenaErr> = arena.grow_zeroed(chunks, block, layout);
+    let _: Result<Block, ArenaErr> = arena.realloc(chunks, block, 8u64);
+    let _: () = arena.reset();
 }
 
 fn bytes<const M: usize>(arena: &mut Arena<M>, block: Block, bytes: &[u8]) {
-    if never() {
-        let _: &[u8] = arena.read(block);
-        let _: () = arena.write(block, 8u64, bytes);
-        let _: bool = arena.is_held_place(block);
-        let _: () = arena.set_cursor(16u64);
-    }
+    return;
+    let _: &[u8] = arena.read(block);
+    let _: () = arena.write(block, 8u64, bytes);
+    let _: bool = arena.is_held_place(block);
+    let _: () = arena.set_cursor(16u64);
 }
 
 fn numbers<const M: usize>(arena: &Arena<M>) {
-    if never() {
-        let _: u64 = arena.chunk_capacity();
-        let _: u64 = arena.allocated_bytes();
-        let _: u64 = arena.used_bytes();
-        let _: u64 = arena.data_end();
-        let _: u64 = arena.end();
-        let _: u64 = arena.min_align();
-        let _: bool = arena.is_growing();
-        let _: (u64, u64) = arena.get_allocation_stats();
-    }
+    return;
+    let _: u64 = arena.chunk_capacity();
+    let _: u64 = arena.allocated_bytes();
+    let _: u64 = arena.used_bytes();
+    let _: u64 = arena.data_end();
+    let _: u64 = arena.end();
+    let _: u64 = arena.min_align();
+    let _: bool = arena.is_growing();
+    let _: (u64, u64) = arena.get_allocation_stats();
 }
 
 fn is_walk<T, I: Iterator<Item = T> + FusedIterator>(_walk: &I) {}
 
 fn walks<const M: usize>(arena: &mut Arena<M>) {
-    if never() {
-        let raw: ChunkRawIter<'_, M> = arena.iter_allocated_chunks_raw();
-        is_walk::<(u64, u64), ChunkRawIter<'_, M>>(&raw);
-        let used: ChunkIter<'_, M> = arena.iter_allocated_chunks();
-        is_walk::<&[u8], ChunkIter<'_, M>>(&used);
-    }
+    return;
+    let raw: ChunkRawIter<'_, M> = arena.iter_allocated_chunks_raw();
+    is_walk::<(u64, u64), ChunkRawIter<'_, M>>(&raw);
+    let used: ChunkIter<'_, M> = arena.iter_allocated_chunks();
+    is_walk::<&[u8], ChunkIter<'_, M>>(&used);
 }
 
 fn marks<const M: usize>(arena: &mut Arena<M>) {
-    if never() {
-        let mark: Checkpoint = arena.checkpoint();
-        let _: bool = arena.accepts(mark);
-        let _: () = arena.rewind(mark);
-        is_copy::<Checkpoint>();
-    }
+    return;
+    let mark: Checkpoint = arena.checkpoint();
+    let _: bool = arena.accepts(mark);
+    let _: () = arena.rewind(mark);
+    is_copy::<Checkpoint>();
 }
 
 fn mark(generation: u64, chunks: u64, addr: u64) -> Checkpoint {

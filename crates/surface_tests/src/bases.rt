@@ -1,5 +1,4 @@
-// A table of numbers that rise, and the search for a chunk.
-use crate::kinds::never;
+// Public items of the table of ascending numbers, and of the search for a chunk.
 use arena_bases::{Bases, BasesErr, Steps};
 use arena_chunks::{Allocator, Arena, ChunkSource};
 use std::alloc::Global;
@@ -21,9 +20,8 @@ fn looks<L: Ledger, const M: usize, C: ChunkSource>(
     a: &Allocator<C>,
     steps: &mut Steps<L>,
 ) {
-    if never() {
-        let _: u64 = bases.base_at(1u64, steps);
-        let _: Option<u64> = arena.find_chunk(1u64, steps);
-        let _: Option<u64> = a.find_chunk(1u64, steps);
-    }
+    return;
+    let _: u64 = bases.base_at(1u64, steps);
+    let _: Option<u64> = arena.find_chunk(1u64, steps);
+    let _: Option<u64> = a.find_chunk(1u64, steps);
 }

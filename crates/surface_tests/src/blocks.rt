@@ -1,15 +1,15 @@
-// Sources of chunks, blocks, and bytes.
+// Public items of sources of chunks, of blocks and of bytes.
 ghost use Rattle.std.specs.Prelude.{◌≡◌};
 ghost use Rattle.arena_rules.specs.Causes.{counted};
 
-use crate::kinds::{is_copy, is_error, is_plain, is_shown, never};
+use crate::kinds::{is_copy, is_error, is_plain, is_shown};
 use arena_chunks::bumpalo_alloc::{CannotReallocInPlace, Excess};
 use arena_chunks::{
     ArenaErr, Block, Bytes, ChunkSource, MemoryChunks, OutOfMemory, RawErr, RefusingChunks, Str,
 };
 use std::alloc::Global;
 
-// A source that has no call but the one.
+// A source that implements only the required method.
 struct Refusing {
     refused: u64,
 }
@@ -86,7 +86,6 @@ fn bytes() {
 }
 
 fn bytes_read(bytes: &Bytes) {
-    if never() {
-        let _: &[u8] = bytes.as_slice();
-    }
+    return;
+    let _: &[u8] = bytes.as_slice();
 }

@@ -1,5 +1,4 @@
-// Runs of calls, and the program's calls.
-use crate::kinds::never;
+// Public items of runs of calls, and of the program's calls.
 use arena_calls::{
     Failed, Input, MemoryInput, MemoryOutput, Output, Status, StdInput, StdOutput, arena_calls,
 };
@@ -85,10 +84,9 @@ fn streams() {
 }
 
 fn moves<I: Input, O: Output>(input: &mut I, output: &mut O, buf: &mut [u8], piece: &[u8]) {
-    if never() {
-        let _: Result<usize, Failed> = input.read(buf);
-        let _: Result<usize, Failed> = output.write(piece);
-    }
+    return;
+    let _: Result<usize, Failed> = input.read(buf);
+    let _: Result<usize, Failed> = output.write(piece);
 }
 
 fn standard<R: std::io::Read + Drop, W: std::io::Write + Drop>(

@@ -1,5 +1,5 @@
-// Copies, conversions, dummies and exchange.
-use crate::kinds::{is_plain, never};
+// Public items of copies, conversions, dummies and replacements.
+use crate::kinds::is_plain;
 use arena_bits::BitSet;
 use arena_chunks::{Allocator, ChunkSource, Str};
 use arena_clone::{
@@ -19,12 +19,11 @@ fn copies<T: CloneIn + Drop, C: ChunkSource, D: ChunkSource>(
     from: &Allocator<C>,
     to: &mut Allocator<D>,
 ) {
-    if never() {
-        let _: Grown<T> = value.clone_in_impl(ids, from, to);
-        let _: Grown<T> = value.clone_in(from, to);
-        let _: Grown<T> = value.clone_in_with_semantic_ids(from, to);
-        let _: Grown<T> = value.clone_within(ids, to);
-    }
+    return;
+    let _: Grown<T> = value.clone_in_impl(ids, from, to);
+    let _: Grown<T> = value.clone_in(from, to);
+    let _: Grown<T> = value.clone_in_with_semantic_ids(from, to);
+    let _: Grown<T> = value.clone_within(ids, to);
 }
 
 const _: () = prove!(CloneInSemanticIds::With as u32 == 0);
@@ -54,20 +53,16 @@ fn ids() -> SemanticId {
 }
 
 fn from<T: Drop, F: FromIn<T>, C: ChunkSource>(value: T, a: &mut Allocator<C>) -> Option<Grown<F>> {
-    if never() {
-        return Some(F::from_in(value, a));
-    }
-    None
+    return None;
+    return Some(F::from_in(value, a));
 }
 
 fn into<T: IntoIn<U> + Drop, U, C: ChunkSource>(
     value: T,
     a: &mut Allocator<C>,
 ) -> Option<Grown<U>> {
-    if never() {
-        return Some(value.into_in(a));
-    }
-    None
+    return None;
+    return Some(value.into_in(a));
 }
 
 fn is_from<T, F: FromIn<T>>() {}
@@ -84,10 +79,8 @@ fn all_from<T: Item>() {
 }
 
 fn dummies<T: Dummy, C: ChunkSource>(a: &mut Allocator<C>) -> Option<Grown<T>> {
-    if never() {
-        return Some(T::dummy(a));
-    }
-    None
+    return None;
+    return Some(T::dummy(a));
 }
 
 fn are_dummies<A: Dummy, B: Dummy, C: Dummy, D: Dummy, E: Dummy, F: Dummy, G: Dummy>() {}
@@ -101,22 +94,18 @@ fn all_dummies<T: Dummy + Item, U: Item, V>() {
 }
 
 fn taken<T: TakeIn, C: ChunkSource>(slot: &mut T, a: &mut Allocator<C>) -> Option<Grown<T>> {
-    if never() {
-        return Some(slot.take_in(a));
-    }
-    None
+    return None;
+    return Some(slot.take_in(a));
 }
 
 fn taken_in_box<T: TakeIn + Item, C: ChunkSource>(slot: &mut T, a: &mut Allocator<C>) {
-    if never() {
-        let _: Grown<Box<T>> = slot.take_in_box(a);
-    }
+    return;
+    let _: Grown<Box<T>> = slot.take_in_box(a);
 }
 
 fn replaced<T: ReplaceWith, F: FnOnce(T) -> T + Drop>(slot: &mut T, replacer: F) {
-    if never() {
-        let _: () = slot.replace_with(replacer);
-    }
+    return;
+    let _: () = slot.replace_with(replacer);
 }
 
 fn are_exchanged<

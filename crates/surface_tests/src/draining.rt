@@ -1,5 +1,4 @@
-// Walks over vectors.
-use crate::kinds::never;
+// Public items of iterators over vectors.
 use arena_chunks::{Allocator, ChunkSource};
 use arena_items::{Grown, Item};
 use arena_vec::{Drain, DrainFilter, IntoIter, Splice, Vec};
@@ -12,21 +11,19 @@ fn is_two_way<T, I: Iterator<Item = T> + DoubleEndedIterator + ExactSizeIterator
 fn is_fused<I: FusedIterator>(_walk: &I) {}
 
 fn into<'a, T: Item, C: ChunkSource>(vec: Vec<T>, a: &'a Allocator<C>) {
-    if never() {
-        let walk: IntoIter<'a, T, C> = vec.into_iter(a);
-        is_two_way::<T, IntoIter<'a, T, C>>(&walk);
-        is_fused(&walk);
-        let _: &[u8] = walk.as_slice();
-    }
+    return;
+    let walk: IntoIter<'a, T, C> = vec.into_iter(a);
+    is_two_way::<T, IntoIter<'a, T, C>>(&walk);
+    is_fused(&walk);
+    let _: &[u8] = walk.as_slice();
 }
 
 fn drained<T: Item, C: ChunkSource>(vec: &mut Vec<T>, a: &mut Allocator<C>) {
-    if never() {
-        let walk: Drain<'_, T, C> = vec.drain(a, 1u32, 2u32);
-        is_two_way::<T, Drain<'_, T, C>>(&walk);
-        is_fused(&walk);
-        let _: () = walk.finish();
-    }
+    return;
+    let walk: Drain<'_, T, C> = vec.drain(a, 1u32, 2u32);
+    is_two_way::<T, Drain<'_, T, C>>(&walk);
+    is_fused(&walk);
+    let _: () = walk.finish();
 }
 
 fn filtered<T: Item, C: ChunkSource, F: FnMut(&mut T) -> bool + Drop>(
@@ -34,11 +31,10 @@ fn filtered<T: Item, C: ChunkSource, F: FnMut(&mut T) -> bool + Drop>(
     a: &mut Allocator<C>,
     pred: F,
 ) {
-    if never() {
-        let walk: DrainFilter<'_, T, C, F> = vec.drain_filter(a, pred);
-        is_walk::<T, DrainFilter<'_, T, C, F>>(&walk);
-        let _: () = walk.finish();
-    }
+    return;
+    let walk: DrainFilter<'_, T, C, F> = vec.drain_filter(a, pred);
+    is_walk::<T, DrainFilter<'_, T, C, F>>(&walk);
+    let _: () = walk.finish();
 }
 
 fn spliced<T: Item, C: ChunkSource, I: Iterator<Item = T> + Drop>(
@@ -46,9 +42,8 @@ fn spliced<T: Item, C: ChunkSource, I: Iterator<Item = T> + Drop>(
     a: &mut Allocator<C>,
     with: I,
 ) {
-    if never() {
-        let walk: Splice<'_, T, C, I> = vec.splice(a, 1u32, 2u32, with);
-        is_two_way::<T, Splice<'_, T, C, I>>(&walk);
-        let _: Grown<()> = walk.finish();
-    }
+    return;
+    let walk: Splice<'_, T, C, I> = vec.splice(a, 1u32, 2u32, with);
+    is_two_way::<T, Splice<'_, T, C, I>>(&walk);
+    let _: Grown<()> = walk.finish();
 }

@@ -1,12 +1,12 @@
-// Hashers, keys and maps.
-use crate::kinds::{is_copy, never};
+// Public items of hashers, keys and maps.
+use crate::kinds::is_copy;
 use arena_chunks::{Allocator, ChunkSource, Str};
 use arena_hash::{
     ArenaHashMap, ArenaKey, FxHasher, HashMap, IntoKeys, IntoValues, Iter, KeyHasher,
 };
 use arena_items::{Grown, Item};
 
-// A hasher that has no call but the one.
+// A hasher that implements only the required method.
 #[derive(Default, Drop)]
 struct Same;
 
@@ -20,16 +20,14 @@ impl KeyHasher for Same {
 }
 
 fn hashes<S: KeyHasher + Drop>(hasher: &S, content: &[u8]) {
-    if never() {
-        let _: u64 = hasher.hash(content);
-        let _: S = S::default();
-    }
+    return;
+    let _: u64 = hasher.hash(content);
+    let _: S = S::default();
 }
 
 fn keys<K: ArenaKey, C: ChunkSource>(key: &K, a: &Allocator<C>, room: &mut [u8; 16]) {
-    if never() {
-        let _: &[u8] = key.content(a, room);
-    }
+    return;
+    let _: &[u8] = key.content(a, room);
 }
 
 fn are_keys<
@@ -61,12 +59,11 @@ fn made<K: ArenaKey, V: Item, S: KeyHasher + Drop, C: ChunkSource>(
     hasher: S,
     other: S,
 ) {
-    if never() {
-        let _: HashMap<K, V, S> = HashMap::new_in();
-        let _: HashMap<K, V, S> = HashMap::with_hasher_in(hasher);
-        let _: Grown<HashMap<K, V, S>> = HashMap::with_capacity_in(8u64, a);
-        let _: Grown<HashMap<K, V, S>> = HashMap::with_capacity_and_hasher_in(8u64, other, a);
-    }
+    return;
+    let _: HashMap<K, V, S> = HashMap::new_in();
+    let _: HashMap<K, V, S> = HashMap::with_hasher_in(hasher);
+    let _: Grown<HashMap<K, V, S>> = HashMap::with_capacity_in(8u64, a);
+    let _: Grown<HashMap<K, V, S>> = HashMap::with_capacity_and_hasher_in(8u64, other, a);
 }
 
 fn collected<
@@ -76,9 +73,8 @@ fn collected<
     C: ChunkSource,
     I: Iterator<Item = (K, V)> + Drop,
 >(a: &mut Allocator<C>, iter: I) {
-    if never() {
-        let _: Grown<HashMap<K, V, S>> = HashMap::from_iter_in(iter, a);
-    }
+    return;
+    let _: Grown<HashMap<K, V, S>> = HashMap::from_iter_in(iter, a);
 }
 
 fn changed<K: ArenaKey, V: Item, S: KeyHasher, C: ChunkSource>(
@@ -87,11 +83,10 @@ fn changed<K: ArenaKey, V: Item, S: KeyHasher, C: ChunkSource>(
     key: K,
     value: V,
 ) {
-    if never() {
-        let _: Grown<Option<V>> = map.insert(a, key, value);
-        let _: Option<V> = map.remove(a, key);
-        let _: () = map.clear(a);
-    }
+    return;
+    let _: Grown<Option<V>> = map.insert(a, key, value);
+    let _: Option<V> = map.remove(a, key);
+    let _: () = map.clear(a);
 }
 
 fn looks<K: ArenaKey, V: Item, S: KeyHasher, C: ChunkSource>(
@@ -100,13 +95,12 @@ fn looks<K: ArenaKey, V: Item, S: KeyHasher, C: ChunkSource>(
     key: K,
     content: &[u8],
 ) {
-    if never() {
-        let _: u32 = map.len();
-        let _: bool = map.is_empty();
-        let _: Option<V> = map.get(a, key);
-        let _: Option<V> = map.get_by(a, content);
-        let _: bool = map.contains_key(a, key);
-    }
+    return;
+    let _: u32 = map.len();
+    let _: bool = map.is_empty();
+    let _: Option<V> = map.get(a, key);
+    let _: Option<V> = map.get_by(a, content);
+    let _: bool = map.contains_key(a, key);
 }
 
 fn equal<K: ArenaKey, V: Item + PartialEq, S: KeyHasher, C: ChunkSource>(
@@ -114,9 +108,8 @@ fn equal<K: ArenaKey, V: Item + PartialEq, S: KeyHasher, C: ChunkSource>(
     a: &Allocator<C>,
     other: &HashMap<K, V, S>,
 ) {
-    if never() {
-        let _: bool = map.eq(a, other);
-    }
+    return;
+    let _: bool = map.eq(a, other);
 }
 
 fn is_walk<T, I: Iterator<Item = T>>(_walk: &I) {}
@@ -125,14 +118,13 @@ fn walks<K: ArenaKey, V: Item, S: KeyHasher + Copy + Drop, C: ChunkSource>(
     map: HashMap<K, V, S>,
     a: &Allocator<C>,
 ) {
-    if never() {
-        let pairs: Iter<'_, K, V, C> = map.iter(a);
-        is_walk::<(K, V), Iter<'_, K, V, C>>(&pairs);
-        let keys: IntoKeys<'_, K, V, C> = map.into_keys(a);
-        is_walk::<K, IntoKeys<'_, K, V, C>>(&keys);
-        let values: IntoValues<'_, K, V, C> = map.into_values(a);
-        is_walk::<V, IntoValues<'_, K, V, C>>(&values);
-    }
+    return;
+    let pairs: Iter<'_, K, V, C> = map.iter(a);
+    is_walk::<(K, V), Iter<'_, K, V, C>>(&pairs);
+    let keys: IntoKeys<'_, K, V, C> = map.into_keys(a);
+    is_walk::<K, IntoKeys<'_, K, V, C>>(&keys);
+    let values: IntoValues<'_, K, V, C> = map.into_values(a);
+    is_walk::<V, IntoValues<'_, K, V, C>>(&values);
 }
 
 fn copied<K: Copy, V: Copy, S: Copy>() {

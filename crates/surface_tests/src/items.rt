@@ -1,5 +1,4 @@
-// Elements and the calls that place them.
-use crate::kinds::never;
+// Public items of values, and of the calls that place them.
 use arena_chunks::{Allocator, Block, ChunkSource, Str};
 use arena_items::{AllocError, ArenaItems, Box, BoxSlice, Grown, Item, ItemErr};
 use std::num::{
@@ -8,13 +7,12 @@ use std::num::{
 };
 
 fn forms<T: Item>(value: T, out: &mut [u8], bytes: &[u8]) {
-    if never() {
-        let _: u64 = T::SIZE;
-        let _: u64 = T::ALIGN;
-        let _: () = value.known();
-        let _: () = value.encode(out);
-        let _: T = T::decode(bytes);
-    }
+    return;
+    let _: u64 = T::SIZE;
+    let _: u64 = T::ALIGN;
+    let _: () = value.known();
+    let _: () = value.encode(out);
+    let _: T = T::decode(bytes);
 }
 
 fn are_items<A: Item, B: Item, C: Item, D: Item, E: Item, F: Item, G: Item>() {}
@@ -51,10 +49,9 @@ fn same<X>(answer: Grown<X>) -> Result<X, AllocError> {
 }
 
 fn values<A: ArenaItems, T: Item>(a: &mut A, value: T) {
-    if never() {
-        let _: Result<Box<T>, ItemErr> = a.alloc(value);
-        let _: Result<Box<T>, ItemErr> = a.try_alloc(value);
-    }
+    return;
+    let _: Result<Box<T>, ItemErr> = a.alloc(value);
+    let _: Result<Box<T>, ItemErr> = a.try_alloc(value);
 }
 
 fn made<A: ArenaItems, T: Item, F: FnOnce() -> T + Drop, G: FnOnce() -> T + Drop>(
@@ -62,25 +59,22 @@ fn made<A: ArenaItems, T: Item, F: FnOnce() -> T + Drop, G: FnOnce() -> T + Drop
     f: F,
     g: G,
 ) {
-    if never() {
-        let _: Result<Box<T>, ItemErr> = a.alloc_with(f);
-        let _: Result<Box<T>, ItemErr> = a.try_alloc_with(g);
-    }
+    return;
+    let _: Result<Box<T>, ItemErr> = a.alloc_with(f);
+    let _: Result<Box<T>, ItemErr> = a.try_alloc_with(g);
 }
 
 fn slices<A: ArenaItems, T: Item>(a: &mut A, src: &[T], value: T) {
-    if never() {
-        let _: Result<BoxSlice<T>, ItemErr> = a.alloc_slice_copy(src);
-        let _: Result<BoxSlice<T>, ItemErr> = a.alloc_slice_clone(src);
-        let _: Result<BoxSlice<T>, ItemErr> = a.alloc_slice_fill_copy(8u64, value);
-        let _: Result<BoxSlice<T>, ItemErr> = a.alloc_slice_fill_clone(8u64, &value);
-    }
+    return;
+    let _: Result<BoxSlice<T>, ItemErr> = a.alloc_slice_copy(src);
+    let _: Result<BoxSlice<T>, ItemErr> = a.alloc_slice_clone(src);
+    let _: Result<BoxSlice<T>, ItemErr> = a.alloc_slice_fill_copy(8u64, value);
+    let _: Result<BoxSlice<T>, ItemErr> = a.alloc_slice_fill_clone(8u64, &value);
 }
 
 fn defaults<A: ArenaItems, T: Item + Default>(a: &mut A) {
-    if never() {
-        let _: Result<BoxSlice<T>, ItemErr> = a.alloc_slice_fill_default(8u64);
-    }
+    return;
+    let _: Result<BoxSlice<T>, ItemErr> = a.alloc_slice_fill_default(8u64);
 }
 
 fn filled<A: ArenaItems, T: Item, F: FnMut(u64) -> T + Drop, I: ExactSizeIterator<Item = T> + Drop>(
@@ -88,10 +82,9 @@ fn filled<A: ArenaItems, T: Item, F: FnMut(u64) -> T + Drop, I: ExactSizeIterato
     f: F,
     iter: I,
 ) {
-    if never() {
-        let _: Result<BoxSlice<T>, ItemErr> = a.alloc_slice_fill_with(8u64, f);
-        let _: Result<BoxSlice<T>, ItemErr> = a.alloc_slice_fill_iter(iter);
-    }
+    return;
+    let _: Result<BoxSlice<T>, ItemErr> = a.alloc_slice_fill_with(8u64, f);
+    let _: Result<BoxSlice<T>, ItemErr> = a.alloc_slice_fill_iter(iter);
 }
 
 fn allocators<C: ChunkSource, T: Item>(a: &mut Allocator<C>, value: T) {

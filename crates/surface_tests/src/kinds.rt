@@ -1,15 +1,6 @@
-// What types can do, and a branch that never runs.
-ghost use Rattle.std.specs.Prelude.{◌≡◌, false};
-
+// The traits that types implement.
 use std::error::Error;
 use std::fmt::{Debug, Display};
-
-// Answers false: what stands behind it is only type-checked.
-pub(crate) fn never() -> bool
-    ensures { result ≡ false }
-{
-    false
-}
 
 pub(crate) fn is_copy<T: Copy>() {}
 

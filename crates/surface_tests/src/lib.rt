@@ -1,5 +1,5 @@
-//! Uses each public item once, with its whole type written out: where a name, a parameter, a result, a bound, a field or a variant is
-//! lost or changed, this crate isn't accepted. Nothing of it runs.
+//! Uses each public item once, with its whole type written out. If a name, a parameter, a result, a bound, a field or
+//! a variant is removed or changed, this crate doesn't compile. Nothing of it runs: code after a `return` is only type-checked.
 #![tactic(auto)]
 
 mod allocator;
@@ -12,6 +12,7 @@ mod bumpalo;
 mod calls;
 mod clone;
 mod draining;
+mod facade;
 mod hash;
 mod items;
 mod kinds;

@@ -1,5 +1,5 @@
-// The linter.
-use crate::kinds::{is_error, never};
+// Public items of the linter.
+use crate::kinds::is_error;
 use arena_chunks::{Allocator, Bytes, ChunkSource};
 use arena_lint::{FileReport, FindKind, Finding, Findings, LintErr, Linted, lint_all, lint_one};
 use arena_pool::{AllocatorPool, ChunkMaker, PoolName};
@@ -17,9 +17,8 @@ fn finding(kind: FindKind, name: Bytes) -> Finding {
 }
 
 fn found(findings: &Findings) {
-    if never() {
-        let _: &[Finding] = findings.as_slice();
-    }
+    return;
+    let _: &[Finding] = findings.as_slice();
 }
 
 fn findings() {
@@ -44,9 +43,8 @@ fn linted<C: ChunkSource>(report: FileReport, starved: Option<Starved<C>>) -> Li
 }
 
 fn one<C: ChunkSource>(alloc: Global, a: &mut Allocator<C>, src: &[u8]) {
-    if never() {
-        let _: FileReport = lint_one(alloc, a, src);
-    }
+    return;
+    let _: FileReport = lint_one(alloc, a, src);
 }
 
 fn refused(e: LintErr) {
@@ -68,8 +66,6 @@ fn all<
     gate: &G,
     sources: &[Bytes],
 ) -> Result<Vec<Linted<K::Chunks>>, LintErr> {
-    if never() {
-        return lint_all(rt, alloc, pool, workers, gate, sources);
-    }
-    Err(LintErr::OutOfMemory)
+    return Err(LintErr::OutOfMemory);
+    return lint_all(rt, alloc, pool, workers, gate, sources);
 }

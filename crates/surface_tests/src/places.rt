@@ -1,4 +1,4 @@
-// Layouts and places.
+// Public items of layouts and places.
 use crate::kinds::is_copy;
 use arena_place::{
     CHUNK_ALIGN, CHUNK_FOOTER_SIZE, DEFAULT_CHUNK_SIZE_WITHOUT_FOOTER, FIRST_ALLOCATION_GOAL,

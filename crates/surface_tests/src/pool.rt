@@ -1,7 +1,7 @@
-// Books and pools.
+// Public items of books and pools.
 ghost use Rattle.std.specs.Prelude.{◌≡◌};
 
-use crate::kinds::{is_error, never};
+use crate::kinds::is_error;
 use arena_chunks::{Allocator, ChunkSource, MemoryChunks, OutOfMemory};
 use arena_items::GetAllocator;
 use arena_pool::{
@@ -12,7 +12,7 @@ use std::alloc::Global;
 use std::sync::Wait;
 use std::sync::ledger::{Blank, Ledger};
 
-// A maker that has no call but the one.
+// A maker that implements only the required method.
 struct Maker {
     alloc: Global,
 }
@@ -62,17 +62,15 @@ fn taken<K: ChunkMaker>(
 }
 
 fn stored<K: ChunkMaker>(book: &mut Book<K>, a: Allocator<K::Chunks>, id: Option<u32>) {
-    if never() {
-        let _: () = book.store(a, id);
-    }
+    return;
+    let _: () = book.store(a, id);
 }
 
 fn numbers<K: ChunkMaker>(book: &mut Book<K>) {
-    if never() {
-        let _: () = book.forget();
-        let _: Option<u64> = book.limit();
-        let _: Counts = book.counts();
-    }
+    return;
+    let _: () = book.forget();
+    let _: Option<u64> = book.limit();
+    let _: Counts = book.counts();
 }
 
 fn is_ledger<L: Ledger>() {}
@@ -86,10 +84,8 @@ fn pool<K: ChunkMaker + Drop, L: PoolName>(
     maker: K,
     blank: Blank,
 ) -> Result<AllocatorPool<K, L>, OutOfMemory> {
-    if never() {
-        return AllocatorPool::new(alloc, 1u32, maker, blank);
-    }
-    Err(OutOfMemory)
+    return Err(OutOfMemory);
+    return AllocatorPool::new(alloc, 1u32, maker, blank);
 }
 
 fn with_limit<K: ChunkMaker + Drop, L: PoolName>(
@@ -97,10 +93,8 @@ fn with_limit<K: ChunkMaker + Drop, L: PoolName>(
     maker: K,
     blank: Blank,
 ) -> Result<AllocatorPool<K, L>, OutOfMemory> {
-    if never() {
-        return AllocatorPool::new_with_limit(alloc, 1u32, 2u64, maker, blank);
-    }
-    Err(OutOfMemory)
+    return Err(OutOfMemory);
+    return AllocatorPool::new_with_limit(alloc, 1u32, 2u64, maker, blank);
 }
 
 fn fixed_size<K: ChunkMaker + Drop, L: PoolName>(
@@ -108,10 +102,8 @@ fn fixed_size<K: ChunkMaker + Drop, L: PoolName>(
     maker: K,
     blank: Blank,
 ) -> Result<AllocatorPool<K, L>, OutOfMemory> {
-    if never() {
-        return AllocatorPool::new_fixed_size(alloc, 1u32, 48u64, maker, blank);
-    }
-    Err(OutOfMemory)
+    return Err(OutOfMemory);
+    return AllocatorPool::new_fixed_size(alloc, 1u32, 48u64, maker, blank);
 }
 
 fn guarded<'a, K: ChunkMaker, L: PoolName, R: Wait>(
@@ -160,11 +152,8 @@ fn put_back<K: ChunkMaker, L: PoolName, R: Wait>(
     guard: AllocatorGuard<'_, K, L>,
     rt: &R,
 ) -> Option<Allocator<K::Chunks>> {
-    if never() {
-        let _: () = guard.put_back(rt);
-        return None;
-    }
-    Some(guard.give_up(rt))
+    return Some(guard.give_up(rt));
+    let _: () = guard.put_back(rt);
 }
 
 fn standard<K: ChunkMaker + Drop, L: PoolName>(
@@ -172,10 +161,8 @@ fn standard<K: ChunkMaker + Drop, L: PoolName>(
     maker: K,
     blank: Blank,
 ) -> Result<StandardAllocatorPool<K, L>, OutOfMemory> {
-    if never() {
-        return StandardAllocatorPool::new(alloc, 1u32, maker, blank);
-    }
-    Err(OutOfMemory)
+    return Err(OutOfMemory);
+    return StandardAllocatorPool::new(alloc, 1u32, maker, blank);
 }
 
 fn fixed<K: ChunkMaker + Drop, L: PoolName>(
@@ -183,10 +170,8 @@ fn fixed<K: ChunkMaker + Drop, L: PoolName>(
     maker: K,
     blank: Blank,
 ) -> Result<FixedSizeAllocatorPool<K, L>, OutOfMemory> {
-    if never() {
-        return FixedSizeAllocatorPool::new(alloc, 1u32, 48u64, maker, blank);
-    }
-    Err(OutOfMemory)
+    return Err(OutOfMemory);
+    return FixedSizeAllocatorPool::new(alloc, 1u32, 48u64, maker, blank);
 }
 
 fn from_standard<K: ChunkMaker, L: PoolName, R: Wait>(
@@ -202,12 +187,9 @@ fn to_standard<K: ChunkMaker, L: PoolName, R: Wait>(
     a: Allocator<K::Chunks>,
     loan: Loan<L>,
 ) -> Option<Allocator<K::Chunks>> {
-    if never() {
-        let _: () = pool.add(rt, a, loan);
-        return None;
-    }
     let _: () = pool.forget(rt, loan);
-    Some(a)
+    return Some(a);
+    let _: () = pool.add(rt, a, loan);
 }
 
 fn from_fixed<K: ChunkMaker, L: PoolName, R: Wait>(
@@ -223,10 +205,7 @@ fn to_fixed<K: ChunkMaker, L: PoolName, R: Wait>(
     a: Allocator<K::Chunks>,
     loan: Loan<L>,
 ) -> Option<Allocator<K::Chunks>> {
-    if never() {
-        let _: () = pool.add(rt, a, loan);
-        return None;
-    }
     let _: () = pool.forget(rt, loan);
-    Some(a)
+    return Some(a);
+    let _: () = pool.add(rt, a, loan);
 }

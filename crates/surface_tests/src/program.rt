@@ -1,4 +1,4 @@
-// The top call.
+// The program's top function.
 use arena_calls::{Input, Output, Status};
 use arena_chunks::{Arena, Bytes, ChunkSource};
 use arena_pool::ChunkMaker;

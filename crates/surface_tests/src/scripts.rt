@@ -1,7 +1,6 @@
-// Scripts: their commands and replies, and the engine.
+// Public items of scripts, with their commands and replies, and of the engine.
 ghost use Rattle.std.specs.Prelude.{◌≡◌};
 
-use crate::kinds::never;
 use arena_chunks::{Allocator, Bytes, ChunkSource, OutOfMemory};
 use arena_script::{Engine, Job, run_script};
 use script_rules::{Command, Ended, Numbers, Outcome, Replies, Script, ScriptReply};
@@ -152,9 +151,8 @@ fn came(replies: Vec<ScriptReply>, ended: Ended, used: u64) -> Outcome {
 }
 
 fn numbers(numbers: &Numbers) {
-    if never() {
-        let _: &[u64] = numbers.as_slice();
-    }
+    return;
+    let _: &[u64] = numbers.as_slice();
 }
 
 fn built() {
@@ -164,10 +162,9 @@ fn built() {
 }
 
 fn jobs<C: ChunkSource, J: Job<C>>(job: &J, alloc: Global, a: &mut Allocator<C>, script: &Script) {
-    if never() {
-        let _: Outcome = run_script(alloc, a, script);
-        let _: Outcome = job.run(alloc, a, script);
-    }
+    return;
+    let _: Outcome = run_script(alloc, a, script);
+    let _: Outcome = job.run(alloc, a, script);
 }
 
 fn engines<C: ChunkSource>(alloc: Global, a: &mut Allocator<C>, script: &Script) {

@@ -1,5 +1,4 @@
-// Sets by content.
-use crate::kinds::never;
+// Public items of hash sets.
 use arena_chunks::{Allocator, ChunkSource};
 use arena_hash::{ArenaHashSet, ArenaKey, FxHasher, HashMap, HashSet, KeyHasher, SetIter};
 use arena_items::Grown;
@@ -18,22 +17,20 @@ fn made<T: ArenaKey, S: KeyHasher + Drop, C: ChunkSource>(
     other: S,
     map: HashMap<T, (), S>,
 ) {
-    if never() {
-        let _: HashSet<T, S> = HashSet::new_in();
-        let _: HashSet<T, S> = HashSet::with_hasher_in(hasher);
-        let _: Grown<HashSet<T, S>> = HashSet::with_capacity_in(8u64, a);
-        let _: Grown<HashSet<T, S>> = HashSet::with_capacity_and_hasher_in(8u64, other, a);
-        let _: HashSet<T, S> = HashSet::from(map);
-    }
+    return;
+    let _: HashSet<T, S> = HashSet::new_in();
+    let _: HashSet<T, S> = HashSet::with_hasher_in(hasher);
+    let _: Grown<HashSet<T, S>> = HashSet::with_capacity_in(8u64, a);
+    let _: Grown<HashSet<T, S>> = HashSet::with_capacity_and_hasher_in(8u64, other, a);
+    let _: HashSet<T, S> = HashSet::from(map);
 }
 
 fn collected<T: ArenaKey, S: KeyHasher + Drop, C: ChunkSource, I: Iterator<Item = T> + Drop>(
     a: &mut Allocator<C>,
     iter: I,
 ) {
-    if never() {
-        let _: Grown<HashSet<T, S>> = HashSet::from_iter_in(iter, a);
-    }
+    return;
+    let _: Grown<HashSet<T, S>> = HashSet::from_iter_in(iter, a);
 }
 
 fn changed<T: ArenaKey, S: KeyHasher, C: ChunkSource>(
@@ -41,10 +38,9 @@ fn changed<T: ArenaKey, S: KeyHasher, C: ChunkSource>(
     a: &mut Allocator<C>,
     item: T,
 ) {
-    if never() {
-        let _: Grown<bool> = set.insert(a, item);
-        let _: bool = set.remove(a, item);
-    }
+    return;
+    let _: Grown<bool> = set.insert(a, item);
+    let _: bool = set.remove(a, item);
 }
 
 fn is_walk<T, I: Iterator<Item = T>>(_walk: &I) {}
@@ -55,12 +51,11 @@ fn looks<T: ArenaKey, S: KeyHasher, C: ChunkSource>(
     item: T,
     other: &HashSet<T, S>,
 ) {
-    if never() {
-        let _: bool = set.contains(a, item);
-        let _: u32 = set.len();
-        let _: bool = set.is_empty();
-        let _: bool = set.eq(a, other);
-        let items: SetIter<'_, T, C> = set.iter(a);
-        is_walk::<T, SetIter<'_, T, C>>(&items);
-    }
+    return;
+    let _: bool = set.contains(a, item);
+    let _: u32 = set.len();
+    let _: bool = set.is_empty();
+    let _: bool = set.eq(a, other);
+    let items: SetIter<'_, T, C> = set.iter(a);
+    is_walk::<T, SetIter<'_, T, C>>(&items);
 }

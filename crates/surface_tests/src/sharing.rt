@@ -1,5 +1,5 @@
-// Claims, and arenas with two owners.
-use crate::kinds::{is_error, never};
+// Public items of claims, and of arenas with two owners.
+use crate::kinds::is_error;
 use arena_chunks::{Allocator, ChunkSource};
 use arena_pool::{ClaimErr, ClaimSeat, Claims, GaveUp, Owner, OwnerSeat, ShareErr, share};
 use std::alloc::Global;

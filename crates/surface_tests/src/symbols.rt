@@ -1,5 +1,4 @@
-// Interned texts, and scopes.
-use crate::kinds::never;
+// Public items of interned texts and scopes.
 use arena_chunks::{Allocator, ChunkSource, Str};
 use arena_items::Grown;
 use arena_symbols::{Scopes, Symbols};
@@ -12,29 +11,25 @@ fn plain() {
 }
 
 fn symbols<C: ChunkSource>(symbols: &mut Symbols, a: &mut Allocator<C>, text: &str) {
-    if never() {
-        let _: Grown<u32> = symbols.intern(a, text);
-    }
+    return;
+    let _: Grown<u32> = symbols.intern(a, text);
 }
 
 fn found<C: ChunkSource>(symbols: &Symbols, a: &Allocator<C>, text: &str) {
-    if never() {
-        let _: Option<u32> = symbols.find(a, text);
-        let _: Str = symbols.text(a, 1u32);
-    }
+    return;
+    let _: Option<u32> = symbols.find(a, text);
+    let _: Str = symbols.text(a, 1u32);
 }
 
 fn scopes<C: ChunkSource>(scopes: &mut Scopes, a: &mut Allocator<C>) {
-    if never() {
-        let _: Grown<()> = scopes.enter(a);
-        let _: bool = scopes.leave(a);
-        let _: Grown<bool> = scopes.define(a, 1u32, 2u32);
-    }
+    return;
+    let _: Grown<()> = scopes.enter(a);
+    let _: bool = scopes.leave(a);
+    let _: Grown<bool> = scopes.define(a, 1u32, 2u32);
 }
 
 fn looks<C: ChunkSource>(scopes: &Scopes, a: &Allocator<C>) {
-    if never() {
-        let _: Option<u32> = scopes.lookup(a, 1u32);
-        let _: bool = scopes.in_last(a, 1u32);
-    }
+    return;
+    let _: Option<u32> = scopes.lookup(a, 1u32);
+    let _: bool = scopes.in_last(a, 1u32);
 }

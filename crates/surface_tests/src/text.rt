@@ -1,16 +1,15 @@
-// Texts that grow.
-use crate::kinds::{is_copy, never};
+// Public items of growing texts.
+use crate::kinds::is_copy;
 use arena_chunks::{Allocator, ChunkSource, Str};
 use arena_items::Grown;
 use arena_text::{ArenaStringBuilder, StringBuilder};
 
 fn made<C: ChunkSource>(a: &mut Allocator<C>, s: &str, t: &str) {
-    if never() {
-        let _: StringBuilder = StringBuilder::new_in();
-        let _: Grown<StringBuilder> = StringBuilder::with_capacity_in(8u64, a);
-        let _: Grown<StringBuilder> = StringBuilder::from_str_in(s, a);
-        let _: Grown<StringBuilder> = StringBuilder::from_strs_array_in([s, t], a);
-    }
+    return;
+    let _: StringBuilder = StringBuilder::new_in();
+    let _: Grown<StringBuilder> = StringBuilder::with_capacity_in(8u64, a);
+    let _: Grown<StringBuilder> = StringBuilder::from_str_in(s, a);
+    let _: Grown<StringBuilder> = StringBuilder::from_strs_array_in([s, t], a);
 }
 
 fn numbers() {
@@ -26,15 +25,14 @@ fn same(text: ArenaStringBuilder) -> StringBuilder {
 }
 
 fn bytes<C: ChunkSource>(text: &mut StringBuilder, a: &mut Allocator<C>) {
-    if never() {
-        let _: Grown<()> = text.push_ascii_byte(a, 1u8);
-        let _: Grown<()> = text.push_byte_unchecked(a, 1u8);
-        let _: Grown<()> = text.push_ascii_byte_start(a, 1u8);
-        let _: Grown<()> = text.push_byte_start_unchecked(a, 1u8);
-        let _: Grown<()> = text.push_ascii_byte_repeat(a, 1u8, 2u64);
-        let _: Grown<()> = text.reserve(a, 1u64);
-        let _: () = text.set_byte(a, 1u64, 2u8);
-    }
+    return;
+    let _: Grown<()> = text.push_ascii_byte(a, 1u8);
+    let _: Grown<()> = text.push_byte_unchecked(a, 1u8);
+    let _: Grown<()> = text.push_ascii_byte_start(a, 1u8);
+    let _: Grown<()> = text.push_byte_start_unchecked(a, 1u8);
+    let _: Grown<()> = text.push_ascii_byte_repeat(a, 1u8, 2u64);
+    let _: Grown<()> = text.reserve(a, 1u64);
+    let _: () = text.set_byte(a, 1u64, 2u8);
 }
 
 fn pieces<C: ChunkSource>(
@@ -44,18 +42,16 @@ fn pieces<C: ChunkSource>(
     s: &str,
     c: char,
 ) {
-    if never() {
-        let _: Grown<()> = text.push_bytes_unchecked(a, bytes);
-        let _: Grown<()> = text.push_str(a, s);
-        let _: Grown<()> = text.push(a, c);
-    }
+    return;
+    let _: Grown<()> = text.push_bytes_unchecked(a, bytes);
+    let _: Grown<()> = text.push_str(a, s);
+    let _: Grown<()> = text.push(a, c);
 }
 
 fn looks<C: ChunkSource>(text: &StringBuilder, a: &Allocator<C>, s: &str, other: &StringBuilder) {
-    if never() {
-        let _: &str = text.as_str(a);
-        let _: &[u8] = text.as_bytes(a);
-        let _: bool = text.eq_str(a, s);
-        let _: bool = text.eq(a, other);
-    }
+    return;
+    let _: &str = text.as_str(a);
+    let _: &[u8] = text.as_bytes(a);
+    let _: bool = text.eq_str(a, s);
+    let _: bool = text.eq(a, other);
 }

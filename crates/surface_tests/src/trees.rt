@@ -1,5 +1,4 @@
-// Trees.
-use crate::kinds::never;
+// Public items of trees.
 use arena_chunks::{Allocator, Block, Bytes, ChunkSource, OutOfMemory, Str};
 use arena_clone::{Dummy, ReplaceWith};
 use arena_items::Item;
@@ -55,10 +54,9 @@ fn trees<C: ChunkSource, D: ChunkSource>(
     to: &mut Allocator<D>,
     src: &[u8],
 ) {
-    if never() {
-        let _: Result<Tree, TreeErr> = Tree::parse(a, src);
-        let _: Result<Bytes, OutOfMemory> = tree.print(alloc, a);
-        let _: Result<Tree, TreeErr> = tree.clone_in(a, to);
-        let _: u64 = tree.fold(a);
-    }
+    return;
+    let _: Result<Tree, TreeErr> = Tree::parse(a, src);
+    let _: Result<Bytes, OutOfMemory> = tree.print(alloc, a);
+    let _: Result<Tree, TreeErr> = tree.clone_in(a, to);
+    let _: u64 = tree.fold(a);
 }

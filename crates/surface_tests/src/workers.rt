@@ -1,5 +1,5 @@
-// Scripts on workers.
-use crate::kinds::{is_error, never};
+// Public items of scripts on workers.
+use crate::kinds::is_error;
 use arena_chunks::{Allocator, ChunkSource};
 use arena_pool::{AllocatorPool, ChunkMaker, PoolName};
 use arena_script::Job;
@@ -9,7 +9,7 @@ use std::alloc::Global;
 use std::sync::Wait;
 use std::thread::Threads;
 
-// A gate that has no calls but the two.
+// A gate that implements only the two required methods.
 struct Open;
 
 impl Gate for Open {
@@ -62,8 +62,6 @@ fn run<
     job: &J,
     scripts: &[Script],
 ) -> Result<Vec<Served<K::Chunks>>, ScriptsErr> {
-    if never() {
-        return run_scripts(rt, alloc, pool, workers, gate, job, scripts);
-    }
-    Err(ScriptsErr::OutOfMemory)
+    return Err(ScriptsErr::OutOfMemory);
+    return run_scripts(rt, alloc, pool, workers, gate, job, scripts);
 }

@@ -1,4 +1,4 @@
-// What tests of pools and of workers share.
+// Helpers for the tests of pools and workers.
 ghost use Rattle.std.specs.Prelude.{◌≡◌, None};
 ghost use Rattle.arena_pool.specs.Names.{IsBlankOf};
 ghost use Rattle.arena_pool.specs.declared.kind.PoolKind.{PoolKind};
@@ -31,7 +31,7 @@ impl ChunkMaker for Counted<'_> {
     }
 }
 
-/// What pool is made: of what kind, with what limit, and with how many arenas at first.
+/// The pool to make: its kind, its limit, and the number of its arenas at first.
 #[derive(Clone, Copy)]
 struct Plan {
     kind: PoolKind,
@@ -39,7 +39,7 @@ struct Plan {
     arenas: u32,
 }
 
-// A plan of so many arenas without a limit.
+// A plan of a pool without a limit.
 fn unlimited(kind: PoolKind, arenas: u32) -> Plan
     ensures kind { result.kind ≡ kind }
     ensures limit { result.limit ≡ None }
@@ -52,7 +52,7 @@ fn unlimited(kind: PoolKind, arenas: u32) -> Plan
     }
 }
 
-// A pool that is named, as planned.
+// Makes the planned pool, with the name `L`.
 fn pool_of<K: ChunkMaker + Drop, L: PoolName, R: Abort>(
     rt: &R,
     alloc: Global,
@@ -77,12 +77,12 @@ fn pool_of<K: ChunkMaker + Drop, L: PoolName, R: Abort>(
     pool.ok().expect(rt, "a pool")
 }
 
-// Fails the test, and says what was wanted, unless it is so.
+// Fails the test, with `what` as the message, unless the condition holds.
 fn holds(rt: &impl Abort, so: bool, what: &str) {
     assert!(rt; so, "{what}");
 }
 
-// An error says this text.
+// Checks the text of an error.
 fn says<E: Display>(rt: &impl Abort, alloc: Global, error: &E, text: &str) -> Result<(), Fail> {
     let said = format!(in alloc; "{error}")?;
     assert!(rt; said.as_str() == text);

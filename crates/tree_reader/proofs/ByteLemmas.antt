@@ -85,7 +85,7 @@ space_further bytes at h space =
     ∙ tokens_space at (get_or bytes at 0) (drop (suc at) bytes) space
     ∙ ap (λ k. tokens_from k 0 (drop k bytes)) (sym (add-one at))
 
--- nothing behind the end
+-- no token after the end
 pub none_behind : (bytes : List ℕ) (at : ℕ) → length bytes ≤ at → tokens_at bytes at ≡ []
 unfolding tokens_from
 none_behind bytes at h = ap (tokens_from at 0) (drop_of_length-le bytes h)
@@ -93,7 +93,7 @@ none_behind bytes at h = ap (tokens_from at 0) (drop_of_length-le bytes h)
 abbrev pub front_of : List ℕ → ℕ → Front
 front_of src at = front (get_or src at 0) (drop (suc at) src)
 
--- the first token is the front of the text there, and the others stand behind its end
+-- the first token is the front of the text there, and the others follow its end
 front_tokens : (bytes : List ℕ) (from at end : ℕ) → IsBegin bytes from at → end ≡ at + (front_of bytes at).length
     → 0 < (front_of bytes at).length → tokens_at bytes from ≡ placed at (front_of bytes at) ∷ tokens_at bytes end
 front_tokens bytes from at end begin is some =
@@ -159,7 +159,7 @@ run_begins : (passes : ℕ → Bool) (src : List ℕ) (at : ℕ) → at < length
 run_begins passes src at h d =
     subst (λ xs. 0 < length (run passes xs)) (sym (drop-cons src at 0 h)) (run_some passes (get_or src at 0) (drop (suc at) src) d)
 
--- the front of a text is no empty token
+-- the front of a text is not empty
 pub front_some : (src : List ℕ) (at : ℕ) → at < length src → 0 < (front_of src at).length
 front_some src at h = by (is_digit b) refl (is_name_start b) refl
   where

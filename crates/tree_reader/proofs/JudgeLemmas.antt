@@ -1,4 +1,4 @@
--- The machine goes over what is seen as over the tokens themselves.
+-- The machine judges what is seen as it judges the tokens themselves.
 use Rattle.std.proofs.Common.{◌≡◌, ℕ, ◌^◌, ◌≤◌, true, cond, Option, Some, None, Ok, Err, List, [], length, refl, ap, ◌∙◌, arith}
 use Rattle.std.specs.Prelude.{Result, nat_lt, nat_le, slice_range}
 use Rattle.std.proofs.lemmas.Bool.Decides.{nat_tests}
@@ -17,7 +17,7 @@ use Rattle.tree_reader.specs.declared.token.Lexeme.{Lexeme}
 use Rattle.tree_reader.specs.declared.token.Seen.{Seen}
 use Rattle.tree_reader.specs.declared.token.Seen.TheVariants.{LetKey, Word, Number, TooBig, Plus, Minus, Star, LeftParen, RightParen, LeftBrace, RightBrace, Equals, Semicolon, Other}
 
--- words are alike, and so are numbers, but for those that are too big
+-- all words are treated alike, and so are all numbers that are not too big
 step_word : (mode : Mode) (opens : List Open) (a b : List ℕ) → step (state mode opens) (tokens.Word a) ≡ step (state mode opens)
     (tokens.Word b)
 step_word AtLine opens a b = refl
@@ -34,7 +34,7 @@ step_number AtEquals opens a b = refl
 step_number AtFactor opens a b = refl
 step_number BehindFactor opens a b = refl
 
--- the same for the same step and size
+-- equal where the step and the size are equal
 judged_as : (s : State) (at : ℕ) (t u : Token) → step s t ≡ step s u → is_too_big t ≡ is_too_big u
     → judged s (record { at = at; token = t }) ≡ judged s (record { at = at; token = u })
 judged_as s at t u same big = ap (or_refused (record { at = at; token = t })) same ∙ by (step s u)

@@ -13,7 +13,7 @@ use crate::token::{self, Lexeme, Seen};
 use tree_rules::laws::machine;
 use tree_rules::{Mode, Open, Refused};
 
-// What a step came to.
+// The result of a step.
 #[derive(Clone, Copy)]
 enum Step {
     To(Mode),
@@ -28,7 +28,7 @@ enum Judged {
     Refused(Refused),
 }
 
-// What comes next: the text ends, a token may stand there, or it is refused.
+// What comes next: the text ends, a token is accepted, or it is refused.
 #[derive(Clone, Copy)]
 enum Next {
     Ended,
@@ -104,11 +104,11 @@ fn end_line(opens: &Stack) -> Step
     }
 }
 
-// A mode that is known where it stands, so that what steps in it holds the steps of no other.
+// A mode that is known at compile time, so that the code of its steps has no steps of other modes.
 trait InMode {
     ghost mode: { Mode };
 
-    // What a token comes to.
+    // The step at a token.
     fn step(seen: Seen, opens: &mut Stack) -> Step
         ensures { Stepped (step_in mode opens.old (like seen)) result opens.new };
 }
@@ -167,7 +167,7 @@ impl InMode for FactorMode {
     #[inline(always)]
     fn step(seen: Seen, opens: &mut Stack) -> Step {
         match seen {
-            // One arm each: in one for all, a number's size would be tested a second time.
+            // One arm each: in a common arm, the size of a number would be tested a second time.
             Seen::Word => end_factor(opens),
             Seen::Number(_) => end_factor(opens),
             Seen::TooBig => end_factor(opens),
@@ -203,7 +203,7 @@ fn within_limits(l: Lexeme, mode: Mode) -> Judged
     Judged::To(mode)
 }
 
-// What a token comes to.
+// The judgement of a token.
 #[inline(always)]
 fn judge<M: InMode>(l: Lexeme, opens: &mut Stack) -> Judged
     ensures { judged (state M.mode opens.old) (record { at = l.at; token = like l.seen }) ≡ answer result opens.new }
@@ -225,7 +225,7 @@ fn ended(end: u64, mode: Mode, opens: &Stack) -> Option<Refused>
     }
 }
 
-// What comes next where this is the next token.
+// What comes next if this is the next token.
 #[inline(always)]
 fn goes_on<M: InMode>(src: &[u8], at: usize, l: Lexeme, opens: &mut Stack) -> Next
     requires { IsNext src.now at l }
@@ -251,7 +251,7 @@ fn sign_on<M: InMode>(src: &[u8], at: usize, here: usize, seen: Seen, opens: &mu
     goes_on::<M>(src, at, token::sign_next(src, at, here, seen), opens)
 }
 
-// What the next token comes to. So each mode has a lexer of its own, in which a sign is told apart and judged by one jump.
+// What comes next. Each mode has a lexer of its own, which recognises and judges a sign by one jump.
 #[inline(always)]
 fn next_in<M: InMode>(src: &[u8], at: usize, opens: &mut Stack) -> Next
     requires { at ≤ length src.now }
@@ -274,7 +274,7 @@ fn next_in<M: InMode>(src: &[u8], at: usize, opens: &mut Stack) -> Next
     }
 }
 
-// What comes behind a factor is looked at at once, for most factors end with their first token.
+// Looks at the token after a factor at once, since most factors end with their first token.
 #[inline(always)]
 fn next_factor(src: &[u8], at: usize, opens: &mut Stack) -> Next
     requires { at ≤ length src.now }
@@ -309,7 +309,7 @@ fn any_next(mode: Mode, src: &[u8], at: usize, opens: &mut Stack) -> Next
     }
 }
 
-// Why the machine refuses a text; none where it doesn't.
+// Why the machine refuses a text, or `None` where it doesn't.
 fn judge_all(src: &[u8]) -> Option<Refused>
     ensures { result ≡ refusal_of src.now }
 {
@@ -328,7 +328,8 @@ fn judge_all(src: &[u8]) -> Option<Refused>
     }
 }
 
-/// Why a text is refused, and where: at its first token that is. None where it is a program within the limits. Takes no memory.
+/// Returns why a text is refused, and where: at its first token that is refused, or at its end. Returns `None` if it is
+/// a program within the limits. Takes no memory.
 pub fn refusal(src: &[u8]) -> Option<Refused>
     ensures read { IsReading src.now result }
     ensures machine { result ≡ refusal_of src.now }

@@ -6,7 +6,7 @@ use Rattle.tree_rules.specs.Report.{NameSet, has_name, have_name, undefined, fin
 use Rattle.tree_rules.specs.declared.finding.Finding.{Finding}
 use Rattle.tree_rules.specs.declared.finding.FindKind.TheVariants.{Undefined}
 
--- Of names one after another, those are found that are of each.
+-- The undefined names of two lists are those of each.
 pub undefined_both : (sets : List NameSet) (a b : List (List ℕ)) → undefined sets (a ++ b) ≡ undefined sets a ++ undefined sets b
 undefined_both sets [] b = refl
 undefined_both sets (n ∷ a) b = elim (cases_Bool (have_name sets n)) [

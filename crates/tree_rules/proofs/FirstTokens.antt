@@ -1,4 +1,4 @@
--- Tokens gone over one by one, the beginnings of a program, and numbers.
+-- Tokens that are accepted one by one, the beginnings of a program, and numbers.
 use Rattle.std.proofs.Common.{◌≡◌, ℕ, ◌^◌, ◌≤◌, ◌<◌, max, Bool, true, false, cond, Option, Some, None, List, [], ◌∷◌, ◌++◌, length, refl, sym, ap, ◌∙◌, subst, arith, append_assoc, append-nil}
 use Rattle.std.specs.Prelude.{nat_le}
 use Rattle.std.proofs.lemmas.Bool.Decides.{nat_tests}
@@ -9,12 +9,12 @@ use Rattle.tree_rules.specs.Reading.{State, step, start, is_too_big}
 use Rattle.tree_rules.proofs.StepLemmas.{goes, kept, and_then, program_goes}
 use Rattle.tree_rules.proofs.ProgramPlaces.{Leads, leads_first, leads_on, leads_begin}
 
--- ---- Going over tokens
+-- ---- Accepting tokens
 
 pub not_some : (s : State) → ◌≡◌ {A = Option State} None (Some s) → ⊥
 not_some s e = cc
 
--- A first token was gone over.
+-- A first token was accepted.
 pub record Goes (most : ℕ) (s : State) (t : Token) (ts : List Token) (end : State) : Type 0 where
   pub next : State
   pub step_is : step s t ≡ Some next
@@ -94,7 +94,7 @@ pub program_over : (p : Program) (most : ℕ) → nest p ≤ most → goes most 
 unfolding goes
 program_over p most low = program_goes p most [] [] tt (omega (arith, low))
 
--- They are gone over, and a token behind them too.
+-- Tokens that begin a program are accepted.
 pub begun : (most : ℕ) (front : List Token) → BeginsWithin most front → (s : State) × (goes most start front ≡ Some s)
 begun most front b =
     let a = goes_apart most start start front b.more (subst (λ ts. goes most start ts ≡ Some start) b.tokens_are (program_over b.program
@@ -123,7 +123,7 @@ begins_within ts b = record { program = b.program; more = b.more; tokens_are = b
 pub begins : (most : ℕ) (ts : List Token) → BeginsWithin most ts → Begins ts
 begins most ts b = record { program = b.program; more = b.more; tokens_are = b.tokens_are }
 
--- a step leads on, within what is open then
+-- a step leads on, within what is then open
 pub step_begins : (most : ℕ) (front : List Token) (t : Token) (s next : State) → goes most start front ≡ Some s → step s t ≡ Some next
     → length next.opens ≤ most → BeginsWithin most (front ++ t ∷ [])
 step_begins most front t s next is step_is low = leads_begin most (front ++ t ∷ []) next (leads_on most front t s next (leads most front

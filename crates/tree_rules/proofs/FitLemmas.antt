@@ -37,7 +37,7 @@ mutual
   sum_small NoExprs more h g = (lit< tt, g)
   sum_small (And e kids) more h g = add_small kids (OneTerm (as_term e)) more h.1 g (λ ts all. term_small e ts h.0 all)
 
-  -- behind a sum whose numbers fit
+  -- after a sum whose numbers fit
   add_small : (kids : Exprs) (s : Terms) (more : List Token) → HaveSmall kids → AllByRecursion Fits more
       → ((ts : List Token) → AllByRecursion Fits ts → AllByRecursion Fits (spell_terms s ts))
       → AllByRecursion Fits (spell_terms (add_terms kids s) more)

@@ -1,4 +1,4 @@
--- Each state that the machine comes to is that of a place in a program.
+-- Each state that the machine reaches is that of a place in a program.
 use Rattle.std.proofs.Common.{◌≡◌, ℕ, suc, ◌+◌, ◌≤◌, Option, Some, None, List, ◌∷◌, length, refl, sym, ap, ◌∙◌, arith}
 use Rattle.tree_rules.specs.Tokens.{Token, LetKey, Word, Number, Plus, Minus, Star, LeftParen, RightParen, LeftBrace, RightBrace, Equals, Semicolon, Other}
 use Rattle.tree_rules.specs.Grammar.{Factor, ANumber, AName, InParens, Negated, Factors, OneFactor, Times, Terms, OneTerm, Added, Taken, Line, LetLine, ShowLine, BlockLine, Empty, Next, spell_factor, spell_factors, spell_terms, spell_line, factor_nest, factors_nest, terms_nest, line_nest}
@@ -6,7 +6,7 @@ use Rattle.tree_rules.specs.declared.machine.Mode.TheVariants.{AtLine, AtName, A
 use Rattle.tree_rules.specs.Reading.{State, state, signs_ended, step, step_in, factor_step, close_paren, close_brace, end_line}
 use Rattle.tree_rules.proofs.Holes.{LineHole, InProgram, InBlock, Owner, LetOf, ShowOf, FactorHole, First, Behind, Signed, TermHole, FirstTerm, ToAdd, ToTake, ExprHole, Within, Of, before_line, owner_tokens, before_factor, before_term, before_expr, open_at_line, open_at_factor, open_at_term, open_at_expr, LineFits, FactorFits, TermFits, ExprFits, owned}
 
--- where a text stands that isn't read to its end
+-- the place up to which a program has been read
 pub data Place : Type 0 where
   LinePlace : (h : LineHole) → Place
   NamePlace : (h : LineHole) → Place
@@ -21,7 +21,7 @@ state_at (EqualsPlace h name) = state AtEquals (open_at_line h)
 state_at (FactorPlace h) = state AtFactor (open_at_factor h)
 state_at (BehindPlace t h) = state BehindFactor (open_at_term h)
 
--- the tokens before it, and more behind them
+-- the tokens before it, and more after them
 abbrev pub before : Place → List Token → List Token
 before (LinePlace h) more = before_line h more
 before (NamePlace h) more = before_line h (LetKey ∷ more)
@@ -73,7 +73,7 @@ factor_done_fits (First h) f most fits low = (low, fits)
 factor_done_fits (Behind t h) f most fits low = (omega (arith, fits.0), fits.1)
 factor_done_fits (Signed h) f most fits low = factor_done_fits h (Negated f) most fits.1 (omega arith)
 
--- the terms that a term's end makes, and what stands around them
+-- the terms that a term's end makes, and what surrounds them
 abbrev pub terms_done : TermHole → Factors → Terms
 terms_done (FirstTerm h) t = OneTerm t
 terms_done (ToAdd s h) t = Added s t
@@ -118,7 +118,7 @@ line_added_fits : (h : LineHole) (l : Line) (most : ℕ) → LineFits most h →
 line_added_fits (InProgram p) l most fits low = omega (arith, fits)
 line_added_fits (InBlock p h) l most fits low = (omega (arith, fits.0), fits.1)
 
--- ---- The place behind one token more
+-- ---- The place after one more token
 
 -- A place of this state, with these tokens before it.
 pub record Comes (most : ℕ) (tokens : List Token → List Token) (Fitted : Type 0) (next : State) : Type 0 where
@@ -144,7 +144,7 @@ comes_factor most h f next e = record {
   fits = λ fits low. factor_done_fits h f most fits.0 fits.1;
 }
 
--- at another place, with other premises, that come to the same
+-- at another place, with other premises that come to the same
 comes_as : (most : ℕ) (tokens others : List Token → List Token) (Fitted Given : Type 0) (next : State)
     → ((more : List Token) → tokens more ≡ others more) → (Given → Fitted) → Comes most tokens Fitted next → Comes most others Given next
 comes_as most tokens others Fitted Given next same as' c = record {

@@ -40,7 +40,7 @@ program_fits (EqualsPlace h name) most fits = line_fits h (LetLine name zero_ter
 program_fits (FactorPlace h) most fits = factor_fits h (ANumber 0) most fits.1 (omega (arith, fits.0))
 program_fits (BehindPlace t h) most fits = term_fits h t most fits.1 fits.0
 
--- Tokens lead to a state: that of a place behind them.
+-- Tokens lead to a state: that of a place after them.
 pub record Leads (most : ℕ) (tokens : List Token) (s : State) : Type 0 where
   pub place : Place
   pub state_is : state_at place ≡ s

@@ -6,7 +6,7 @@ use Rattle.tree_rules.specs.Grammar.{Factor, ANumber, AName, InParens, Negated, 
 use Rattle.tree_rules.proofs.Holes.{LineHole, InProgram, InBlock, Owner, LetOf, ShowOf, FactorHole, First, Behind, Signed, TermHole, FirstTerm, ToAdd, ToTake, ExprHole, Within, Of, owned}
 use Rattle.tree_rules.proofs.Places.{Place, LinePlace, NamePlace, EqualsPlace, FactorPlace, BehindPlace, factor_done, terms_done, around, line_added, shown}
 
--- ---- The place behind a token, where there is one
+-- ---- The place after a token, where there is one
 
 go_factor : Token → FactorHole → Option Place
 go_factor (Number n) h = Some (factor_done h (ANumber n))
@@ -67,7 +67,7 @@ reads c (t ∷ ts) = and_go (go c t) (λ d. reads d ts)
 
 -- ---- Over each part
 
--- the place behind terms
+-- the place after terms
 last_place : Terms → ExprHole → Place
 last_place (OneTerm t) h = BehindPlace t (FirstTerm h)
 last_place (Added s t) h = BehindPlace t (ToAdd s h)
@@ -144,7 +144,7 @@ mutual
   terms_begin (Added s t) h more = terms_begin s h (Plus ∷ spell_factors t more)
   terms_begin (Taken s t) h more = terms_begin s h (Minus ∷ spell_factors t more)
 
--- with statements of a program behind those before a place
+-- with statements of a program after those before a place
 with_lines : LineHole → Program → LineHole
 with_lines h Empty = h
 with_lines h (Next p l) = line_added (with_lines h p) l

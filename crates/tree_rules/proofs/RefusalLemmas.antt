@@ -1,4 +1,4 @@
--- What the machine says of a text is what it is, and nothing else is.
+-- The machine's reading of a text is right, and the only one.
 use Rattle.std.proofs.Common.{◌≡◌, ℕ, ◌≤◌, ◌<◌, ◌⊎◌, inl, inr, Bool, true, false, cond, Option, Some, None, Ok, Err, List, [], ◌∷◌, ◌++◌, length, refl, sym, ap, ◌∙◌, subst, arith, append_assoc, append-nil}
 use Rattle.std.specs.Prelude.{Result, nat_lt}
 use Rattle.std.specs.List.{AllByRecursion}
@@ -20,7 +20,7 @@ use Rattle.tree_rules.proofs.ProgramPlaces.{leads_begin}
 use Rattle.tree_rules.proofs.Readings.{one_program}
 use Rattle.tree_rules.proofs.FirstTokens.{not_some, goes_first, goes_step, one_state, leads, program_over, begun, begun_step, begins_within, begins, step_begins, step_begins_some, size_fits, big_not_fit}
 
--- ---- What the machine says is so
+-- ---- What the machine says is right
 
 abbrev Refuses : ℕ → List Placed → Refused → Type 0
 Refuses end all refused =
@@ -38,7 +38,7 @@ abbrev Says : ℕ → List Placed → Option Refused → Type 0
 Says end all None = Passes all
 Says end all (Some refused) = Refuses end all refused
 
--- tokens that are gone over, and the state behind them
+-- tokens that are accepted, and the state after them
 record IsAt (front : List Placed) (s : State) : Type 0 where
   goes_is : goes most_nest start (without_places front) ≡ Some s
   fit : AllByRecursion Fits (without_places front)
@@ -113,7 +113,7 @@ says_end end all s a = by s.mode s.opens (subst (IsAt all) same a)
     by AtFactor opens a = ends_early end all _ a (λ e. not_start_mode AtFactor opens e tt)
     by BehindFactor opens a = ends_early end all _ a (λ e. not_start_mode BehindFactor opens e tt)
 
--- the first token that is refused, behind these
+-- the first token that is refused, after these
 refuses_first : (end : ℕ) (all front ts : List Placed) (t : Placed) (s : State) (refused : Refused) → all ≡ front ++ t ∷ ts → IsAt front s
     → IsCause (without_places front) t.token t.at refused → Refuses end all refused
 refuses_first end all front ts t s refused is a cause = inl (record {
@@ -135,7 +135,7 @@ goes_join most s end next (u ∷ front) t e is low =
     let g = goes_first most s u front end e in
     goes_step most s u (front ++ t ∷ []) g.next g.step_is g.low ∙ goes_join most g.next end next front t g.rest is low
 
--- what a token is judged to be
+-- the judgement of a token
 abbrev Judges : List Placed → Placed → Result State Refused → Type 0
 Judges front t (Err refused) = IsCause (without_places front) t.token t.at refused
 Judges front t (Ok next) = IsAt (front ++ t ∷ []) next
@@ -212,11 +212,11 @@ read_says bytes None p = (p.trees, record { most = p.most; program = p.program; 
 read_says bytes (Some refused) (inl first) = inl first
 read_says bytes (Some refused) (inr early) = inr (record { passed = early.0; none = early.1; place = early.2 })
 
--- A text is a tree, where the machine doesn't refuse it, and else it is refused as it says.
+-- A text is a tree if the machine doesn't refuse it, and else it is refused as the machine says.
 pub reading : (bytes : List ℕ) → IsReading bytes (refusal_of bytes)
 reading bytes = read_says bytes (refusal_of bytes) (says_from (length bytes) (tokens bytes) [] (tokens bytes) start refl first_at)
 
--- ---- And nothing else is so
+-- ---- And nothing else is right
 
 judged_ok : (s next : State) (t : Placed) → step s t.token ≡ Some next → length next.opens ≤ most_nest → Fits t.token → judged s t ≡ Ok next
 judged_ok s next t is low fits =
@@ -245,7 +245,7 @@ one_cause front t at (NumberTooBig a) (Syntax b) h g = absurd (g.1 (begins most_
 one_cause front t at (NumberTooBig a) (TooDeep b) h g = absurd (g.2 h.1)
 one_cause front t at (NumberTooBig a) (NumberTooBig b) h g = ap NumberTooBig (h.0 ∙ sym g.0)
 
--- a token that is passed has no cause
+-- the last of tokens that fit fits
 last_fits : (front : List Token) (t : Token) → AllByRecursion Fits (front ++ t ∷ []) → Fits t
 last_fits [] t h = h.0
 last_fits (u ∷ front) t h = last_fits front t h.1

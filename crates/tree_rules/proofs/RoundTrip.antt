@@ -100,7 +100,7 @@ star_lex one more rest =
     ++ rest))
     ∙ ap (λ xs. Star ∷ lex 0 xs) (append_assoc one more rest)
 
--- one term more, behind a sum
+-- one term more, after a sum
 added_lex : (one more rest : List ℕ) (s : Terms) (t : Factors)
     → lex 0 (one ++ (more ++ rest)) ≡ spell_factors t (lex 0 (more ++ rest))
     → spell_terms (Added s t) (lex 0 (more ++ rest)) ≡ spell_terms s (lex 0 ((codes " + " ++ one ++ more) ++ rest))

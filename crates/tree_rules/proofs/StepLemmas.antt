@@ -1,4 +1,4 @@
--- The machine goes over each program, and holds no more open than its nest.
+-- The machine accepts each program, and holds no more open than its nesting.
 use Rattle.std.proofs.Common.{◌≡◌, ℕ, ◌+◌, ◌≤◌, true, cond, Option, Some, None, List, [], ◌∷◌, length, refl, ap, ◌∙◌, arith}
 use Rattle.std.specs.Prelude.{nat_le}
 use Rattle.std.proofs.lemmas.Bool.Decides.{nat_tests}
@@ -10,7 +10,7 @@ use Rattle.tree_rules.specs.declared.machine.Mode.{Mode}
 use Rattle.tree_rules.specs.declared.machine.Mode.TheVariants.{AtLine, AtName, AtEquals, AtFactor, BehindFactor}
 use Rattle.tree_rules.specs.Reading.{State, state, signs_ended, step, step_in}
 
--- the state behind tokens, where never more than so much is open
+-- the state after tokens, where at most this is ever open
 abbrev pub kept : ℕ → Option State → Option State
 kept most None = None
 kept most (Some s) = cond (nat_le (length s.opens) most) (Some s) None
@@ -88,7 +88,7 @@ mutual
       ∙ factors_go t most (signs_ended opens) more (omega (arith, ended_length opens))
       ∙ ap (λ os. goes most (state BehindFactor os) more) (ended_twice opens)
 
--- where a statement may begin, an expression is read as behind an equals sign
+-- where a statement may begin, an expression is read as after an equals sign
 mutual
   unfolding goes
 

@@ -8,7 +8,7 @@ use Rattle.call_rules.proofs.NumberLemmas.{number_by_steps}
 use Rattle.tree_rules.specs.Tokens.{Token, LetKey, Word, Number, Plus, Minus, Star, LeftParen, RightParen, LeftBrace, RightBrace, Equals, Semicolon, Other, is_space, is_digit, is_name_start, is_name_byte, run, word, value, has_needless_zero, number_token, Front, word_front, number_front, other_front, front, placed, tokens_from, without_places}
 use Rattle.tree_rules.specs.Trees.{IsName}
 
--- the tokens behind so many bytes
+-- the tokens after the first bytes, this many
 unfoldable pub lex : ℕ → List ℕ → List Token
 lex skip [] = []
 lex (suc skip) (b ∷ bytes) = lex skip bytes
@@ -38,7 +38,7 @@ lex_behind [] [] = refl
 lex_behind [] (b ∷ rest) = refl
 lex_behind (x ∷ xs) rest = lex_behind xs rest
 
--- nothing, or a byte that no name or number goes on with
+-- nothing, or a byte that continues no name or number
 abbrev pub Stops : List ℕ → Type 0
 Stops [] = Unit {0}
 Stops (b ∷ bytes) = is_name_byte b ≡ false
@@ -87,7 +87,7 @@ start_no_space b h = grind (arith, nat_tests)
 digit_no_space : (b : ℕ) → is_digit b ≡ true → is_space b ≡ false
 digit_no_space b h = grind (arith, nat_tests)
 
--- a token at a byte that is no space, and those behind it
+-- a token at a byte that is no space, and those after it
 lex_front : (b : ℕ) (bytes : List ℕ) (f : Front) → is_space b ≡ false → front b bytes ≡ f
     → lex 0 (b ∷ bytes) ≡ f.token ∷ lex (f.length - 1) bytes
 unfolding lex

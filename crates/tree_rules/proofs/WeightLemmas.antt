@@ -1,4 +1,4 @@
--- The definitions and blocks of a text have at most its bytes.
+-- The definitions and blocks of a text weigh at most its bytes.
 use Rattle.std.proofs.Common.{◌≡◌, ℕ, zero, suc, ◌+◌, ◌-◌, ◌≤◌, ◌||◌, Bool, true, false, cond, List, [], ◌∷◌, length, refl, sym, subst, arith, Ok}
 use Rattle.std.specs.List.{AllByRecursion}
 use Rattle.tree_rules.specs.Tokens.{Token, LetKey, Word, Number, Plus, Minus, Star, LeftParen, RightParen, LeftBrace, RightBrace, Equals, Semicolon, Other, is_space, is_digit, is_name_start, is_name_byte, run, look_up, signs, has_needless_zero, word_front, number_front, sign_front, front, placed, tokens_from, without_places}
@@ -7,7 +7,7 @@ use Rattle.tree_rules.specs.Grammar.{Factor, ANumber, AName, InParens, Negated, 
 use Rattle.tree_rules.specs.Refusals.{TreeOf}
 use Rattle.tree_rules.specs.Weights.{weight, weights}
 
--- what a token adds at most
+-- the most that a token adds
 abbrev letters : Token → ℕ
 letters LetKey = 1
 letters (Word bytes) = length bytes

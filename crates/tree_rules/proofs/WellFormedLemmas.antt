@@ -1,4 +1,4 @@
--- The tree of a text is well formed: its names are names, its sums and products have several kids, its numbers fit.
+-- The tree of a text is well formed: its names are names, its sums and products have several children, its numbers fit.
 use Rattle.std.proofs.Common.{◌≡◌, ℕ, zero, suc, ◌-◌, Bool, true, false, cond, List, [], ◌∷◌, refl, subst, sym, codes}
 use Rattle.std.specs.Prelude.{◌||◌, IsFalse, bytes_eq}
 use Rattle.std.specs.List.{list_all, AllByRecursion}
@@ -129,7 +129,7 @@ mutual
   factor_fine (InParens s) more all = let inner = terms_fine s (RightParen ∷ more) all.1 in (inner.0, inner.2.1)
   factor_fine (Negated f) more all = factor_fine f more all.1
 
-  -- a product as one, its factors, and what stands behind
+  -- a product as one, its factors, and what follows
   factors_fine : (t : Factors) (more : List Token) → All (spell_factors t more)
       → Fine (factors_tree t) × AllFine (factor_trees t) × All more
   factors_fine (OneFactor f) more all =

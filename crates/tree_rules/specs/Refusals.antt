@@ -1,4 +1,4 @@
--- What a text is: a program within limits, or refused at its first token that is.
+-- A text is a program within limits, or it is refused at its first token that is refused.
 use Rattle.std.specs.Prelude.{◌≡◌, ℕ, ◌^◌, ◌<◌, ◌≤◌, ◌⊎◌, List, [], ◌∷◌, ◌++◌, length, Option, Some, None, Result, Ok, Err}
 use Rattle.std.specs.List.{AllByRecursion}
 use Rattle.tree_rules.specs.Tokens.{Token, Number, Placed, tokens, without_places}
@@ -21,8 +21,8 @@ pub record ArePassed (ts : List Token) : Type 0 where
   pub begin : BeginsWithin most_nest ts
   pub fit : AllByRecursion Fits ts
 
--- Why the token at a place, behind tokens that are passed, is refused: with it they begin no program, or none with so
--- little open at once, or its number is too big.
+-- Why the token at a place, after accepted tokens, is refused: with it they begin no program, or none within the limit
+-- of nesting, or its number is too big.
 abbrev pub IsCause : List Token → Token → ℕ → Refused → Type 0
 IsCause before t at (Syntax place) = (place ≡ at) × (Begins (before ++ t ∷ []) → ⊥)
 IsCause before t at (TooDeep place) = (place ≡ at) × Begins (before ++ t ∷ []) × (BeginsWithin most_nest (before ++ t ∷ []) → ⊥)
@@ -37,7 +37,7 @@ pub record IsFirstRefused (ts : List Placed) (refused : Refused) : Type 0 where
   pub passed : ArePassed (without_places before)
   pub cause : IsCause (without_places before) token.token token.at refused
 
--- All tokens are passed, but they are no program: the text ends too early.
+-- No token is refused, but they are no program: the text ends too early.
 pub record EndsEarly (bytes : List ℕ) (refused : Refused) : Type 0 where
   pub passed : ArePassed (without_places (tokens bytes))
   pub none : (trees : Stmts) (n : ℕ) → IsProgram (without_places (tokens bytes)) trees n → ⊥
@@ -50,12 +50,12 @@ pub record IsGood (bytes : List ℕ) (trees : Stmts) : Type 0 where
   pub within : most ≤ most_nest
   pub fit : AllByRecursion Fits (without_places (tokens bytes))
 
--- what a text says: trees, or why it is refused and where
+-- the reading of a text: trees, or why it is refused and where
 abbrev pub TreeOf : List ℕ → Result Stmts Refused → Type 0
 TreeOf bytes (Ok trees) = IsGood bytes trees
 TreeOf bytes (Err refused) = IsFirstRefused (tokens bytes) refused ⊎ EndsEarly bytes refused
 
--- why a text is refused; none where it says trees
+-- why a text is refused; `None` if it is a program
 abbrev pub IsReading : List ℕ → Option Refused → Type 0
 IsReading bytes None = (trees : Stmts) × TreeOf bytes (Ok trees)
 IsReading bytes (Some refused) = TreeOf bytes (Err refused)

@@ -14,7 +14,7 @@ pub data Token : Type 0 where
   RightBrace : Token
   Equals : Token
   Semicolon : Token
-  -- what no program has
+  -- a token that no program has
   Other : Token
 
 -- ---- Bytes
@@ -34,16 +34,16 @@ is_name_byte b = is_name_start b || is_digit b
 
 -- ---- One token
 
--- the longest front of which each byte passes
+-- the longest front whose bytes all pass the test
 abbrev pub run : (ℕ → Bool) → List ℕ → List ℕ
 run passes [] = []
 run passes (b ∷ bytes) = if passes b then b ∷ run passes bytes else []
 
--- the key word, or a name
+-- the keyword, or a name
 abbrev pub word : List ℕ → Token
 word bytes = if bytes_eq bytes (codes "let") then LetKey else Word bytes
 
--- the number that digits spell, behind those of n
+-- the number that digits spell, after those of n
 abbrev pub value : ℕ → List ℕ → ℕ
 value n [] = n
 value n (d ∷ digits) = value (n * 10 + (d - 48)) digits
@@ -83,7 +83,7 @@ number_front digits = record { token = number_token digits; length = length digi
 abbrev pub sign_front : ℕ → Front
 sign_front b = record { token = sign b; length = 1 }
 
--- the front of a text that begins with no digit
+-- the front of a text that doesn't begin with a digit
 abbrev pub other_front : ℕ → List ℕ → Front
 other_front b bytes = if is_name_start b then word_front (run is_name_byte (b ∷ bytes)) else sign_front b
 
@@ -101,8 +101,8 @@ pub record Placed : Type 0 where
 abbrev pub placed : ℕ → Front → Placed
 placed at front = record { at = at; token = front.token }
 
--- The tokens of bytes that begin at a place, behind some that belong to the token before. A token begins at each other
--- byte that is no space.
+-- The tokens of bytes that begin at a place, of which the first `skip` belong to the token before. A token begins at
+-- each other byte that is no space.
 unfoldable pub tokens_from : ℕ → ℕ → List ℕ → List Placed
 tokens_from at skip [] = []
 tokens_from at (suc skip) (b ∷ bytes) = tokens_from (suc at) skip bytes

@@ -1,5 +1,5 @@
-// What the definitions mean, in words and as facts. Each law is a call that does nothing: made in a body, it
-// gives its facts there.
+// What the definitions mean, in words and as facts. Each law is a function that does nothing: called in a body, it
+// provides its facts there.
 mod readings;
 mod trees;
 

@@ -6,10 +6,10 @@ ghost use Rattle.call_rules.specs.Generator.{next_seed, drawn, size_in, align_in
 use call_rules::{Bytes, Call};
 use std::alloc::Global;
 
-// One call of so many gives all blocks back: the last one.
+// One call in this many frees all blocks: the last one.
 const TURN: usize = 65_536;
 
-// What a second number says of a block.
+// The block that a second number describes.
 #[derive(Clone, Copy)]
 struct Wanted {
     size: u64,
@@ -17,7 +17,7 @@ struct Wanted {
     fill: u8,
 }
 
-// The seed behind this one.
+// The seed after this one.
 fn after(seed: u64) -> u64
     ensures { result ≡ next_seed seed }
 {
@@ -35,8 +35,8 @@ fn block_from(q: u64) -> Wanted
     }
 }
 
-/// Draws numbers, one after another, and makes calls of them. No call takes memory: one that writes has one byte. The next seed is
-/// there before it is asked for: the machine would wait for it.
+/// Draws numbers one after another, and makes calls of them. No call takes memory: one that writes has one byte. The
+/// next seed is computed before it is needed, since the machine would wait for it.
 #[derive(Drop)]
 pub struct Draws {
     alloc: Global,
@@ -46,7 +46,7 @@ pub struct Draws {
 }
 
 impl Draws {
-    /// Draws from this seed on.
+    /// Returns the draws from this seed on.
     pub fn new(alloc: Global, seed: u64) -> Draws
         ensures { result.seed ≡ seed }
     {
@@ -57,7 +57,7 @@ impl Draws {
         }
     }
 
-    // Draws a number, where the seed two further is this.
+    // Draws a number, given the seed two steps further.
     fn draw_before(&mut self, second: u64) -> u64
         requires { second ≡ next_seed (next_seed self.old.seed) }
         ensures seed { self.new.seed ≡ next_seed self.old.seed }
@@ -84,7 +84,7 @@ impl Draws {
         }
     }
 
-    /// The call with this index.
+    /// Makes the call with this index.
     #[inline(always)]
     pub fn call(&mut self, i: usize) -> Call
         ensures call { result ≡ call_at i self.old.seed }
@@ -94,11 +94,12 @@ impl Draws {
             return Call::Reset;
         }
         let r = self.draw_before(after(self.next));
-        // This is known before the kind is, too, though two kinds draw no second number.
+        // This is computed before the kind is known, too, though two kinds draw no second number.
         let second = after(self.next);
         let name = (r / 8 % 256) as u32;
         match r % 8 {
-            // No jump to a kind can be foreseen. With an arm for each number there is but one: the compiler makes a table of all.
+            // The jump to a kind can't be predicted. With an arm for each number there is just one: the compiler makes
+            // a table of all.
             0 => self.alloc(name, second),
             1 => self.alloc(name, second),
             2 => self.alloc(name, second),

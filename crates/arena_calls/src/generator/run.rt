@@ -1,4 +1,4 @@
-// Makes calls from one number, runs them, and writes what their replies come to.
+// Makes calls from one number, runs them, and writes a summary of their replies.
 ghost use Rattle.std.specs.Prelude.{◌≡◌, ℕ, ◌⊎◌, List, Option, IfOk, OnErr};
 ghost use Rattle.call_rules.specs.Generator.{gen_calls};
 ghost use Rattle.call_rules.specs.declared.calls.Reply.{Reply};
@@ -18,7 +18,7 @@ use arena_chunks::{Arena, ChunkSource, OutOfMemory, Replies, Run};
 use std::alloc::Global;
 use std::mem;
 
-// Runs so many calls from this start, each made when its turn comes, and counts their replies.
+// Runs `count` calls from this start, each made when its turn comes, and counts their replies.
 fn count_replies<C: ChunkSource>(
     alloc: Global,
     start: u64,
@@ -41,14 +41,14 @@ fn count_replies<C: ChunkSource>(
     for i in 0..count {
         let call = draws.call(i);
         run.serve(arena, chunks, &call, count - i - 1, &mut tally)?;
-        // A drawn call has taken no memory, so there is none to be freed.
+        // A drawn call takes no memory, so there is none to free.
         mem::forget(call);
     }
     run.held(arena)?;
     Ok(tally)
 }
 
-/// Runs so many calls from this start over the arena, and writes their summary. Nothing is written before the last call
+/// Runs `count` calls from this start on the arena, and writes their summary. Nothing is written before the last call
 /// was run.
 pub fn run_generated<C: ChunkSource, O: Output>(
     alloc: Global,

@@ -22,7 +22,7 @@ pub struct Summary {
     pub allocated: u64,
 }
 
-// A line, for which there is room.
+// Appends a line, for which there is room.
 fn put_line(out: &mut Vec<u8>, word: &[u8], n: u128)
     requires word { length word.now ≤ 9 }
     requires room { vec_len out.old + 50 ≤ vec_capacity out.old }
@@ -37,7 +37,11 @@ fn put_line(out: &mut Vec<u8>, word: &[u8], n: u128)
     put(out, b"\n");
 }
 
-/// No text, with room for that of a summary.
+/// Returns an empty text with room for that of a summary.
+///
+/// # Errors
+///
+/// Out of memory.
 pub fn room_for_text(alloc: Global) -> Result<Vec<u8>, AllocError>
     ensures items { IfOk result (λ out. out.items ≡ []) }
     ensures room { IfOk result (λ out. vec_len out + 400 ≤ vec_capacity out) }
@@ -48,7 +52,7 @@ pub fn room_for_text(alloc: Global) -> Result<Vec<u8>, AllocError>
 impl Summary {
     ghost use Rattle.arena_calls.specs.Tallies.{numbers};
 
-    /// Puts the eight lines, for which there is room.
+    /// Appends the eight lines, for which there must be room.
     pub fn put_text(&self, out: &mut Vec<u8>)
         requires { vec_len out.old + 400 ≤ vec_capacity out.old }
         ensures { out.new.items ≡ out.old.items ++ summary_text (numbers self.now) }

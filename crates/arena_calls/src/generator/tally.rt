@@ -5,7 +5,7 @@ use arena_chunks::Replies;
 use arena_rules::OutOfMemory;
 use call_rules::Reply;
 
-// The sum of so many bytes fits in 16 bits, and the compiler adds them all at once.
+// The sum of this many bytes fits in 16 bits, and the compiler adds them all at once.
 const PIECE: usize = 32;
 
 fn sum_of_piece(bytes: &[u8]) -> u16
@@ -34,7 +34,7 @@ fn sum_of(bytes: &[u8]) -> u128
     total + u128::from(sum_of_piece(rest))
 }
 
-/// What the replies so far come to: the first six numbers of a `Summary`.
+/// The tally of the replies so far: the first six numbers of a `Summary`.
 // A slice has fewer than 2^64 bytes, so no sum is too great for its type.
 #[derive(Drop)]
 pub struct Tally {
@@ -55,7 +55,7 @@ impl Tally {
     ghost use Rattle.std.specs.Prelude.{[]};
     ghost use Rattle.arena_calls.specs.Tallies.{IsTally};
 
-    /// The tally of no replies.
+    /// Returns the tally of no replies.
     pub fn new() -> Tally
         ensures { IsTally result [] }
     {

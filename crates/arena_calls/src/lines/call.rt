@@ -8,7 +8,7 @@ use call_rules::Call;
 use line_parts::{behind, field, hex_bytes, name_field};
 use std::alloc::{AllocError, Global};
 
-// A name, a size, an alignment and a fill byte, and what comes behind them.
+// A name, a size, an alignment and a fill byte, and what follows them.
 fn placing(bytes: &[u8]) -> Option<((u32, u64, u64, u8), &[u8])>
     ensures { Reads FitsPlacing placing_fields bytes.now result }
 {
@@ -137,7 +137,11 @@ fn read_used(bytes: &[u8]) -> Option<(Call, &[u8])>
     Some((Call::Used, rest))
 }
 
-/// The call at the front, and what comes behind it.
+/// Reads the call at the front. Returns it and the rest, or `None` where there is no call.
+///
+/// # Errors
+///
+/// Out of memory.
 pub fn read_call(alloc: Global, bytes: &[u8]) -> Result<Option<(Call, &[u8])>, AllocError>
     ensures { IfOk result (λ o. Reads Fits call_line bytes.now o) }
 {

@@ -8,7 +8,8 @@ use call_rules::Call;
 use line_parts::{LinesErr, at_line_end};
 use std::alloc::{AllocError, Global};
 
-// Adds the call of the first line, unless the line is empty. Gives what comes behind the line, from its line feed on.
+// Adds the call of the first line, unless the line is empty. Returns what follows the line, from its line feed on, or
+// `None` if the line is refused.
 fn take_line<'a>(
     alloc: Global,
     bytes: &'a [u8],
@@ -34,7 +35,7 @@ fn take_line<'a>(
     }
 }
 
-/// The calls that the bytes are lines of.
+/// Reads the calls that the bytes are the lines of.
 pub fn parse_calls(alloc: Global, bytes: &[u8]) -> Result<Vec<Call>, LinesErr>
     // Each line is empty or a call, and these are all of the calls.
     ensures calls { IfOk result (λ calls. CallsOf bytes.now (Ok calls.items)) }

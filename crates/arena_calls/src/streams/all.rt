@@ -16,13 +16,13 @@ const BLOCK: usize = 65_536;
 pub enum ReadErr {
     /// A read failed.
     Failed,
-    /// The input has a byte past the limit. It was taken.
+    /// The input has a byte past the limit, which was taken.
     TooLong,
-    /// The bytes could not be kept.
+    /// Out of memory for the bytes.
     OutOfMemory,
 }
 
-/// All bytes of the input, of which there may be at most 16,777,216.
+/// Reads all bytes of the input, of which there may be at most 16,777,216.
 pub fn read_all<I: Input>(alloc: Global, input: &mut I) -> Result<Vec<u8>, ReadErr>
     ensures all { TakesAll (I.left input.old) (I.left input.new) result }
     ensures kept { IfOk result (λ bytes. vec_len bytes ≤ limit) }
@@ -49,7 +49,11 @@ pub fn read_all<I: Input>(alloc: Global, input: &mut I) -> Result<Vec<u8>, ReadE
     }
 }
 
-/// Writes all of the bytes, or some of them from the front and then a fault.
+/// Writes all of the bytes.
+///
+/// # Errors
+///
+/// A write failed. A first part of the bytes may have been written.
 pub fn write_all<O: Output>(output: &mut O, bytes: &[u8]) -> Result<(), Failed>
     ensures ok { OnOk result (Writes (O.written output.old) (O.written output.new) bytes.now) }
     ensures part { OnErr result (WritesPart (O.written output.old) (O.written output.new) bytes.now) }

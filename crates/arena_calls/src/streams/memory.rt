@@ -7,14 +7,14 @@ ghost use Rattle.arena_calls.specs.Streams.{Takes, Writes};
 use super::traits::{Failed, Input, Output};
 use std::alloc::Global;
 
-/// Gives its bytes, at most `step` a call, and fails the listed calls, numbered from 1.
+/// An input that returns its bytes, at most `step` a call, and fails the listed calls, numbered from 1.
 #[derive(Drop)]
 pub struct MemoryInput {
     bytes: Vec<u8>,
     at: usize,
     pub step: u32,
     pub fail: Vec<u64>,
-    /// How many calls there were. At 2^64 - 1 the count stands.
+    /// How many calls there were. The count saturates at 2^64 - 1.
     pub calls: u64,
     faults: u64,
     ghost within: { at ≤ length bytes.items },
@@ -22,7 +22,7 @@ pub struct MemoryInput {
 }
 
 impl MemoryInput {
-    /// An input of which no byte was read.
+    /// Returns an input of which no byte was read.
     pub fn new(_alloc: Global, bytes: Vec<u8>, step: u32, fail: Vec<u64>) -> MemoryInput
         requires { 0 < step }
         ensures left { ⟦<MemoryInput as Input>⟧.left result ≡ Some bytes.items }
@@ -42,7 +42,7 @@ impl MemoryInput {
     }
 }
 
-// Copies into the front of the buffer.
+// Copies the piece into the front of the buffer.
 fn copy_front(buffer: &mut [u8], piece: &[u8])
     requires { length piece.now ≤ length buffer.old }
     ensures { take (length piece.now) buffer.new ≡ piece.now }
@@ -100,20 +100,21 @@ impl Input for MemoryInput {
     }
 }
 
-/// Takes at most `step` bytes a call, and fails the listed calls, numbered from 1.
+/// An output that takes at most `step` bytes a call. It fails the listed calls, numbered from 1, and those for which
+/// memory runs out.
 #[derive(Drop)]
 pub struct MemoryOutput {
     bytes: Vec<u8>,
     pub step: u32,
     pub fail: Vec<u64>,
-    /// How many calls there were. At 2^64 - 1 the count stands.
+    /// How many calls there were. The count saturates at 2^64 - 1.
     pub calls: u64,
     faults: u64,
     ghost some: { 0 < step },
 }
 
 impl MemoryOutput {
-    /// An output to which nothing was written.
+    /// Returns an output to which nothing was written.
     pub fn new(alloc: Global, step: u32, fail: Vec<u64>) -> MemoryOutput
         requires { 0 < step }
         ensures written { ⟦<MemoryOutput as Output>⟧.written result ≡ Some [] }
@@ -131,7 +132,7 @@ impl MemoryOutput {
         }
     }
 
-    /// What was written.
+    /// Returns what was written.
     pub fn bytes(&self) -> &[u8]
         ensures { ⟦<MemoryOutput as Output>⟧.written self.now ≡ Some result.now }
     {
@@ -157,7 +158,7 @@ impl Output for MemoryOutput {
         ensures one_fault { let faults = ⟦<MemoryOutput as Output>⟧.faults in
             OnErr result (faults self.new ≡ counted (faults self.old) 1) }
         ensures count { IfOk result (λ n. n ≡ min (length piece.now) self.old.step) }
-        // One that isn't listed fails only for lack of memory.
+        // A call that isn't listed fails only for lack of memory.
         ensures listed { Contains self.old.fail.items self.new.calls → IsErr result }
         ensures calls { self.new.calls ≡ counted self.old.calls 1 }
         ensures fail { self.new.fail.items ≡ self.old.fail.items }

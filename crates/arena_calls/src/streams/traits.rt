@@ -1,4 +1,4 @@
-// What gives bytes, and what takes them.
+// Inputs and outputs.
 ghost use Rattle.std.specs.Prelude.{◌≡◌, ℕ, ◌<◌, ◌≤◌, List, length, take, Option, IfOk, OnOk, OnErr};
 ghost use Rattle.std.specs.Io.KnownBytes.{Keeps, IsAtEnd};
 ghost use Rattle.arena_rules.specs.Causes.{counted};
@@ -8,15 +8,19 @@ ghost use Rattle.arena_calls.specs.Streams.{Takes, Writes};
 #[derive(Drop, Debug, Clone, Copy, PartialEq, Eq)]
 pub struct Failed;
 
-/// What gives bytes.
+/// An input of bytes.
 pub trait Input {
-    // The bytes that are left, if it tells them.
+    // The bytes that are left, if it reports them.
     ghost left: { Self → Option (List ℕ) };
 
-    // How often it has failed. At 2 ^ 64 - 1 the count stands.
+    // How often it has failed. The count saturates at 2 ^ 64 - 1.
     ghost faults: { Self → ℕ };
 
-    /// Puts the next bytes into the front of the buffer, and answers their number.
+    /// Reads the next bytes into the front of the buffer, and returns their number.
+    ///
+    /// # Errors
+    ///
+    /// The read failed. No byte was taken.
     fn read(&mut self, buffer: &mut [u8]) -> Result<usize, Failed>
         ensures within { IfOk result (λ n. n ≤ length buffer.old) }
         ensures bytes { IfOk result (λ n. Takes (left self.old) (left self.new) (take n buffer.new)) }
@@ -27,15 +31,19 @@ pub trait Input {
         ensures one_fault { OnErr result (faults self.new ≡ counted (faults self.old) 1) };
 }
 
-/// What takes bytes.
+/// An output of bytes.
 pub trait Output {
-    // The bytes that it has taken, if it tells them.
+    // The bytes that it has taken, if it reports them.
     ghost written: { Self → Option (List ℕ) };
 
-    // How often it has failed. At 2 ^ 64 - 1 the count stands.
+    // How often it has failed. The count saturates at 2 ^ 64 - 1.
     ghost faults: { Self → ℕ };
 
-    /// Takes bytes from the front of the piece, and answers their number.
+    /// Writes bytes from the front of the piece, at least one, and returns their number.
+    ///
+    /// # Errors
+    ///
+    /// The write failed. No byte was taken.
     fn write(&mut self, piece: &[u8]) -> Result<usize, Failed>
         requires { 0 < length piece.now }
         ensures some { IfOk result (λ n. 0 < n) }

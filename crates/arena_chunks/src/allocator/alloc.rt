@@ -8,14 +8,14 @@ use crate::allocator::{Allocator, OverArena};
 use arena_place::Layout;
 use arena_store::{ArenaErr, Block, ChunkSource};
 
-/// What places blocks in an arena.
+/// An allocator of blocks in an arena, for collections.
 pub trait Alloc: OverArena {
     /// Places a block.
     ///
     /// # Errors
     ///
-    /// `AllocErr` where all requests for a chunk were refused, `OutOfMemory` where memory for the table of chunks
-    /// runs out. Nothing changes.
+    /// `AllocErr` if there is no place and all requests for a chunk were refused, `OutOfMemory` if there is no memory
+    /// for the table of chunks. Nothing changes.
     fn alloc(&mut self, layout: Layout) -> Result<Block, ArenaErr>
         ensures { PlacesBlock (Self.view self.old) (Self.view self.new) layout.size layout.align
             (answer_of result) };
@@ -30,8 +30,8 @@ pub trait Alloc: OverArena {
     ///
     /// # Errors
     ///
-    /// As of `alloc`, where it doesn't grow in place; also `AllocErr` with no request where what is wanted more is no
-    /// layout. The block stays as it was.
+    /// Those of `alloc`, if it doesn't grow in place, and `AllocErr` without a request if the growth isn't a valid
+    /// layout. The block is unchanged.
     fn grow(&mut self, block: Block, layout: Layout) -> Result<Block, ArenaErr>
         requires readable { IsTrue (is_readable (Self.view self.old).memory.state block) }
         requires size { block.size ≤ layout.size }
@@ -42,7 +42,7 @@ pub trait Alloc: OverArena {
     ///
     /// # Errors
     ///
-    /// As of `alloc`, where the block must move to a greater alignment; the block stays as it was.
+    /// Those of `alloc`, if the block must move to a greater alignment; the block is unchanged.
     fn shrink(&mut self, block: Block, layout: Layout) -> Result<Block, ArenaErr>
         requires readable { IsTrue (is_readable (Self.view self.old).memory.state block) }
         requires size { layout.size ≤ block.size }

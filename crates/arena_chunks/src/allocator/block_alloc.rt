@@ -14,8 +14,8 @@ pub trait BlockAlloc: OverArena {
     ///
     /// # Errors
     ///
-    /// `AllocErr` where all requests for a chunk were refused, `OutOfMemory` where memory for the table of chunks
-    /// runs out. Nothing changes.
+    /// `AllocErr` if there is no place and all requests for a chunk were refused, `OutOfMemory` if there is no memory
+    /// for the table of chunks. Nothing changes.
     fn allocate(&mut self, layout: Layout) -> Result<Block, ArenaErr>
         ensures { PlacesBlock (Self.view self.old) (Self.view self.new) layout.size layout.align
             (answer_of result) };
@@ -30,19 +30,19 @@ pub trait BlockAlloc: OverArena {
     ///
     /// # Errors
     ///
-    /// As of `allocate`, where it doesn't grow in place; also `AllocErr` with no request where what is wanted more is
-    /// no layout. The block stays as it was.
+    /// Those of `allocate`, if it doesn't grow in place, and `AllocErr` without a request if the growth isn't a valid
+    /// layout. The block is unchanged.
     fn grow(&mut self, block: Block, layout: Layout) -> Result<Block, ArenaErr>
         requires readable { IsTrue (is_readable (Self.view self.old).memory.state block) }
         requires size { block.size ≤ layout.size }
         ensures { GrowsBlock (Self.view self.old) (Self.view self.new) block layout.size layout.align
             (answer_of result) };
 
-    /// Grows a block, as `grow` does; each new byte is 0.
+    /// Grows a block as `grow` does, and sets each new byte to 0.
     ///
     /// # Errors
     ///
-    /// As of `grow`.
+    /// See `grow`.
     fn grow_zeroed(&mut self, block: Block, layout: Layout) -> Result<Block, ArenaErr>
         requires readable { IsTrue (is_readable (Self.view self.old).memory.state block) }
         requires size { block.size ≤ layout.size }
@@ -55,7 +55,7 @@ pub trait BlockAlloc: OverArena {
     ///
     /// # Errors
     ///
-    /// As of `allocate`, where the block must move to a greater alignment; the block stays as it was.
+    /// Those of `allocate`, if the block must move to a greater alignment; the block is unchanged.
     fn shrink(&mut self, block: Block, layout: Layout) -> Result<Block, ArenaErr>
         requires readable { IsTrue (is_readable (Self.view self.old).memory.state block) }
         requires size { layout.size ≤ block.size }

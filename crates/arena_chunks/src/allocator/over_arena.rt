@@ -2,11 +2,11 @@
 use crate::allocator::Allocator;
 use arena_store::ChunkSource;
 
-/// What works over an arena that has a source of chunks. The contracts of the allocators' traits speak of the two.
+/// A type over an arena with a source of chunks. The contracts of the allocators' traits refer to the two.
 pub trait OverArena {
     ghost use Rattle.arena_store.specs.Source.{View};
 
-    // The arena's memory and what the source shows.
+    // The arena's memory and the source.
     ghost view: { Self → View };
 }
 

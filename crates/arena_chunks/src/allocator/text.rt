@@ -1,4 +1,4 @@
-// Texts and bytes in an arena.
+// Strings and bytes in an arena.
 ghost use Rattle.std.specs.Prelude.{◌≡◌, ◌-◌, ◌^◌, ◌<◌, ◌≤◌, [], Ok, IfOk, IfSome, IfNone, IsTrue, length};
 ghost use Rattle.std.specs.List.{flat_map};
 ghost use Rattle.std.specs.Str.{IsUtf8};
@@ -12,14 +12,14 @@ use arena_store::{ArenaErr, Block, ChunkSource};
 use std::convert::AsStr;
 use std::str;
 
-/// Names text that was placed in an arena: the block of its bytes.
+/// A handle of a string in an arena: the block of its bytes.
 #[derive(Clone, Copy, PartialEq, Eq, Debug)]
 pub struct Str {
     pub block: Block,
 }
 
 impl Str {
-    /// The text, or none where the block's bytes are no text.
+    /// Returns the string, or `None` if the block's bytes aren't UTF-8.
     pub fn get<C: ChunkSource>(self, a: &Allocator<C>) -> Option<&str>
         requires { IsTrue (is_readable a.now.memory.state self.block) }
         ensures some { let bytes = bytes_from (image a.now.memory) self.block.addr self.block.size in
@@ -32,11 +32,11 @@ impl Str {
 }
 
 impl<C: ChunkSource> Allocator<C> {
-    /// Places a text in a block of its length, of alignment 1.
+    /// Places a copy of a string in a block of its length, of alignment 1.
     ///
     /// # Errors
     ///
-    /// As of `alloc_layout`.
+    /// Those of `alloc_layout`.
     pub fn alloc_str(&mut self, src: &str) -> Result<Str, ArenaErr>
         ensures placed { PlacesBlock self.old self.new (length src.now) 1 (answer_by (λ s. s.block) result) }
         ensures text { IfOk result (λ s. bytes_from (image self.new.memory) s.block.addr
@@ -46,11 +46,11 @@ impl<C: ChunkSource> Allocator<C> {
         Ok(Str { block })
     }
 
-    /// Places bytes in a block of their length, of alignment 1.
+    /// Places a copy of bytes in a block of their length, of alignment 1.
     ///
     /// # Errors
     ///
-    /// As of `alloc_layout`.
+    /// Those of `alloc_layout`.
     #[tactic(auto, using(arena_core::proofs::BlockCallLemmas::places_written))]
     pub fn alloc_bytes(&mut self, bytes: &[u8]) -> Result<Block, ArenaErr>
         ensures placed { PlacesBlock self.old self.new (length bytes.now) 1 (answer_of result) }
@@ -61,12 +61,12 @@ impl<C: ChunkSource> Allocator<C> {
         Ok(block)
     }
 
-    /// Places texts, one after another, in one block of their whole length, of alignment 1. Where that length is 0
-    /// nothing is placed, and the answer is the empty block.
+    /// Places the concatenation of strings in one block of the total length, of alignment 1. If the length is 0,
+    /// nothing is placed, and the empty block is returned.
     ///
     /// # Errors
     ///
-    /// `AllocErr` with no request where the whole length passes 2^63 - 1, and otherwise as of `alloc_layout`.
+    /// `AllocErr` without a request if the total length exceeds 2^63 - 1, and otherwise those of `alloc_layout`.
     #[tactic(auto, using(arena_core::proofs::BlockCallLemmas::places_written, crate::proofs::TextLemmas::empty_text))]
     pub fn alloc_concat_strs_array<T: AsStr + Drop, const N: usize>(
         &mut self,
@@ -94,7 +94,7 @@ impl<C: ChunkSource> Allocator<C> {
         Ok(Str { block })
     }
 
-    // A block of so many bytes, of alignment 1.
+    // Places a block of this size, of alignment 1.
     #[tactic(auto, using(crate::proofs::TextLemmas::few_bytes, crate::proofs::TextLemmas::many_bytes))]
     fn alloc_unaligned(&mut self, size: u64) -> Result<Block, ArenaErr>
         ensures refused { 2 ^ 63 - 1 < size → Refuses self.old self.new (answer_of result) }
@@ -106,14 +106,14 @@ impl<C: ChunkSource> Allocator<C> {
         }
     }
 
-    // Writes texts, one after another, from a block's first byte on.
+    // Writes strings, one after another, from a block's first byte on.
     fn write_strings<T: AsStr>(&mut self, block: Block, strings: &[T])
         requires readable { IsTrue (is_readable self.old.memory.state block) }
         requires room { length (flat_map T.text strings.now) ≤ block.size }
         ensures writes { WritesBlock self.old.memory self.new.memory block 0 (flat_map T.text strings.now) }
         ensures source { self.new.source ≡ self.old.source }
     {
-        // So the arena's state is known to be valid.
+        // This makes it known that the arena's state is valid.
         self.known();
         let mut at = 0;
         for s in strings {
@@ -124,7 +124,7 @@ impl<C: ChunkSource> Allocator<C> {
     }
 }
 
-// The whole length of texts, where 64 bits hold it.
+// Returns the total length of strings, if it fits in 64 bits.
 fn whole_length<T: AsStr>(strings: &[T]) -> Option<u64>
     ensures none { IfNone result (2 ^ 64 ≤ length (flat_map T.text strings.now)) }
     ensures some { IfSome result (λ size. size ≡ length (flat_map T.text strings.now)) }

@@ -11,8 +11,8 @@ ghost use Rattle.arena_core.specs.Answers.Answer.{Refused};
 ghost use Rattle.arena_core.specs.BlockCalls.{PlacesBlock, ResizesBlock, GrowsBlock, ShrinksBlock, GivesBack};
 ghost use Rattle.arena_store.specs.declared.block.Block.{Block};
 
-/// A call on a block that needs at most so many bytes in use, the block's with its padding, asks for chunks of at most
-/// twice as many and five pages, and gives no chunk up. One that moves no cursor, or gives a block back, asks for none.
+/// A call on a block that needs at most this many bytes in use, with the block's padding, asks for chunks of at most
+/// twice as many and five pages, and frees no chunk. A call that moves no cursor or gives a block back asks for none.
 pub fn asks()
     ensures placed { (bytes : ℕ) (old new : View) (size align : ℕ) (answer : Answer) → IsTrue (is_layout size align)
         → align ≤ 16 → used_bytes old.memory.state + size + (unit_of old.memory.state align - 1) ≤ bytes
@@ -27,8 +27,9 @@ pub fn asks()
         → AsksWithin bytes old new }
 {}
 
-/// Where an arena that grows has no place for a block of at most 2^60 bytes, its source has refused, unless its newest data
-/// end lies far up; and so of any size, where it holds less than 2^60 bytes and that end lies lower.
+/// If a growing arena has no place for a block of at most 2^60 bytes, its source has refused, unless its newest data
+/// end is above 2^63 + 2^62. This holds for a new block of any size, if the arena has less than 2^60 bytes and that end
+/// is at most 2^62 + 2^61.
 pub fn starved()
     ensures placed { (old new : View) (size align k : ℕ) → IsTrue (is_layout size align) → align ≤ 16
         → size ≤ 2 ^ 60 → old.memory.state.is_growing ≡ true → PlacesBlock old new size align (Refused k)
@@ -47,8 +48,8 @@ pub fn starved()
         → top_of old.memory.state.chunks ≤ 2 ^ 63 + 2 ^ 62 → IsRefusedBySource old new }
 {}
 
-/// Where an arena that doesn't grow has no place for a block, it has fewer bytes than are in use and the block takes with its
-/// padding.
+/// If an arena that doesn't grow has no place for a block, it has fewer bytes than are in use and the block takes with
+/// its padding.
 pub fn full()
     ensures placed { (old new : View) (size align k : ℕ) → IsTrue (is_layout size align)
         → old.memory.state.is_growing ≡ false → PlacesBlock old new size align (Refused k)

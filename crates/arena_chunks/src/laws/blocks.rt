@@ -1,4 +1,4 @@
-// Blocks that lie apart, that may be read, and their bytes.
+// Blocks that are apart, blocks that are readable, and their bytes.
 ghost use Rattle.std.specs.Prelude.{◌≡◌, ℕ, ◌+◌, ◌^◌, ◌<◌, ◌≤◌, ◌↔◌, IsTrue, List, ◌∷◌, [], ◌++◌, length, take, drop, sum, map};
 ghost use Rattle.std.specs.List.{AllByRecursion, Contains};
 ghost use Rattle.arena_rules.specs.State.{State, IsValid, used_bytes};
@@ -8,9 +8,9 @@ ghost use Rattle.arena_core.specs.Frame.{IsApart, AreBlocksApart, ArePairwiseApa
 ghost use Rattle.arena_core.specs.Resizes.{NoneReadable};
 ghost use Rattle.arena_store.specs.declared.block.Block.{Block};
 
-/// Blocks lie apart in either order. What lies apart from blocks does so with each part of it, and from two lists of blocks
-/// where it does from both together. Two lists of blocks that lie pairwise apart do so together, if each block of one lies
-/// apart from each of the other.
+/// Blocks are apart in either order. A range that is apart from blocks is so with each part of it, and it is apart from
+/// two lists of blocks exactly if it is apart from both together. Two lists of blocks, each pairwise apart, are
+/// pairwise apart together, if each block of one is apart from each of the other.
 pub fn apart()
     ensures turned { (b c : Block) → AreBlocksApart b c → AreBlocksApart c b }
     ensures within { (addr n from k : ℕ) (bs : List Block) → addr ≤ from → from + k ≤ addr + n
@@ -24,8 +24,9 @@ pub fn apart()
         → ArePairwiseApart (xs ++ ys) }
 {}
 
-/// Blocks of one list lie apart from those of another, if each does. So they do from no blocks, from the blocks of two lists
-/// where they do from those of each, and so do the blocks of two lists together.
+/// One list of blocks is apart from another, if each of its blocks is. Every list is apart from the empty list, and
+/// from two lists together exactly if it is apart from each; two lists together are apart from a third exactly if each
+/// is.
 pub fn all_apart()
     ensures from_none { (bs : List Block) → AreAllApart bs [] }
     ensures from_both { (bs xs ys : List Block)
@@ -38,10 +39,10 @@ pub fn all_apart()
         → AreAllApart bs others }
 {}
 
-/// An empty block is readable in every state. A block of some bytes is exactly where it is of the arena's generation
-/// and its bytes lie in the used part of one chunk; it lies at 4096 or above, and below 2^64. None has more than
-/// 2^63 - 64 bytes. Where no byte is in use, as once all blocks are given back, none of some bytes is readable. Readable
-/// blocks that lie pairwise apart have together no more bytes than are in use.
+/// An empty block is readable in every state. A block of some bytes is readable exactly if it is of the arena's
+/// generation and its bytes are in the used part of one chunk. It then is at 4096 or above, and below 2^64. None has
+/// more than 2^63 - 64 bytes. If no byte is in use, as after a reset, no block of some bytes is readable. Readable
+/// blocks that are pairwise apart together have at most as many bytes as are in use.
 pub fn readable()
     ensures empty { (state : State) (b : Block) → b.size ≡ 0 → IsTrue (is_readable state b) }
     ensures filled { (state : State) (b : Block) → 0 < b.size
@@ -59,8 +60,8 @@ pub fn readable()
         → sum (map (λ (b : Block). b.size) bs) ≤ used_bytes state }
 {}
 
-/// A block has as many bytes as its size; they are the same in two arenas that have the same bytes at its addresses; and
-/// those of a range are that part of all of them.
+/// A block has as many bytes as its size. They are the same in two arenas that have the same bytes at its addresses.
+/// Those of a range are that part of all of them.
 pub fn bytes()
     ensures length { (memory : Memory) (addr n : ℕ) → length (bytes_from (image memory) addr n) ≡ n }
     ensures same { (a c : Memory) (b : Block)

@@ -1,4 +1,4 @@
-// What a block is after it was placed, given another size, written or given back.
+// What is true of a block after it was placed, resized, written or given back.
 ghost use Rattle.std.specs.Prelude.{◌≡◌, ℕ, ◌+◌, ◌≤◌, min, IsTrue, List, [], ◌∷◌, length, ◌++◌};
 ghost use Rattle.std.specs.List.{AllByRecursion};
 ghost use Rattle.arena_rules.specs.Rounding.{is_layout};
@@ -14,8 +14,8 @@ ghost use Rattle.arena_core.specs.Frame.{ArePairwiseApart, IsApart, Frame};
 ghost use Rattle.arena_core.specs.BlockCalls.{place_of, PlacesBlock, ResizesBlock, ShrinksBlock, GivesBack, WritesBlock, EditsBlock};
 ghost use Rattle.arena_store.specs.declared.block.Block.{Block};
 
-/// A new block lies apart from all readable ones. It is one of the arena's: its layout is one, it is aligned, and in use or
-/// empty. Placing it and then writing in it is placing it, with those bytes.
+/// A new block is apart from all readable blocks. It is one of the arena's: its layout is valid, it is aligned, and it
+/// is in use or empty. Placing a block and then writing in it is placing it, with those bytes.
 pub fn placed()
     ensures apart { (old new : View) (size align : ℕ) (b : Block) (bs : List Block)
         → PlacesBlock old new size align (Placed b)
@@ -31,8 +31,9 @@ pub fn placed()
         → PlacesBlock old (view new mid.source) size align (Placed b) }
 {}
 
-/// From a block of the arena's comes one, when it gets another size. Giving it another size and then writing behind the bytes
-/// that it kept is giving it that size. To shrink to no greater alignment is never refused, and never wants memory.
+/// A resize of one of the arena's blocks returns one of the arena's blocks. Resizing a block and then writing after the
+/// bytes that it kept is resizing it, with those bytes. A shrink that doesn't raise the alignment is never refused and
+/// never runs out of memory.
 pub fn resized()
     ensures is_block { (way : Resizing) (old new : View) (block b : Block) (size align : ℕ)
         → IsTrue (is_layout size align)
@@ -46,9 +47,9 @@ pub fn resized()
         → ShrinksBlock old new block size align answer → (b : Block) × (answer ≡ Placed b) }
 {}
 
-/// After a write a block's bytes are the old ones with the list in the place of the range, and the same blocks are
-/// readable. A list as long as the block stands there alone. Two writes one behind the other are one, and one of no bytes
-/// changes nothing. A change of bytes by a function writes its value.
+/// After a write a block's bytes are the old ones with the list in place of the range, and the same blocks are
+/// readable. A list as long as the block is all of its bytes. Two adjacent writes are one, and a write of no bytes
+/// changes nothing. A change of bytes by a function writes the function's value.
 pub fn written()
     ensures bytes { (old new : Memory) (b : Block) (at : ℕ) (list : List ℕ) → WritesBlock old new b at list
         → at + length list ≤ b.size
@@ -69,7 +70,7 @@ pub fn written()
         → WritesBlock old new b at (f (bytes_from (image old) (b.addr + at) size)) }
 {}
 
-/// No byte changes when a block is given back. At least alignment 1 nothing changes but what is in use of the block alone.
+/// No byte changes when a block is given back. With least alignment 1, only the use of the block's own bytes changes.
 pub fn given_back()
     ensures bytes { (old new : Memory) (b : Block) (addr : ℕ) → GivesBack old new b
         → image new addr ≡ image old addr }

@@ -5,10 +5,10 @@ ghost use Rattle.arena_store.specs.Memory.{Memory, is_readable};
 ghost use Rattle.arena_core.specs.Frame.{IsApart, AreAllApart, Frame, Stays};
 ghost use Rattle.arena_store.specs.declared.block.Block.{Block};
 
-/// Frames compose: of one call after another, with blocks of the caller's beside, before them or behind, and of more blocks
-/// before and fewer after. A call on the last of some blocks and then one on the first are one on all. A readable block
-/// that lies apart from those that a call had stays, with its bytes, and lies apart from those that the call answers.
-/// Blocks of no bytes don't matter.
+/// Frames compose: one call after another, with other blocks of the caller's before or after them in the lists, and
+/// with more blocks before and fewer after. A call on the last of some blocks and then one on the first are one on all.
+/// A readable block that is apart from those that a call had stays, with its bytes, and is apart from those that the
+/// call returns. Empty blocks don't matter.
 pub fn frames()
     ensures reflexive { (memory : Memory) (blocks : List Block) → Frame memory memory blocks blocks }
     ensures then { (old mid new : Memory) (before between after : List Block) → Frame old mid before between

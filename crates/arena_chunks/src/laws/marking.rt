@@ -10,8 +10,8 @@ ghost use Rattle.arena_core.specs.Checkpoints.{checkpoint_of, is_accepted, Keeps
 ghost use Rattle.arena_store.specs.declared.block.Block.{Block};
 ghost use Rattle.arena_core.specs.declared.rewind.Checkpoint.{Checkpoint};
 
-/// A valid arena accepts its own mark. No call on a block ends a mark: one that was accepted still is, and what the call leaves
-/// in use lies in its part, if it did before.
+/// A valid arena accepts its own mark. No call on a block ends a mark: an accepted mark still is accepted, and what is
+/// in use before and after the call stays in its part, if it was there.
 pub fn marks()
     ensures own { (state : State) → IsValid state → IsTrue (is_accepted (checkpoint_of state) state) }
     ensures placed { (c : Checkpoint) (old new : View) (size align : ℕ) (answer : Answer)

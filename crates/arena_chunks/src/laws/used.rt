@@ -13,8 +13,8 @@ ghost use Rattle.arena_core.specs.Answers.Answer.{Placed};
 ghost use Rattle.arena_core.specs.BlockCalls.{PlacesBlock, PlacesAfter, ResizesBlock, ResizesAfter, GrowsBlock, ShrinksBlock, GivesBack, WritesBlock, growing_of, shrinking_of};
 ghost use Rattle.arena_store.specs.declared.block.Block.{Block};
 
-/// A new block brings its size into use, and less than a unit more: the greater of its alignment and the least one. It is
-/// no more than its size where that and the cursor are multiples of the unit, and the alignment is 16 at most.
+/// A new block brings its size into use, and less than a unit more: the greater of its alignment and the least one. It
+/// brings exactly its size if that and the cursor are multiples of the unit, and the alignment is at most 16.
 pub fn used_by_placing()
     ensures least { (old new : View) (size align : ℕ) (b : Block) → IsTrue (is_layout size align)
         → PlacesBlock old new size align (Placed b)
@@ -30,10 +30,10 @@ pub fn used_by_placing()
         → used_bytes new.memory.state ≡ used_bytes old.memory.state + size }
 {}
 
-/// A block that grows in place brings into use what it grows by, or more: less than the least alignment for its end, and
-/// less than a unit for its place. One that shrinks in place gives back no more than it shrinks by, and half of itself or
-/// more. One that is placed again is a new block, and one that stays brings nothing into use. So whichever way a block grows,
-/// it brings its new size into use at most, with the padding of its end and of its place.
+/// A block that grows in place brings into use what it grows by, and a little more: less than the least alignment for
+/// its end, and less than a unit for its place. A block that shrinks in place frees as many bytes as it moves up. One
+/// that is allocated again is a new block, and one that stays changes nothing. So a block that grows, whichever way, to
+/// at least its alignment, brings at most its new size into use, with the padding of its end and of its place.
 pub fn used_by_resizing()
     ensures grown_least { (old new : View) (block b : Block) (size align q : ℕ)
         → GrowsBlock old new block size align (Placed b) → growing_of old.memory block size align ≡ Moves q
@@ -68,9 +68,9 @@ pub fn used_by_resizing()
         (unit_of old.memory.state align - 1) }
 {}
 
-/// A block at the cursor that is given back takes as many bytes out of use as it has, up to the next multiple of the least
-/// alignment, which at least alignment 1 is its size. Any other block takes none. A write changes no number.
-/// A reset takes all bytes out of use, and an arena that doesn't grow has as many as before.
+/// Giving a block at the cursor back frees its bytes up to the next multiple of the least alignment; with least
+/// alignment 1 these are its size. Giving any other block back frees none. A write doesn't change the number of used
+/// bytes. A reset frees all bytes, and an arena that doesn't grow keeps all its bytes.
 pub fn used_by_giving_back()
     ensures last { (old new : Memory) (b : Block) → IsTrue (is_readable old.state b) → GivesBack old new b
         → b.addr ≡ cursor_of old.state.chunks
@@ -88,7 +88,7 @@ pub fn used_by_giving_back()
         → allocated_bytes (reset state) ≡ allocated_bytes state }
 {}
 
-/// Chunks that double still do after each call that makes no chunk, or makes it at the first size tried, at once.
+/// Chunks that double still do after each call that makes no chunk, or makes it at once at the first size tried.
 pub fn doubling()
     ensures placed { (z : ℕ) (old new : View) (size align k : ℕ) (b : Block) → z ≤ 16320
         → PlacesAfter old new size align k (Placed b) → IsTrue (is_made_first old.memory.state size align k)

@@ -1,4 +1,4 @@
-// The marks that calls set by name.
+// The marks that calls set by name, and which names to remove when a run goes back to one.
 ghost use Rattle.std.specs.Prelude.{◌≡◌, ℕ, ◌-◌, ◌<◌, ◌++◌, ◌∷◌, [], List, length, take, get_or, if◌then◌else◌, false, true, IsTrue, OnOk, OnErr};
 ghost use Rattle.std.specs.Option.{is_some};
 ghost use Rattle.call_rules.specs.Machine.{mark_named};
@@ -18,14 +18,14 @@ pub(crate) struct Mark {
     pub(crate) checkpoint: Checkpoint,
 }
 
-/// The marks of a run, and a log of the names for which a block was placed while there were marks. A new block lies at the
-/// cursor, so whatever mark is gone back to, the names that end stand last in the log. Each entry is taken out once: going
-/// back looks at those that it takes out and at one more.
+/// The marks of a run, and a log of the names whose blocks were placed or resized while there was a mark. Such a block
+/// is at the cursor, so for every mark the names whose blocks a rewind to it frees are the last ones in the log. Each
+/// entry is removed once: a rewind reads the entries that it removes and one more.
 #[derive(Drop)]
 pub(crate) struct Marks {
     // Oldest first.
     list: Vec<Mark>,
-    // By order: a hash of names that anyone may choose could be made slow by who chooses them.
+    // Ordered, not hashed: a caller could choose names whose hashes collide.
     known: BTreeSet<u32>,
     log: Vec<u32>,
 }
@@ -52,14 +52,14 @@ impl Marks {
         }
     }
 
-    // Whether a mark has the name.
+    // Returns whether there is a mark of this name.
     pub(crate) fn has(&self, name: u32) -> bool
         ensures { result ≡ is_some (mark_named (named self.now.marks) name) }
     {
         self.known.contains(&name)
     }
 
-    // Sets a mark by a name that none has.
+    // Sets a mark. No mark may have the name yet.
     pub(crate) fn set(&mut self, name: u32, checkpoint: Checkpoint) -> Result<(), OutOfMemory>
         requires { is_some (mark_named (named self.old.marks) name) ≡ false }
         ensures { OnOk result (self.new ≡ record {
@@ -76,7 +76,7 @@ impl Marks {
         Ok(())
     }
 
-    // Notes a name for which a block is going to be placed, if there is a mark.
+    // Adds a name to the log before its block is placed, if there is a mark.
     pub(crate) fn note(&mut self, name: u32) -> Result<(), OutOfMemory>
         ensures marks { self.new.marks ≡ self.old.marks }
         ensures log { OnOk result (0 < length self.old.marks → self.new.log ≡ self.old.log ++ name ∷ []) }
@@ -88,7 +88,7 @@ impl Marks {
         Ok(self.log.push(name)?)
     }
 
-    // Takes the newest note back, of a block that stayed where it was.
+    // Removes the newest entry of the log again, if its block stayed where it was or wasn't placed.
     pub(crate) fn settle(&mut self, stayed: bool)
         ensures marks { self.new.marks ≡ self.old.marks }
         ensures log { 0 < length self.old.marks
@@ -99,7 +99,7 @@ impl Marks {
         }
     }
 
-    // Ends the marks that are newer than the name's, and answers it.
+    // Removes the marks that are newer than the name's, and returns the name's.
     pub(crate) fn back_to(&mut self, name: u32) -> Mark
         requires { IsTrue (is_some (mark_named (named self.old.marks) name)) }
         ensures marks { self.new.marks ≡ marks_from name self.old.marks }
@@ -115,7 +115,7 @@ impl Marks {
         self.list[count - 1]
     }
 
-    // Lets the names go that going back ended.
+    // Removes the names whose blocks the rewind has freed.
     pub(crate) fn forget<const M: usize>(&mut self, arena: &Arena<M>, names: &mut Names)
         ensures { Forgets arena.now.state names.old names.new self.old self.new }
     {
@@ -123,7 +123,8 @@ impl Marks {
         self.log.truncate(count);
     }
 
-    // Ends all marks. The tables are let go with them, since to clear them would take as long as they once were large.
+    // Removes all marks. The tables are freed, since clearing them would take time in proportion to the size that they
+    // once had.
     pub(crate) fn clear(&mut self, alloc: Global)
         ensures { self.new ≡ record { marks = []; log = [] } }
     {
@@ -131,8 +132,8 @@ impl Marks {
     }
 }
 
-// From the log's last name on, lets go those whose blocks aren't left, down to one whose block is and has some bytes. Answers
-// how many names stand up to that one.
+// Reads the log from its last name back, and removes each name whose block isn't in use, until it finds a name whose
+// block is in use and isn't empty. Returns the length of the log up to that name, or 0 if there is none.
 fn let_go<const M: usize>(arena: &Arena<M>, names: &mut Names, log: &Vec<u32>) -> usize
     ensures lets { LetsGo arena.now.state names.old names.new result log.now.items }
     ensures over { 0 < result → IsTrue (stands arena.now.state names.new (get_or log.now.items (result - 1) 0)) }

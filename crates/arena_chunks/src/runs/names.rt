@@ -14,7 +14,7 @@ use std::alloc::Global;
 use std::collections::BTreeMap;
 use std::marker::Model;
 
-// So many names, from 0 on, have a place in a list.
+// The names below this number have an entry in a list.
 const FIRST: usize = 256;
 
 /// A map from names to places.
@@ -83,7 +83,7 @@ impl Names {
         Ok(())
     }
 
-    // Lets a name go, and answers the place that it had.
+    // Removes a name, and returns the place that it had.
     #[inline(always)]
     pub(crate) fn remove(&mut self, name: u32) -> Option<Place>
         ensures place { result ≡ map.get self.old name }
@@ -98,7 +98,7 @@ impl Names {
         self.others.remove(name)
     }
 
-    // Lets a name go whose block isn't in use. Answers whether it is, and has some bytes.
+    // Removes a name whose block isn't in use. Returns whether the block is in use and isn't empty.
     pub(crate) fn keep<const M: usize>(&mut self, arena: &Arena<M>, name: u32) -> bool
         ensures answer { result ≡ stands arena.now.state self.old name }
         ensures left { IsTrue (is_left arena.now.state self.old name) → self.new ≡ self.old }
@@ -114,7 +114,7 @@ impl Names {
         place.size > 0
     }
 
-    // Gives a name that is held another place, which takes no memory.
+    // Gives a held name another place. Doesn't allocate.
     #[inline(always)]
     pub(crate) fn replace(&mut self, name: u32, place: Place)
         requires { IsSome (map.get self.old name) }
@@ -126,7 +126,7 @@ impl Names {
         }
     }
 
-    // Lets all names go.
+    // Removes all names.
     pub(crate) fn clear(&mut self, alloc: Global)
         ensures { self.new ≡ map.empty }
     {
@@ -136,7 +136,7 @@ impl Names {
         self.others = Others::new(alloc);
     }
 
-    // The names and their places, in a tree.
+    // Returns the names and their places in a tree.
     fn sorted(&self, alloc: Global) -> Result<BTreeMap<u32, Place>, OutOfMemory>
         ensures { IfOk result (λ tree. map.from_entries tree.entries ≡ self.now) }
     {
@@ -151,7 +151,7 @@ impl Names {
         Ok(tree)
     }
 
-    // The names and their blocks, each of this generation, by ascending name.
+    // Returns the names and their blocks, each of this generation, by ascending name.
     pub(crate) fn blocks(
         &self,
         alloc: Global,

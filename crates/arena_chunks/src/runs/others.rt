@@ -1,4 +1,4 @@
-// The places of names, by order: a hash of names that anyone may choose could be made slow by who chooses them.
+// The places of names in an ordered map, not a hashed one: a caller could choose names whose hashes collide.
 ghost use Rattle.std.specs.Prelude.{◌≡◌, OnOk, OnErr, IfOk, IsSome, IsOk};
 ghost use Rattle.std.specs.Ordering.{nat_cmp};
 ghost use Rattle.std.specs.FinMap as map;
@@ -52,7 +52,7 @@ impl Others {
         Ok(())
     }
 
-    // Lets a name go, and answers the place that it had.
+    // Removes a name, and returns the place that it had.
     pub(crate) fn remove(&mut self, name: u32) -> Option<Place>
         ensures place { result ≡ map.get self.old name }
         ensures rest { self.new ≡ map.remove self.old name }
@@ -60,7 +60,7 @@ impl Others {
         self.places.remove(&name)
     }
 
-    // The names and their places, in a tree.
+    // Returns the names and their places in a tree.
     pub(crate) fn sorted(&self, alloc: Global) -> Result<BTreeMap<u32, Place>, OutOfMemory>
         ensures { IfOk result (λ tree. map.from_entries tree.entries ≡ self.now) }
     {

@@ -1,4 +1,4 @@
-// What takes the replies of a run.
+// The receiver of a run's replies.
 ghost use Rattle.std.specs.Prelude.{◌≡◌, ℕ, ◌+◌, ◌-◌, ◌<◌, ◌≤◌, List, [], ◌∷◌, ◌++◌, false, IsOk, OnOk, OnErr, vec_len, vec_capacity};
 ghost use Rattle.call_rules.specs.declared.calls.Reply.{Reply};
 ghost use Rattle.arena_chunks.specs.Replies.{has_bytes, StillTaken, TakesMore};
@@ -7,28 +7,28 @@ use arena_rules::OutOfMemory;
 use call_rules::{Bytes, Reply};
 use std::alloc::Global;
 
-/// What takes replies, one after another.
+/// A receiver of replies, one after another.
 pub trait Replies {
-    // What it is to the replies that it has taken, in their order.
+    // Whether it has taken exactly these replies, in this order.
     ghost has_taken: { Self → List Reply → Type 0 };
 
-    // How many replies there is room for, of those that hold no bytes.
+    // How many replies without bytes there is room for.
     ghost room: { Self → ℕ };
 
-    /// Makes room for `count` replies that hold no bytes. Succeeds where there is room already.
+    /// Makes room for `count` replies without bytes. Succeeds if there is room already.
     fn reserve(&mut self, count: usize) -> Result<(), OutOfMemory>
         ensures room { OnOk result (count ≤ room self.new) }
         ensures succeeds { count ≤ room self.old → IsOk result }
         ensures same { StillTaken has_taken self.old self.new };
 
-    /// Takes a reply that holds no bytes, for which there is room.
+    /// Takes a reply without bytes. There must be room for it.
     fn take(&mut self, reply: Reply)
         requires fixed { has_bytes reply ≡ false }
         requires room { 0 < room self.old }
         ensures taken { TakesMore has_taken self.old self.new (reply ∷ []) }
         ensures room { room self.old ≤ room self.new + 1 };
 
-    /// Takes the reply that holds these bytes, and leaves room for `left` more that hold none.
+    /// Takes the reply that has these bytes, and keeps room for `left` more without bytes.
     fn take_bytes(&mut self, bytes: &[u8], left: usize) -> Result<(), OutOfMemory>
         requires { left < room self.old }
         ensures taken { OnOk result (TakesMore has_taken self.old self.new (Reply.Bytes bytes.now ∷ [])) }
@@ -36,7 +36,7 @@ pub trait Replies {
         ensures same { OnErr result (StillTaken has_taken self.old self.new) };
 }
 
-// Replies in a list.
+// A list of replies.
 #[derive(Drop)]
 pub(crate) struct Listed {
     pub(crate) alloc: Global,

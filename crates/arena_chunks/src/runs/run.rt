@@ -16,7 +16,7 @@ use arena_store::{Block, ChunkSource};
 use call_rules::{Call, Reply};
 use std::alloc::Global;
 
-/// What a run of calls gives: a reply for each call, and the blocks that names hold at its end, by ascending name.
+/// The result of a run of calls: a reply for each call, and the blocks that names hold at the end, by ascending name.
 #[derive(Drop, Debug)]
 pub struct Ran {
     pub replies: Vec<Reply>,
@@ -26,11 +26,11 @@ pub struct Ran {
 /// Why a run stopped early.
 #[derive(Drop, Debug)]
 pub enum Stopped {
-    /// Out of memory. The first `done` calls were run, and the arena is as after them.
+    /// Out of memory. The first `done` calls were run, and the arena is in the state after them.
     OutOfMemory { done: u64 },
 }
 
-/// A run over an arena, call by call. It has what the arena doesn't know: the blocks by name, and the marks.
+/// A run over an arena, call by call. It has what the arena doesn't: the blocks by name, and the marks.
 #[derive(Drop)]
 pub struct Run {
     pub(crate) alloc: Global,
@@ -39,16 +39,16 @@ pub struct Run {
 }
 
 impl Run {
-    /// A run of no calls over this arena, with no names and no marks.
+    /// Begins a run over this arena, with no names and no marks.
     ///
     /// # Errors
     ///
-    /// `OutOfMemory` where memory runs out.
+    /// `OutOfMemory` if memory runs out.
     pub fn new<const M: usize>(alloc: Global, arena: &Arena<M>) -> Result<Run, OutOfMemory>
         ensures { (source : Source) → IfOk result (λ run. IsRunning
             (view arena.now source) (view arena.now source) run.names run.marks [] []) }
     {
-        // The contract of this call tells that the state is valid.
+        // By the contract of this call the state is valid.
         arena.known();
         Ok(Run {
             alloc,
@@ -57,14 +57,14 @@ impl Run {
         })
     }
 
-    /// Runs one more call over the run's arena, and gives the reply to what takes the replies, which has room for one that
-    /// holds no bytes and for `left` more behind it.
+    /// Runs one more call over the run's arena, and passes the reply to `replies`, which must have room for one reply
+    /// without bytes and for `left` more after it.
     ///
     /// # Errors
     ///
-    /// `OutOfMemory` where memory runs out, at a call that places a block again, answers bytes or sets a mark, or that gives
-    /// a block another size while there is a mark. The arena is as after the calls before, and no reply was taken; the run
-    /// is over.
+    /// `OutOfMemory` if memory runs out, at a call that places a block by an allocation, returns bytes or sets a mark,
+    /// or that resizes a block while there is a mark. The arena is in the state after the calls before, and no reply
+    /// was passed on; the run is over.
     #[inline(always)]
     pub fn serve<const M: usize, C: ChunkSource, R: Replies>(
         &mut self,
@@ -89,11 +89,11 @@ impl Run {
         Ok(())
     }
 
-    /// The blocks that names hold, by ascending name.
+    /// Returns the blocks that names hold, by ascending name.
     ///
     /// # Errors
     ///
-    /// `OutOfMemory` where memory runs out.
+    /// `OutOfMemory` if memory runs out.
     pub fn held<const M: usize>(&self, arena: &Arena<M>) -> Result<Vec<(u32, Block)>, OutOfMemory>
         ensures ok { (source : Source) → IfOk result (λ held.
             EndsWith (view arena.now source) self.now.names self.now.marks held.items) }
@@ -104,14 +104,15 @@ impl Run {
     }
 }
 
-/// Runs calls over an arena, one after another, beginning with no names and no marks, and gives each reply to what takes the
-/// replies. Answers the blocks that names hold at the end, by ascending name.
+/// Runs calls over an arena, one after another, beginning with no names and no marks, and passes each reply to
+/// `replies`. Returns the blocks that names hold at the end, by ascending name.
 ///
 /// # Errors
 ///
-/// `OutOfMemory` where memory runs out, which leaves the arena as after a first part of the calls, its blocks sound
-/// and with their bytes; the replies of these calls were taken. That is before the first call, after the last, or at
-/// one that places a block again, answers bytes or sets a mark, or that gives a block another size while there is a mark.
+/// `OutOfMemory` if memory runs out: before the first call, after the last, or at a call that places a block by an
+/// allocation, returns bytes or sets a mark, or that resizes a block while there is a mark. The arena is then in the
+/// state after the first `done` calls, its blocks sound and with their bytes; the replies of these calls were passed
+/// on.
 pub fn run_calls_into<const M: usize, C: ChunkSource, R: Replies>(
     alloc: Global,
     arena: &mut Arena<M>,
@@ -127,12 +128,12 @@ pub fn run_calls_into<const M: usize, C: ChunkSource, R: Replies>(
         (view arena.old (C.source chunks.old)) (view arena.new (C.source chunks.new)) calls.now
         (TakesMore R.has_taken replies.old replies.new)) }
 {
-    // A run begins with a valid state, which the contract of this call tells.
+    // A run begins in a valid state, by the contract of this call.
     arena.known();
     let Ok(mut run) = Run::new(alloc, arena) else {
         return Err(Stopped::OutOfMemory { done: 0 });
     };
-    // All room for the replies is made first, so that no call is run whose reply has no place.
+    // Room for all replies is made first, so that no call is run whose reply has no room.
     let Ok(()) = replies.reserve(calls.len()) else {
         return Err(Stopped::OutOfMemory { done: 0 });
     };
@@ -154,9 +155,9 @@ pub fn run_calls_into<const M: usize, C: ChunkSource, R: Replies>(
 ///
 /// # Errors
 ///
-/// `OutOfMemory` where memory runs out, which leaves the arena as after a first part of the calls, its blocks sound and
-/// with their bytes. That is before the first call, after the last, or at one that places a block again, answers bytes or
-/// sets a mark, or that gives a block another size while there is a mark.
+/// `OutOfMemory` if memory runs out: before the first call, after the last, or at a call that places a block by an
+/// allocation, returns bytes or sets a mark, or that resizes a block while there is a mark. The arena is then in the
+/// state after the first `done` calls, its blocks sound and with their bytes.
 pub fn run_calls<const M: usize, C: ChunkSource>(
     alloc: Global,
     arena: &mut Arena<M>,

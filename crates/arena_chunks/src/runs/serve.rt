@@ -1,4 +1,4 @@
-// One call after another.
+// How a run serves a call.
 ghost use Rattle.std.specs.Prelude.{◌≡◌, ℕ, ◌<◌, ◌≤◌, [], ◌∷◌, false, IfOk, OnOk, OnErr, IsSome, IsTrue};
 ghost use Rattle.std.specs.FinMap as map;
 ghost use Rattle.call_rules.specs.declared.calls.Call.{Call};
@@ -19,7 +19,7 @@ use arena_rules::{OutOfMemory, Place};
 use arena_store::{ArenaErr, Block, ChunkSource};
 use call_rules::{Call, Reply};
 
-// The size and the alignment wanted for the block of a name.
+// The requested size and alignment for the block of a name.
 #[derive(Clone, Copy)]
 struct Wanted {
     name: u32,
@@ -28,7 +28,7 @@ struct Wanted {
 }
 
 impl Wanted {
-    // The place of the block at this address.
+    // Returns the place of the block at this address.
     fn at(self, addr: u64) -> Place
         ensures { result ≡ record { addr = addr; size = self.size; align = self.align } }
     {
@@ -39,7 +39,7 @@ impl Wanted {
         }
     }
 
-    // Whether the size is on the wrong side of the block's, which grows where there is a byte to fill it with.
+    // Returns whether the size is smaller than the block's for a grow (with a fill byte), or larger for a shrink.
     fn is_wrong(self, had: u64, fill: Option<u8>) -> bool
         ensures { result ≡ is_wrong fill had self.size }
     {
@@ -92,7 +92,7 @@ fn serve_alloc<const M: usize, C: ChunkSource>(
     }
 }
 
-// Gives the block at a place another size: a greater one, where a byte is given that fills what is new, or a smaller one.
+// Resizes the block at a place: with a fill byte it grows, and the byte fills its new bytes; without one it shrinks.
 #[inline(always)]
 fn resize<const M: usize, C: ChunkSource>(
     arena: &mut Arena<M>,
@@ -195,7 +195,7 @@ fn serve_write<const M: usize>(
     Reply::Done
 }
 
-// Lends the bytes of a name's block to what takes the replies.
+// Passes the bytes of a name's block to the receiver of replies.
 #[inline(always)]
 fn serve_read<const M: usize, R: Replies>(
     arena: &Arena<M>,
@@ -241,7 +241,7 @@ fn serve_mark<const M: usize>(
     Ok(Reply::Done)
 }
 
-// Goes back to a mark, and lets go the names whose blocks were placed since.
+// Goes back to a mark, and removes the names whose blocks this frees.
 fn serve_back<const M: usize>(arena: &mut Arena<M>, run: &mut Run, name: u32) -> Reply
     requires holds { Holds arena.old.state run.old.names }
     requires tracks { Tracks arena.old.state run.old.names run.old.marks }
@@ -269,7 +269,7 @@ fn serve_reset<const M: usize>(arena: &mut Arena<M>, run: &mut Run) -> Reply
     Reply::Done
 }
 
-// Serves a call, and gives its reply to what takes the replies.
+// Serves a call, and passes its reply to the receiver.
 #[inline(always)]
 pub(crate) fn serve_into<const M: usize, C: ChunkSource, R: Replies>(
     arena: &mut Arena<M>,

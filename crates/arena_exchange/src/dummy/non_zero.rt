@@ -1,4 +1,4 @@
-// The dummies of numbers that are not 0: the least of each type.
+// The dummies of numbers that are not 0: the minimum of each type.
 ghost use Rattle.std.specs.Prelude.{[], pos};
 ghost use Rattle.arena_exchange.specs.Kinds.{plain};
 ghost use Rattle.arena_exchange.specs.KindLaws.{plain_lawful};

@@ -12,9 +12,9 @@ ghost use Rattle.arena_items.specs.Values.{IsHeld};
 ghost use Rattle.arena_items.specs.declared.room.AllocError.{AllocError};
 ghost use Rattle.arena_items.specs.declared.room.Growth.TheVariants.{Stays, GrowsTo};
 
-/// What a call that takes room brings into use, over an arena of least alignment 1: nothing where there was room; else at least
-/// the bytes that the block has more than the one before, and at most all of them with its padding. A refusal is the arena's
-/// own, of a new block with these bytes.
+/// What a call that takes room brings into use, in an arena of least alignment 1: nothing if there was room; otherwise
+/// at least the bytes that the new block has more than the old one, and at most all of them with its padding. A refusal
+/// is the arena's own, of a new block with these bytes.
 pub fn room_law<X>()
     ensures taken { (old new : View) (block b : Block) (cap size align : ℕ) → old.memory.state.min_align ≡ 1
         → IsTrue (is_layout size align) → block.align ≡ align → block.size ≤ size
@@ -43,9 +43,9 @@ pub fn room_law<X>()
         → Costs farthest bytes before after old new result }
 {}
 
-/// What calls cost together: what each costs. The first of two wasn't refused, and the arena is of the same kind afterwards;
-/// then the second is starved or full by the bytes of both. Of calls that weren't refused it doesn't matter how far up the newest
-/// data end may lie, so in a loop nothing is lost but once.
+/// Calls in a row cost together what each of them costs. If the first of two wasn't refused, and the arena is of the
+/// same kind afterwards, the second is starved or full by the bytes of both. The address bound of a call that wasn't
+/// refused may be replaced by any other, so a loop loses 2^61 of it only once.
 pub fn costs_law<X, Y>()
     ensures nothing { (far bytes before after : ℕ) (old new : View) (x : X) → SamePlaces old new → after ≤ bytes + before
         → Costs far bytes before after old new (Ok x) }

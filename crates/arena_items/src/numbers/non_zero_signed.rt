@@ -1,4 +1,4 @@
-// Signed numbers that are not 0: the bytes of the number. The bytes of 0 stand for the type's least.
+// Signed numbers that are not 0: the bytes of the number. The bytes of 0 decode to the type's minimum.
 ghost use Rattle.std.specs.Prelude.{FitsSigned, refl};
 ghost use Rattle.std.specs.Int.{w8, w16, w32, w64, w128};
 ghost use Rattle.arena_items.specs.LayoutLaws.{plain_1, plain_2, plain_4, plain_8, plain_16};

@@ -1,4 +1,4 @@
-// Unsigned numbers that are not 0: the bytes of the number. The bytes of 0 stand for 1.
+// Unsigned numbers that are not 0: the bytes of the number. The bytes of 0 decode to 1.
 ghost use Rattle.std.specs.Prelude.{◌^◌, ◌<◌, [], ◌∷◌, slice_index, refl};
 ghost use Rattle.std.specs.Int.{w16, w32, w64, w128, to_le_bytes, from_le_bytes};
 ghost use Rattle.arena_items.specs.LayoutLaws.{plain_1, plain_2, plain_4, plain_8, plain_16};

@@ -7,7 +7,7 @@ ghost use Rattle.arena_items.specs.NumberLaws.{bytes_back};
 use crate::item::Item;
 use crate::numbers::bytes::array;
 
-// LLVM makes no single store of the bytes of 128 bits. Of each half it does.
+// LLVM doesn't merge the byte stores of 128 bits into one, but does so for each half.
 const HALF: u128 = 0x1_0000_0000_0000_0000;
 
 impl Item for u8 {

@@ -10,7 +10,7 @@ use arena_chunks::{Allocator, ChunkSource};
 use std::iter::FusedIterator;
 use std::marker::Model;
 
-/// What is left of a boxed slice's values. Contracts see the list of them.
+/// The rest of a boxed slice's values. In contracts it is the list of them.
 #[derive(Drop)]
 pub struct SliceIter<'a, T: Item, C: ChunkSource> {
     arena: &'a Allocator<C>,
@@ -31,7 +31,7 @@ impl<'a, T: Item, C: ChunkSource> Model for SliceIter<'a, T, C> {
 }
 
 impl<T: Item> BoxSlice<T> {
-    /// All values, one after another.
+    /// Returns an iterator over all values.
     pub fn iter<'a, C: ChunkSource>(self, a: &'a Allocator<C>) -> SliceIter<'a, T, C>
         requires small { T.SIZE ≤ 2 ^ 24 }
         requires held { IsSliceIn T.Item a.now.memory self }

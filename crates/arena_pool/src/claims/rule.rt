@@ -2,15 +2,15 @@
 use atomic_table::{Join, Play, Split, TableRule};
 use std::collections::LinkedList;
 
-/// What a seat knows: the words that it claimed, by a swap that found 0, those that it found taken, and those that
-/// it found free, by a load that found 0. Contracts alone have values of it.
+/// What a seat knows: the words that it claimed, by a swap that found 0, those that it found taken, and those that it
+/// found free, by a load that found 0. Values of it exist in contracts alone.
 pub struct ClaimView {
     pub claimed: LinkedList<u32>,
     pub taken: LinkedList<u32>,
     pub free: LinkedList<u32>,
 }
 
-/// The rule of claims on so many words.
+/// The rule of claims on n words.
 pub struct ClaimRule;
 
 impl TableRule<(), ClaimView, u64> for ClaimRule {
@@ -39,7 +39,7 @@ impl Play<(), ClaimView> for Load {
     ghost then = { Loaded };
 }
 
-/// A new seat beside one, which stays as it is.
+/// Splits off a new seat that knows nothing. The first seat is unchanged.
 pub struct Anew;
 
 impl Split<ClaimView> for Anew {
@@ -50,7 +50,7 @@ impl Split<ClaimView> for Anew {
     ghost right = { λ v. new_view };
 }
 
-/// The lists of one seat and those of another, which is spent.
+/// Joins the lists of two seats, the second of which is spent.
 pub struct Both;
 
 impl Join<ClaimView> for Both {

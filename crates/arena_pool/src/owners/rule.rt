@@ -1,9 +1,9 @@
-// What an owner knows, and the rule of two owners: those of the claims on two words, and where the arena is.
+// What an owner knows, and the rule of two owners: the rule of claims on two words, and where the arena is.
 use crate::claims::rule::ClaimView;
 use atomic_table::{Play, Split, TableRule};
 
-/// What an owner knows: its lists of words, what is shared, and how far the table is made (3: there are two owners).
-/// Contracts alone have values of it.
+/// What an owner knows: its lists of words, what is shared, and the stage of the table's setup (3: there are two
+/// owners). Values of it exist in contracts alone.
 pub struct OwnerView<X> {
     pub lists: ClaimView,
     pub shared: X,
@@ -21,7 +21,7 @@ impl<X> TableRule<Option<X>, OwnerView<X>, X> for OwnerRule {
     ghost first = { λ a. owner_view a 0 };
 }
 
-/// While the table is made: the empty slot is taken.
+/// During setup: takes the empty slot.
 pub struct Take;
 
 impl<X> Play<Option<X>, OwnerView<X>> for Take {
@@ -30,7 +30,7 @@ impl<X> Play<Option<X>, OwnerView<X>> for Take {
     ghost then = { Took };
 }
 
-/// While the table is made: the full slot is given.
+/// During setup: gives the full slot back.
 pub struct Give;
 
 impl<X> Play<Option<X>, OwnerView<X>> for Give {
@@ -66,7 +66,7 @@ impl<X> Play<Option<X>, OwnerView<X>> for Look {
     ghost then = { Looked };
 }
 
-/// Two owners, where there was one seat.
+/// Splits the one seat into two owners.
 pub struct Two;
 
 impl<X> Split<OwnerView<X>> for Two {

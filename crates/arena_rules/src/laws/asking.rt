@@ -1,10 +1,11 @@
-// What calls ask for, one after another, and why they are refused.
+// What consecutive calls ask for, and why they are refused.
 ghost use Rattle.std.specs.Prelude.{◌≡◌, ℕ, ◌+◌, ◌^◌, ◌≤◌, true};
 ghost use Rattle.arena_rules.specs.State.{State, top_of};
 ghost use Rattle.arena_rules.specs.Source.{Source};
 ghost use Rattle.arena_rules.specs.Asking.{HasGrown, AsksWithin, IsRefusedBySource, IsStarved};
 
-/// What no call asks for, and what calls ask for one after another. Within some bytes is within more.
+/// Without a call nothing is asked for. What stays within a number of bytes stays within a larger one, and two calls
+/// within a bound are together within it.
 pub fn asked_together()
     ensures nothing { (bytes : ℕ) (state : State) (source : Source) → AsksWithin bytes state state source source }
     ensures more { (few many : ℕ) (old new : State) (before after : Source) → few ≤ many
@@ -14,8 +15,9 @@ pub fn asked_together()
         → AsksWithin bytes old new before after }
 {}
 
-/// A call that its source refused, unless its newest data end lay past some address, is starved. So it is from a lesser
-/// address on. After other calls the address is less by 2^61, and the source refused in all of them together.
+/// A call is starved if its source refused whenever the newest data end was at or below `far`. A starved call is also
+/// starved for any lower limit. With earlier calls counted in, the limit is lower by 2^61, and a refusal in the last
+/// call is one of all of them together.
 pub fn starved_together()
     ensures by { (far : ℕ) (old new : State) (before after : Source) → old.is_growing ≡ true
         → (top_of old.chunks ≤ far → IsRefusedBySource before after) → IsStarved far old new before after }

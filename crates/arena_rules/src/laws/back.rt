@@ -5,8 +5,8 @@ ghost use Rattle.arena_rules.specs.Doubling.{IsDoubling};
 ghost use Rattle.arena_rules.specs.Moves.{Outcome, Resizing, alloc, resize, dealloc};
 ghost use Rattle.arena_rules.specs.Back.{Point, mark_of, back, accepts, KeepsMark};
 
-/// To go back to a mark that is accepted leads from a valid state to a valid one, in which nothing is in use that wasn't.
-/// Chunks go on to double. A valid state accepts its own mark, and to go back to it at once changes nothing.
+/// Going back to an accepted mark takes a valid state to a valid one, and brings nothing into use. Chunks that double
+/// still do. A valid state accepts its own mark, and going back to it at once changes nothing.
 pub fn sent_back()
     ensures valid { (mark : Point) (state : State) → IsValid state → IsTrue (accepts mark state)
         → IsValid (back mark state) }
@@ -23,8 +23,8 @@ pub fn sent_back()
     ensures at_once { (state : State) → back (mark_of state) state ≡ state }
 {}
 
-/// No call ends a mark but a reset and a way back to an older one: a mark that is accepted still is, and what a call leaves in
-/// use lies in its part, if it did before.
+/// An accepted mark is kept by every allocation, resize and deallocation, and by going back to a mark with at least as
+/// many chunks: it is still accepted, and what is in use before and after the call stays in its part, if it was there.
 pub fn kept_marks()
     ensures alloc { (mark : Point) (state : State) (size align k : ℕ) (outcome : Outcome)
         → IsTrue (accepts mark state) → alloc state size align k ≡ Some outcome

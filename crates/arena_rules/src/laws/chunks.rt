@@ -7,11 +7,11 @@ ghost use Rattle.arena_rules.specs.Blocks.{growing_block, grow_block, shrinking_
 ghost use Rattle.arena_rules.specs.Doubling.{IsDoubling, oldest_size, first_entry, is_made_first, is_resize_made_first};
 ghost use Rattle.arena_rules.specs.declared.place.Place.{Place};
 
-/// Chunks that double have z · (2 ^ n − 1) bytes or more, where they are n and each has z at least, or the oldest has z.
-/// Half of all bytes or more lie in the newest chunk, so a reset keeps half of them or more.
+/// `n` chunks that double have at least z · (2 ^ n − 1) bytes, where z is the least size of a chunk, or the size of the
+/// oldest one. The newest chunk has at least half of all bytes, so a reset keeps at least half.
 ///
-/// The possible chunk for the first size that is tried is the first one that a growing arena asks for. Chunks go on to
-/// double through an allocation where the chunk that is made is that one, and was granted at once.
+/// The chunk for the first size that is tried, if it is possible, is the first one that a growing arena asks for.
+/// Chunks still double after an allocation that makes no chunk, or whose chunk is that one and was granted at once.
 pub fn doubling()
     ensures sum { (z : ℕ) (state : State) → IsDoubling z state.chunks
         → z * (2 ^ length state.chunks - 1) ≤ allocated_bytes state }
@@ -32,8 +32,8 @@ pub fn doubling()
         → IsDoubling z outcome.state.chunks }
 {}
 
-/// Chunks go on to double through a move of one block, where a block that is placed again makes no chunk or makes it at
-/// the first size that is tried. A block that is given back and a cursor that is set make none.
+/// Chunks still double after a block is resized, if the call makes no chunk or makes it at the first size that is
+/// tried. Giving a block back and setting a cursor make no chunk.
 pub fn doubling_moves()
     ensures by_resize { (z : ℕ) (way : Resizing) (state : State) (p size align k : ℕ) (outcome : Outcome)
         → z ≤ 16320 → IsDoubling z state.chunks → resize way state p size align k ≡ Some outcome

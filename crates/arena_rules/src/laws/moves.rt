@@ -9,8 +9,8 @@ ghost use Rattle.arena_rules.specs.Blocks.{IsNewBlock, IsMovedBlock, IsBlock, Li
 ghost use Rattle.arena_rules.specs.State.{is_place_used};
 ghost use Rattle.arena_rules.specs.declared.place.Place.{Place};
 
-/// An allocation has a step for each number of refusals that can occur, and for no other: for none where there is a
-/// place, and else for up to as many as there are chunks to ask for, which are 64 at most.
+/// An allocation has a step for each number of refusals that can occur, and for no other: for 0 where there is a place,
+/// and otherwise for each number up to that of the chunks to ask for, which is at most 64.
 pub fn refusals()
     ensures in_place { (state : State) (size align p k : ℕ) → place state size align ≡ Some p
         → IsSome (alloc state size align k) ↔ (k ≡ 0) }
@@ -20,8 +20,8 @@ pub fn refusals()
     ensures most { (state : State) (size align : ℕ) → length (asked state size align) ≤ 64 }
 {}
 
-/// A block that is answered in a valid state is aligned, in use, and beside all that was in use, which still is. A
-/// call that fails leaves the state as it was.
+/// A block returned in a valid state is aligned, in use, and apart from everything that was in use, which stays in use.
+/// A call that fails leaves the state as it was.
 pub fn new_block()
     ensures placed { (state new : State) (size align k p : ℕ) → IsValid state → IsTrue (is_layout size align)
         → alloc state size align k ≡ Some (record { answer = Some p; state = new })
@@ -31,9 +31,9 @@ pub fn new_block()
         → new ≡ state }
 {}
 
-/// Every move leads from a valid state to a valid one. Of a block that is given back or shrinks it is asked that it
-/// is in use or empty, of one that grows nothing, and of a cursor that is set that it is a multiple of the least
-/// alignment in the newest chunk.
+/// Every move takes a valid state to a valid one. A block that is given back or shrunk must be in use or empty; a block
+/// that grows has no precondition. A cursor that is set must be in the newest chunk, at a multiple of the least
+/// alignment.
 pub fn valid_moves()
     ensures by_alloc { (state : State) (size align k : ℕ) (outcome : Outcome) → IsValid state
         → IsTrue (is_layout size align) → alloc state size align k ≡ Some outcome
@@ -53,8 +53,9 @@ pub fn valid_moves()
         → IsValid (set_cursor p state) }
 {}
 
-/// A block that shrinks or grows is answered in place of the old one: aligned and in use, while all that was in use
-/// beside the old block still is, and lies beside the new one. A call that fails leaves the state as it was.
+/// A block that shrinks or grows is returned in place of the old one: aligned and in use. Everything else that was in
+/// use, apart from the old block, stays in use and is apart from the new one. A call that fails leaves the state as it
+/// was.
 pub fn moved_block()
     ensures shrunk { (state new : State) (block : Place) (size align k p : ℕ) → IsValid state
         → IsBlock state block → size ≤ block.size → IsTrue (is_layout size align)
@@ -74,9 +75,9 @@ pub fn moved_block()
         → new ≡ state }
 {}
 
-/// To give a block back moves the cursor, if the block lies there, and nothing else. What is in use apart from the
-/// block and the addresses up to the next multiple of the least alignment stays in use, and nothing comes into use.
-/// An empty block leaves no trace.
+/// Giving a block back moves the cursor if the block is at it, and changes nothing else. Whatever is in use apart from
+/// the padded block (its end rounded up to the least alignment) stays in use, and nothing comes into use. Giving back
+/// an empty block changes nothing.
 pub fn given_back()
     ensures min_align { (state : State) (p size : ℕ) → (dealloc state p size).min_align ≡ state.min_align }
     ensures is_growing { (state : State) (p size : ℕ) → (dealloc state p size).is_growing ≡ state.is_growing }
@@ -92,8 +93,8 @@ pub fn given_back()
         → IsTrue (is_range_used state.chunks addr n) }
 {}
 
-/// An arena begins in a valid state: one that grows with no chunk, or with one that has room for so many bytes, and one
-/// that doesn't with one chunk at 4096.
+/// A new arena is in a valid state: a growing one without a chunk or with one chunk of the given capacity, and a fixed
+/// one with one chunk at 4096.
 pub fn first_states()
     ensures growing { (m : ℕ) → IsTrue (is_min_align m) → IsValid (empty_state m) }
     ensures with_capacity { (m capacity k : ℕ) (state : State) → IsTrue (is_min_align m)
@@ -103,8 +104,7 @@ pub fn first_states()
         → IsValid (fixed_state m size) }
 {}
 
-/// To give back all blocks at once leaves nothing in use, keeps the newest chunk alone, and counts as a new generation
-/// as long as numbers last.
+/// A reset leaves nothing in use, keeps the newest chunk alone, and adds 1 to the generation if it is below 2 ^ 64 − 1.
 pub fn all_given_back()
     ensures min_align { (state : State) → (reset state).min_align ≡ state.min_align }
     ensures is_growing { (state : State) → (reset state).is_growing ≡ state.is_growing }

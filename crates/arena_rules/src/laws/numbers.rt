@@ -23,8 +23,8 @@ pub fn powers()
     ensures least { (n p : ℕ) → n ≤ 2 ^ 64 → IsPowerOfTwo p → n ≤ p → power_at_least n ≤ p }
 {}
 
-/// A size of 64 bits that is tried is followed by its half, until one is below the least size: no size is left out
-/// for want of turns.
+/// The sizes that are tried start with a 64-bit number, and each is followed by its half, until one is below the least
+/// size: the limit of 64 sizes cuts none off.
 pub fn tried_sizes()
     ensures goes_on { (n least : ℕ) → n < 2 ^ 64 → 0 < least → least ≤ n
         → halves 64 n least ≡ n ∷ halves 64 (n / 2) least }

@@ -1,4 +1,4 @@
-// How many bytes of the chunks are used after a block was given another size.
+// How many bytes of the chunks are used after a block was resized.
 ghost use Rattle.std.specs.Prelude.{◌≡◌, ◌≢◌, ℕ, ◌+◌, ◌-◌, ◌*◌, ◌%◌, ◌≤◌, IsTrue};
 ghost use Rattle.arena_rules.specs.State.{State, IsValid, used_bytes, is_place_used};
 ghost use Rattle.arena_rules.specs.Moves.{Outcome, alloc, growth};
@@ -7,8 +7,8 @@ ghost use Rattle.arena_rules.specs.Blocks.{growing_block, grow_block, shrinking_
 ghost use Rattle.arena_rules.specs.Used.{taken, unit_of, GrowsTo, ShrinksTo};
 ghost use Rattle.arena_rules.specs.declared.place.Place.{Place};
 
-/// A block that grows where it is moves down, and so many more bytes are used. One that doesn't is allocated again, or
-/// refused with as many bytes used as before.
+/// A block that grows in place moves down, and the used bytes rise by that distance. Otherwise the block is allocated
+/// again, or the call is refused and the number of used bytes doesn't change.
 pub fn used_by_grow()
     ensures grown { (state : State) (block : Place) (size align k q : ℕ) (outcome : Outcome) → IsValid state
         → GrowsTo state block size align q → grow_block state block size align k ≡ Some outcome
@@ -23,10 +23,11 @@ pub fn used_by_grow()
         → growing_block state block size align ≢ Stays }
 {}
 
-/// How far a block that grows moves down: by what it needs below it, and what aligns its place. That is what it grows by,
-/// or more: less than the least alignment for its end, and less than a unit for its place, where the unit is the greater
-/// of its alignment and the least one. It is no more if the block is aligned, its new size is a multiple of the least
-/// alignment, and it grows by whole units.
+/// How far a block that grows in place moves down: by what it needs below it, plus the bytes that align its new place.
+/// The distance is at least the difference of the sizes. It is larger by less than the least alignment (for the end of
+/// the block) plus less than a unit (for its place), where the unit is the greater of the block's alignment and the
+/// least one. It is no larger if the block is aligned, its new size is a multiple of the least alignment, and it grows
+/// by whole units.
 pub fn moved_down()
     ensures takes { (state : State) (block : Place) (size align q : ℕ) → IsValid state
         → GrowsTo state block size align q
@@ -50,8 +51,8 @@ pub fn moved_down()
         → block.addr - q ≡ size - block.size }
 {}
 
-/// A block in use, or an empty one, that shrinks where it is moves up, and so many fewer bytes are used. One that doesn't
-/// stays with as many bytes used as before, or is allocated again.
+/// A block that shrinks in place, and is in use or empty, moves up, and the used bytes fall by that distance. Otherwise
+/// it stays and the number of used bytes doesn't change, or it is allocated again.
 pub fn used_by_shrink()
     ensures shrunk { (state : State) (block : Place) (size align k q : ℕ) (outcome : Outcome) → IsValid state
         → IsTrue (is_place_used state block) → ShrinksTo state block size align q
@@ -68,8 +69,9 @@ pub fn used_by_shrink()
         → shrinking_block state block size align ≢ Refused }
 {}
 
-/// How far a block that shrinks moves up: by half of it or more. That is what it shrinks by, or less than a unit less,
-/// where the unit is the greater of its new alignment and the least one. It is no less if it shrinks by whole units.
+/// How far a block that shrinks in place moves up: by at least half of its size. The distance is at most the difference
+/// of the sizes, and smaller by less than a unit, where the unit is the greater of the new alignment and the least one.
+/// It is no smaller if the block shrinks by whole units.
 pub fn moved_up()
     ensures higher { (state : State) (block : Place) (size align q : ℕ) → ShrinksTo state block size align q
         → block.addr ≤ q }

@@ -1,4 +1,4 @@
-// How many bytes of the chunks are used after each move, and where they lie.
+// How many bytes of the chunks are used after each move, and which addresses are in use.
 ghost use Rattle.std.specs.Prelude.{◌≡◌, ◌≢◌, ℕ, ◌+◌, ◌-◌, ◌%◌, ◌^◌, ◌<◌, ◌≤◌, IsTrue};
 ghost use Rattle.arena_rules.specs.Rounding.{is_layout};
 ghost use Rattle.arena_rules.specs.State.{State, IsValid, start_of, cursor_of, top_of, used_bytes, allocated_bytes, is_range_used};
@@ -10,8 +10,8 @@ ghost use Rattle.arena_rules.specs.Blocks.{padded_size};
 ghost use Rattle.arena_rules.specs.Used.{taken, unit_of, placed_below};
 ghost use Rattle.arena_rules.specs.declared.place.Place.{Place};
 
-/// A size takes itself below a cursor, and less than a unit more, to reach a multiple of the unit. From a multiple a whole
-/// number of units takes no more than itself.
+/// Below a cursor, a size takes at least itself, and less than a unit more, to reach a multiple of the unit. From a
+/// multiple, a whole number of units takes exactly its size.
 pub fn taken_bytes()
     ensures least { (cursor size unit : ℕ) → size ≤ cursor → size ≤ taken cursor size unit }
     ensures most { (cursor size unit : ℕ) → 0 < unit → size ≤ cursor
@@ -21,9 +21,9 @@ pub fn taken_bytes()
 {}
 
 /// A new block takes its size below the cursor, or below the data end of a new chunk, and less than a unit more: the
-/// greater of its alignment and the least one. It takes no more than its size if that is a whole number of units, and
-/// the cursor is a multiple of the unit, or the chunk is new and the alignment 16 at most. A call that fails leaves as
-/// many bytes used as before.
+/// greater of its alignment and the least one. It takes exactly its size if that is a whole number of units, and the
+/// cursor is a multiple of the unit, or the chunk is new and the alignment at most 16. A call that fails doesn't change
+/// the number of used bytes.
 pub fn used_by_alloc()
     ensures takes { (state new : State) (size align k p : ℕ) → IsValid state → IsTrue (is_layout size align)
         → alloc state size align k ≡ Some (record { answer = Some p; state = new })
@@ -50,9 +50,9 @@ pub fn used_by_alloc()
         → used_bytes new ≡ used_bytes state }
 {}
 
-/// A block at the cursor that is given back leaves so many fewer bytes used as it has up to the next multiple of the
-/// least alignment: its size, and less than the least alignment more. Any other leaves as many as before. Where the
-/// cursor is set higher, so many fewer bytes are used, and where it is set lower, so many more.
+/// A block at the cursor that is given back frees its size up to the next multiple of the least alignment: its size,
+/// and less than the least alignment more. Any other frees nothing. Setting the cursor higher lowers the number of used
+/// bytes by the distance, and setting it lower raises it.
 pub fn used_by_dealloc()
     ensures last { (state : State) (block : Place) → IsValid state → IsTrue (is_place_used state block)
         → block.addr ≡ cursor_of state.chunks
@@ -68,7 +68,7 @@ pub fn used_by_dealloc()
         → used_bytes (set_cursor p state) + p ≡ used_bytes state + cursor_of state.chunks }
 {}
 
-/// Addresses in use are 4096 and above, and end with the newest chunk's data or before. All lie below 2 ^ 64.
+/// Addresses in use are at least 4096, and end at or below the newest chunk's data end. All are below 2 ^ 64.
 pub fn used_addresses()
     ensures low { (state : State) (addr n : ℕ) → IsValid state → 0 < n
         → IsTrue (is_range_used state.chunks addr n)
@@ -89,7 +89,7 @@ pub fn unused_at_first()
     ensures fixed { (m size : ℕ) → used_bytes (fixed_state m size) ≡ 0 }
 {}
 
-/// No more bytes are used than the chunks have, and those lie between 4096 and the last address.
+/// The used bytes are at most those of the chunks, which are between 4096 and the last address.
 pub fn bytes_within()
     ensures used { (state : State) → IsValid state → used_bytes state ≤ allocated_bytes state }
     ensures allocated { (state : State) → IsValid state → allocated_bytes state + 4096 < 2 ^ 64 }

@@ -1,4 +1,4 @@
-// Values in an arena: byte forms, calls that place values, and what handles read and write.
+// Tests of values in an arena: byte forms, calls that place values, and reads and writes through handles.
 mod calls;
 mod forms;
 mod nested;

@@ -1,7 +1,7 @@
-// The example's callers over an arena in memory, and the bytes that calls take.
+// Tests of the callers of the examples over an arena in memory, and of the bytes that calls take.
 use super::{ample, layout, same};
 use arena_chunks::Bytes;
-use example_blocks::{Buffer, give_back, place_two, reverse_block};
+use example_blocks::{Buffer, place_two};
 use std::test::Fail;
 
 #[test]
@@ -9,11 +9,8 @@ fn blocks_hold_their_bytes(rt: HostRuntime) -> Result<(), Fail> {
     let mut a = ample(rt.alloc());
     let three = layout(&rt, 3, 1);
     let (one, other) = place_two(&mut a, three, &[1, 2, 3], &[4, 5, 6])?;
-    reverse_block(&mut a, other);
     same(&rt, a.read(one), [1, 2, 3].as_slice());
-    same(&rt, a.read(other), [6, 5, 4].as_slice());
-    give_back(&mut a, other);
-    same(&rt, a.used_bytes(), 3);
+    same(&rt, a.read(other), [4, 5, 6].as_slice());
     Ok(())
 }
 
@@ -24,12 +21,10 @@ fn buffers_and_bytes_grow(rt: HostRuntime) -> Result<(), Fail> {
     buffer.push(&mut a, 7)?;
     buffer.push(&mut a, 8)?;
     same(&rt, buffer.bytes(&a), [7, 8].as_slice());
-    same(&rt, buffer.block.size, 8);
     let mut bytes = Bytes::of(rt.alloc(), &[1, 2])?;
     bytes.push(3)?;
     same(&rt, bytes.as_slice(), [1, 2, 3].as_slice());
     let again = Bytes::from_vec(rt.alloc(), vec![in rt.alloc(); 1, 2, 3]?)?;
     same(&rt, again.as_slice(), [1, 2, 3].as_slice());
-    same(&rt, again.len(), 3);
     Ok(())
 }

@@ -1,11 +1,11 @@
-// Regions with ample memory: of zeros, of a copy, and of a vector that has room for more.
+// Tests of regions with ample memory: of zeros, of a copy, and of a vector with spare capacity.
 use super::{must, same};
 use arena_region::Region;
 use example_blocks::put_last;
 use std::process::Abort;
 use std::test::Fail;
 
-// A region of two bytes, ready from there on, the last of which is written.
+// Checks that a region of two bytes is ready from `low` on, and that its last byte can be written.
 fn ends(rt: &impl Abort, region: Region, low: usize) {
     let mut region = region;
     must(rt, low, region.len() == 2);

@@ -1,6 +1,5 @@
-// An arena on which steps are taken.
-ghost use Rattle.std.specs.Prelude.{◌+◌, ◌≤◌, IsTrue};
-ghost use Rattle.arena_rules.specs.State.{start_of};
+// An arena on which the steps of a table are taken.
+ghost use Rattle.std.specs.Prelude.{IsTrue};
 ghost use Rattle.arena_chunks.specs.Memory.{is_readable};
 
 use super::steps::{Answer, Step};
@@ -9,7 +8,7 @@ use arena_chunks::{Arena, ArenaErr, Block, Checkpoint, RefusingChunks};
 use std::alloc::Global;
 use std::process::Abort;
 
-// How a block gets another size.
+// How a block is resized.
 #[derive(Clone, Copy)]
 enum Way {
     Grow,
@@ -17,15 +16,14 @@ enum Way {
     Shrink,
 }
 
-// An arena, its source, the blocks that it answered, and the marks that were set.
+// An arena, its source, and the blocks that it returned.
 #[derive(Drop)]
 pub(super) struct Stage<const M: usize> {
-    // The name of the case and the step that is taken, for messages.
+    // The name of the case and the number of the step, for messages.
     at: (&'static str, u64),
     arena: Arena<M>,
     chunks: RefusingChunks,
     blocks: Vec<Block>,
-    marks: Vec<Checkpoint>,
 }
 
 impl<const M: usize> Stage<M> {
@@ -40,7 +38,6 @@ impl<const M: usize> Stage<M> {
             arena,
             chunks,
             blocks: Vec::new(alloc),
-            marks: Vec::new(alloc),
         }
     }
 
@@ -50,20 +47,19 @@ impl<const M: usize> Stage<M> {
         }
     }
 
-    // Takes a step. Here are those of many bytes.
+    // Takes a step.
     pub(super) fn take(&mut self, rt: &impl Abort, step: &Step) {
         self.at.1 = self.at.1.wrapping_add(1);
         match *step {
-            Step::Write(n, from, bytes) => self.write(rt, n, from, bytes),
-            Step::Lend(n, lent, written) => self.lend(rt, n, lent, written),
-            Step::Move(n, from, to, size) => self.move_within(rt, n, from, to, size),
-            Step::Copy(n, from, m, to, size) => self.copy_between(rt, (n, from), (m, to), size),
+            Step::Write(n, bytes) => self.write(rt, n, bytes),
+            Step::Dealloc(n) => self.dealloc(rt, n),
+            Step::Reset => self.arena.reset(),
             Step::Walk(chunks) => self.walks(rt, chunks),
             _ => self.places(rt, step),
         }
     }
 
-    // The steps that are answered a block.
+    // The steps that return a block.
     fn places(&mut self, rt: &impl Abort, step: &Step) {
         match *step {
             Step::Alloc(size, align, wanted) => self.alloc(rt, size, align, wanted),
@@ -77,36 +73,18 @@ impl<const M: usize> Stage<M> {
                 self.resize(rt, Way::Shrink, n, (size, align), wanted)
             }
             Step::Realloc(n, size, wanted) => self.realloc(rt, n, size, wanted),
-            _ => self.takes_back(rt, step),
-        }
-    }
-
-    // The steps after which fewer blocks are held, and marks.
-    fn takes_back(&mut self, rt: &impl Abort, step: &Step) {
-        match *step {
-            Step::Dealloc(n) => self.dealloc(rt, n),
-            Step::Reset => self.arena.reset(),
-            Step::SetCursor(addr) => self.set_cursor(rt, addr),
-            Step::Mark => self.mark(rt),
-            Step::Back(k) => self.back(rt, k),
             _ => self.shows(rt, step),
         }
     }
 
-    // The steps that change nothing.
+    // The steps that check bytes, requests, and whether a block is held or a mark is accepted.
     fn shows(&self, rt: &impl Abort, step: &Step) {
         match *step {
-            Step::Read(n, wanted) => same_at(rt, self.at, self.bytes(rt, n), wanted),
-            Step::Begins(n, wanted) => must(rt, self.at, self.bytes(rt, n).starts_with(wanted)),
+            Step::Read(n, wanted) => {
+                let block = self.held(rt, n);
+                same_at(rt, self.at, self.arena.read(block), wanted);
+            }
             Step::Requests(wanted) => same_at(rt, self.at, self.chunks.requests(), Some(wanted)),
-            _ => self.knows(rt, step),
-        }
-    }
-
-    // The steps that ask whether a block is held or a mark accepted.
-    fn knows(&self, rt: &impl Abort, step: &Step) {
-        let (found, wanted) = match *step {
-            Step::Held(n, wanted) => (self.arena.is_held_place(self.block(rt, n)), wanted),
             Step::HeldAt(generation, addr, size, wanted) => {
                 let block = Block {
                     generation,
@@ -114,31 +92,26 @@ impl<const M: usize> Stage<M> {
                     size,
                     align: 1,
                 };
-                (self.arena.is_held_place(block), wanted)
+                same_at(rt, self.at, self.arena.is_held_place(block), wanted);
             }
-            Step::Accepts(k, wanted) => (self.arena.accepts(self.marked(rt, k)), wanted),
             Step::AcceptsAt(generation, chunks, addr, wanted) => {
                 let mark = Checkpoint {
                     generation,
                     chunks,
                     addr,
                 };
-                (self.arena.accepts(mark), wanted)
+                same_at(rt, self.at, self.arena.accepts(mark), wanted);
             }
-            _ => return self.tells(rt, step),
-        };
-        same_at(rt, self.at, found, wanted);
+            _ => self.tells(rt, step),
+        }
     }
 
-    // The steps that ask the arena for a number or two.
+    // The steps that check one or two numbers of the arena.
     fn tells(&self, rt: &impl Abort, step: &Step) {
         let (found, wanted) = match *step {
             Step::Used(wanted) => ((self.arena.used_bytes(), 0), (wanted, 0)),
             Step::Allocated(wanted) => ((self.arena.allocated_bytes(), 0), (wanted, 0)),
             Step::Capacity(wanted) => ((self.arena.chunk_capacity(), 0), (wanted, 0)),
-            Step::Ends(data_end, end) => {
-                ((self.arena.data_end(), self.arena.end()), (data_end, end))
-            }
             Step::Statistics(placed, resized) => {
                 (self.arena.get_allocation_stats(), (placed, resized))
             }
@@ -147,34 +120,17 @@ impl<const M: usize> Stage<M> {
         same_at(rt, self.at, found, wanted);
     }
 
-    // The block of this number.
-    fn block(&self, rt: &impl Abort, n: usize) -> Block {
-        must(rt, self.at, n < self.blocks.len());
-        self.blocks[n]
-    }
-
-    // The block of this number, which must be held.
+    // Returns the block with this number. The test fails if it isn't held.
     fn held(&self, rt: &impl Abort, n: usize) -> Block
         ensures { IsTrue (is_readable self.now.arena.state result) }
     {
-        let block = self.block(rt, n);
+        must(rt, self.at, n < self.blocks.len());
+        let block = self.blocks[n];
         must(rt, self.at, self.arena.is_held_place(block));
         block
     }
 
-    // The bytes of this block.
-    fn bytes(&self, rt: &impl Abort, n: usize) -> &[u8] {
-        let block = self.held(rt, n);
-        self.arena.read(block)
-    }
-
-    // The mark of this number.
-    fn marked(&self, rt: &impl Abort, k: usize) -> Checkpoint {
-        must(rt, self.at, k < self.marks.len());
-        self.marks[k]
-    }
-
-    // The block, if one was answered, has this size and this alignment, and becomes the next of its number.
+    // Checks the size and the alignment of a returned block, and stores it under the next number.
     fn has_answered(
         &mut self,
         rt: &impl Abort,
@@ -237,74 +193,14 @@ impl<const M: usize> Stage<M> {
         self.arena.dealloc(block);
     }
 
-    // The arena must have a chunk that reaches to the address.
-    fn set_cursor(&mut self, rt: &impl Abort, addr: u64) {
-        let least = least_address(&self.arena);
-        let end = self.arena.data_end();
-        must(rt, self.at, end != 16);
-        must(rt, self.at, least <= addr);
-        must(rt, self.at, addr <= end);
-        must(rt, self.at, addr % self.arena.min_align() == 0);
-        self.arena.set_cursor(addr);
-    }
-
-    fn mark(&mut self, rt: &impl Abort) {
-        let mark = self.arena.checkpoint();
-        self.marks.push(mark).expect(rt, "memory");
-    }
-
-    fn back(&mut self, rt: &impl Abort, k: usize) {
-        let mark = self.marked(rt, k);
-        must(rt, self.at, self.arena.accepts(mark));
-        self.arena.rewind(mark);
-    }
-
-    // A block that is held, and of which this is a range.
-    fn part(&self, rt: &impl Abort, n: usize, from: u64, size: u64) -> Block
-        ensures readable { IsTrue (is_readable self.now.arena.state result) }
-        ensures range { from + size ≤ result.size }
-    {
+    // Writes the first bytes of a block.
+    fn write(&mut self, rt: &impl Abort, n: usize, bytes: &[u8]) {
         let block = self.held(rt, n);
-        must(rt, self.at, from <= block.size);
-        must(rt, self.at, size <= block.size - from);
-        block
+        must(rt, self.at, bytes.len() as u64 <= block.size);
+        self.arena.write(block, 0, bytes);
     }
 
-    fn write(&mut self, rt: &impl Abort, n: usize, from: u64, bytes: &[u8]) {
-        let block = self.part(rt, n, from, bytes.len() as u64);
-        self.arena.write(block, from, bytes);
-    }
-
-    fn lend(&mut self, rt: &impl Abort, n: usize, lent: &[u8], written: &[u8]) {
-        let at = self.at;
-        let block = self.held(rt, n);
-        let place = self.arena.read_mut(block);
-        must(rt, at, *place == *lent);
-        must(rt, at, place.len() == written.len());
-        place.copy_from_slice(written);
-    }
-
-    fn move_within(&mut self, rt: &impl Abort, n: usize, from: u64, to: u64, size: u64) {
-        let block = self.part(rt, n, from, size);
-        must(rt, self.at, to <= block.size);
-        must(rt, self.at, size <= block.size - to);
-        self.arena.move_within(block, from, to, size);
-    }
-
-    // Each end is a block and an index.
-    fn copy_between(
-        &mut self,
-        rt: &impl Abort,
-        (n, from): (usize, u64),
-        (m, to): (usize, u64),
-        size: u64,
-    ) {
-        let source = self.part(rt, n, from, size);
-        let target = self.part(rt, m, to, size);
-        self.arena.copy_between(source, from, target, to, size);
-    }
-
-    // Both walks give these used parts, and nothing afterwards, however often they are asked.
+    // Both walks yield these used parts, and then `None` each time.
     fn walks(&mut self, rt: &impl Abort, chunks: &[(u64, usize, Option<u8>)]) {
         let at = self.at;
         let mut ranges = self.arena.iter_allocated_chunks_raw();
@@ -319,13 +215,4 @@ impl<const M: usize> Stage<M> {
         }
         same_at(rt, at, (parts.next(), parts.next()), (None, None));
     }
-}
-
-// An address at which the newest chunk has begun.
-#[tactic(auto, using(arena_rules::proofs::CursorLemmas::cursor_within))]
-fn least_address<const M: usize>(arena: &Arena<M>) -> u64
-    ensures { start_of arena.now.state.chunks ≤ result }
-{
-    let _valid = arena.used_bytes();
-    arena.data_end() - arena.chunk_capacity()
 }

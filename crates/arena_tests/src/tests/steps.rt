@@ -1,4 +1,4 @@
-// Tables of calls on an arena, each with what it must answer.
+// Tables of calls on an arena, each with its expected result.
 ghost use Rattle.std.specs.Prelude.{IsTrue};
 ghost use Rattle.arena_rules.specs.State.{is_min_align};
 
@@ -8,16 +8,16 @@ use arena_chunks::Arena;
 use std::alloc::Global;
 use std::process::Abort;
 
-// The address of the block that is answered, or how many requests were refused.
+// The address of the returned block, or the number of refused requests.
 pub(super) type Answer = Result<u64, u32>;
 
-// One call. Blocks are named by their numbers: the first block that was answered in a case is 0.
+// One call. Blocks are named by their numbers: the first block that is returned in a case is 0.
 pub(super) enum Step {
-    // A case begins, which has this name, on a new arena. Its source refuses the requests of these numbers.
+    // Begins a case with this name, on a new arena. Its source refuses the requests with these numbers.
     Case(&'static str, &'static [u64]),
     // A size and an alignment.
     Alloc(u64, u64, Answer),
-    // A block, and the size and the alignment that it is to have.
+    // A block, and its new size and alignment.
     Grow(usize, u64, u64, Answer),
     GrowZeroed(usize, u64, u64, Answer),
     Shrink(usize, u64, u64, Answer),
@@ -25,36 +25,19 @@ pub(super) enum Step {
     Realloc(usize, u64, Answer),
     Dealloc(usize),
     Reset,
-    // An address to which the newest cursor is moved.
-    SetCursor(u64),
-    // A mark of the present state: the first is 0. Then the arena goes back to one.
-    Mark,
-    Back(usize),
-    // A block, the index of its first byte that changes, and the bytes.
-    Write(usize, u64, &'static [u8]),
-    // A block, the bytes of it that are lent, and those that are written there.
-    Lend(usize, &'static [u8], &'static [u8]),
-    // A block, from which index, to which, and how many bytes.
-    Move(usize, u64, u64, u64),
-    // A block, from which index, to which block and index, and how many bytes.
-    Copy(usize, u64, usize, u64, u64),
-    // A block with all its bytes, or with its first ones.
+    // A block, and the bytes that are written to its first ones.
+    Write(usize, &'static [u8]),
+    // A block, and all its bytes.
     Read(usize, &'static [u8]),
-    Begins(usize, &'static [u8]),
-    // Whether the block is held.
-    Held(usize, bool),
     // A generation, an address, a size, and whether such a block is held.
     HeldAt(u64, u64, u64, bool),
-    // Whether a mark is accepted; and one of this generation, of so many chunks, and of this cursor.
-    Accepts(usize, bool),
+    // Whether a mark with this generation, number of chunks and cursor is accepted.
     AcceptsAt(u64, u64, u64, bool),
-    // How many bytes are used in all chunks, how many these have, and how many are unused in the newest.
+    // The bytes in use in all chunks, the bytes of all chunks, and the unused bytes of the newest one.
     Used(u64),
     Allocated(u64),
     Capacity(u64),
-    // The data end of the newest chunk, and where a further chunk may begin.
-    Ends(u64, u64),
-    // How many blocks were placed, and how many grown or shrunk.
+    // The number of blocks that were placed, and the number that were grown or shrunk.
     Statistics(u64, u64),
     // The used part of each chunk, newest first: its address, its size, and its first byte.
     Walk(&'static [(u64, usize, Option<u8>)]),
@@ -62,7 +45,7 @@ pub(super) enum Step {
     Requests(&'static [(u64, u64)]),
 }
 
-// A new arena, for a case of this name.
+// Returns a new arena for the case with this name.
 fn begun<const M: usize>(
     rt: &impl Abort,
     alloc: Global,

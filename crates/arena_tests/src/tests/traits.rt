@@ -1,4 +1,4 @@
-// The traits of blocks, each over a new allocator.
+// Tests of the traits of blocks, each over a new allocator.
 use super::{ample, has, held, layout, must, placed, reads, same};
 use arena_chunks::bumpalo_alloc::{Alloc as BumpaloAlloc, CannotReallocInPlace, Excess};
 use arena_chunks::{Alloc, Allocator, ArenaErr, BlockAlloc, MemoryChunks};
@@ -43,11 +43,6 @@ fn the_trait_of_the_fork(rt: HostRuntime) {
     a.write(block, 0, &[7; 10]);
     same(&rt, a.grow_in_place(block, 11), Err(CannotReallocInPlace));
     same(&rt, a.shrink_in_place(block, 9), Err(CannotReallocInPlace));
-    same(
-        &rt,
-        CannotReallocInPlace.description(),
-        "cannot reallocate allocator's memory in place",
-    );
     let block = placed(&rt, "alloc_excess", &a, Ok(block), 20406);
     let Excess(block, size) = a.realloc_excess(block, 11).expect(&rt, "a block");
     same(&rt, size, 11);
@@ -59,15 +54,8 @@ fn the_trait_of_the_fork(rt: HostRuntime) {
     reads(&rt, "alloc_zeroed", &a, zeros, &[0; 10]);
 }
 
-// The size and the alignment of elements, and their number: arrays of no bytes, and arrays that are too large.
-const NO_ARRAYS: &[(u64, u64, u64)] = &[
-    (0, 1, 1),
-    (0, 1, 10),
-    (4, 4, 0),
-    (1, 1, 1 << 63),
-    (1 << 32, 1, 1 << 32),
-    (16, 16, 1 << 59),
-];
+// The size, the alignment and the number of elements: arrays without bytes, and arrays that are too large.
+const NO_ARRAYS: &[(u64, u64, u64)] = &[(4, 4, 0), (1 << 32, 1, 1 << 32), (16, 16, 1 << 59)];
 
 #[test]
 fn elements_and_arrays_of_no_bytes(rt: HostRuntime) {
@@ -77,10 +65,9 @@ fn elements_and_arrays_of_no_bytes(rt: HostRuntime) {
         let array = a.alloc_array(layout(&rt, size, align), n);
         same(&rt, array, Err(REFUSED));
     }
-    same(&rt, a.capacity(), 0);
 }
 
-// An array grows and is given back.
+// Places an array, grows it and gives it back.
 fn arrays(rt: &impl Abort, a: &mut Allocator<MemoryChunks>, byte: Layout) {
     let ten = a.alloc_array(byte, 10);
     let ten = placed(rt, "alloc_array", a, ten, 20405);

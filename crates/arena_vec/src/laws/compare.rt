@@ -11,19 +11,19 @@ ghost use Rattle.arena_vec.specs.Comparing.{AreAlike};
 
 use std::hash::Hash;
 
-/// Equal vectors have as many values, and equal ones at each index. This equality is symmetric and transitive.
+/// Equal vectors have the same length, and equal values at each index. This equality is symmetric and transitive.
 pub fn partial_equality_law<T: PartialEq>()
     ensures places { (xs ys : List T) → (IsTrue (pointwise T.eq xs ys)) ↔ (AreAlike T.eq xs ys) }
     ensures partial { IsPartialEquivalence (pointwise T.eq) }
 {}
 
-/// Where each element is equal to itself, equality is an equivalence.
+/// If each element is equal to itself, equality is an equivalence.
 pub fn equality_law<T: Eq>()
     ensures { IsEquivalence (pointwise T.eq) }
 {}
 
-/// The order is lexicographic: the first index at which two vectors differ decides, and a vector comes before those that it
-/// begins. It is total, tells apart just what equality does, and is what the elements' `partial_cmp` gives.
+/// The order is lexicographic: the first index at which two vectors differ decides, and a proper prefix comes first. It
+/// is total, agrees with equality, and is what the elements' `partial_cmp` gives.
 pub fn order_law<T: Ord>()
     ensures first { (before front : List T) (x y : T) (xs ys : List T) → IsTrue (pointwise T.eq before front)
         → T.cmp x y ≢ Equal → slice_cmp T.cmp (before ++ x ∷ xs) (front ++ y ∷ ys) ≡ T.cmp x y }
@@ -35,7 +35,7 @@ pub fn order_law<T: Ord>()
         → slice_partial_cmp T.partial_cmp xs ys ≡ Some (slice_cmp T.cmp xs ys) }
 {}
 
-/// Equal vectors hash alike: a hasher is fed the same.
+/// Equal vectors have equal hashes: a hasher is fed the same.
 pub fn hash_law<T: Hash>()
     ensures { (xs ys : List T) → IsTrue (pointwise T.eq xs ys)
         → fed.slice T.hash_input xs ≡ fed.slice T.hash_input ys }

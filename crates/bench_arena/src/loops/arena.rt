@@ -5,7 +5,8 @@ use super::{Clock, Failed, Timed, new_allocator};
 use arena_chunks::{Alloc, Allocator, MemoryChunks};
 use arena_place::Layout;
 
-// How many blocks are placed, and how often a block of one byte is grown by one more, between two resets.
+// Between two resets: the number of blocks that are placed, and the number of bytes by which a block of one byte is
+// grown.
 const PLACED: u64 = 16384;
 
 const GROWN: u64 = 63;
@@ -16,7 +17,7 @@ pub(super) fn layout(size: u64, align: u64) -> Result<Layout, Failed>
     Layout::new(size, align).ok_or(Failed::NoPlace)
 }
 
-// Sizes 1 to 64 and alignments 1 to 8, in no order that can be foreseen.
+// Sizes 1 to 64 and alignments 1 to 8, in an unpredictable order.
 fn small_layouts() -> Result<[Layout; 64], Failed> {
     let mut layouts = [layout(1, 1)?; 64];
     for i in 0..64u64 {
@@ -25,7 +26,7 @@ fn small_layouts() -> Result<[Layout; 64], Failed> {
     Ok(layouts)
 }
 
-// Places so many blocks, and answers how many bytes are used.
+// Places blocks, and returns the number of bytes in use.
 fn place_round(
     a: &mut Allocator<MemoryChunks>,
     layouts: &[Layout; 64],
@@ -55,7 +56,7 @@ pub fn alloc_warm(
     clock.stop(rt, number)
 }
 
-// Places a byte, grows its block by one more at a time up to so many, and answers how many bytes are used.
+// Places a block of one byte, grows it one byte at a time, and returns the number of bytes in use.
 fn grow_round(a: &mut Allocator<MemoryChunks>, most: u64) -> Result<u64, Failed> {
     let mut block = a.alloc_layout(layout(1, 1)?)?;
     for size in 2..=most {
@@ -110,7 +111,7 @@ fn large_layouts() -> Result<[Layout; 3], Failed> {
     Ok([layout(1, 1)?, layout(16320, 1)?, layout(32640, 1)?])
 }
 
-// Places these, resets, and answers how many bytes there are then.
+// Places blocks with these layouts, resets, and returns the number of bytes that the chunks have after that.
 fn placed_and_reset(a: &mut Allocator<MemoryChunks>, layouts: &[Layout; 3]) -> Result<u64, Failed> {
     for layout in layouts {
         a.alloc_layout(*layout)?;

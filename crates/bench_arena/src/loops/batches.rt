@@ -1,11 +1,12 @@
-// Loops over a chunk that is reset before it is full.
+// Loops in a chunk that is reset before it is full.
 use super::{Clock, Failed, Timed};
 use arena_chunks::{Allocator, MemoryChunks};
 
-/// So many values are placed between two resets, in a chunk that holds them all.
+/// The number of values that are placed between two resets, in a chunk with room for all of them.
 pub const BATCH: u64 = 65_536;
 
-/// Places so many values by a call that places a number of them and adds up what it reads, and resets after each call.
+/// Places values through a closure that places a given number of them and adds up what it reads, and resets after
+/// each batch.
 pub fn batches<F: FnMut(&mut Allocator<MemoryChunks>, u64) -> Result<u64, Failed>>(
     rt: &HostRuntime,
     a: &mut Allocator<MemoryChunks>,

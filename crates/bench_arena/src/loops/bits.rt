@@ -11,7 +11,7 @@ use arena_items::laws::frame_law;
 // The capacity of sets that are joined.
 const JOINED: u64 = 4096;
 
-// Numbers below a limit, in scattered order.
+// The numbers below a limit, in a scattered order.
 #[derive(Clone, Copy)]
 struct Scattered {
     x: u64,
@@ -40,7 +40,7 @@ impl Scattered {
     }
 }
 
-// A set with every third number.
+// Returns a set with every third number.
 fn thirds(a: &mut Allocator<MemoryChunks>, capacity: u64) -> Result<BitSet, Failed>
     ensures { IfOk result (λ set. IsSetIn a.new.memory set × (set.capacity ≡ capacity)) }
 {
@@ -51,7 +51,7 @@ fn thirds(a: &mut Allocator<MemoryChunks>, capacity: u64) -> Result<BitSet, Fail
     Ok(set)
 }
 
-// How many numbers a set has.
+// Returns the number of elements of a set.
 fn count(a: &Allocator<MemoryChunks>, set: &BitSet) -> u64
     requires { IsSetIn a.now.memory set.now }
 {
@@ -76,7 +76,7 @@ fn set_scattered(
     })
 }
 
-/// Numbers put into a set, in scattered order.
+/// Numbers that are added to a set in a scattered order.
 pub fn bitset_set(rt: &HostRuntime, calls: u64) -> Result<Timed, Failed> {
     let mut a = new_allocator(rt);
     set_scattered(rt, &mut a, calls)
@@ -99,13 +99,13 @@ fn set_ascending(
     })
 }
 
-/// Numbers put into a set, ascending.
+/// Numbers that are added to a set in ascending order.
 pub fn bitset_set_ascending(rt: &HostRuntime, calls: u64) -> Result<Timed, Failed> {
     let mut a = new_allocator(rt);
     set_ascending(rt, &mut a, calls)
 }
 
-/// Numbers that are asked for, in scattered order. A third are there.
+/// Numbers that are looked up in a scattered order. A third are in the set.
 pub fn bitset_contains(
     rt: &HostRuntime,
     a: &mut Allocator<MemoryChunks>,
@@ -121,7 +121,7 @@ pub fn bitset_contains(
     clock.stop(rt, number)
 }
 
-/// The numbers of a set, added up. A third are there.
+/// The numbers of a set, which are added up. A third are in the set.
 pub fn bitset_ones(
     rt: &HostRuntime,
     a: &mut Allocator<MemoryChunks>,
@@ -136,7 +136,7 @@ pub fn bitset_ones(
     clock.stop(rt, number)
 }
 
-// Joins a set with another, so many times.
+// Joins a set with another, `times` times.
 fn joined(a: &mut Allocator<MemoryChunks>, set: BitSet, other: BitSet, times: u64)
     requires set { IsSetIn a.old.memory set }
     requires other { IsSetIn a.old.memory other }
@@ -150,7 +150,7 @@ fn joined(a: &mut Allocator<MemoryChunks>, set: BitSet, other: BitSet, times: u6
     }
 }
 
-/// Bits of sets of 4,096 that are joined.
+/// Sets of 4,096 bits that are joined. A call is one bit.
 pub fn bitset_union(
     rt: &HostRuntime,
     a: &mut Allocator<MemoryChunks>,

@@ -1,11 +1,11 @@
-// Loops over copies into another arena.
+// Loops over copies to another arena.
 use super::maps::filled;
 use super::vec::{numbers, sizes};
 use super::{Clock, Failed, Timed, count};
 use arena_chunks::{Allocator, MemoryChunks};
 use arena_clone::CloneIn;
 
-/// A vector of numbers copied. A call is one number.
+/// A vector of numbers that is copied. A call is one number.
 pub fn vec_clone(
     rt: &HostRuntime,
     from: &mut Allocator<MemoryChunks>,
@@ -18,7 +18,7 @@ pub fn vec_clone(
     clock.stop(rt, sizes(copy))
 }
 
-/// A map of numbers copied. A call is one pair.
+/// A map of numbers that is copied. A call is one pair.
 pub fn map_clone(
     rt: &HostRuntime,
     from: &mut Allocator<MemoryChunks>,

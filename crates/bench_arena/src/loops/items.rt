@@ -4,10 +4,10 @@ use super::{Clock, Failed, Timed, new_allocator};
 use arena_chunks::{Allocator, MemoryChunks};
 use arena_items::{ArenaItems, Box};
 
-// How many numbers are copied at once.
+// The number of numbers that are copied at once.
 const COPIED: u64 = 1024;
 
-// The values that are placed in a chunk that is reset before it is full.
+// The values that are placed, in a chunk that is reset before it is full.
 #[derive(Clone, Copy)]
 enum Values {
     Boxes,
@@ -16,7 +16,7 @@ enum Values {
 }
 
 impl Values {
-    // Places so many values, and adds up what is read of them.
+    // Places values, and adds up what is read from them.
     fn round(
         self,
         a: &mut Allocator<MemoryChunks>,

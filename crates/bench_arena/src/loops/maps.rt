@@ -9,16 +9,16 @@ use arena_chunks::{Allocator, MemoryChunks};
 use arena_hash::{ArenaKey, FxHasher, HashMap, KeyHasher};
 use arena_items::Item;
 
-// How many pairs a small map has.
+// The number of pairs of a small map.
 const FEW: u32 = 8;
 
-// The numbers below 2^32 in scattered order.
+// The numbers below 2^32 in a scattered order.
 #[inline]
 pub(super) fn key(i: u32) -> u32 {
     i.wrapping_mul(2_654_435_761)
 }
 
-// A map of n keys to their numbers.
+// Returns a map of n keys to their numbers.
 pub(super) fn filled(a: &mut Allocator<MemoryChunks>, n: u32) -> Result<HashMap<u32, u32>, Failed>
     ensures { IfOk result (IsMapIn (kind ⟦<u32 as Item>⟧ ⟦<u32 as ArenaKey>⟧.key ⟦<u32 as Item>⟧
         ⟦<FxHasher as KeyHasher>⟧.hash_of) a.new.memory) }
@@ -30,7 +30,7 @@ pub(super) fn filled(a: &mut Allocator<MemoryChunks>, n: u32) -> Result<HashMap<
     Ok(map)
 }
 
-/// Keys put into a map that grows.
+/// Keys that are inserted into a map that grows.
 pub fn map_insert(
     rt: &HostRuntime,
     a: &mut Allocator<MemoryChunks>,
@@ -55,7 +55,7 @@ fn got(rt: &HostRuntime, a: &mut Allocator<MemoryChunks>, calls: u64) -> Result<
     clock.stop(rt, number)
 }
 
-/// Keys looked up, of which half are there.
+/// Keys that are looked up, of which half are in the map.
 pub fn map_get(rt: &HostRuntime, calls: u64) -> Result<Timed, Failed> {
     let mut a = new_allocator(rt);
     got(rt, &mut a, calls)
@@ -74,13 +74,13 @@ fn removed(rt: &HostRuntime, a: &mut Allocator<MemoryChunks>, calls: u64) -> Res
     clock.stop(rt, number)
 }
 
-/// Keys taken out.
+/// Keys that are removed.
 pub fn map_remove(rt: &HostRuntime, calls: u64) -> Result<Timed, Failed> {
     let mut a = new_allocator(rt);
     removed(rt, &mut a, calls)
 }
 
-// Puts keys into new maps of eight, and adds up their lengths.
+// Inserts keys into new maps of eight, and adds up the maps' lengths.
 fn small(a: &mut Allocator<MemoryChunks>, keys: u64) -> Result<u64, Failed> {
     let mut number: u64 = 0;
     for i in 0..count(keys / FEW as u64)? {
@@ -93,7 +93,7 @@ fn small(a: &mut Allocator<MemoryChunks>, keys: u64) -> Result<u64, Failed> {
     Ok(number)
 }
 
-/// Keys put into new maps of eight.
+/// Keys that are inserted into new maps of eight.
 pub fn map_small(
     rt: &HostRuntime,
     a: &mut Allocator<MemoryChunks>,
@@ -102,7 +102,7 @@ pub fn map_small(
     batches(rt, a, calls, small)
 }
 
-/// The pairs of a map, added up.
+/// The pairs of a map, which are added up.
 pub fn map_iter(
     rt: &HostRuntime,
     a: &mut Allocator<MemoryChunks>,
@@ -118,7 +118,7 @@ pub fn map_iter(
     clock.stop(rt, number)
 }
 
-/// The pairs of a map, put into another one in the order of a walk.
+/// The pairs of a map, which are inserted into another one in the order of an iterator.
 pub fn map_walked(
     rt: &HostRuntime,
     a: &mut Allocator<MemoryChunks>,

@@ -1,4 +1,4 @@
-// Loops over blocks that lie in older chunks.
+// Loops over blocks in older chunks.
 ghost use Rattle.std.specs.Prelude.{◌≡◌, ◌≤◌, ◌<◌, IfOk, IsTrue};
 ghost use Rattle.std.specs.List.{All};
 ghost use Rattle.arena_chunks.specs.Memory.{is_readable};
@@ -7,16 +7,17 @@ use super::arena::layout;
 use super::{Clock, Failed, Timed};
 use arena_chunks::{Arena, Block, MemoryChunks};
 
-// How many blocks there are, and how many calls are made in an order that can't be foreseen before it begins again.
+// The number of blocks, and the number of calls after which their unpredictable order repeats.
 const BLOCKS: u64 = 1024;
 
 const ORDER: u64 = 65536;
 
-// The source has so many bytes left for each chunk: room for the smallest, so that none is twice as large as the one before.
+// The bytes that the source has for each chunk: enough for the smallest one, so no chunk is twice as large as the one
+// before.
 const SMALLEST: u64 = 1 << 14;
 
-// Places blocks of eight bytes, as many in each of so many older chunks, or all in the newest if there is to be no older
-// one.
+// Places blocks of eight bytes, distributed evenly over the older chunks, or all in the newest chunk if there are no
+// older ones.
 fn place_scattered(
     arena: &mut Arena<1>,
     chunks: &mut MemoryChunks,
@@ -41,7 +42,7 @@ fn place_scattered(
     Ok(blocks)
 }
 
-// Puts numbers below 65536 in an order that can't be foreseen. A number stands for the block whose index is its remainder.
+// Appends numbers below 65536 in an unpredictable order. A number means the block whose index is its remainder.
 fn put_order(order: &mut Vec<u16>) -> Result<(), Failed> {
     let mut x: u64 = 1;
     for _ in 0..ORDER {
@@ -55,7 +56,7 @@ fn put_order(order: &mut Vec<u16>) -> Result<(), Failed> {
     Ok(())
 }
 
-// Whether all of these blocks may be read, and have eight bytes.
+// Whether all blocks are readable and have at least eight bytes.
 fn all_held(arena: &Arena<1>, blocks: &[Block]) -> bool
     ensures { IsTrue result → All (λ b. IsTrue (is_readable arena.now.state b) × (8 ≤ b.size)) blocks.now }
 {
@@ -64,7 +65,8 @@ fn all_held(arena: &Arena<1>, blocks: &[Block]) -> bool
         .all(|block| arena.is_held_place(*block) && block.size >= 8)
 }
 
-// Blocks in an arena of so many chunks: all in the newest if it is the only one, otherwise in the older ones.
+// Places the blocks in an arena of `chunks` chunks: all in the newest if it is the only one, otherwise in the older
+// ones.
 fn scattered(
     rt: &HostRuntime,
     arena: &mut Arena<1>,
@@ -144,7 +146,7 @@ fn timed_writes(
     })
 }
 
-/// Blocks in the older of so many chunks, read in an order that can't be foreseen.
+/// Blocks in the older of `chunks` chunks, which are read in an unpredictable order.
 pub fn read_older(rt: &HostRuntime, calls: u64, chunks: u64) -> Result<Timed, Failed> {
     let mut order = Vec::new(rt.alloc());
     put_order(&mut order)?;
@@ -152,7 +154,7 @@ pub fn read_older(rt: &HostRuntime, calls: u64, chunks: u64) -> Result<Timed, Fa
     timed_reads(rt, &mut arena, order.as_slice(), calls, chunks)
 }
 
-/// Eight bytes written to blocks in the older of so many chunks, in an order that can't be foreseen.
+/// Blocks in the older of `chunks` chunks, to which eight bytes are written in an unpredictable order.
 pub fn write_older(rt: &HostRuntime, calls: u64, chunks: u64) -> Result<Timed, Failed> {
     let mut order = Vec::new(rt.alloc());
     put_order(&mut order)?;

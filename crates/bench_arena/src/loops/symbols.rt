@@ -9,10 +9,10 @@ use arena_chunks::{Allocator, MemoryChunks};
 use arena_symbols::{Scopes, Symbols};
 use std::alloc::{self, Global};
 
-// How many ids a scope has where it hides those of the scope outside.
+// The number of ids with which a scope shadows those of the outer scope.
 const FEW: u32 = 4;
 
-// So many distinct texts.
+// Returns `n` distinct texts.
 fn texts(alloc: Global, n: u32) -> Result<Vec<String>, alloc::AllocError> {
     let mut texts = Vec::with_capacity(alloc, n as usize)?;
     for i in 0..n {
@@ -26,7 +26,7 @@ fn some_texts(alloc: Global, calls: u64) -> Result<Vec<String>, Failed> {
     texts(alloc, count(calls)?).map_err(|_| Failed::NoPlace)
 }
 
-// Each text's number, in an interner that may have them; the numbers added up.
+// Interns each text, in an interner that may have it already, and adds up the numbers.
 fn interned(
     a: &mut Allocator<MemoryChunks>,
     symbols: &mut Symbols,
@@ -45,7 +45,7 @@ fn interned(
     Ok(number)
 }
 
-/// Texts that get a number each.
+/// Texts that are interned for the first time.
 pub fn intern_new(
     rt: &HostRuntime,
     a: &mut Allocator<MemoryChunks>,
@@ -58,7 +58,7 @@ pub fn intern_new(
     clock.stop(rt, number)
 }
 
-/// Texts that have a number.
+/// Texts that are interned already.
 pub fn intern_known(
     rt: &HostRuntime,
     a: &mut Allocator<MemoryChunks>,
@@ -72,7 +72,7 @@ pub fn intern_known(
     clock.stop(rt, number)
 }
 
-// A scope in which so many ids stand.
+// Returns a scope in which `n` ids are defined.
 fn defined(a: &mut Allocator<MemoryChunks>, n: u32) -> Result<Scopes, Failed>
     ensures { IfOk result (IsTableIn entry_item a.new.memory) }
 {
@@ -83,7 +83,7 @@ fn defined(a: &mut Allocator<MemoryChunks>, n: u32) -> Result<Scopes, Failed>
     Ok(scopes)
 }
 
-/// Ids put into one scope.
+/// Ids that are defined in one scope.
 pub fn scope_define(
     rt: &HostRuntime,
     a: &mut Allocator<MemoryChunks>,
@@ -112,13 +112,14 @@ fn looked_up(
     clock.stop(rt, number)
 }
 
-/// Ids looked up, of which half are there.
+/// Ids that are looked up, of which half are defined.
 pub fn scope_lookup(rt: &HostRuntime, calls: u64) -> Result<Timed, Failed> {
     let mut a = new_allocator(rt);
     looked_up(rt, &mut a, calls)
 }
 
-// Scopes begun and ended, in each of which some ids hide those outside; the pairs that they had, counted.
+// Enters and leaves scopes, in each of which some ids shadow those of the outer scope. Returns the number of their
+// pairs.
 fn nested(a: &mut Allocator<MemoryChunks>, scopes: &mut Scopes, n: u32) -> Result<u64, Failed>
     requires { IsTableIn entry_item a.old.memory scopes.old }
 {
@@ -142,7 +143,7 @@ fn entered(rt: &HostRuntime, a: &mut Allocator<MemoryChunks>, calls: u64) -> Res
     clock.stop(rt, number)
 }
 
-/// Scopes begun and ended, in each of which four ids hide those outside. A call is one scope.
+/// Scopes that are entered and left, in each of which four ids shadow those of the outer scope. A call is one scope.
 #[inline(never)]
 pub fn scope_enter(rt: &HostRuntime, calls: u64) -> Result<Timed, Failed> {
     let mut a = new_allocator(rt);

@@ -4,10 +4,10 @@ use super::{Clock, Failed, Timed, new_allocator};
 use arena_chunks::{Allocator, MemoryChunks};
 use arena_text::StringBuilder;
 
-// What is put into a text as a whole.
+// The text that is appended as a whole.
 const PIECE: &str = "hello, ";
 
-// How many bytes are put in front of one another.
+// The number of bytes that are inserted at the front of a text.
 const FEW: u64 = 64;
 
 fn sizes(text: StringBuilder) -> u64 {
@@ -23,7 +23,7 @@ fn pieces(rt: &HostRuntime, a: &mut Allocator<MemoryChunks>, calls: u64) -> Resu
     clock.stop(rt, sizes(text))
 }
 
-/// Texts of seven bytes put at the end.
+/// Texts of seven bytes that are appended.
 pub fn string_push_str(rt: &HostRuntime, calls: u64) -> Result<Timed, Failed> {
     let mut a = new_allocator(rt);
     pieces(rt, &mut a, calls)
@@ -38,14 +38,14 @@ fn letters(rt: &HostRuntime, a: &mut Allocator<MemoryChunks>, calls: u64) -> Res
     clock.stop(rt, sizes(text))
 }
 
-/// Bytes put at the end.
+/// Bytes that are appended.
 #[inline(never)]
 pub fn string_push_byte(rt: &HostRuntime, calls: u64) -> Result<Timed, Failed> {
     let mut a = new_allocator(rt);
     letters(rt, &mut a, calls)
 }
 
-// Puts bytes in front of one another, 64 in a text, and adds up the lengths.
+// Inserts bytes at the front of texts, 64 in each, and adds up the lengths.
 fn in_front(a: &mut Allocator<MemoryChunks>, bytes: u64) -> Result<u64, Failed> {
     let mut number: u64 = 0;
     for _ in 0..bytes / FEW {
@@ -58,7 +58,7 @@ fn in_front(a: &mut Allocator<MemoryChunks>, bytes: u64) -> Result<u64, Failed> 
     Ok(number)
 }
 
-/// Bytes put in front of up to 63 others.
+/// Bytes that are inserted before up to 63 others.
 pub fn string_push_start(
     rt: &HostRuntime,
     a: &mut Allocator<MemoryChunks>,

@@ -6,12 +6,12 @@ use arena_chunks::{Allocator, MemoryChunks};
 use arena_tree::Tree;
 use std::alloc::{self, Global};
 
-// How many lines the text has, and how many blocks stand in one another at most.
+// The number of lines of the text, and the deepest nesting of its blocks.
 const COUNT: u32 = 700;
 
 const DEEPEST: u64 = 20;
 
-// Statements as `bench/lint.sh` makes them: a name stands for each `v`, and a number for each `#`.
+// Statements as `bench/lint.sh` makes them: each `v` is replaced by a name, and each `#` by a number.
 const STATEMENTS: [&str; 32] = [
     "(((v * (v) * # - (# * # + v + v - v) * v * #)) * (v - (#) * #));",
     "let v = v * (v * # + -# * (v * v + v + v * v * #)) * (v) * -#;",
@@ -47,7 +47,7 @@ const STATEMENTS: [&str; 32] = [
     "v - (((v + v) * v * # - #) * v * # * #);",
 ];
 
-// A number below this one, by the generator of `bench/lint.sh`.
+// Returns a pseudo-random number below `below`, by the generator of `bench/lint.sh`.
 fn draw(seed: &mut u64, below: u64) -> u64
     requires { 0 < below }
     ensures { result < below }
@@ -56,13 +56,13 @@ fn draw(seed: &mut u64, below: u64) -> u64
     *seed / 7 % below
 }
 
-// Puts the digits of a number.
+// Appends the digits of a number.
 fn put_number(alloc: Global, text: &mut Vec<u8>, number: u64) -> Result<(), alloc::AllocError> {
     text.extend_from_slice(format!(in alloc; "{number}")?.as_bytes())?;
     Ok(())
 }
 
-// Puts a statement with names and numbers.
+// Appends a statement with names and numbers.
 fn put_statement(
     alloc: Global,
     text: &mut Vec<u8>,
@@ -83,7 +83,7 @@ fn put_statement(
     Ok(())
 }
 
-// Puts the text: statements, and blocks of them.
+// Appends the text: statements, and blocks of them.
 fn put_source(alloc: Global, text: &mut Vec<u8>) -> Result<(), alloc::AllocError> {
     let mut seed: u64 = 1;
     let mut depth: u64 = 0;
@@ -109,7 +109,7 @@ fn put_source(alloc: Global, text: &mut Vec<u8>) -> Result<(), alloc::AllocError
     Ok(())
 }
 
-// Parses the text so many times, each after a reset, and adds up its bytes and its statements.
+// Parses the text `times` times, each time after a reset, and adds up its bytes and its statements.
 fn parsed(a: &mut Allocator<MemoryChunks>, src: &[u8], times: u64) -> Result<u64, Failed>
     requires { length src.now ≤ 2 ^ 24 }
 {
@@ -124,7 +124,7 @@ fn parsed(a: &mut Allocator<MemoryChunks>, src: &[u8], times: u64) -> Result<u64
     Ok(number)
 }
 
-// Parses the text until about so many bytes are parsed.
+// Parses the text until about `calls` bytes are parsed.
 fn parsed_often(
     rt: &HostRuntime,
     a: &mut Allocator<MemoryChunks>,
@@ -141,7 +141,7 @@ fn parsed_often(
     clock.stop(rt, number)
 }
 
-/// A text placed as a tree again and again, in a chunk that is reset before. A call is a byte of the text.
+/// A text that is parsed into a tree again and again, each time after a reset. A call is a byte of the text.
 pub fn tree_parse(
     rt: &HostRuntime,
     a: &mut Allocator<MemoryChunks>,

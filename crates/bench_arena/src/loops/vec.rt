@@ -8,7 +8,8 @@ use arena_chunks::{Allocator, MemoryChunks};
 use arena_items::Item;
 use arena_vec::Vec;
 
-// How many numbers are put into a small vector, how many in front of one another, and how many at once.
+// The number of numbers in a small vector, of those that are inserted at the front, and of those that are appended at
+// once.
 const FEW: u64 = 4;
 
 const INSERTED: u64 = 64;
@@ -19,7 +20,7 @@ pub(super) fn sizes(vec: Vec<u32>) -> u64 {
     vec.len() as u64 + vec.capacity() as u64
 }
 
-/// A vector of as many numbers.
+/// Returns a vector of `calls` numbers.
 pub(super) fn numbers(a: &mut Allocator<MemoryChunks>, calls: u64) -> Result<Vec<u32>, Failed>
     ensures { IfOk result (IsVecIn ⟦<u32 as Item>⟧ a.new.memory) }
 {
@@ -28,7 +29,7 @@ pub(super) fn numbers(a: &mut Allocator<MemoryChunks>, calls: u64) -> Result<Vec
     Ok(vec)
 }
 
-// The vector with the numbers below n behind its own.
+// Appends the numbers below n to the vector.
 fn pushed(a: &mut Allocator<MemoryChunks>, vec: Vec<u32>, n: u32) -> Result<Vec<u32>, Failed>
     requires { IsVecIn ⟦<u32 as Item>⟧ a.old.memory vec }
 {
@@ -39,7 +40,7 @@ fn pushed(a: &mut Allocator<MemoryChunks>, vec: Vec<u32>, n: u32) -> Result<Vec<
     Ok(vec)
 }
 
-// The number at an index, or 0 past the end.
+// Returns the number at an index, or 0 past the end.
 fn number_at(a: &Allocator<MemoryChunks>, vec: Vec<u32>, i: u32) -> u64
     requires { IsVecIn ⟦<u32 as Item>⟧ a.now.memory vec }
 {
@@ -50,7 +51,7 @@ fn number_at(a: &Allocator<MemoryChunks>, vec: Vec<u32>, i: u32) -> u64
     }
 }
 
-/// Numbers put at the end.
+/// Numbers that are appended.
 pub fn vec_push(
     rt: &HostRuntime,
     a: &mut Allocator<MemoryChunks>,
@@ -62,7 +63,7 @@ pub fn vec_push(
     clock.stop(rt, sizes(vec))
 }
 
-/// Numbers put at the end, where there is room.
+/// Numbers that are appended to a vector with room for them.
 pub fn vec_push_reserved(
     rt: &HostRuntime,
     a: &mut Allocator<MemoryChunks>,
@@ -75,7 +76,7 @@ pub fn vec_push_reserved(
     clock.stop(rt, sizes(vec))
 }
 
-/// Numbers read by their index.
+/// Numbers that are read by their index.
 pub fn vec_sum(
     rt: &HostRuntime,
     a: &mut Allocator<MemoryChunks>,
@@ -90,7 +91,7 @@ pub fn vec_sum(
     clock.stop(rt, number)
 }
 
-// Puts numbers into new vectors of four, and adds up the last ones.
+// Appends numbers to new vectors of four, and adds up the last ones.
 fn small(a: &mut Allocator<MemoryChunks>, values: u64) -> Result<u64, Failed> {
     let mut number: u64 = 0;
     for i in 0..count(values / FEW)? {
@@ -103,7 +104,7 @@ fn small(a: &mut Allocator<MemoryChunks>, values: u64) -> Result<u64, Failed> {
     Ok(number)
 }
 
-/// Numbers put into new vectors of four.
+/// Numbers that are appended to new vectors of four.
 pub fn vec_small(
     rt: &HostRuntime,
     a: &mut Allocator<MemoryChunks>,
@@ -112,7 +113,7 @@ pub fn vec_small(
     batches(rt, a, calls, small)
 }
 
-// Puts numbers at the end of a vector, so many times.
+// Appends numbers to a vector, several at once, `times` times.
 fn extended(
     a: &mut Allocator<MemoryChunks>,
     source: &[u32; SLICE as usize],
@@ -125,7 +126,7 @@ fn extended(
     Ok(vec)
 }
 
-/// Numbers put at the end 256 at a time. A call is one number.
+/// Numbers that are appended 256 at a time. A call is one number.
 pub fn vec_extend(
     rt: &HostRuntime,
     a: &mut Allocator<MemoryChunks>,
@@ -140,7 +141,7 @@ pub fn vec_extend(
     clock.stop(rt, sizes(vec))
 }
 
-// Puts numbers in front of one another, 64 in a vector, and adds up the first ones.
+// Inserts numbers at the front of vectors, 64 in each, and adds up the first ones.
 fn in_front(a: &mut Allocator<MemoryChunks>, values: u64) -> Result<u64, Failed> {
     let mut number: u64 = 0;
     for i in 0..count(values / INSERTED)? {
@@ -153,7 +154,7 @@ fn in_front(a: &mut Allocator<MemoryChunks>, values: u64) -> Result<u64, Failed>
     Ok(number)
 }
 
-/// Numbers put in front of up to 63 others.
+/// Numbers that are inserted before up to 63 others.
 pub fn vec_insert_front(
     rt: &HostRuntime,
     a: &mut Allocator<MemoryChunks>,
@@ -162,7 +163,7 @@ pub fn vec_insert_front(
     batches(rt, a, calls, in_front)
 }
 
-/// Numbers that a test keeps or not. It keeps two in three.
+/// Numbers that a predicate keeps or removes. It keeps two in three.
 pub fn vec_retain(
     rt: &HostRuntime,
     a: &mut Allocator<MemoryChunks>,
@@ -174,7 +175,7 @@ pub fn vec_retain(
     clock.stop(rt, vec.len() as u64)
 }
 
-/// Numbers in order.
+/// Numbers that are iterated in order.
 pub fn vec_iter(
     rt: &HostRuntime,
     a: &mut Allocator<MemoryChunks>,

@@ -7,8 +7,8 @@ ghost use Rattle.call_rules.specs.MadeFirst.{call_made_first, made_first};
 ghost use Rattle.call_rules.specs.declared.calls.Call.{Call};
 ghost use Rattle.call_rules.specs.declared.calls.Reply.{Reply};
 
-/// Chunks go on to double through a call, and a run of calls, where each chunk that is made has the first size that is tried.
-/// So a run that begins with no chunk and ends with n has 16,320 · (2 ^ n − 1) bytes or more at its end.
+/// Chunks still double after a call, and after a run of calls, if each chunk that is made has the first size that is
+/// tried. So the chunks have at least 16,320 · (2 ^ n − 1) bytes after a run that begins with no chunk and ends with n.
 pub fn doubling_runs()
     ensures by_step { (z : ℕ) (m : Machine) (call : Call) (k : ℕ) (next : Next) → z ≤ 16320
         → IsDoubling z m.state.chunks → step call k m ≡ Some next → IsTrue (call_made_first call k m)

@@ -5,8 +5,8 @@ ghost use Rattle.call_rules.specs.Grammar.{Fits};
 ghost use Rattle.call_rules.specs.Generator.{gen_calls};
 ghost use Rattle.call_rules.specs.Summary.{Summary, summary_text};
 
-/// There are as many calls as are asked for, fewer are the first of more, and their numbers fit their types, so that each
-/// has a line.
+/// There are as many calls as asked for, fewer calls are the first of more, and their numbers fit their types, so that
+/// each call has a line.
 pub fn generated_calls()
     ensures counted { (start count : ℕ) → length (gen_calls start count) ≡ count }
     ensures first { (start count more : ℕ) → count ≤ more

@@ -8,15 +8,15 @@ ghost use Rattle.call_rules.specs.Replies.{text_of, HasBytes};
 ghost use Rattle.call_rules.specs.declared.calls.Call.{Call};
 ghost use Rattle.call_rules.specs.declared.calls.Reply.{Reply};
 
-/// No two lists of replies have the same text, where bytes are from 0 to 255. Numbers have no bound.
+/// No two lists of replies have the same text, if their bytes are from 0 to 255. Numbers are unbounded.
 pub fn one_text()
     ensures { (a b : List Reply) → AllByRecursion HasBytes a → AllByRecursion HasBytes b
         → text_of a ≡ text_of b → a ≡ b }
 {}
 
-/// A text tells calls whose numbers fit their types, and the replies of a run of such calls have bytes from 0 to 255.
-/// So the text of the replies tells them: two runs of calls that texts tell, whose replies have the same text, have the
-/// same replies.
+/// The numbers of calls read from a text fit their types, and the replies of a run of such calls have bytes from 0 to
+/// 255. So the text of the replies determines them: two runs of calls read from texts have the same replies if those
+/// have the same text.
 pub fn run_texts()
     ensures calls_fit { (text : List ℕ) (calls : List Call) → CallsOf text (Ok calls)
         → AllByRecursion Fits calls }
@@ -29,7 +29,7 @@ pub fn run_texts()
         → text_of a ≡ text_of b → a ≡ b }
 {}
 
-/// Bytes have at most one reading: a list of calls, or the number of the first line that is refused.
+/// Bytes have at most one reading: a list of calls, or the number of the first line that isn't valid.
 pub fn one_reading()
     ensures { (bytes : List ℕ) (r s : Result (List Call) ℕ) → CallsOf bytes r → CallsOf bytes s → r ≡ s }
 {}

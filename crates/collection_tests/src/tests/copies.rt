@@ -1,9 +1,6 @@
-// Copies into another arena, within their own, and into one that fills up.
+// Tests of copies, into another arena and within the same one, of conversions and of exchange. The values are the Rust
+// crate's test cases, or worked out by hand.
 mod checked;
-mod exchange;
 mod kept;
 mod lists;
-mod maps;
 mod rust_cases;
-mod seeded;
-mod trees;

@@ -1,17 +1,13 @@
-// Tables of calls, arenas that are full, and long mixes beside std's map. Each map stands in an arena of its own
-// (`kept`, `texts`), so that calls on it owe nothing.
-mod equal;
-mod full;
+// Tests of maps and sets: each call that makes one, many pairs, and full arenas. Most maps are in an arena of their own
+// (`kept`, `texts`), so calls on them have no preconditions. The values are worked out by hand.
 mod kept;
-mod many;
-mod mixes;
-mod rows;
+mod numbers;
 mod sets;
 mod texts;
 
 use arena_hash::KeyHasher;
 
-// Always 0.
+// A hasher whose hash is always 0.
 #[derive(Clone, Copy, Default)]
 struct Zero {}
 

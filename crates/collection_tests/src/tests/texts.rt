@@ -1,9 +1,9 @@
-// Calls on texts, and the bytes and the capacity then: worked examples, capacities, refusals.
-use super::{ample, fixed, limited, same, same_at};
+// Tests of texts by their bytes and capacity after each call. The values are worked examples of the rules, and the
+// Rust crate's examples; a row's bytes are those of the text that the compiler makes.
+use super::{NO_CHUNK, NO_PLACE, ample, fixed, limited, same, same_at};
 use arena_chunks::{Allocator, ChunkSource};
 use arena_items::{AllocError, Grown};
 use arena_text::StringBuilder;
-use std::alloc::Global;
 use std::process::Abort;
 
 // A call that makes a text.
@@ -12,14 +12,13 @@ pub(super) enum Make {
     Empty,
     Room(u64),
     Text(&'static str),
-    NoTexts,
     Texts(&'static str, &'static str),
     Five(&'static str, &'static str, &'static str, &'static str, &'static str),
 }
 
 // One call on a text.
 #[derive(Drop)]
-pub(super) enum Step {
+enum Step {
     Bytes(&'static [u8]),
     Text(&'static str),
     End(u8),
@@ -32,7 +31,7 @@ pub(super) enum Step {
 }
 
 // Takes a step.
-pub(super) fn take<C: ChunkSource>(
+fn take<C: ChunkSource>(
     rt: &impl Abort,
     a: &mut Allocator<C>,
     text: &mut StringBuilder,
@@ -61,7 +60,7 @@ pub(super) fn take<C: ChunkSource>(
     }
 }
 
-// The text has these bytes and this capacity.
+// Checks the bytes and the capacity of a text.
 pub(super) fn has<C: ChunkSource>(
     rt: &impl Abort,
     a: &Allocator<C>,
@@ -77,12 +76,10 @@ pub(super) fn has<C: ChunkSource>(
 
 // Makes a text.
 pub(super) fn text_of<C: ChunkSource>(a: &mut Allocator<C>, how: &Make) -> Grown<StringBuilder> {
-    let none: [&str; 0] = [];
     match how {
         Make::Empty => Ok(StringBuilder::new_in()),
         Make::Room(n) => StringBuilder::with_capacity_in(*n, a),
         Make::Text(s) => StringBuilder::from_str_in(s, a),
-        Make::NoTexts => StringBuilder::from_strs_array_in(none, a),
         Make::Texts(one, two) => StringBuilder::from_strs_array_in([*one, *two], a),
         Make::Five(one, two, three, four, five) => {
             StringBuilder::from_strs_array_in([*one, *two, *three, *four, *five], a)
@@ -90,10 +87,10 @@ pub(super) fn text_of<C: ChunkSource>(a: &mut Allocator<C>, how: &Make) -> Grown
     }
 }
 
-// A step, and the bytes and the capacity then.
+// A step, and the bytes and the capacity after it.
 type Row = (Step, &'static str, u64);
 
-// Takes a step, which answers this. The bytes and the capacity then.
+// Takes a step, and checks its result, and the bytes and the capacity after it.
 fn takes<C: ChunkSource>(
     rt: &impl Abort,
     a: &mut Allocator<C>,
@@ -107,60 +104,41 @@ fn takes<C: ChunkSource>(
     has(rt, a, *text, bytes.as_bytes(), cap);
 }
 
-// Takes steps in a row, which all answer this.
+// Takes steps in order.
 fn runs<C: ChunkSource>(
     rt: &impl Abort,
     a: &mut Allocator<C>,
     text: &mut StringBuilder,
-    wanted: Grown<()>,
     rows: &[Row],
 ) {
     for (step, bytes, cap) in rows {
-        takes(rt, a, text, step, wanted, bytes, *cap);
+        takes(rt, a, text, step, Ok(()), bytes, *cap);
     }
 }
 
-// So many bytes are used, and so many blocks were placed. None was moved.
-fn has_used<C: ChunkSource>(rt: &impl Abort, a: &Allocator<C>, used: u64, placed: u64) {
-    same(rt, a.used_bytes(), used);
-    same(rt, a.get_allocation_stats(), (placed, 0));
-}
-
-// How a text is made, its bytes, its capacity, and how many bytes are used and how many blocks placed then.
-const MADE: &[(Make, &str, u64, (u64, u64))] = &[
-    (Make::Empty, "", 0, (0, 0)),
-    (Make::Room(0), "", 0, (0, 0)),
-    (Make::Text(""), "", 0, (0, 0)),
-    (Make::NoTexts, "", 0, (0, 0)),
-    (Make::Texts("", ""), "", 0, (0, 0)),
-    (Make::Room(3), "", 3, (3, 1)),
-    (Make::Room(10), "", 10, (13, 2)),
-    (Make::Text("ab"), "ab", 2, (15, 3)),
-    (Make::Text("foo"), "foo", 3, (18, 4)),
-    (Make::Texts("a", "b"), "ab", 2, (20, 5)),
-    (Make::Texts("", "€"), "€", 3, (23, 6)),
+// How a text is made, its bytes and its capacity.
+const MADE: &[(Make, &str, u64)] = &[
+    (Make::Empty, "", 0),
+    (Make::Room(3), "", 3),
+    (Make::Room(10), "", 10),
+    (Make::Text("ab"), "ab", 2),
+    (Make::Text("foo"), "foo", 3),
+    (Make::Texts("a", "b"), "ab", 2),
+    (Make::Texts("", ""), "", 0),
     (
         Make::Five("hello", " ", "world", "!", ""),
         "hello world!",
         12,
-        (35, 7),
     ),
-    (Make::Five("", "hello", "", "", ""), "hello", 5, (40, 8)),
 ];
-
-// Makes texts one after another, and looks at them and at the arena.
-fn makes(rt: &impl Abort, alloc: Global, rows: &[(Make, &str, u64, (u64, u64))]) {
-    let mut a = ample(alloc);
-    for (how, bytes, cap, (used, placed)) in rows {
-        let text = text_of(&mut a, how).expect(rt, "a text");
-        has(rt, &a, text, bytes.as_bytes(), *cap);
-        has_used(rt, &a, *used, *placed);
-    }
-}
 
 #[test]
 fn made(rt: HostRuntime) {
-    makes(&rt, rt.alloc(), MADE);
+    let mut a = ample(rt.alloc());
+    for (how, bytes, cap) in MADE {
+        let text = text_of(&mut a, how).expect(&rt, "a text");
+        has(&rt, &a, text, bytes.as_bytes(), *cap);
+    }
 }
 
 // Steps on an empty text.
@@ -181,156 +159,62 @@ const BUILT: &[&[Row]] = &[
         (Step::Times(b'!', 3), "hello!!!", 8),
     ],
     &[
-        (Step::Text(""), "", 0),
-        (Step::Times(b'!', 0), "", 0),
-        (Step::Room(0), "", 0),
-        (Step::Start(b'c'), "c", 8),
-        (Step::Bytes(b"defghi"), "cdefghi", 8),
-        (Step::AsciiStart(b'b'), "bcdefghi", 8),
-        (Step::Start(b'a'), "abcdefghi", 16),
-        (Step::End(b'j'), "abcdefghij", 16),
-    ],
-    &[
         (Step::Room(3), "", 8),
-        (Step::Text("ab"), "ab", 8),
+        (Step::Start(b'b'), "b", 8),
+        (Step::AsciiStart(b'a'), "ab", 8),
         (Step::Bytes(b"ab"), "abab", 8),
         (Step::End(b'a'), "ababa", 8),
-        (Step::Char('b'), "ababab", 8),
+        (Step::Ascii(b'b'), "ababab", 8),
         (Step::Room(2), "ababab", 8),
         (Step::Room(3), "ababab", 16),
         (Step::Room(20), "ababab", 36),
     ],
-];
-
-// After room for so many bytes was made, and for so many more, the capacity is this.
-const CAPACITIES: &[(u64, u64, u64)] = &[
-    (0, 0, 0),
-    (0, 1, 8),
-    (0, 8, 8),
-    (0, 9, 9),
-    (0, 100, 100),
-    (1, 1, 1),
-    (1, 2, 9),
-    (3, 8, 11),
-    (8, 9, 17),
-    (9, 10, 19),
-    (100, 101, 201),
-    (100, 50, 100),
-];
-
-const OVERFLOWS: AllocError = AllocError::CapacityOverflow;
-
-const NO_PLACE: AllocError = AllocError::AllocErr { refused: 0 };
-
-// As many more as there is no room for, behind three bytes.
-const NO_MORE: &[(u64, AllocError)] = &[
-    ((1 << 63) - 3, OVERFLOWS),
-    (u64::MAX, OVERFLOWS),
-    ((1 << 63) - 4, NO_PLACE),
-    (1 << 21, AllocError::AllocErr { refused: 1 }),
-];
-
-// Each call that may grow a text, on one of nine bytes.
-const GROWING: &[Row] = &[
-    (Step::Bytes(b"x"), "123456789", 9),
-    (Step::Text("x"), "123456789", 9),
-    (Step::End(b'x'), "123456789", 9),
-    (Step::Ascii(b'x'), "123456789", 9),
-    (Step::Start(b'x'), "123456789", 9),
-    (Step::AsciiStart(b'x'), "123456789", 9),
-    (Step::Times(b'x', 1), "123456789", 9),
-    (Step::Char('x'), "123456789", 9),
-    (Step::Char('é'), "123456789", 9),
-    (Step::Room(1), "123456789", 9),
+    // The first and last characters of two, three and four bytes.
+    &[
+        (Step::Char('\u{80}'), "\u{80}", 8),
+        (Step::Char('\u{7ff}'), "\u{80}\u{7ff}", 8),
+        (Step::Char('\u{800}'), "\u{80}\u{7ff}\u{800}", 8),
+    ],
+    &[
+        (Step::Char('\u{ffff}'), "\u{ffff}", 8),
+        (Step::Char('\u{10000}'), "\u{ffff}\u{10000}", 8),
+        (Step::Char('\u{10ffff}'), "\u{ffff}\u{10000}\u{10ffff}", 16),
+    ],
 ];
 
 #[test]
 fn built(rt: HostRuntime) {
     for rows in BUILT {
         let mut text = StringBuilder::new_in();
-        runs(&rt, &mut ample(rt.alloc()), &mut text, Ok(()), rows);
+        runs(&rt, &mut ample(rt.alloc()), &mut text, rows);
     }
 }
 
-// Makes room for so many bytes, and then for so many more.
-fn grows(rt: &impl Abort, alloc: Global, room: u64, more: u64, cap: u64) {
-    let mut a = ample(alloc);
-    let mut text = text_of(&mut a, &Make::Room(room)).expect(rt, "room");
-    takes(rt, &mut a, &mut text, &Step::Room(0), Ok(()), "", room);
-    takes(rt, &mut a, &mut text, &Step::Room(more), Ok(()), "", cap);
-}
-
-#[test]
-fn grown(rt: HostRuntime) {
-    for (room, more, cap) in CAPACITIES {
-        grows(&rt, rt.alloc(), *room, *more, *cap);
-    }
-}
-
-// There is no room for so many bytes behind three, by each call that takes a number.
-fn stays(rt: &impl Abort, alloc: Global, n: u64, why: AllocError) {
-    let mut a = limited(alloc, 1 << 20);
-    let mut text = text_of(&mut a, &Make::Text("abc")).expect(rt, "room");
-    takes(rt, &mut a, &mut text, &Step::Room(n), Err(why), "abc", 3);
-    let times = Step::Times(b'x', n);
-    takes(rt, &mut a, &mut text, &times, Err(why), "abc", 3);
-}
-
-#[test]
-fn not_grown(rt: HostRuntime) {
-    for (n, why) in NO_MORE {
-        stays(&rt, rt.alloc(), *n, *why);
-    }
-}
-
-// Each is refused twice.
-#[test]
-fn not_grown_where_the_arena_is_full(rt: HostRuntime) {
-    let mut a = fixed(&rt, rt.alloc(), 16);
-    let mut text = text_of(&mut a, &Make::Text("123456789")).expect(&rt, "room");
-    for _ in 0..2 {
-        runs(&rt, &mut a, &mut text, Err(NO_PLACE), GROWING);
-        has_used(&rt, &a, 9, 1);
-    }
-}
-
-// Rooms that there are none of, and what is answered.
-const REFUSED: &[(u64, AllocError)] = &[
-    (1 << 63, OVERFLOWS),
-    (u64::MAX, OVERFLOWS),
-    ((1 << 63) - 1, NO_PLACE),
-    (1 << 21, AllocError::AllocErr { refused: 1 }),
+// A capacity, and a number of bytes after three, for which there is no room, and the error.
+const NO_ROOM: &[(u64, u64, AllocError)] = &[
+    (1 << 63, (1 << 63) - 3, AllocError::CapacityOverflow),
+    ((1 << 63) - 1, (1 << 63) - 4, NO_PLACE),
+    (1 << 21, 1 << 21, NO_CHUNK),
 ];
 
-// A text can't be made.
-fn refused<C: ChunkSource>(rt: &impl Abort, a: &mut Allocator<C>, how: &Make, why: AllocError) {
-    same(rt, text_of(a, how).err(), Some(why));
+// Checks that no text with this capacity is made, and that one of three bytes doesn't get room for `more`.
+fn stays<C: ChunkSource>(
+    rt: &impl Abort,
+    a: &mut Allocator<C>,
+    room: u64,
+    more: u64,
+    why: AllocError,
+) {
+    same(rt, text_of(a, &Make::Room(room)).err(), Some(why));
+    let mut text = text_of(a, &Make::Text("abc")).expect(rt, "room");
+    takes(rt, a, &mut text, &Step::Room(more), Err(why), "abc", 3);
 }
 
+// A capacity of 17 bytes has no place in 16.
 #[test]
-fn not_made(rt: HostRuntime) {
-    let mut a = limited(rt.alloc(), 1 << 20);
-    for (room, why) in REFUSED {
-        refused(&rt, &mut a, &Make::Room(*room), *why);
+fn not_made_and_not_grown(rt: HostRuntime) {
+    for (room, more, why) in NO_ROOM {
+        stays(&rt, &mut limited(rt.alloc(), 1 << 20), *room, *more, *why);
     }
-}
-
-// Nine bytes leave a place for seven more, and for no eight.
-const TOO_LONG: &[Make] = &[
-    Make::Room(8),
-    Make::Text("12345678"),
-    Make::Texts("1234", "5678"),
-];
-
-#[test]
-fn not_made_where_the_arena_is_full(rt: HostRuntime) {
-    let mut a = fixed(&rt, rt.alloc(), 16);
-    let text = text_of(&mut a, &Make::Text("123456789")).expect(&rt, "room");
-    for how in TOO_LONG {
-        refused(&rt, &mut a, how, NO_PLACE);
-        has(&rt, &a, text, b"123456789", 9);
-    }
-    let last = text_of(&mut a, &Make::Texts("123", "4567")).expect(&rt, "room");
-    has(&rt, &a, last, b"1234567", 7);
-    has_used(&rt, &a, 16, 2);
+    stays(&rt, &mut fixed(&rt, rt.alloc(), 16), 17, 14, NO_PLACE);
 }

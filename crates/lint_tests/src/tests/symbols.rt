@@ -1,10 +1,8 @@
-// Interners and scoped tables by their public calls alone: worked examples, arenas that are full or get no chunk, many texts and many
-// scopes, and long mixes beside std's lists and maps. Each interner and each scoped table stands in an arena of its own (`kept`), so
-// that calls on it owe nothing.
+// Tests of interners and scoped tables through public calls alone: worked examples, lists of calls, arenas that are
+// full or get no chunk, and many texts and scopes. Each interner and each scoped table is in an arena of its own
+// (`kept`), so calls on it have no preconditions.
 mod declared;
 mod full;
 mod kept;
 mod many;
-mod mixes;
 mod rows;
-mod runs;

@@ -1,4 +1,4 @@
-// The words `calls` and `gen`.
+// Tests of the words `calls` and `gen`.
 mod endings;
 mod generated;
 mod refused;
@@ -19,7 +19,7 @@ struct Ended {
 }
 
 impl Ended {
-    // The status of this code, the number of the refused line or 0, and what was written.
+    // Whether the run ended with this exit code, this number of a refused line or 0, and this output.
     fn is(&self, (code, line, text): (u8, u64, &[u8])) -> bool {
         let refused = match self.status {
             Status::BadLine(n) => n,
@@ -29,7 +29,7 @@ impl Ended {
     }
 }
 
-// Does what words ask for, over a new arena and a source.
+// Runs the words over a new arena and a source.
 fn serve<C: ChunkSource, I: Input, O: Output>(
     alloc: Global,
     words: &[Bytes],
@@ -49,11 +49,7 @@ fn run_over<C: ChunkSource>(alloc: Global, chunks: &mut C, asked: &Asked) -> Res
     Ok(Ended { status, text })
 }
 
-// With ample memory.
-fn run(alloc: Global, asked: &Asked) -> Result<Ended, Fail> {
-    run_over(alloc, &mut MemoryChunks::new(alloc, 1 << 30), asked)
-}
-
+// Checks how the words end with ample memory.
 fn ends_so(
     rt: &impl Abort,
     alloc: Global,
@@ -61,12 +57,12 @@ fn ends_so(
     wanted: (u8, u64, &[u8]),
     row: &str,
 ) -> Result<(), Fail> {
-    let ended = run(alloc, asked)?;
+    let ended = run_over(alloc, &mut MemoryChunks::new(alloc, 1 << 30), asked)?;
     holds(rt, ended.is(wanted), row);
     Ok(())
 }
 
-// No read and no write fails.
+// The word `calls`, without failing reads or writes.
 const CALLS: Asked<'static> = Asked {
     words: &["calls"],
     text: b"",

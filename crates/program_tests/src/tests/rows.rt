@@ -1,4 +1,4 @@
-// Scripts and sources by their words, over streams in memory: all that is read, and all that is written.
+// Tests of scripts and sources through the words, over streams in memory: the whole input and the whole output.
 use super::{Asked, holds, streams, words};
 use arena_calls::{MemoryInput, MemoryOutput};
 use arena_chunks::{Arena, MemoryChunks};
@@ -12,16 +12,16 @@ use std::sync::Wait;
 use std::test::Fail;
 use std::thread::Threads;
 
-// The bytes of all chunks of an arena that a pool makes.
+// The most bytes that all chunks of a pool's arena may have.
 const BUDGET: u64 = 67_108_864;
 
 // The words, the input and the output.
 type Row = (&'static [&'static str], &'static str, &'static str);
 
-const LIST_AND_TEXT: &str = "\
+pub(super) const LIST_AND_TEXT: &str = "\
 script\nlist 1\npush 1 5\npush 1 6\nat 1 1\nat 1 2\nlist 1\ntext 2\nbyte 2 104\nbyte 2 200\nshow 2\npop 2\n";
 
-const LIST_AND_TEXT_TOLD: &str = "\
+pub(super) const LIST_AND_TEXT_TOLD: &str = "\
 script 0\ndone\ndone\ndone\nnumber 6\nout of range\nname taken\ndone\ndone\nnot ascii\nbytes 68\nwrong kind\nended done\n";
 
 // The same script twice.
@@ -33,11 +33,11 @@ const TWO_TOLD: &str = "\
 script 0\ndone\ndone\ndone\nnumber 6\nout of range\nname taken\ndone\ndone\nnot ascii\nbytes 68\nwrong kind\nended done\n\
 script 1\ndone\ndone\ndone\nnumber 6\nout of range\nname taken\ndone\ndone\nnot ascii\nbytes 68\nwrong kind\nended done\n";
 
-const SETS_AND_MAPS: &str = "\
+pub(super) const SETS_AND_MAPS: &str = "\
 script\nbits 0 65\nset 0 0\nset 0 64\nones 0\nshow 0\nset 0 128\nbits 1 1\nunion 1 0\nones 1\nhas 1 64\nmap 2\nbind 2 9 1\n\
 bind 2 9 4\nfind 2 8\nshow 2\ncopy 2 3\nunbind 2 9\nshow 3\n";
 
-const SETS_AND_MAPS_TOLD: &str = "\
+pub(super) const SETS_AND_MAPS_TOLD: &str = "\
 script 0\ndone\ndone\ndone\nnumbers 0 64\n\
 printed 00000001_00000000_00000000_00000000_00000000_00000000_00000000_00000000_00000001\nout of range\ndone\ndone\n\
 numbers 0\nfalse\ndone\nnothing\nnumber 1\nnothing\nnumbers 9 4\ndone\nnumber 4\nnumbers 9 4\nended done\n";
@@ -46,7 +46,7 @@ const SOURCES: &str = "let a = 1;\n{\nlet a = b;\n}\n%%\na + ;\n";
 
 const SOURCES_TOLD: &str = "source 0\nundefined b\nshadowed a\nsource 1\nsyntax error at 4\n";
 
-// A set of 128 bits has 16 bytes, fewer than it costs. Arenas over a region have 48 bytes fewer than that.
+// Arenas over a region have 48 bytes less than the region.
 const ROWS: &[Row] = &[
     (&["scripts", "1"], LIST_AND_TEXT, LIST_AND_TEXT_TOLD),
     (
@@ -60,14 +60,9 @@ const ROWS: &[Row] = &[
         LIST_AND_TEXT_TOLD,
     ),
     (
-        &["scripts", "1", "fixed", "64", "1"],
-        "script\nbits 0 128\n",
-        "script 0\ndone\nended done\n",
-    ),
-    (
-        &["scripts", "1", "fixed", "48", "1"],
-        "script\nbits 0 128\n",
-        "script 0\nended full\n",
+        &["scripts", "1", "keep", "0"],
+        LIST_AND_TEXT,
+        LIST_AND_TEXT_TOLD,
     ),
     (&["scripts", "1"], SETS_AND_MAPS, SETS_AND_MAPS_TOLD),
     (&["scripts", "1"], TWO, TWO_TOLD),
@@ -78,6 +73,7 @@ const ROWS: &[Row] = &[
         "script\nbits 0 4294967295\nbits 1 1\n",
         "script 0\nended refused\n",
     ),
+    (&["scripts", "1"], "", ""),
     (&["lint", "2"], SOURCES, SOURCES_TOLD),
     (
         &["lint", "1"],
@@ -87,7 +83,7 @@ const ROWS: &[Row] = &[
     (&["lint", "1"], "", "source 0\n"),
 ];
 
-// The exit status.
+// Runs the words and returns the exit status.
 fn serve<R: Threads + Wait + Sync>(
     rt: &R,
     alloc: Global,
@@ -110,7 +106,7 @@ fn serve<R: Threads + Wait + Sync>(
     .code()
 }
 
-// Status 0, and this output.
+// Checks that the status is 0, and the output.
 fn tells<R: Threads + Wait + Sync + Abort>(
     rt: &R,
     alloc: Global,

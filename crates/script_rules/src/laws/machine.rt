@@ -4,8 +4,8 @@ ghost use Rattle.script_rules.specs.Objects.{Objects, need, AreObjects};
 ghost use Rattle.script_rules.specs.Machine.{step, is_refusal, run, run_from, ran_on, sum, cost_of, cost_of_first};
 ghost use Rattle.script_rules.specs.declared.commands.Command.{Command};
 
-/// A command leaves objects that are well formed, and they need no more than those before and what it costs.
-/// A refused command leaves them as they are, and costs nothing.
+/// A command leaves well-formed objects. They need no more than the objects before and the command's cost together. A
+/// refused command leaves the objects unchanged and costs nothing.
 pub fn steps()
     ensures keeps { (c : Command) (objects : Objects) → AreObjects objects
         → AreObjects (step c objects).objects }
@@ -17,9 +17,9 @@ pub fn steps()
         → is_refusal (step c objects).reply ≡ true → (step c objects).cost ≡ 0 }
 {}
 
-/// A run ends with objects that are well formed, and they need no more than those before and what all
-/// commands cost. There is a reply and a cost for each command. A script begins with no objects, so its last
-/// ones need no more than it costs.
+/// A run ends with well-formed objects. They need no more than the objects before and the cost of all commands
+/// together. There is one reply and one cost per command. A script begins with no objects, so its last objects need no
+/// more than it costs.
 pub fn runs()
     ensures keeps { (objects : Objects) (script : List Command) → AreObjects objects
         → AreObjects (run_from objects script).objects }
@@ -33,8 +33,8 @@ pub fn runs()
     ensures script_need { (script : List Command) → need (run script).objects ≤ cost_of script }
 {}
 
-/// A run goes on: more commands are run on what those before them left. So the first commands of a script
-/// have its first replies, and cost what they cost in it, which is the more the more there are of them.
+/// Runs can be continued: more commands run on what those before them left. So the first commands of a script have its
+/// first replies and the costs that they have in it, and more of them cost no less.
 pub fn prefixes()
     ensures goes_on { (objects : Objects) (a b : List Command)
         → run_from objects (a ++ b) ≡ ran_on (run_from objects a) b }

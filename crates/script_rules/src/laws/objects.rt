@@ -1,10 +1,9 @@
-// What is found under names, and which sets bits are.
+// What is found under names, and which sets of bits there are.
 ghost use Rattle.std.specs.Prelude.{◌≡◌, ℕ, ◌==◌, if◌then◌else◌, IsTrue, Some, None};
 ghost use Rattle.arena_rules.specs.Bits.{with_bit, without_bit, joined, below};
 ghost use Rattle.script_rules.specs.Objects.{Object, Objects, get, bind, unbind, are_rising, Bits, has, united};
 
-/// A name holds the last object that it got, until it is let go. Objects under names that hold the same are
-/// the same.
+/// A name holds the last object that it was given, until it is removed. Objects that agree at all names are equal.
 pub fn entries()
     ensures bound { (objects : Objects) (name : ℕ) (o : Object) (q : ℕ)
         → get (bind objects name o) q ≡ (if q == name then Some o else get objects q) }
@@ -14,8 +13,8 @@ pub fn entries()
         → ((q : ℕ) → get a q ≡ get b q) → a ≡ b }
 {}
 
-/// A command on a set does to its bits what the call of the same name on a bit set does: one bit more, one
-/// less, those of another set that lie below an end.
+/// A command on a set does to its bits what the method of the same name does to a bit set: it adds one bit, removes
+/// one, or adds those bits of another set that are below an end.
 pub fn bits()
     ensures set { (bits : Bits) (b q : ℕ) → has (bind bits b tt) q ≡ with_bit (has bits) b q }
     ensures unset { (bits : Bits) (b q : ℕ) → has (unbind bits b) q ≡ without_bit (has bits) b q }

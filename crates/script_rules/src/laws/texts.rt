@@ -8,15 +8,14 @@ ghost use Rattle.script_rules.specs.Outcomes.{HasBytes, HaveBytes, told, text_of
 ghost use Rattle.script_rules.specs.declared.commands.Command.{Command};
 ghost use Rattle.script_rules.specs.declared.outcome.Outcome.{Outcome};
 
-/// No two lists of outcomes have the same text but where they differ in the bytes used alone, which aren't
-/// printed. Bytes are from 0 to 255, and printed forms have neither line feed nor dash. Numbers have no
-/// bound.
+/// Two lists of outcomes with the same text differ at most in the bytes used, which aren't printed. The bytes of
+/// replies must be from 0 to 255, and printed forms must have neither line feed nor dash. Numbers have no bound.
 pub fn one_text()
     ensures { (a b : List Outcome) → AllByRecursion HaveBytes a → AllByRecursion HaveBytes b
         → text_of_outcomes a ≡ text_of_outcomes b → map told a ≡ map told b }
 {}
 
-/// The replies of a run are such as have one text.
+/// The replies of a run meet the condition of `one_text`.
 pub fn run_bytes()
     ensures { (objects : Objects) (script : List Command) → AreObjects objects
         → AllByRecursion HasBytes (run_from objects script).replies }

@@ -1,4 +1,4 @@
-// What tests of pools share.
+// Helpers for the tests of pools.
 ghost use Rattle.arena_pool.specs.Kinds.{IsOfKind};
 ghost use Rattle.arena_pool.specs.declared.kind.PoolKind.{PoolKind};
 
@@ -9,7 +9,6 @@ mod loans;
 mod owners;
 mod threads;
 
-use super::holds;
 use arena_chunks::{Allocator, ChunkSource};
 use arena_place::Layout;
 use arena_pool::laws::kinds;
@@ -20,16 +19,16 @@ use std::sync::atomic::{AtomicU64, Ordering};
 use std::test::*;
 use std::thread;
 
-/// How many bytes a borrower writes.
+/// The number of bytes that a borrower writes.
 const MARKED: u64 = 32;
 
-/// Arenas over regions in which 64 bytes have a place.
+/// Arenas over regions with room for 64 bytes.
 const SMALL: PoolKind = PoolKind::FixedSize { bytes: 112 };
 
-// The four counts, in the order made, stored, lent, given up.
+// The four counts of a pool, in the order made, stored, lent, given up.
 type All = (u64, u64, u64, u64);
 
-// The counts are these.
+// Checks the counts.
 fn are_counts(rt: &impl Abort, counts: Counts, all: All) {
     let found = (counts.made, counts.stored, counts.lent, counts.given_up);
     if found != all {
@@ -37,10 +36,10 @@ fn are_counts(rt: &impl Abort, counts: Counts, all: All) {
     }
 }
 
-/// What threads send through arenas.
+/// The values that threads place in arenas and read back.
 const VALUES: [u64; 8] = [3, 1, 4, 1, 5, 9, 2, 6];
 
-// All values came back.
+// Checks that all values came back.
 fn are_values(rt: &impl Abort, back: Result<Vec<Option<u64>>, OutOfMemory>) {
     let back = back.ok().expect(rt, "results");
     let are_same = back
@@ -50,12 +49,7 @@ fn are_values(rt: &impl Abort, back: Result<Vec<Option<u64>>, OutOfMemory>) {
     assert!(rt; are_same && back.len() == VALUES.len());
 }
 
-// A nine came back.
-fn is_nine(rt: &impl Abort, back: Option<u32>) {
-    holds(rt, back == Some(9), "a nine");
-}
-
-// Comes back once a stage is reached.
+// Returns once the stage is at least `least`.
 fn wait_until<R: Wait>(rt: &R, stage: &AtomicU64, least: u64) {
     for _ in rt.forever() {
         if stage.load(Ordering::SeqCst) >= least {
@@ -65,7 +59,7 @@ fn wait_until<R: Wait>(rt: &R, stage: &AtomicU64, least: u64) {
     }
 }
 
-// Whether an arena has a place for a block of so many bytes.
+// Whether an arena has a place for a block of `size` bytes.
 #[tactic(auto, using(arena_pool::proofs::Layers::placed_of_kind))]
 fn places<C: ChunkSource>(a: &mut Allocator<C>, size: u64) -> bool
     ensures { (kind : PoolKind) → IsOfKind kind a.old.memory.state → IsOfKind kind a.new.memory.state }
@@ -77,7 +71,7 @@ fn places<C: ChunkSource>(a: &mut Allocator<C>, size: u64) -> bool
     }
 }
 
-// Whether an arena begins with nothing used, and a block in it still holds its own bytes once other threads had a turn.
+// Whether an arena is empty at first, and a block in it still has its bytes after other threads had a turn.
 #[tactic(auto, using(arena_pool::proofs::Layers::placed_of_kind, arena_pool::proofs::Layers::wrote_of_kind))]
 fn marks<C: ChunkSource>(a: &mut Allocator<C>, mark: u8) -> bool
     ensures { (kind : PoolKind) → IsOfKind kind a.old.memory.state → IsOfKind kind a.new.memory.state }

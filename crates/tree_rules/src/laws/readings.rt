@@ -9,7 +9,7 @@ ghost use Rattle.tree_rules.specs.Report.{IsReport};
 ghost use Rattle.tree_rules.specs.declared.finding.Finding.{Finding};
 ghost use Rattle.tree_rules.specs.declared.refused.Refused.{Refused};
 
-/// Tokens are a program of one tree at most, with one number of what is open at once.
+/// Tokens are the program of at most one tree, with one depth of nesting.
 pub fn one_program()
     ensures { (ts : List Token) (trees others : Stmts) (n m : ℕ)
         → IsProgram ts trees n → IsProgram ts others m → (trees ≡ others) × (n ≡ m) }

@@ -6,8 +6,8 @@ ghost use Rattle.tree_rules.specs.Weights.{weights};
 ghost use Rattle.tree_rules.specs.Grammar.{IsProgram};
 ghost use Rattle.tree_rules.specs.Refusals.{TreeOf, most_nest};
 
-/// The text of a tree is a program, and its tree is that tree. So it is read as that tree, where its numbers
-/// fit and no more is open at once than may be.
+/// The text of a tree is a program, and its tree is that tree. So it is read as that tree, if its numbers fit and it
+/// isn't nested too deep.
 pub fn texts()
     ensures program { (t : Stmts) → AreStmts t → (n : ℕ) × IsProgram (without_places (tokens (text t))) t n }
     ensures tree { (t : Stmts) → AreStmts t → StmtsFit t → (n : ℕ)
@@ -19,14 +19,14 @@ pub fn well_formed()
     ensures { (bytes : List ℕ) (t : Stmts) → TreeOf bytes (Ok t) → AreStmts t × StmtsFit t }
 {}
 
-/// A text has at least the weight of its tree in bytes: one for each definition and each block, and those of the names that are
-/// defined.
+/// A text has at least as many bytes as the weight of its tree: one for each definition and each block, and those of
+/// the names that are defined.
 pub fn tree_weight()
     ensures { (bytes : List ℕ) (t : Stmts) → TreeOf bytes (Ok t) → weights t ≤ length bytes }
 {}
 
-/// A folded expression has the value that it had, whatever names stand for. Folded trees are well formed, and their
-/// numbers fit where they did.
+/// Folding keeps the value of an expression, whatever the values of names. Folded trees are well formed and their
+/// numbers fit, if that was so before.
 pub fn folding()
     ensures value { (e : Expr) (env : List ℕ → ℤ) → value_of (folded e) env ≡ value_of e env }
     ensures keeps { (t : Stmts) → AreStmts t → AreStmts (folded_stmts t) }

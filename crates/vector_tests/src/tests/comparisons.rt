@@ -1,89 +1,47 @@
-// How vectors compare, their hashes and their texts, and what errors say.
+// Tests of comparisons and debug texts of vectors, by the Rust crate's tests.
 use super::vectors::{known, vec_of};
 use super::{ample, same};
 use arena_chunks::{Allocator, ChunkSource};
 use arena_items::Item;
-use arena_vec::{AllocError, Vec};
+use arena_vec::Vec;
 use std::alloc::Global;
 use std::cmp::Ordering;
 use std::fmt::Debug;
-use std::hash::{DefaultHasher, Hash, Hasher};
 use std::process::Abort;
 
-// How two vectors compare.
-fn ordered<C: ChunkSource>(
-    rt: &impl Abort,
-    a: &Allocator<C>,
-    one: Vec<u8>,
-    other: Vec<u8>,
-) -> Ordering {
-    known(rt, a, one);
-    known(rt, a, other);
-    let order = one.cmp(a, &other);
-    same(rt, one.partial_cmp(a, &other), Some(order));
-    order
-}
-
-// Whether two vectors are equal, the second of which is this list.
-fn equal<C: ChunkSource>(
+// Checks whether a vector is equal to another, with the values of the list, and how it compares with it.
+fn compares<C: ChunkSource>(
     rt: &impl Abort,
     a: &Allocator<C>,
     one: Vec<u8>,
     other: Vec<u8>,
     list: &[u8],
-) -> bool {
+    order: Ordering,
+) {
     known(rt, a, one);
     known(rt, a, other);
-    let is_equal = one.eq(a, &other);
-    same(rt, one.eq_slice(a, list), is_equal);
-    is_equal
+    same(rt, one.eq(a, &other), order.is_eq());
+    same(rt, one.eq_slice(a, list), order.is_eq());
+    same(rt, one.cmp(a, &other), order);
 }
 
-// How one list compares with another. All calls say the same.
-fn compared(rt: &impl Abort, alloc: Global, list: &[u8], with: &[u8]) -> Ordering {
-    let mut a = ample(alloc);
-    let one = vec_of(rt, &mut a, list);
-    let other = vec_of(rt, &mut a, with);
-    let order = ordered(rt, &a, one, other);
-    same(rt, equal(rt, &a, one, other, with), order.is_eq());
-    order
-}
-
-const ORDERS: &[(&[u8], &[u8], Ordering)] = &[
-    (&[1, 2, 3], &[1, 2, 3], Ordering::Equal),
-    (&[1, 2, 3], &[1, 2, 4], Ordering::Less),
-    (&[1, 2, 3], &[1, 2], Ordering::Greater),
-    (&[1, 2], &[1, 2, 3], Ordering::Less),
-    (&[2], &[1, 1], Ordering::Greater),
-    (&[1], &[1, 0], Ordering::Less),
-    (&[1, 0], &[], Ordering::Greater),
-    (&[], &[1, 0], Ordering::Less),
-    (&[], &[], Ordering::Equal),
+const ORDERS: &[(&[u8], Ordering)] = &[
+    (&[1, 2, 3], Ordering::Equal),
+    (&[1, 2, 4], Ordering::Less),
+    (&[1, 2], Ordering::Greater),
 ];
 
-const HASHED: &[&[u32]] = &[&[1, 2], &[2, 1], &[]];
-
-// The hash is that of the slice.
-fn hashed(rt: &impl Abort, alloc: Global, list: &[u32]) {
-    let mut a = ample(alloc);
-    let vec = vec_of(rt, &mut a, list);
-    let (mut one, mut other) = (DefaultHasher::new(), DefaultHasher::new());
-    vec.hash(&a, &mut one);
-    list.hash(&mut other);
-    same(rt, one.finish(), other.finish());
-}
-
 #[test]
-fn orders_and_hashes(rt: HostRuntime) {
-    for (list, with, order) in ORDERS {
-        same(&rt, compared(&rt, rt.alloc(), list, with), *order);
-    }
-    for list in HASHED {
-        hashed(&rt, rt.alloc(), list);
+fn equality_and_order(rt: HostRuntime) {
+    let mut a = ample(rt.alloc());
+    let one = vec_of(&rt, &mut a, &[1u8, 2, 3]);
+    for (list, order) in ORDERS {
+        let other = vec_of(&rt, &mut a, list);
+        compares(&rt, &a, one, other, list, *order);
     }
 }
 
-// The values have this text.
+// Checks the debug text of a vector with these values.
 fn says<T: Item + Debug>(rt: &impl Abort, alloc: Global, list: &[T], wanted: &str) {
     let mut a = ample(alloc);
     let vec = vec_of(rt, &mut a, list);
@@ -91,23 +49,8 @@ fn says<T: Item + Debug>(rt: &impl Abort, alloc: Global, list: &[T], wanted: &st
     same(rt, text.as_str(), wanted);
 }
 
-const ERRORS: &[(AllocError, &str)] = &[
-    (
-        AllocError::AllocErr { refused: 2 },
-        "memory allocation failed",
-    ),
-    (AllocError::CapacityOverflow, "capacity overflow"),
-    (AllocError::OutOfMemory, "out of memory"),
-];
-
 #[test]
 fn texts(rt: HostRuntime) {
     says(&rt, rt.alloc(), &[1u32, 2], "Vec([1, 2])");
     says(&rt, rt.alloc(), &['x'], "Vec(['x'])");
-    says(&rt, rt.alloc(), &[Some(1u8), None], "Vec([Some(1), None])");
-    says::<u32>(&rt, rt.alloc(), &[], "Vec([])");
-    for (error, text) in ERRORS {
-        let said = format!(in rt.alloc(); "{error}").expect(&rt, "a text");
-        same(&rt, said.as_str(), *text);
-    }
 }

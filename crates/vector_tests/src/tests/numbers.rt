@@ -1,24 +1,21 @@
-// Numbers one after another, of an iterator whose hints tell more, fewer or as many as it gives.
+// An iterator of successive numbers, whose size hints may be higher than, lower than or equal to what it yields.
 ghost use Rattle.std.specs.Iterator.{at_most};
 
-// What an iterator tells of how many items are to come. The last number is how many it gives.
+// The size hint of an iterator. The last number is the number of items that it yields.
 #[derive(Drop)]
 pub(super) enum Hints {
     Exactly(u32),
     AtLeast(usize, u32),
     AtMost(usize, u32),
-    // At least and at most so many.
-    Between(usize, usize, u32),
 }
 
 impl Hints {
-    // The iterator: the numbers from the first on.
+    // The iterator of numbers from `first`.
     pub(super) fn numbers(&self, first: u32) -> Numbers {
         let (least, most, bound, gives) = match *self {
             Hints::Exactly(n) => (n as usize, Some(n as usize), n as usize, n),
             Hints::AtLeast(least, n) => (least, None, usize::MAX, n),
             Hints::AtMost(most, n) => (0, Some(most), most, n),
-            Hints::Between(least, most, n) => (least, Some(most), n as usize, n),
         };
         Numbers {
             least,
@@ -30,7 +27,7 @@ impl Hints {
         }
     }
 
-    // The iterator from 1 on, which counts the items that are taken.
+    // The iterator of numbers from 1, which counts the items that are taken.
     pub(super) fn counting<'a>(&self, taken: &'a mut u64) -> Counting<'a> {
         Counting {
             numbers: self.numbers(1),
@@ -39,7 +36,7 @@ impl Hints {
     }
 }
 
-// Numbers one after another, but at most as many as the bound.
+// Successive numbers, at most as many as the bound.
 #[derive(Drop)]
 pub(super) struct Numbers {
     least: usize,

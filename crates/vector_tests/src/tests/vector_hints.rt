@@ -1,80 +1,57 @@
-// Vectors that take an iterator's items: which room is made is told by its hints.
+// Tests of vectors to which an iterator's items are appended. Its own hints determine the room, and no item is taken
+// after the last that is reported.
 use super::numbers::Hints;
+use super::same_at;
+use super::vector_refusals::{NONE_REFUSED, fixed};
 use super::vectors::{is_list, vec_of};
-use super::{ample, same_at};
-use arena_vec::Vec;
+use arena_vec::Grown;
 use std::alloc::Global;
 use std::process::Abort;
 
-// More than an iterator gives, and too many to make room for.
-const MANY: usize = 1 << 30;
-
-// What is told, the list then, and its capacity.
-const NEW_VECTORS: &[(Hints, &[u32], u32)] = &[
-    (Hints::Exactly(5), &[1, 2, 3, 4, 5], 5),
-    (Hints::Exactly(0), &[], 0),
-    (Hints::AtMost(10, 3), &[1, 2, 3], 10),
-    (Hints::AtLeast(3, 3), &[1, 2, 3], 3),
-    (Hints::AtLeast(5, 3), &[1, 2, 3], 5),
-    (Hints::AtLeast(0, 3), &[1, 2, 3], 4),
-    // The third item finds no room, and two more are told.
-    (Hints::AtLeast(2, 5), &[1, 2, 3, 4, 5], 5),
-    (Hints::Between(3, 1 << 40, 3), &[1, 2, 3], 3),
-    (Hints::AtMost(MANY, 3), &[1, 2, 3], 4),
-    (Hints::AtLeast(MANY, 3), &[1, 2, 3], 4),
-    (Hints::AtLeast(usize::MAX, 2), &[1, 2], 2),
-];
-
-// The list, for how many more it has room, what is told, the list then, and its capacity.
+// The list, the number of values for which it has spare room, the hint, the list after the call, and its capacity.
 type Row = (&'static [u32], u64, Hints, &'static [u32], u32);
 
 const BEHIND_A_LIST: &[Row] = &[
-    // A full vector makes room for all that are told to follow, or for twice as many.
+    // A full vector makes room for all announced items, or for twice as many values as it has.
     (&[9], 0, Hints::Exactly(4), &[9, 1, 2, 3, 4], 5),
     (&[9, 9, 9], 0, Hints::Exactly(1), &[9, 9, 9, 1], 6),
-    (&[9, 9, 9], 0, Hints::Exactly(3), &[9, 9, 9, 1, 2, 3], 6),
-    (&[], 0, Hints::Exactly(3), &[1, 2, 3], 3),
-    (&[9], 0, Hints::Exactly(0), &[9], 1),
-    // With room it does so once it is full.
+    // A vector with room does so once it is full.
     (&[9, 9], 2, Hints::Exactly(5), &[9, 9, 1, 2, 3, 4, 5], 8),
-    (&[9, 9], 5, Hints::Exactly(5), &[9, 9, 1, 2, 3, 4, 5], 7),
-    // The greatest number isn't asked for.
+    // The upper bound isn't used.
     (&[9, 9], 0, Hints::AtMost(100, 1), &[9, 9, 1], 4),
     (&[9, 9], 0, Hints::AtLeast(100, 1), &[9, 9, 1], 103),
-    // Where more come than are told, room is made again.
-    (&[9, 9], 0, Hints::AtLeast(1, 3), &[9, 9, 1, 2, 3], 8),
-    // What doesn't fit is passed over.
+    // A lower bound that doesn't fit is ignored.
     (&[9], 0, Hints::AtLeast(usize::MAX, 2), &[9, 1, 2], 4),
-    (&[9], 0, Hints::AtLeast(MANY, 2), &[9, 1, 2], 4),
 ];
 
-fn of_items(rt: &impl Abort, alloc: Global, hints: &Hints, list: &[u32], cap: u32) {
-    let mut a = ample(alloc);
-    let mut taken = 0;
-    let vec = Vec::from_iter_in(hints.counting(&mut taken), &mut a).expect(rt, "room");
-    is_list(rt, &a, vec, list);
-    same_at(rt, list, (vec.capacity(), taken), (cap, list.len() as u64));
-}
+const REFUSED: &[Row] = &[
+    (&[8, 9], 0, Hints::Exactly(3), &[8, 9], 2),
+    (&[8, 9], 0, Hints::AtLeast(0, 9), &[8, 9, 1, 2], 4),
+    (&[], 0, Hints::AtLeast(0, 9), &[1, 2, 3, 4], 4),
+];
 
-fn with_items(rt: &impl Abort, alloc: Global, row: &Row) {
-    let (list, room, hints, wanted, cap) = row;
-    let mut a = ample(alloc);
+// Appends items in an arena of `bytes` bytes. `wanted` is the result, and the number of items that were taken and
+// aren't in the list.
+fn takes(rt: &impl Abort, alloc: Global, bytes: usize, row: &Row, wanted: (Grown<()>, u64)) {
+    let (list, room, hints, then, cap) = row;
+    let mut a = fixed(rt, alloc, bytes);
     let mut vec = vec_of(rt, &mut a, list);
     vec.reserve_exact(&mut a, *room).expect(rt, "room");
     let mut taken = 0;
-    vec.extend(&mut a, hints.counting(&mut taken))
-        .expect(rt, "room");
-    is_list(rt, &a, vec, wanted);
-    let items = wanted.len().saturating_sub(list.len()) as u64;
-    same_at(rt, *wanted, (vec.capacity(), taken), (*cap, items));
+    let answer = vec.extend(&mut a, hints.counting(&mut taken));
+    is_list(rt, &a, vec, then);
+    let items = then.len().saturating_sub(list.len()) as u64;
+    same_at(rt, *then, (answer, taken.saturating_sub(items)), wanted);
+    same_at(rt, *then, vec.capacity(), *cap);
 }
 
 #[test]
 fn as_told(rt: HostRuntime) {
-    for (hints, list, cap) in NEW_VECTORS {
-        of_items(&rt, rt.alloc(), hints, list, *cap);
-    }
     for row in BEHIND_A_LIST {
-        with_items(&rt, rt.alloc(), row);
+        takes(&rt, rt.alloc(), 1024, row, (Ok(()), 0));
+    }
+    // The item that was taken last has no place.
+    for row in REFUSED {
+        takes(&rt, rt.alloc(), 16, row, (NONE_REFUSED, 1));
     }
 }

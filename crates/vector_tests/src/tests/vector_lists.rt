@@ -1,10 +1,12 @@
-// How vectors are made, taken apart and put together.
+// Tests of how vectors are made, split and joined: worked examples, and those of the Rust crate. The room for an
+// iterator's items is by its own hints, and no item is taken after the last that is reported.
+ghost use Rattle.arena_chunks.specs.Frame.{AreBlocksApart};
+
 use super::numbers::Hints;
-use super::two_vectors::{Pair, Row, both};
 use super::vector_refusals::fixed;
-use super::vectors::{Answer, Call, is_list};
-use super::{ample, same, same_at};
-use arena_chunks::{Allocator, MemoryChunks};
+use super::vectors::{Answer, Call, Row, is_list, known, runs, vec_of};
+use super::{ample, at_most, same, same_at};
+use arena_chunks::{Allocator, Block, ChunkSource, MemoryChunks};
 use arena_vec::{AllocError, Grown, Vec};
 use std::alloc::Global;
 use std::process::Abort;
@@ -12,65 +14,55 @@ use std::process::Abort;
 // How a vector is made.
 #[derive(Drop)]
 enum New {
-    // With room for so many.
+    // An empty vector with this capacity.
     Room(u64),
-    Value(u32),
-    Three([u32; 3]),
-    Five([u32; 5]),
-    None([u32; 0]),
+    // An iterator's items.
     Items(Hints),
-    // Items, with room for so many at first.
+    // An iterator's items, in a vector with this capacity at first.
     InRoom(u64, Hints),
 }
 
 fn make(a: &mut Allocator<MemoryChunks>, new: &New, taken: &mut u64) -> Grown<Vec<u32>> {
     match new {
         New::Room(cap) => Vec::with_capacity_in(*cap, a),
-        New::Value(value) => Vec::from_value_in(*value, a),
-        New::Three(values) => Vec::from_array_in(*values, a),
-        New::Five(values) => Vec::from_array_in(*values, a),
-        New::None(values) => Vec::from_array_in(*values, a),
         New::Items(hints) => Vec::from_iter_in(hints.counting(taken), a),
         New::InRoom(room, hints) => { Vec::from_iter_with_room_in(hints.counting(taken), *room, a) }
     }
 }
 
-// The list, the capacity, and how many bytes are used.
+// How a vector is made, the list, the capacity, and the bytes in use.
 const NEW_VECTORS: &[(New, &[u32], u32, u64)] = &[
     (New::Room(10), &[], 10, 40),
-    (New::Room(0), &[], 0, 0),
-    (New::Value(123), &[123], 1, 4),
-    (New::Three([1, 2, 3]), &[1, 2, 3], 3, 12),
-    (New::None([]), &[], 0, 0),
     (New::Items(Hints::Exactly(3)), &[1, 2, 3], 3, 12),
     (New::Items(Hints::Exactly(0)), &[], 0, 0),
-    (New::Items(Hints::AtLeast(0, 3)), &[1, 2, 3], 4, 16),
-    // Whatever is told, the room at first is what was asked for. Beyond it a vector grows.
-    (New::InRoom(3, Hints::Exactly(3)), &[1, 2, 3], 3, 12),
+    (New::Items(Hints::AtMost(10, 3)), &[1, 2, 3], 10, 40),
+    (New::Items(Hints::AtLeast(5, 3)), &[1, 2, 3], 5, 20),
+    // There is no room for the third item, and the hint announces two more.
+    (New::Items(Hints::AtLeast(2, 5)), &[1, 2, 3, 4, 5], 5, 20),
+    // Too many to make room for.
+    (New::Items(Hints::AtMost(1 << 30, 3)), &[1, 2, 3], 4, 16),
+    (New::Items(Hints::AtLeast(usize::MAX, 2)), &[1, 2], 2, 8),
+    // Whatever the hint, the capacity at first is the requested one. The vector grows beyond it.
     (
         New::InRoom(3, Hints::AtMost(1_000_000, 3)),
         &[1, 2, 3],
         3,
         12,
     ),
-    (New::InRoom(7, Hints::AtLeast(0, 3)), &[1, 2, 3], 7, 28),
     (New::InRoom(2, Hints::AtLeast(0, 3)), &[1, 2, 3], 4, 16),
 ];
 
-// There is no place, and no chunk was asked for.
+// There is no place, and no chunk was requested.
 const NO_PLACE: AllocError = AllocError::AllocErr { refused: 0 };
 
-// 16 bytes are there. How many items were taken, and how many bytes are used then.
+// In an arena of 16 bytes: how a vector is made, the error, the number of items that were taken, and the bytes in use.
 const REFUSED: &[(New, AllocError, u64, u64)] = &[
     (New::Room(5), NO_PLACE, 0, 0),
-    (New::Five([1, 2, 3, 4, 5]), NO_PLACE, 0, 0),
-    // Nothing is taken where the first room is refused.
+    // No item is taken if the first room is refused.
     (New::Items(Hints::Exactly(5)), NO_PLACE, 0, 0),
-    (New::Items(Hints::AtMost((1 << 30) - 1, 3)), NO_PLACE, 0, 0),
-    // Four items have a place. The fifth was taken too, and the block of the others stays.
+    // There is a place for four items. The fifth was taken too, and the block of the others stays.
     (New::Items(Hints::AtLeast(0, 9)), NO_PLACE, 5, 16),
     (New::InRoom(5, Hints::Exactly(3)), NO_PLACE, 0, 0),
-    (New::InRoom(4, Hints::Exactly(5)), NO_PLACE, 5, 16),
     (
         New::InRoom(1 << 30, Hints::Exactly(3)),
         AllocError::CapacityOverflow,
@@ -78,19 +70,20 @@ const REFUSED: &[(New, AllocError, u64, u64)] = &[
         0,
     ),
     (New::Room(1 << 30), AllocError::CapacityOverflow, 0, 0),
-    (New::Room(u64::MAX), AllocError::CapacityOverflow, 0, 0),
 ];
 
 fn is_made(rt: &impl Abort, alloc: Global, new: &New, list: &[u32], room: (u32, u64)) {
     let mut a = ample(alloc);
-    let vec = make(&mut a, new, &mut 0).expect(rt, "room");
+    let mut taken = 0;
+    let vec = make(&mut a, new, &mut taken).expect(rt, "room");
     is_list(rt, &a, vec, list);
+    same_at(rt, list, taken <= list.len() as u64, true);
     same_at(rt, list, vec.is_empty(), list.is_empty());
     same_at(rt, list, (vec.capacity(), a.used_bytes()), room);
     same_at(rt, list, vec.as_ptr().size, room.1);
 }
 
-// So many items were taken, and so many bytes are used.
+// Checks that a vector can't be made, the number of items that were taken, and the bytes in use.
 fn is_refused(rt: &impl Abort, alloc: Global, new: &New, why: AllocError, left: (u64, u64)) {
     let mut a = fixed(rt, alloc, 16);
     let mut taken = 0;
@@ -109,65 +102,68 @@ fn new_vectors(rt: HostRuntime) {
     }
 }
 
-const SPLIT_AND_JOINED: &[Row<'static>] = &[
-    (Pair::SplitOff(1), Answer::Done, (&[1], 3), (&[2, 3], 2)),
-    (Pair::Append, Answer::Done, (&[1, 2, 3], 3), (&[], 2)),
-    (Pair::Append, Answer::Done, (&[1, 2, 3], 3), (&[], 2)),
-    (Pair::AppendBack, Answer::Done, (&[], 3), (&[1, 2, 3], 4)),
-    (Pair::Append, Answer::Done, (&[1, 2, 3], 3), (&[], 4)),
-    (Pair::SplitOff(0), Answer::Done, (&[], 3), (&[1, 2, 3], 3)),
-    (Pair::Append, Answer::Done, (&[1, 2, 3], 3), (&[], 3)),
-    (Pair::SplitOff(3), Answer::Done, (&[1, 2, 3], 3), (&[], 0)),
-    (
-        Pair::Second(Call::Extend(&[4, 5, 6])),
-        Answer::Done,
-        (&[1, 2, 3], 3),
-        (&[4, 5, 6], 3),
-    ),
-    (
-        Pair::Append,
-        Answer::Done,
-        (&[1, 2, 3, 4, 5, 6], 6),
-        (&[], 3),
-    ),
-];
-
-const CUT_AND_GROWN: &[Row<'static>] = &[
-    (
-        Pair::First(Call::Insert(1, 9)),
-        Answer::Done,
-        (&[1, 9, 2, 3], 6),
-        (&[], 0),
-    ),
-    (Pair::SplitOff(2), Answer::Done, (&[1, 9], 6), (&[2, 3], 2)),
-    (Pair::Append, Answer::Done, (&[1, 9, 2, 3], 6), (&[], 2)),
-    (
-        Pair::First(Call::Resize(5, 0)),
-        Answer::Done,
-        (&[1, 9, 2, 3, 0], 6),
-        (&[], 2),
-    ),
-];
-
-const ONE_AND_ANOTHER: &[Row<'static>] = &[(
-    Pair::First(Call::Push(456)),
-    Answer::Done,
-    (&[123, 456], 2),
-    (&[], 0),
-)];
-
-// How the first of two vectors is made, and the calls on them.
-const TWO: &[(New, &[Row<'static>])] = &[
-    (New::Three([1, 2, 3]), SPLIT_AND_JOINED),
-    (New::Three([1, 2, 3]), CUT_AND_GROWN),
-    (New::Value(123), ONE_AND_ANOTHER),
+const PUSHED: &[Row<'static, u32>] = &[
+    (Call::Reserve(0), Answer::Done, &[123], 1),
+    (Call::Push(456), Answer::Done, &[123, 456], 2),
 ];
 
 #[test]
+fn one_value_and_another(rt: HostRuntime) {
+    let mut a = ample(rt.alloc());
+    let mut vec = Vec::from_value_in(123u32, &mut a).expect(&rt, "room");
+    runs(&rt, &mut a, &mut vec, PUSHED);
+}
+
+// Fails the test if two blocks have an address in common.
+fn apart(rt: &impl Abort, one: Block, other: Block)
+    ensures { AreBlocksApart one other }
+{
+    let is_below = one.addr <= other.addr && one.size <= other.addr - one.addr;
+    assert!(rt; is_below || (other.addr <= one.addr && other.size <= one.addr - other.addr));
+}
+
+// Splits a vector of the list at an index, checks both parts, and joins them again.
+fn split_and_join<C: ChunkSource>(
+    rt: &impl Abort,
+    a: &mut Allocator<C>,
+    vec: &mut Vec<u32>,
+    list: &[u32],
+    at: u32,
+    parts: (&[u32], &[u32]),
+) {
+    known(rt, a, *vec);
+    at_most(rt, at, vec.len());
+    let mut tail = vec.split_off(a, at).expect(rt, "room");
+    is_list(rt, a, *vec, parts.0);
+    is_list(rt, a, tail, parts.1);
+    known(rt, a, *vec);
+    known(rt, a, tail);
+    apart(rt, tail.as_ptr(), vec.as_ptr());
+    vec.append(a, &mut tail).expect(rt, "room");
+    is_list(rt, a, *vec, list);
+    is_list(rt, a, tail, &[]);
+}
+
+// A list, an index, and the parts before and from there on.
+const PARTS: &[(&[u32], u32, (&[u32], &[u32]))] = &[
+    (&[1, 2, 3], 1, (&[1], &[2, 3])),
+    (&[1, 2, 3, 4, 5, 6], 3, (&[1, 2, 3], &[4, 5, 6])),
+];
+
+const INSERTED: &[Row<'static, u32>] = &[(Call::Insert(1, 9), Answer::Done, &[1, 9, 2, 3], 6)];
+
+const RESIZED: &[Row<'static, u32>] = &[(Call::Resize(5, 0), Answer::Done, &[1, 9, 2, 3, 0], 6)];
+
+#[test]
 fn split_and_joined(rt: HostRuntime) {
-    for (new, rows) in TWO {
+    for (list, at, parts) in PARTS {
         let mut a = ample(rt.alloc());
-        let vec = make(&mut a, new, &mut 0).expect(&rt, "room");
-        both(&rt, &mut a, vec, rows);
+        let mut vec = vec_of(&rt, &mut a, list);
+        split_and_join(&rt, &mut a, &mut vec, list, *at, *parts);
     }
+    let mut a = ample(rt.alloc());
+    let mut vec = Vec::from_array_in([1u32, 2, 3], &mut a).expect(&rt, "room");
+    runs(&rt, &mut a, &mut vec, INSERTED);
+    split_and_join(&rt, &mut a, &mut vec, &[1, 9, 2, 3], 2, (&[1, 9], &[2, 3]));
+    runs(&rt, &mut a, &mut vec, RESIZED);
 }

@@ -1,17 +1,15 @@
-// A fixed arena that is full before a call on a vector is through.
-use super::numbers::Hints;
-use super::two_vectors::{self, Pair, both};
-use super::vectors::{Answer, Call, Row, is_list, runs, vec_of};
-use super::{has, same, same_at};
-use arena_chunks::{Allocator, MemoryChunks};
+// Tests of calls that are refused: in a fixed arena that gets full, and by a source of chunks.
+use super::vectors::{Answer, Call, Row, make, runs, vec_of};
+use super::{same, same_at};
+use arena_chunks::{Allocator, MemoryChunks, RefusingChunks};
 use arena_vec::{AllocError, Grown, Vec};
 use std::alloc::Global;
 use std::process::Abort;
 
-// There is no place, and no chunk was asked for.
+// There is no place, and no chunk was requested.
 pub(super) const NONE_REFUSED: Grown<()> = Err(AllocError::AllocErr { refused: 0 });
 
-// An allocator that has so many bytes and asks for no chunk.
+// An allocator over `bytes` bytes that requests no chunk.
 pub(super) fn fixed(rt: &impl Abort, alloc: Global, bytes: usize) -> Allocator<MemoryChunks> {
     assert!(rt; bytes <= 1024);
     let region = vec![in alloc; 0u8; bytes + 48].expect(rt, "memory");
@@ -26,94 +24,59 @@ const NO: Answer<u32> = Answer::Refused(0);
 
 const ON_A_LIST: &[Row<'static, u32>] = &[
     (Call::Extend(&[3, 4, 5]), NO, &[1, 2], 2),
-    (Call::ExtendCopy(&[3, 4, 5]), NO, &[1, 2], 2),
     (Call::ExtendSlices(&[&[3], &[4, 5]]), NO, &[1, 2], 2),
     (Call::Resize(5, 9), NO, &[1, 2], 2),
     (Call::Reserve(3), NO, &[1, 2], 2),
-    (Call::TryReserve(3), NO, &[1, 2], 2),
     (Call::ReserveExact(3), NO, &[1, 2], 2),
-    (Call::TryReserveExact(3), NO, &[1, 2], 2),
     (Call::Insert(0, 9), Answer::Done, &[9, 1, 2], 4),
     (Call::Push(3), Answer::Done, &[9, 1, 2, 3], 4),
     (Call::Push(4), NO, &[9, 1, 2, 3], 4),
-    (Call::PushFast(4), NO, &[9, 1, 2, 3], 4),
     (Call::PushMut(4), NO, &[9, 1, 2, 3], 4),
-    (Call::PushFastMut(4), NO, &[9, 1, 2, 3], 4),
     (Call::Insert(2, 4), NO, &[9, 1, 2, 3], 4),
-    (Call::Extend(&[4]), NO, &[9, 1, 2, 3], 4),
-    (Call::Extend(&[]), Answer::Done, &[9, 1, 2, 3], 4),
-    (Call::Resize(4, 0), Answer::Done, &[9, 1, 2, 3], 4),
-    (Call::Pop, Answer::Value(3), &[9, 1, 2], 4),
-    (Call::Push(5), Answer::Done, &[9, 1, 2, 5], 4),
 ];
 
-// No room even for the first value.
+// There is no room even for the first value.
 const NO_BYTES: &[Row<'static, u32>] = &[
     (Call::Push(1), NO, &[], 0),
-    (Call::Insert(0, 1), NO, &[], 0),
-    (Call::Resize(1, 1), NO, &[], 0),
     (Call::Reserve(1), NO, &[], 0),
-    (Call::Reserve(0), Answer::Done, &[], 0),
-    (Call::Resize(0, 1), Answer::Done, &[], 0),
 ];
 
-const TWO_LISTS: &[two_vectors::Row<'static>] = &[
-    (Pair::SplitOff(1), NO, (&[1, 2, 3], 3), (&[], 0)),
-    (Pair::SplitOff(2), Answer::Done, (&[1, 2], 3), (&[3], 1)),
-    (
-        Pair::First(Call::Push(4)),
-        Answer::Done,
-        (&[1, 2, 4], 3),
-        (&[3], 1),
-    ),
-    (Pair::Append, NO, (&[1, 2, 4], 3), (&[3], 1)),
-    (Pair::AppendBack, NO, (&[1, 2, 4], 3), (&[3], 1)),
-    (Pair::SplitOff(3), Answer::Done, (&[1, 2, 4], 3), (&[], 0)),
+// The bytes of the arena, a list, and the calls on a vector of it.
+const FULL: &[(usize, &[u32], &[Row<'static, u32>])] = &[
+    (16, &[1, 2], ON_A_LIST),
+    (0, &[], NO_BYTES),
 ];
 
 #[test]
 fn calls_in_a_full_arena(rt: HostRuntime) {
-    let mut a = fixed(&rt, rt.alloc(), 16);
-    let mut vec = vec_of(&rt, &mut a, &[1u32, 2]);
-    runs(&rt, &mut a, &mut vec, ON_A_LIST);
-    same(&rt, vec.as_ptr().addr, 4096);
-    has(&rt, "a full arena", &a, 16, (1, 1));
+    for (bytes, list, rows) in FULL {
+        let mut a = fixed(&rt, rt.alloc(), *bytes);
+        let mut vec = vec_of(&rt, &mut a, list);
+        runs(&rt, &mut a, &mut vec, rows);
+    }
 }
 
-#[test]
-fn calls_where_there_are_no_bytes(rt: HostRuntime) {
-    let mut a = fixed(&rt, rt.alloc(), 0);
-    let mut vec = Vec::new_in();
-    runs(&rt, &mut a, &mut vec, NO_BYTES);
-}
-
-#[test]
-fn calls_on_two_lists(rt: HostRuntime) {
-    let mut a = fixed(&rt, rt.alloc(), 16);
-    let vec = vec_of(&rt, &mut a, &[1, 2, 3]);
-    both(&rt, &mut a, vec, TWO_LISTS);
-}
-
-// The list, what is told of the items that are put behind them, how many were taken, the list then, and how
-// many bytes are used. Those that were taken are there, but for the last.
-const BEHIND_A_LIST: &[(&[u32], Hints, u64, &[u32], u64)] = &[
-    (&[8, 9], Hints::Exactly(3), 1, &[8, 9], 8),
-    (&[8, 9], Hints::AtLeast(2, 9), 1, &[8, 9], 8),
-    (&[8, 9], Hints::AtLeast(0, 9), 3, &[8, 9, 1, 2], 16),
-    (&[8, 9], Hints::AtMost(3, 9), 3, &[8, 9, 1, 2], 16),
-    (&[], Hints::AtLeast(0, 9), 5, &[1, 2, 3, 4], 16),
+// A call, its expected result, and the length after it.
+const REFUSED: &[(Call<'static, u8>, Answer<u8>, u32)] = &[
+    (Call::Resize(16320, 7), Answer::Refused(1), 0),
+    (Call::Resize(16320, 7), Answer::Done, 16320),
+    (Call::Push(8), Answer::Refused(1), 16320),
+    (Call::Push(8), Answer::Done, 16321),
 ];
 
+const REQUESTS: &[(u64, u64)] = &[(16320, 16), (16320, 16), (32704, 16), (32704, 16)];
+
+// A refused request leaves the vector unchanged, and can be repeated.
 #[test]
-fn items_behind_a_list(rt: HostRuntime) {
-    for (list, hints, wanted, then, used) in BEHIND_A_LIST {
-        let mut a = fixed(&rt, rt.alloc(), 16);
-        let mut vec = vec_of(&rt, &mut a, list);
-        let mut taken = 0;
-        let answer = vec.extend(&mut a, hints.counting(&mut taken));
-        same_at(&rt, *then, (answer, taken), (NONE_REFUSED, *wanted));
-        is_list(&rt, &a, vec, then);
-        let room = vec.capacity() as u64 * 4;
-        same_at(&rt, *then, (a.used_bytes(), room), (*used, *used));
+fn refused_requests(rt: HostRuntime) {
+    let refuse = [1, 3].to_vec(rt.alloc()).expect(&rt, "memory");
+    let mut a = Allocator::new(rt.alloc(), RefusingChunks::new(rt.alloc(), refuse));
+    let mut vec = <Vec<u8>>::new_in();
+    for (call, wanted, len) in REFUSED {
+        let answer = make(&rt, &mut a, &mut vec, call);
+        same_at(&rt, *len, answer == *wanted, true);
+        same_at(&rt, *len, vec.len(), *len);
     }
+    let (_, chunks) = a.into_parts();
+    same(&rt, chunks.requests(), Some(REQUESTS));
 }

@@ -1,12 +1,12 @@
-// The storage of a vector by its own calls.
+// Tests of a vector's storage through its own calls: capacities by hand from the rule of growth, and at its limits.
 use super::vectors::known;
-use super::{ample, at_most, has, same, same_at};
-use arena_chunks::{Allocator, Block, ChunkSource};
+use super::{ample, same, same_at};
+use arena_chunks::{Allocator, ChunkSource};
 use arena_vec::{AllocError, Grown, RawVec, Vec};
 use std::alloc::Global;
 use std::process::Abort;
 
-// A call that makes room behind the first values, so many of them, for so many more.
+// A call that makes room: the number of values that are kept, and the number of further ones.
 #[derive(Drop)]
 enum Room {
     Reserve(u32, u64),
@@ -14,7 +14,6 @@ enum Room {
     ReserveExact(u32, u64),
     TryReserveExact(u32, u64),
     GrowOne,
-    Shrink(u32),
 }
 
 fn make<C: ChunkSource>(
@@ -30,16 +29,10 @@ fn make<C: ChunkSource>(
         Room::ReserveExact(len, more) => raw.reserve_exact(a, *len, *more),
         Room::TryReserveExact(len, more) => raw.try_reserve_exact(a, *len, *more),
         Room::GrowOne => raw.grow_one(a),
-        Room::Shrink(amount) => {
-            at_most(rt, *amount, raw.cap);
-            at_most(rt, raw.len, *amount);
-            raw.shrink_to_fit(a, *amount);
-            Ok(())
-        }
     }
 }
 
-// Makes the calls of these rows one after another on no storage. After each there is room for so many.
+// Makes the calls of the rows in order on empty storage, and checks the capacity after each.
 fn runs(rt: &impl Abort, alloc: Global, rows: &[(Room, u32)]) {
     let mut a = ample(alloc);
     let mut raw = RawVec::new_in();
@@ -50,7 +43,7 @@ fn runs(rt: &impl Abort, alloc: Global, rows: &[(Room, u32)]) {
     }
 }
 
-// Calls on new storage, and for how many it has room after each.
+// Calls on new storage, and the capacity after each.
 const CAPACITIES: &[&[(Room, u32)]] = &[
     &[(Room::Reserve(0, 9), 9)],
     &[(Room::Reserve(0, 7), 7), (Room::Reserve(7, 90), 97)],
@@ -59,36 +52,12 @@ const CAPACITIES: &[&[(Room, u32)]] = &[
         (Room::GrowOne, 1),
         (Room::GrowOne, 2),
         (Room::GrowOne, 4),
-        (Room::TryReserve(3, 1), 4),
         (Room::TryReserve(3, 2), 8),
         (Room::TryReserve(0, 20), 20),
         (Room::TryReserveExact(20, 1), 21),
-        (Room::ReserveExact(5, 16), 21),
         (Room::ReserveExact(5, 17), 22),
-        (Room::Shrink(22), 22),
-        (Room::Shrink(3), 3),
-        (Room::Shrink(0), 0),
-        (Room::Shrink(0), 0),
-        (Room::TryReserveExact(0, 3), 3),
     ],
 ];
-
-const TOO_MUCH: &[Room] = &[
-    Room::Reserve(0, 1 << 30),
-    Room::TryReserve(0, 1 << 30),
-    Room::ReserveExact(0, 1 << 30),
-    Room::TryReserveExact(0, 1 << 32),
-    Room::TryReserve(0, u64::MAX),
-];
-
-// Such a call overflows, and takes nothing.
-fn too_much(rt: &impl Abort, alloc: Global, room: &Room) {
-    let mut a = ample(alloc);
-    let mut raw = RawVec::new_in();
-    let refused = make(rt, &mut a, &mut raw, room);
-    same(rt, refused, Err(AllocError::CapacityOverflow));
-    same(rt, (raw.capacity_usize(), a.used_bytes()), (0, 0));
-}
 
 const REFUSED: &[(u64, AllocError)] = &[
     (1 << 30, AllocError::CapacityOverflow),
@@ -100,53 +69,19 @@ fn capacities(rt: HostRuntime) {
     for rows in CAPACITIES {
         runs(&rt, rt.alloc(), rows);
     }
-    for room in TOO_MUCH {
-        too_much(&rt, rt.alloc(), room);
-    }
+}
+
+#[test]
+fn limits(rt: HostRuntime) {
     for (cap, why) in REFUSED {
         let refused = <RawVec<u32>>::with_capacity_in(*cap, &mut ample(rt.alloc()));
         same_at(&rt, *cap, refused.err(), Some(*why));
     }
-}
-
-#[test]
-fn numbers_and_block(rt: HostRuntime) {
     let mut a = ample(rt.alloc());
-    let mut raw = <RawVec<u16>>::with_capacity_in(3, &mut a).expect(&rt, "room");
-    let block = raw.ptr();
-    same(&rt, (block.addr, block.size, block.align), (20410, 6, 2));
-    raw.increase_len(2);
-    same(&rt, (raw.len_u32(), raw.len_usize()), (2, 2));
-    raw.decrease_len(1);
-    same(&rt, (raw.len_u32(), raw.capacity_usize()), (1, 3));
-    // The handle keeps its numbers.
-    raw.dealloc_buffer(&mut a);
-    same(
-        &rt,
-        (raw.len_u32(), raw.capacity_u32(), raw.ptr()),
-        (1, 3, block),
-    );
-    has(&rt, "given back", &a, 0, (1, 0));
-    let parts = <RawVec<u16>>::from_raw_parts_in(Block::empty(2), 0, 0);
-    same(
-        &rt,
-        (parts.ptr(), parts.capacity_u32()),
-        (Block::empty(2), 0),
-    );
-}
-
-// Units take no bytes.
-#[test]
-fn storage_of_units(rt: HostRuntime) {
-    let parts = <RawVec<()>>::from_raw_parts_in(Block::empty(1), 4, 5);
-    same(&rt, (parts.len_u32(), parts.capacity_u32()), (4, u32::MAX));
-    let mut a = ample(rt.alloc());
-    let mut units = <RawVec<()>>::new_in();
-    units.shrink_to_fit(&mut a, 5);
-    units.reserve(&mut a, 7, (1 << 32) - 8).expect(&rt, "units");
-    let refused = units.try_reserve(&mut a, 7, (1 << 32) - 7);
+    let made = <RawVec<u32>>::with_capacity_in(3, &mut a).expect(&rt, "room");
+    same(&rt, (made.len_usize(), made.capacity_usize()), (0, 3));
+    let mut raw = <RawVec<u32>>::new_in();
+    let refused = raw.try_reserve(&mut a, 0, 1 << 30);
     same(&rt, refused, Err(AllocError::CapacityOverflow));
-    let refused = units.grow_one(&mut a);
-    same(&rt, refused, Err(AllocError::CapacityOverflow));
-    same(&rt, (units.capacity_u32(), a.used_bytes()), (u32::MAX, 0));
+    same(&rt, (raw.capacity_u32(), a.used_bytes()), (0, 12));
 }

@@ -1,4 +1,4 @@
-// Calls on a vector, and what they must answer and leave.
+// Calls on a vector, their expected results, and the vector after them.
 ghost use Rattle.std.specs.Prelude.{◌^◌, ◌≤◌};
 ghost use Rattle.arena_vec.specs.Vecs.{IsVecIn};
 
@@ -10,7 +10,7 @@ use std::alloc::Global;
 use std::fmt::Debug;
 use std::process::Abort;
 
-// A call on a vector. Indices and values are those that the call takes.
+// A call on a vector, with its arguments.
 #[derive(Drop)]
 pub(super) enum Call<'s, T> {
     Push(T),
@@ -35,24 +35,24 @@ pub(super) enum Call<'s, T> {
     ShrinkToFit,
 }
 
-// What a call answers.
+// The expected result of a call.
 #[derive(Drop, PartialEq)]
 pub(super) enum Answer<T> {
     Done,
     Index(u32),
     Value(T),
     None,
-    // What is required doesn't fit.
+    // The required capacity overflows.
     Overflows,
-    // There is no place. So many requests were refused.
+    // There is no place. The number of refused requests.
     Refused(u32),
     Exhausted,
 }
 
-// A call, what it answers, and the list and the capacity then.
+// A call, its expected result, and the list and the capacity after it.
 pub(super) type Row<'s, T> = (Call<'s, T>, Answer<T>, &'s [T], u32);
 
-pub(super) fn failed<T>(e: AllocError) -> Answer<T> {
+fn failed<T>(e: AllocError) -> Answer<T> {
     match e {
         AllocError::AllocErr { refused } => Answer::Refused(refused),
         AllocError::CapacityOverflow => Answer::Overflows,
@@ -60,7 +60,7 @@ pub(super) fn failed<T>(e: AllocError) -> Answer<T> {
     }
 }
 
-pub(super) fn done<T>(grown: Grown<()>) -> Answer<T> {
+fn done<T>(grown: Grown<()>) -> Answer<T> {
     match grown {
         Ok(()) => Answer::Done,
         Err(e) => failed(e),
@@ -74,7 +74,7 @@ fn index<T>(grown: Grown<u32>) -> Answer<T> {
     }
 }
 
-// Makes a call on a vector, which must be held.
+// Makes a call on a vector. The test fails if the vector isn't held.
 pub(super) fn make<T: Item, C: ChunkSource>(
     rt: &impl Abort,
     a: &mut Allocator<C>,
@@ -101,7 +101,7 @@ pub(super) fn make<T: Item, C: ChunkSource>(
     }
 }
 
-// Makes a call that answers no value.
+// Makes a call that returns no value.
 fn put<T: Item, C: ChunkSource>(
     rt: &impl Abort,
     a: &mut Allocator<C>,
@@ -126,7 +126,7 @@ fn put<T: Item, C: ChunkSource>(
     }
 }
 
-// Makes a call that puts no value there.
+// Makes a call that adds no value.
 fn change<T: Item, C: ChunkSource>(
     rt: &impl Abort,
     a: &mut Allocator<C>,
@@ -153,14 +153,15 @@ fn change<T: Item, C: ChunkSource>(
     Ok(())
 }
 
-// A value takes few bytes.
-pub(super) fn small<T: Item>(rt: &impl Abort)
+// Fails the test if the type exceeds 2^24 bytes.
+fn small<T: Item>(rt: &impl Abort)
     ensures { T.SIZE ≤ 2 ^ 24 }
 {
     assert!(rt; T::SIZE <= 48);
 }
 
-// A vector that was read out of an arena, or stood there while others changed, is held and well formed.
+// Fails the test if a vector isn't held or isn't well formed, for vectors that were read from an arena or stayed
+// there while others changed.
 pub(super) fn known<T: Item, C: ChunkSource>(rt: &impl Abort, a: &Allocator<C>, vec: Vec<T>)
     ensures small { T.SIZE ≤ 2 ^ 24 }
     ensures held { IsVecIn T.Item a.now.memory vec }
@@ -169,7 +170,7 @@ pub(super) fn known<T: Item, C: ChunkSource>(rt: &impl Abort, a: &Allocator<C>, 
     assert!(rt; vec.is_held(a), "a vector that is held");
 }
 
-// A vector, which must be held, is this list.
+// Checks that a vector has the values of a list. The test fails if the vector isn't held.
 pub(super) fn is_list<T: Item + PartialEq + Debug, C: ChunkSource>(
     rt: &impl Abort,
     a: &Allocator<C>,
@@ -183,7 +184,7 @@ pub(super) fn is_list<T: Item + PartialEq + Debug, C: ChunkSource>(
     }
 }
 
-// Makes the calls of these rows one after another.
+// Makes the calls of the rows in order.
 pub(super) fn runs<T: Item + PartialEq + Debug, C: ChunkSource>(
     rt: &impl Abort,
     a: &mut Allocator<C>,
@@ -199,7 +200,7 @@ pub(super) fn runs<T: Item + PartialEq + Debug, C: ChunkSource>(
     }
 }
 
-// A vector of these values, with room for them alone.
+// Returns a vector of these values, whose capacity is its length.
 pub(super) fn vec_of<T: Item, C: ChunkSource>(
     rt: &impl Abort,
     a: &mut Allocator<C>,
@@ -214,7 +215,7 @@ pub(super) fn vec_of<T: Item, C: ChunkSource>(
     vec
 }
 
-// Makes the calls of these rows one after another on a vector of these values.
+// Makes the calls of the rows in order, on a vector of these values.
 pub(super) fn from<T: Item + PartialEq + Debug>(
     rt: &impl Abort,
     alloc: Global,

@@ -1,4 +1,4 @@
--- What a value lends is lent on whole.
+-- What a value lends is reborrowed whole.
 use mathlib.Core.Path.{◌≡◌, refl, ap}
 use Prim.Native.Nat.{ℕ}
 use mathlib.Core.List.{List, [], ◌∷◌}

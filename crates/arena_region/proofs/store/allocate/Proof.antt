@@ -1,4 +1,4 @@
--- `allocate` gives a new block as room, with the right to give it back. Assumes `Logic`.
+-- `allocate` returns a new block as room, with the right to free it. Assumes `Logic`.
 use Rattle.std.proofs.Common.{◌≡◌, ◌+◌, ◌^◌, ◌<◌, [], ◌∷◌, refl, ap, ◌∙◌, arith}
 use mathlib.Core.Bool.{true, false}
 use lib.Dec.{lit<}

@@ -1,4 +1,4 @@
--- `apart` takes what a vector owns that isn't dropped. Assumes `Logic`.
+-- `apart` takes what a vector that isn't dropped owns. Assumes `Logic`.
 use Rattle.std.proofs.Common.{◌≡◌, ℕ, ◌+◌, ◌*◌, ◌<◌, ◌^◌, List, [], ◌∷◌, ◌++◌, length, refl, sym, ap, ◌∙◌, arith}
 use seplogic.Ra.Ura.{Ura}
 use base.Fraction.{full_share}

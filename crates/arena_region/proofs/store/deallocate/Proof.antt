@@ -1,4 +1,4 @@
--- `deallocate` makes the block room again, and gives it back with its deed. Assumes `Logic`.
+-- `deallocate` turns the block into room again, and frees it with its deed. Assumes `Logic`.
 use Rattle.std.proofs.Common.{◌≡◌, ℕ, ◌+◌, List, [], ◌∷◌, length, refl, sym, ap, ◌∙◌, subst}
 use lib.Dec.{T, lit<}
 use native.Mathlib.Nat.{mul-one}

@@ -1,4 +1,4 @@
--- `nowhere` gives a place with no room and no bytes. Assumes `Logic`.
+-- `nowhere` returns an address with no room and no bytes. Assumes `Logic`.
 use Rattle.std.proofs.Common.{◌^◌, [], ◌∷◌, refl, arith}
 use seplogic.Ra.Ura.{Ura}
 use mir.Syntax.{Fn}

@@ -1,39 +1,39 @@
-// Calls that place values, and what they must answer.
+// Calls that place values, and their expected results.
 ghost use Rattle.std.specs.Iterator.{at_most};
 
 use crate::tests::{reads, same_at};
-use arena_chunks::{Allocator, Block, ChunkSource, RefusingChunks};
-use arena_items::{ArenaItems, Box, ItemErr};
+use arena_chunks::{Allocator, Block, ChunkSource};
+use arena_items::{ArenaItems, ItemErr};
 use std::process::Abort;
 
-// A call that places values: one is a u32, 7; copied ones are of u32, 1 to 3; all others are of u64.
+// A call that places values: a single one is the `u32` 7, copied ones are the `u32` 1 to 3, all others are `u64`.
 #[derive(Drop)]
 pub(super) enum Call {
     Alloc,
     TryAlloc,
-    NewIn,
     AllocWith,
     TryAllocWith,
     SliceCopy,
     SliceClone,
-    // How many values.
+    // The number of values.
     FillCopy(u64),
     FillClone(u64),
     FillDefault(u64),
     FillWith(u64),
-    // How many values the iterator tells, and how many it gives.
+    // The length that the iterator reports, and the number of values that it yields.
     FillIter(usize, u64),
 }
 
 const VALUES: &[u32] = &[1, 2, 3];
 
-// Numbers from 1 on. It tells how many there are, which may be more or fewer than it gives, and notes each that is taken.
+// An iterator of numbers from 1. The length that it reports may differ from the number that it yields. It records
+// how many are taken.
 #[derive(Drop)]
 struct Numbers<'a> {
     tells: usize,
     gives: u64,
     given: u64,
-    asked: &'a mut u64,
+    taken: &'a mut u64,
 }
 
 impl Iterator for Numbers<'_> {
@@ -47,7 +47,7 @@ impl Iterator for Numbers<'_> {
         }
         self.tells -= 1;
         self.given += 1;
-        *self.asked = noted(*self.asked, self.given);
+        *self.taken = self.given;
         Some(self.given)
     }
 }
@@ -58,53 +58,30 @@ impl ExactSizeIterator for Numbers<'_> {
     }
 }
 
-// One more digit of what was asked for.
-fn noted(asked: u64, digit: u64) -> u64 {
-    asked.wrapping_mul(10).wrapping_add(digit)
-}
-
-// Makes the call and tells the block. Its closure or iterator notes in `asked` what it was asked for.
-pub(super) fn place<C: ChunkSource>(
+// Makes the call and returns the block. Its iterator records in `taken` how many values are taken from it.
+fn place<C: ChunkSource>(
     a: &mut Allocator<C>,
     call: &Call,
-    asked: &mut u64,
+    taken: &mut u64,
 ) -> Result<Block, ItemErr> {
     Ok(match *call {
-        Call::FillWith(len) => {
-            a.alloc_slice_fill_with(len, |i| {
-                *asked = noted(*asked, i.wrapping_add(1));
-                i.wrapping_mul(2)
-            })?
-            .block
-        }
         Call::FillIter(tells, gives) => {
             a.alloc_slice_fill_iter(Numbers {
                 tells,
                 gives,
                 given: 0,
-                asked,
+                taken,
             })?
             .block
         }
-        Call::AllocWith => {
-            a.alloc_with(|| {
-                *asked = noted(*asked, 1);
-                7u32
-            })?
-            .block
-        }
-        Call::TryAllocWith => {
-            a.try_alloc_with(|| {
-                *asked = noted(*asked, 1);
-                7u32
-            })?
-            .block
-        }
+        Call::FillWith(len) => a.alloc_slice_fill_with(len, |i| i.wrapping_mul(2))?.block,
+        Call::AllocWith => a.alloc_with(|| 7u32)?.block,
+        Call::TryAllocWith => a.try_alloc_with(|| 7u32)?.block,
         _ => place_copies(a, call)?,
     })
 }
 
-// Makes a call that asks for no value.
+// Makes a call that has no closure or iterator.
 fn place_copies<C: ChunkSource>(a: &mut Allocator<C>, call: &Call) -> Result<Block, ItemErr> {
     Ok(match *call {
         Call::SliceCopy => a.alloc_slice_copy(VALUES)?.block,
@@ -112,36 +89,25 @@ fn place_copies<C: ChunkSource>(a: &mut Allocator<C>, call: &Call) -> Result<Blo
         Call::FillCopy(len) => a.alloc_slice_fill_copy(len, 7u64)?.block,
         Call::FillClone(len) => a.alloc_slice_fill_clone(len, &7u64)?.block,
         Call::FillDefault(len) => a.alloc_slice_fill_default::<u64>(len)?.block,
-        _ => place_one(a, call)?,
-    })
-}
-
-fn place_one<C: ChunkSource>(a: &mut Allocator<C>, call: &Call) -> Result<Block, ItemErr> {
-    Ok(match *call {
         Call::TryAlloc => a.try_alloc(7u32)?.block,
-        Call::NewIn => Box::new_in(7u32, a)?.block,
         _ => a.alloc(7u32)?.block,
     })
 }
 
-// What a call answers, and what was asked for.
+// The expected result of a call.
 pub(super) enum Wanted {
-    // The address and the bytes of a block, which is the last one.
-    Placed(u64, &'static [u8], u64),
-    // How many requests were refused. Nothing was asked for, and nothing changes.
+    // The address and the bytes of the block.
+    Placed(u64, &'static [u8]),
+    // The number of refused requests. No value was taken, and nothing changes.
     Refused(u32),
-    // How many values were taken. So many bytes are used as before.
-    TooFew(u64, u64),
+    // The number of values that were taken. The number of bytes in use is as before.
+    TooFew(u64),
 }
 
-// A name, the call, and what it answers.
+// A name, the call, and its expected result.
 pub(super) type Row = (&'static str, Call, Wanted);
 
-pub(super) fn takes<C: ChunkSource>(rt: &impl Abort, a: &mut Allocator<C>, row: &Row) {
-    answers(rt, a, row, &row.2);
-}
-
-// The call of a row answers this.
+// Makes the call of a row and checks its result.
 pub(super) fn answers<C: ChunkSource>(
     rt: &impl Abort,
     a: &mut Allocator<C>,
@@ -150,34 +116,21 @@ pub(super) fn answers<C: ChunkSource>(
 ) {
     let name = row.0;
     let used = a.used_bytes();
-    let mut asked = 0;
-    let answer = place(a, &row.1, &mut asked);
+    let mut taken = 0;
+    let answer = place(a, &row.1, &mut taken);
     match *wanted {
-        Wanted::Placed(addr, bytes, called) => {
+        Wanted::Placed(addr, bytes) => {
             let block = answer.expect(rt, name);
-            same_at(rt, name, (block.addr, asked), (addr, called));
-            let below = a.data_end().checked_sub(a.used_bytes());
-            same_at(rt, name, below, Some(addr));
+            same_at(rt, name, block.addr, addr);
             reads(rt, name, a, block, bytes);
         }
         Wanted::Refused(refused) => {
             same_at(rt, name, answer, Err(ItemErr::AllocErr { refused }));
-            same_at(rt, name, (asked, a.used_bytes()), (0, used));
+            same_at(rt, name, (taken, a.used_bytes()), (0, used));
         }
-        Wanted::TooFew(taken, called) => {
-            same_at(rt, name, answer, Err(ItemErr::TooFew { taken }));
-            same_at(rt, name, (asked, a.used_bytes()), (called, used));
+        Wanted::TooFew(n) => {
+            same_at(rt, name, answer, Err(ItemErr::TooFew { taken: n }));
+            same_at(rt, name, (taken, a.used_bytes()), (n, used));
         }
     }
-}
-
-// These requests were made.
-pub(super) fn asked(
-    rt: &impl Abort,
-    a: Allocator<RefusingChunks>,
-    name: &'static str,
-    wanted: &[(u64, u64)],
-) {
-    let (_, chunks) = a.into_parts();
-    same_at(rt, name, chunks.requests(), Some(wanted));
 }

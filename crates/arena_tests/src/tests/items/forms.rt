@@ -1,13 +1,11 @@
-// Byte forms of single values: the least and the greatest of each type, and bytes that no value is written as.
+// Tests of the byte forms of single values: the least and the greatest of some types, and bytes that aren't the form
+// of a value.
 use crate::tests::{must, same};
 use arena_items::Item;
-use std::num::{
-    NonZeroI8, NonZeroI16, NonZeroI32, NonZeroI64, NonZeroI128, NonZeroIsize, NonZeroU8,
-    NonZeroU16, NonZeroU32, NonZeroU64, NonZeroU128, NonZeroUsize,
-};
+use std::num::{NonZeroI128, NonZeroU32};
 use std::process::Abort;
 
-// The value is written as these bytes and is read from them.
+// Checks that the value is written as these bytes and is read from them.
 pub(super) fn has_form<T: Item + PartialEq>(rt: &impl Abort, value: T, form: &[u8]) {
     assert!(rt; form.len() as u64 == T::SIZE);
     assert!(rt; T::SIZE <= 48);
@@ -17,7 +15,7 @@ pub(super) fn has_form<T: Item + PartialEq>(rt: &impl Abort, value: T, form: &[u
     must(rt, form, T::decode(form) == value);
 }
 
-// The type has this size and this alignment, and each value has the form beside it.
+// Checks the size and the alignment of a type, and the byte form of each value.
 pub(super) fn forms<T: Item + PartialEq>(rt: &impl Abort, layout: (u64, u64), rows: &[(T, &[u8])]) {
     same(rt, (T::SIZE, T::ALIGN), layout);
     for (value, form) in rows {
@@ -25,7 +23,7 @@ pub(super) fn forms<T: Item + PartialEq>(rt: &impl Abort, layout: (u64, u64), ro
     }
 }
 
-// Bytes that no value is written as are read as these values.
+// Checks which values are read from bytes that aren't the form of a value.
 pub(super) fn reads<T: Item + PartialEq>(rt: &impl Abort, rows: &[(&[u8], T)]) {
     assert!(rt; T::SIZE <= 48);
     for (n, row) in rows.iter().enumerate() {
@@ -45,95 +43,39 @@ const GREATEST: &[u8] = &[
     255, 255, 255, 255, 255, 255, 255, 255, 255, 255, 255, 255, 255, 255, 255, 127,
 ];
 
-const MINUS_TWO: &[u8] = &[
-    254, 255, 255, 255, 255, 255, 255, 255, 255, 255, 255, 255, 255, 255, 255, 255,
-];
-
-const ONE: &[u8] = &[1, 0, 0, 0, 0, 0, 0, 0, 0, 0, 0, 0, 0, 0, 0, 0];
-
-const ONES: &[u8] = &[255; 16];
-
-const BYTES: &[(u8, &[u8])] = &[(0, &[0]), (1, &[1]), (255, &[255])];
-
-const U16S: &[(u16, &[u8])] = &[(0x0201, &[1, 2]), (u16::MAX, &[255; 2])];
-
 const U32S: &[(u32, &[u8])] = &[(123, &[0x7b, 0, 0, 0]), (u32::MAX, &[255; 4])];
-
-const U64S: &[(u64, &[u8])] = &[
-    (0x0807_0605_0403_0201, &[1, 2, 3, 4, 5, 6, 7, 8]),
-    (u64::MAX, &[255; 8]),
-];
-
-const USIZES: &[(usize, &[u8])] = &[(0, &[0; 8]), (usize::MAX, &[255; 8])];
 
 const U128S: &[(u128, &[u8])] = &[
     (0x100f_0e0d_0c0b_0a09_0807_0605_0403_0201, UP),
-    (u128::MAX, ONES),
+    (u128::MAX, &[255; 16]),
 ];
 
 #[test]
-fn unsigned(rt: HostRuntime) {
-    forms(&rt, (1, 1), BYTES);
-    forms(&rt, (2, 2), U16S);
+fn numbers(rt: HostRuntime) {
     forms(&rt, (4, 4), U32S);
-    forms(&rt, (8, 8), U64S);
-    forms(&rt, (8, 8), USIZES);
     forms(&rt, (16, 16), U128S);
+    has_form(&rt, i8::MIN, &[128]);
+    has_form::<i8>(&rt, -2, &[254]);
+    has_form(&rt, i8::MAX, &[127]);
+    has_form(&rt, i128::MIN, LEAST);
+    has_form(&rt, i128::MAX, GREATEST);
 }
 
-// The least number of a type of signed numbers, -2, and the greatest.
-fn signed_ends<T: Item + PartialEq>(rt: &impl Abort, least: T, minus_two: T, greatest: T) {
-    assert!(rt; T::SIZE <= 16 && T::ALIGN == T::SIZE);
-    let size = T::SIZE as usize;
-    has_form(rt, least, &LEAST[16 - size..]);
-    has_form(rt, minus_two, &MINUS_TWO[..size]);
-    has_form(rt, greatest, &GREATEST[16 - size..]);
-}
-
-#[test]
-fn signed(rt: HostRuntime) {
-    signed_ends(&rt, i8::MIN, -2, i8::MAX);
-    signed_ends(&rt, i16::MIN, -2, i16::MAX);
-    signed_ends(&rt, i32::MIN, -2, i32::MAX);
-    signed_ends(&rt, i64::MIN, -2, i64::MAX);
-    signed_ends(&rt, isize::MIN, -2, isize::MAX);
-    signed_ends(&rt, i128::MIN, -2, i128::MAX);
-}
-
-// The least number of a type of numbers that aren't 0, which 0 is read as too, and the greatest.
-fn non_zero_ends<T: Item + PartialEq>(rt: &impl Abort, is_signed: bool, least: T, greatest: T) {
-    assert!(rt; T::SIZE <= 16 && T::ALIGN == T::SIZE);
-    let size = T::SIZE as usize;
-    if is_signed {
-        has_form(rt, least, &LEAST[16 - size..]);
-        has_form(rt, greatest, &GREATEST[16 - size..]);
-    } else {
-        has_form(rt, least, &ONE[..size]);
-        has_form(rt, greatest, &ONES[..size]);
-    }
-    assert!(rt; T::decode(&[0; 16][..size]) == least);
-}
-
+// As the least number, 0 is read too.
 #[test]
 fn non_zero(rt: HostRuntime) {
-    non_zero_ends(&rt, false, NonZeroU8::MIN, NonZeroU8::MAX);
-    non_zero_ends(&rt, false, NonZeroU16::MIN, NonZeroU16::MAX);
-    non_zero_ends(&rt, false, NonZeroU32::MIN, NonZeroU32::MAX);
-    non_zero_ends(&rt, false, NonZeroU64::MIN, NonZeroU64::MAX);
-    non_zero_ends(&rt, false, NonZeroUsize::MIN, NonZeroUsize::MAX);
-    non_zero_ends(&rt, false, NonZeroU128::MIN, NonZeroU128::MAX);
-    non_zero_ends(&rt, true, NonZeroI8::MIN, NonZeroI8::MAX);
-    non_zero_ends(&rt, true, NonZeroI16::MIN, NonZeroI16::MAX);
-    non_zero_ends(&rt, true, NonZeroI32::MIN, NonZeroI32::MAX);
-    non_zero_ends(&rt, true, NonZeroI64::MIN, NonZeroI64::MAX);
-    non_zero_ends(&rt, true, NonZeroIsize::MIN, NonZeroIsize::MAX);
-    non_zero_ends(&rt, true, NonZeroI128::MIN, NonZeroI128::MAX);
+    has_form(&rt, NonZeroU32::MIN, &[1, 0, 0, 0]);
+    has_form(&rt, NonZeroU32::MAX, &[255; 4]);
+    reads(&rt, &[(&[0; 4], NonZeroU32::MIN)]);
+    has_form(&rt, NonZeroI128::MIN, LEAST);
+    has_form(&rt, NonZeroI128::MAX, GREATEST);
+    reads(&rt, &[(&[0; 16], NonZeroI128::MIN)]);
 }
 
 const BOOLS: &[(bool, &[u8])] = &[(false, &[0]), (true, &[1])];
 
-// Any byte but 0 is true.
-const TRUES: &[(&[u8], bool)] = &[(&[2], true), (&[128], true), (&[255], true)];
+// Any byte other than 0 is read as true.
+const TRUES: &[(&[u8], bool)] = &[(&[2], true), (&[255], true)];
 
 const CHARS: &[(char, &[u8])] = &[
     ('\0', &[0; 4]),
@@ -147,8 +89,6 @@ const NO_CHARS: &[(&[u8], char)] = &[
     (&[0, 0xd8, 0, 0], '\0'),
     (&[255, 0xdf, 0, 0], '\0'),
     (&[0, 0, 17, 0], '\0'),
-    (&[0x41, 0, 0, 1], '\0'),
-    (&[255; 4], '\0'),
 ];
 
 #[test]

@@ -45,7 +45,7 @@ put_node-returns-in_ok-put_kids-in_default g t c = λ tree at.
     let put = rw c.kids_stand.ensures at (c.in_ok-put_kids-in_default.ensures tree at) in
     rw text (grind (arith, common_steps, put))
 
--- ---- The kids of a node
+-- ---- The children of a node
 
 pub put_kids-kids-requires : goal.put_kids-kids-requires
 put_kids-kids-requires g t c =

@@ -1,48 +1,25 @@
-// Values whose handles are tested, at every depth, before they are used.
+// Values whose handles are checked, at every depth, before they are used.
 ghost use Rattle.std.specs.Prelude.{◌≤◌, ◌^◌, IsTrue};
-ghost use Rattle.arena_items.specs.Values.{IsBoxIn};
 ghost use Rattle.arena_vec.specs.Held.{IsRawIn};
 
-use arena_bits::BitSet;
 use arena_chunks::{Allocator, ChunkSource, Str};
-use arena_clone::{CloneIn, CloneInSemanticIds, Grown, SemanticId};
+use arena_clone::{CloneIn, CloneInSemanticIds, Grown};
 use arena_items::{Box, Item};
-use arena_text::StringBuilder;
 use arena_vec::{RawVec, Vec};
 use example_blocks::get_checked;
 use std::process::Abort;
 
 pub trait Checked: CloneIn {
-    // Whether each type on the way is small.
+    // Whether the types at every depth are small.
     fn is_small() -> bool
         ensures { IsTrue result → Self.kind.is_small };
 
-    // Whether the handles are well formed and may be read.
+    // Whether the handles are well formed and readable.
     fn is_held<C: ChunkSource>(&self, a: &Allocator<C>) -> bool
         ensures { IsTrue result → Self.kind.is_held a.now.memory self.now };
 }
 
 impl Checked for u32 {
-    fn is_small() -> bool {
-        true
-    }
-
-    fn is_held<C: ChunkSource>(&self, _a: &Allocator<C>) -> bool {
-        true
-    }
-}
-
-impl Checked for u64 {
-    fn is_small() -> bool {
-        true
-    }
-
-    fn is_held<C: ChunkSource>(&self, _a: &Allocator<C>) -> bool {
-        true
-    }
-}
-
-impl Checked for SemanticId {
     fn is_small() -> bool {
         true
     }
@@ -59,26 +36,6 @@ impl Checked for Str {
 
     fn is_held<C: ChunkSource>(&self, a: &Allocator<C>) -> bool {
         a.is_held_place(self.block)
-    }
-}
-
-impl Checked for StringBuilder {
-    fn is_small() -> bool {
-        true
-    }
-
-    fn is_held<C: ChunkSource>(&self, a: &Allocator<C>) -> bool {
-        StringBuilder::is_held(self, a)
-    }
-}
-
-impl Checked for BitSet {
-    fn is_small() -> bool {
-        true
-    }
-
-    fn is_held<C: ChunkSource>(&self, a: &Allocator<C>) -> bool {
-        BitSet::is_held(self, a)
     }
 }
 
@@ -129,7 +86,7 @@ impl<T: Checked + Item> Checked for Vec<T> {
     }
 }
 
-// Whether storage may be read.
+// Whether a vector's storage is readable.
 pub fn is_raw_held<T: Item, C: ChunkSource>(a: &Allocator<C>, raw: RawVec<T>) -> bool
     requires { T.SIZE ≤ 2 ^ 24 }
     ensures { IsTrue result → IsRawIn T.Item a.now.memory raw }
@@ -141,16 +98,7 @@ pub fn is_raw_held<T: Item, C: ChunkSource>(a: &Allocator<C>, raw: RawVec<T>) ->
         && (T::SIZE > 0 || raw.cap == u32::MAX)
 }
 
-pub fn at<T: Item, C: ChunkSource>(rt: &impl Abort, a: &Allocator<C>, list: Vec<T>, i: u32) -> T {
-    assert!(rt; T::SIZE <= 1 << 24);
-    assert!(rt; is_raw_held(a, list.raw));
-    assert!(rt; i < list.raw.len);
-    list.get(a, i)
-}
-
-pub fn read<T: Item, C: ChunkSource>(rt: &impl Abort, a: &Allocator<C>, b: Box<T>) -> T
-    ensures { IsBoxIn T.Item a.now.memory b }
-{
+pub fn read<T: Item, C: ChunkSource>(rt: &impl Abort, a: &Allocator<C>, b: Box<T>) -> T {
     assert!(rt; T::SIZE <= 1 << 24);
     get_checked(a, b).expect(rt, "a box that is held")
 }
@@ -167,7 +115,7 @@ pub fn is_list<T: Item + PartialEq, C: ChunkSource>(
     list.eq_slice(a, values)
 }
 
-// Puts a value in a list, before the one that stands there.
+// Inserts a value in a list, before the one at the index.
 pub fn insert<T: Item, C: ChunkSource>(
     rt: &impl Abort,
     a: &mut Allocator<C>,
@@ -181,20 +129,6 @@ pub fn insert<T: Item, C: ChunkSource>(
     list.insert(a, i, value).expect(rt, "room");
 }
 
-// Replaces a value of a list.
-pub fn set<T: Item, C: ChunkSource>(
-    rt: &impl Abort,
-    a: &mut Allocator<C>,
-    list: &mut Vec<T>,
-    i: u32,
-    value: T,
-) {
-    assert!(rt; T::SIZE <= 1 << 24);
-    assert!(rt; is_raw_held(a, list.raw));
-    assert!(rt; i < list.raw.len);
-    list.set(a, i, value);
-}
-
 // A call that makes a copy in another arena.
 #[derive(Drop)]
 pub enum By {
@@ -204,7 +138,7 @@ pub enum By {
 }
 
 // Copies a value into another arena.
-pub fn try_copy<T: Checked, C: ChunkSource, D: ChunkSource>(
+pub fn copy<T: Checked, C: ChunkSource, D: ChunkSource>(
     rt: &impl Abort,
     value: &T,
     by: &By,
@@ -218,16 +152,6 @@ pub fn try_copy<T: Checked, C: ChunkSource, D: ChunkSource>(
         By::CloneInWithSemanticIds => value.clone_in_with_semantic_ids(from, to),
         By::CloneInImpl(ids) => value.clone_in_impl(*ids, from, to),
     }
-}
-
-pub fn copy<T: Checked, C: ChunkSource, D: ChunkSource>(
-    rt: &impl Abort,
-    value: &T,
-    by: &By,
-    from: &Allocator<C>,
-    to: &mut Allocator<D>,
-) -> T {
-    try_copy(rt, value, by, from, to).expect(rt, "a copy")
 }
 
 // Copies a value within its arena.

@@ -1,37 +1,27 @@
-// Maps in arenas of their own.
+// Maps, each in an arena of its own.
 ghost use Rattle.std.specs.Prelude.{◌^◌, ◌≤◌, IsTrue};
 ghost use Rattle.arena_hash.specs.Contents.{kind};
 ghost use Rattle.arena_hash.specs.Maps.{IsMapIn};
 ghost use Rattle.arena_clone.specs.MapKind.{map_of};
 ghost use Rattle.collection_tests.specs.Held.{IsKept};
 
-use super::checked::{Checked, read};
+use super::checked::Checked;
 use crate::tests::ample;
 use arena_chunks::{Allocator, ChunkSource, MemoryChunks, Str};
 use arena_clone::{CloneIn, CloneInSemanticIds, CloneKey};
 use arena_hash::{ArenaKey, FxHasher, HashMap, KeyHasher};
-use arena_items::{Box, Item};
+use arena_items::Item;
 use std::alloc::Global;
 use std::marker::Model;
 use std::process::Abort;
 
-// Keys whose handles are tested before they are used.
+// Keys whose handles are checked before they are used.
 pub trait CheckedKey: CloneKey {
     fn is_key_small() -> bool
         ensures { IsTrue result → Self.CloneIn.kind.is_small };
 
     fn is_key_held<C: ChunkSource>(&self, a: &Allocator<C>) -> bool
         ensures { IsTrue result → Self.CloneIn.kind.is_held a.now.memory self.now };
-}
-
-impl CheckedKey for u32 {
-    fn is_key_small() -> bool {
-        true
-    }
-
-    fn is_key_held<C: ChunkSource>(&self, _a: &Allocator<C>) -> bool {
-        true
-    }
 }
 
 impl CheckedKey for Str {
@@ -44,7 +34,7 @@ impl CheckedKey for Str {
     }
 }
 
-// Whether keys and values of a map may be read, at every depth.
+// Whether the keys and values of a map are readable, at every depth.
 fn are_held<K: CheckedKey, V: Checked + Item, C: ChunkSource>(
     map: &HashMap<K, V>,
     a: &Allocator<C>,
@@ -64,7 +54,7 @@ fn are_held<K: CheckedKey, V: Checked + Item, C: ChunkSource>(
     true
 }
 
-// A map in an arena of its own. It always stands there.
+// A map in an arena of its own, in which it is always held.
 #[derive(Drop)]
 pub struct Kept<K: ArenaKey, V: Item> {
     a: Allocator<MemoryChunks>,
@@ -81,7 +71,7 @@ impl<K: ArenaKey, V: Item> Model for Kept<K, V> {
 }
 
 impl<K: CheckedKey, V: Checked + Item> Kept<K, V> {
-    // An empty map with room for so many pairs.
+    // An empty map with this capacity.
     pub fn with_capacity(rt: &impl Abort, alloc: Global, capacity: u64) -> Kept<K, V> {
         assert!(rt; K::SIZE <= 1 << 24 && V::SIZE <= 1 << 24);
         let mut a = ample(alloc);
@@ -89,7 +79,7 @@ impl<K: CheckedKey, V: Checked + Item> Kept<K, V> {
         Kept { a, map }
     }
 
-    // A copy in another arena.
+    // A copy of the map in another arena.
     pub fn copied(&self, rt: &impl Abort, ids: CloneInSemanticIds, alloc: Global) -> Kept<K, V> {
         assert!(rt; K::is_key_small() && V::is_small());
         assert!(rt; are_held(&self.map, &self.a));
@@ -101,61 +91,20 @@ impl<K: CheckedKey, V: Checked + Item> Kept<K, V> {
         Kept { a: to, map }
     }
 
-    // A copy in the same arena takes the map's place.
-    pub fn copy_within(&mut self, rt: &impl Abort, ids: CloneInSemanticIds) {
-        assert!(rt; K::is_key_small() && V::is_small());
-        assert!(rt; are_held(&self.map, &self.a));
-        let map = self.map.clone_within(ids, &mut self.a).expect(rt, "a copy");
-        self.map = map;
-    }
-
     pub fn handle(&self) -> HashMap<K, V> {
         self.map
-    }
-
-    pub fn used_bytes(&self) -> u64 {
-        self.a.used_bytes()
-    }
-}
-
-impl Kept<u32, u32> {
-    pub fn put(&mut self, rt: &impl Abort, key: u32, value: u32) {
-        self.map.insert(&mut self.a, key, value).expect(rt, "room");
-    }
-
-    pub fn take(&mut self, key: u32) -> Option<u32> {
-        self.map.remove(&mut self.a, key)
-    }
-
-    pub fn get(&self, key: u32) -> Option<u32> {
-        self.map.get(&self.a, key)
-    }
-}
-
-impl Kept<u32, Box<u64>> {
-    // Places a number, and puts its box.
-    pub fn put_box(&mut self, rt: &impl Abort, key: u32, number: u64) {
-        let value = Box::new_in(number, &mut self.a).expect(rt, "a box");
-        self.map.insert(&mut self.a, key, value).expect(rt, "room");
-    }
-
-    pub fn number(&self, rt: &impl Abort, key: u32) -> Option<u64> {
-        match self.map.get(&self.a, key) {
-            Some(value) => Some(read(rt, &self.a, value)),
-            None => None,
-        }
     }
 }
 
 impl Kept<Str, Str> {
-    // Places two texts, and puts them as a pair.
+    // Places two texts, and inserts them as a pair.
     pub fn put_text(&mut self, rt: &impl Abort, key: &str, value: &str) {
         let value = self.a.alloc_str(value).expect(rt, "a text");
         let key = self.a.alloc_str(key).expect(rt, "a text");
         self.map.insert(&mut self.a, key, value).expect(rt, "room");
     }
 
-    // Whether a text is a key, and this text its value.
+    // Whether a text is a key with this text as its value.
     pub fn has_text(&mut self, rt: &impl Abort, key: &str, value: &str) -> bool {
         let key = self.a.alloc_str(key).expect(rt, "a text");
         let Some(found) = self.map.get(&self.a, key) else {

@@ -1,90 +1,109 @@
-// Lists of ids, lists and texts with room, sets and slices.
-use super::checked::{By, at, copy, copy_within, insert, is_list};
-use crate::tests::texts::{self, Make, has, text_of};
-use crate::tests::{ample, bits, same};
+// Tests of copies of an id, a text and a set, and of a list for which there may be no room; of conversions, dummies
+// and exchange.
+use super::checked::{By, copy, insert, is_list, read};
+use crate::tests::texts::{Make, has, text_of};
+use crate::tests::{NO_CHUNK, NO_PLACE, ample, bits, fixed, limited, same};
+use arena_chunks::{Allocator, ChunkSource, Str};
 use arena_clone::CloneInSemanticIds::{With, Without};
-use arena_clone::{CloneIn, SemanticId};
-use arena_items::BoxSlice;
+use arena_clone::{CloneIn, Dummy, FromIn, IntoIn, SemanticId, TakeIn};
+use arena_items::{AllocError, Box};
 use arena_vec::Vec;
-use std::alloc::Global;
 use std::process::Abort;
 use std::rt::HostRuntime;
 
 #[test]
-fn ids_with_and_without(rt: HostRuntime) {
-    let mut from = ample(rt.alloc());
+fn an_id(rt: HostRuntime) {
+    let from = ample(rt.alloc());
     let mut to = ample(rt.alloc());
-    let ids = Vec::from_array_in([SemanticId(9), SemanticId(7)], &mut from).expect(&rt, "ids");
-    for (how, one, two) in &[(Without, 0, 0), (With, 9, 7)] {
-        let wanted = [SemanticId(*one), SemanticId(*two)];
-        let copied = copy(&rt, &ids, &By::CloneInImpl(*how), &from, &mut to);
-        assert!(rt; is_list(&rt, &to, copied, &wanted));
-        let within = copy_within(&rt, &ids, *how, &mut from);
-        assert!(rt; is_list(&rt, &from, within, &wanted));
-        assert!(rt; within.raw.block.addr != ids.raw.block.addr);
-    }
-    // The numbers that the two have in the Rust crate.
+    let id = SemanticId(9);
+    assert!(rt; id.clone_in(&from, &mut to) == Ok(SemanticId(0)));
+    assert!(rt; id.clone_in_with_semantic_ids(&from, &mut to) == Ok(id));
+    // The discriminants of the two variants in the Rust crate.
     same(&rt, (With as u32, Without as u32), (0, u32::MAX));
 }
 
-// A list of these numbers, with room for eight.
-fn list_with_room(rt: &impl Abort, alloc: Global, numbers: &[u32]) {
-    let mut from = ample(alloc);
-    let mut to = ample(alloc);
-    let mut list = Vec::with_capacity_in(8, &mut from).expect(rt, "a list");
-    for number in numbers {
-        let end = list.len();
-        insert(rt, &mut from, &mut list, end, *number);
-    }
-    let copied = copy(rt, &list, &By::CloneIn, &from, &mut to);
-    insert(rt, &mut from, &mut list, 0, 3);
-    assert!(rt; is_list(rt, &to, copied, numbers) && at(rt, &from, list, 0) == 3);
-    same(rt, (copied.capacity(), list.capacity()), (copied.len(), 8));
-    same(rt, to.used_bytes(), copied.len() as u64 * 4);
-}
-
 #[test]
-fn a_list_with_room(rt: HostRuntime) {
-    list_with_room(&rt, rt.alloc(), &[1, 2]);
-    list_with_room(&rt, rt.alloc(), &[]);
-}
-
-#[test]
-fn a_text_with_room(rt: HostRuntime) {
+fn a_text(rt: HostRuntime) {
     let mut from = ample(rt.alloc());
     let mut to = ample(rt.alloc());
-    let mut text = text_of(&mut from, &Make::Room(8)).expect(&rt, "a text");
-    let empty = copy(&rt, &text, &By::CloneIn, &from, &mut to);
-    has(&rt, &to, empty, b"", 0);
-    texts::take(&rt, &mut from, &mut text, &texts::Step::Text("abc")).expect(&rt, "room");
-    let copied = copy(&rt, &text, &By::CloneIn, &from, &mut to);
-    let within = copy_within(&rt, &text, With, &mut from);
-    assert!(rt; text.is_held(&from) && text.len() == 3);
-    text.set_byte(&mut from, 0, b'x');
-    has(&rt, &from, text, b"xbc", 8);
-    has(&rt, &to, copied, b"abc", 3);
-    has(&rt, &from, within, b"abc", 3);
-    same(&rt, to.used_bytes(), 3);
+    let text = text_of(&mut from, &Make::Text("ab")).expect(&rt, "a text");
+    assert!(rt; text.is_held(&from));
+    let copied = text.clone_in(&from, &mut to).expect(&rt, "a copy");
+    has(&rt, &to, copied, b"ab", 2);
 }
 
 #[test]
 fn a_set(rt: HostRuntime) {
-    let mut a = ample(rt.alloc());
+    let mut from = ample(rt.alloc());
     let mut to = ample(rt.alloc());
-    let mut set = bits::set_of(&rt, &mut a, 65, &[64]);
-    let copied = copy_within(&rt, &set, With, &mut a);
-    bits::take(&rt, &mut a, &mut set, &bits::Step::Unset(64));
-    bits::walks(&rt, &a, &set, &[]);
-    bits::walks(&rt, &a, &copied, &[64]);
-    let other = copy(&rt, &copied, &By::CloneIn, &a, &mut to);
-    bits::walks(&rt, &to, &other, &[64]);
-    same(&rt, (other.capacity(), to.used_bytes()), (65, 16));
+    let mut set = bits::set_of(&rt, &mut from, 65, &[64]);
+    assert!(rt; set.is_held(&from));
+    let copied = set.clone_in(&from, &mut to).expect(&rt, "a copy");
+    bits::take(&rt, &mut from, &mut set, &bits::Step::Unset(64));
+    bits::walks(&rt, &from, &set, &[]);
+    bits::walks(&rt, &to, &copied, &[64]);
+    same(&rt, copied.capacity(), 65);
+}
+
+type Boxes = Vec<Option<Box<u32>>>;
+
+// Copies a list, with this error or none.
+fn copies<C: ChunkSource, D: ChunkSource>(
+    rt: &impl Abort,
+    list: &Boxes,
+    from: &Allocator<C>,
+    to: &mut Allocator<D>,
+    wanted: Option<AllocError>,
+) {
+    let copied = copy(rt, list, &By::CloneIn, from, to);
+    same(rt, copied.err(), wanted);
+}
+
+// The bytes of an arena, and the error of a copy into it. The copy takes 84 bytes: 40 for each of the two values, and
+// 4 for the box. So there is no place for the first block, or for the second one.
+const ROOMS: &[(usize, Option<AllocError>)] = &[
+    (0, Some(NO_PLACE)),
+    (80, Some(NO_PLACE)),
+    (96, None),
+];
+
+#[test]
+fn a_list_of_boxes(rt: HostRuntime) {
+    let alloc = rt.alloc();
+    let mut from = ample(alloc);
+    let boxed: Option<Box<u32>> = Some(5u32).into_in(&mut from).expect(&rt, "a box");
+    let mut list: Boxes = Vec::new_in();
+    insert(&rt, &mut from, &mut list, 0, boxed);
+    insert(&rt, &mut from, &mut list, 1, None);
+    for (bytes, wanted) in ROOMS {
+        copies(&rt, &list, &from, &mut fixed(&rt, alloc, *bytes), *wanted);
+    }
+    copies(&rt, &list, &from, &mut limited(alloc, 0), Some(NO_CHUNK));
 }
 
 #[test]
-fn a_slice_of_nothing(rt: HostRuntime) {
-    let mut to = ample(rt.alloc());
-    let empty: BoxSlice<u64> = BoxSlice::new_empty_boxed_slice();
-    let copied = empty.clone_in(&ample(rt.alloc()), &mut to);
-    same(&rt, copied.expect(&rt, "a copy").len(), 0);
+fn conversions(rt: HostRuntime) {
+    let alloc = rt.alloc();
+    let mut a = ample(alloc);
+    let boxed: Option<Box<u32>> = Some(5u32).into_in(&mut a).expect(&rt, "a box");
+    same(&rt, read(&rt, &a, boxed.expect(&rt, "some")), 5);
+    let list: Vec<u32> = Vec::from_in([1, 2, 3], &mut a).expect(&rt, "a list");
+    assert!(rt; list.len() == 3 && list.capacity() == 3);
+    same(&rt, u32::from_in(7, &mut a), Ok(7));
+    let text = String::from_str(alloc, "ab").expect(&rt, "a text");
+    let text = Str::from_in(text, &mut a).expect(&rt, "a text");
+    assert!(rt; text.get(&a) == Some("ab"));
+}
+
+#[test]
+fn dummies_and_exchange(rt: HostRuntime) {
+    let alloc = rt.alloc();
+    let mut a = ample(alloc);
+    let dummy: Box<u8> = Box::dummy(&mut a).expect(&rt, "a dummy");
+    same(&rt, read(&rt, &a, dummy), 0);
+    let mut seven = Vec::from_value_in(7u32, &mut a).expect(&rt, "a list");
+    let mut taken = seven.take_in(&mut a).expect(&rt, "the list");
+    assert!(rt; is_list(&rt, &a, taken, &[7]) && seven.is_empty());
+    let in_box = taken.take_in_box(&mut a).expect(&rt, "the list");
+    assert!(rt; is_list(&rt, &a, read(&rt, &a, in_box), &[7]) && taken.is_empty());
 }

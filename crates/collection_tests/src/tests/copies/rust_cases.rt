@@ -1,5 +1,5 @@
-// The Rust crate's own cases of copies and of `replace_with`.
-use super::checked::{By, copy, insert, is_list, set};
+// The Rust crate's own test cases of copies and of `replace_with`.
+use super::checked::{By, copy, copy_within, insert, is_list, is_raw_held};
 use super::kept::Kept;
 use crate::tests::{ample, same};
 use arena_chunks::{Allocator, ChunkSource, Str};
@@ -59,19 +59,38 @@ fn copies_of_an_empty_boxed_slice(rt: HostRuntime) {
     assert!(rt; is_slice(&rt, &to, copied, &[]) && is_slice(&rt, &to, second, &[]));
 }
 
+// Copies a list by a call and within its arena, and then changes it.
+fn copies<C: ChunkSource, D: ChunkSource>(
+    rt: &impl Abort,
+    from: &mut Allocator<C>,
+    to: &mut Allocator<D>,
+    by: &By,
+) {
+    let mut original = Vec::with_capacity_in(8, from).expect(rt, "a list");
+    let grown = original.extend_from_slice(from, &[1u32, 2, 3]);
+    assert!(rt; grown.is_ok());
+    let copied = copy(rt, &original, by, from, to).expect(rt, "a copy");
+    let within = copy_within(rt, &original, With, from);
+    assert!(rt; is_raw_held(from, original.raw));
+    assert!(rt; 1 < original.raw.len);
+    original.set(from, 1, 4);
+    assert!(rt; is_list(rt, from, original, &[1, 4, 3]) && is_list(rt, from, within, &[1, 2, 3]));
+    assert!(rt; is_list(rt, to, copied, &[1, 2, 3]));
+    same(rt, (copied.capacity(), within.capacity()), (3, 3));
+}
+
+// The calls that copy into another arena.
+const BY: &[By] = &[
+    By::CloneIn,
+    By::CloneInWithSemanticIds,
+    By::CloneInImpl(With),
+];
+
 #[test]
 fn copies_of_a_list(rt: HostRuntime) {
-    let mut from = ample(rt.alloc());
-    let mut to = ample(rt.alloc());
-    let mut original = Vec::with_capacity_in(8, &mut from).expect(&rt, "a list");
-    let grown = original.extend_from_slice(&mut from, &[1u32, 2, 3]);
-    assert!(rt; grown.is_ok());
-    let copied = copy(&rt, &original, &By::CloneIn, &from, &mut to);
-    let second = copy(&rt, &original, &By::CloneInWithSemanticIds, &from, &mut to);
-    set(&rt, &mut from, &mut original, 1, 4);
-    assert!(rt; is_list(&rt, &from, original, &[1, 4, 3]));
-    assert!(rt; is_list(&rt, &to, copied, &[1, 2, 3]) && is_list(&rt, &to, second, &[1, 2, 3]));
-    assert!(rt; copied.capacity() == 3 && second.capacity() == 3);
+    for by in BY {
+        copies(&rt, &mut ample(rt.alloc()), &mut ample(rt.alloc()), by);
+    }
 }
 
 #[test]
@@ -79,15 +98,15 @@ fn copies_of_an_empty_list(rt: HostRuntime) {
     let from = ample(rt.alloc());
     let mut to = ample(rt.alloc());
     let original: Vec<u32> = Vec::new_in();
-    for by in &[By::CloneIn, By::CloneInWithSemanticIds] {
-        let list = copy(&rt, &original, by, &from, &mut to);
+    for by in BY {
+        let list = copy(&rt, &original, by, &from, &mut to).expect(&rt, "a copy");
         assert!(rt; list.is_empty() && list.capacity() == 0);
     }
 }
 
 const PAIRS: &[(&str, &str)] = &[("x", "xx"), ("y", "yy"), ("z", "zz")];
 
-// A copy has the pairs, in the least table for three, and is changed.
+// Checks that a copy has the pairs, in the smallest table for three, and changes it.
 fn is_copy(rt: &impl Abort, map: Kept<Str, Str>) {
     let mut map = map;
     same(rt, (map.handle().len(), map.handle().table.slots), (3, 8));

@@ -4,7 +4,7 @@ use Rattle.arena_items.specs.LayoutLaws.{plain_8}
 use Rattle.arena_items.proofs.Layers.{array_fits, fills_same, length-elements}
 use Rattle.example_blocks.proofs.closures.fill_with_size.Goals as goal
 
--- Where there is a place the product fits.
+-- If there is a place, the product fits in 64 bits.
 pub alloc_slice_fill_with-requires-clause-callable : goal.alloc_slice_fill_with-requires-clause-callable
 alloc_slice_fill_with-requires-clause-callable g c = λ new b places.
     let fits = array_fits _ _ _ _ _ b plain_8 places in grind serving

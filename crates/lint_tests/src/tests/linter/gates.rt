@@ -1,5 +1,6 @@
-// Gates: two workers lint at once, since the first waits at its source's begin until the second has finished its own.
-use super::over::{ALONE, LINTERS, Over, lint_over};
+// A test of gates: two workers lint at the same time, since the gate holds the first source until the second is
+// finished.
+use super::over::{ALONE, Over, linted_over};
 use super::pools::{PAIR, PAIR_LINES};
 use arena_lint::Gate;
 use arena_pool::MemoryMaker;
@@ -7,10 +8,10 @@ use std::sync::atomic::{AtomicU64, Ordering};
 use std::test::*;
 use std::thread;
 
-/// So often the first source looks whether the second has finished.
+/// How often the first source checks whether the second is finished.
 const TURNS: u32 = 1_000_000;
 
-/// Holds the first source until the second has finished, and notes that it has.
+/// Holds the first source until the second is finished, and records that it is.
 #[derive(Drop)]
 struct FirstAfterSecond {
     finished: AtomicU64,
@@ -40,21 +41,18 @@ impl Gate for FirstAfterSecond {
 
 #[test]
 fn two_workers_lint_at_once(rt: HostRuntime) -> Result<(), Fail> {
-    for linter in LINTERS {
-        let over = Over {
-            linter,
-            arenas: 2,
-            workers: 2,
-            ..ALONE
-        };
-        let gate = FirstAfterSecond {
-            finished: AtomicU64::new(0),
-            seen: AtomicU64::new(0),
-        };
-        let maker = MemoryMaker::new(rt.alloc(), 1 << 20);
-        let told = lint_over(&rt, rt.alloc(), over, maker, &gate, PAIR.as_bytes())?;
-        assert!(rt; told.is(PAIR_LINES.as_bytes(), 0));
-        assert!(rt; gate.seen.load(Ordering::SeqCst) == 1);
-    }
+    let over = Over {
+        arenas: 2,
+        workers: 2,
+        ..ALONE
+    };
+    let gate = FirstAfterSecond {
+        finished: AtomicU64::new(0),
+        seen: AtomicU64::new(0),
+    };
+    let maker = MemoryMaker::new(rt.alloc(), 1 << 20);
+    let told = linted_over(&rt, rt.alloc(), over, maker, &gate, PAIR.as_bytes())?;
+    assert!(rt; told.as_slice() == PAIR_LINES.as_bytes());
+    assert!(rt; gate.seen.load(Ordering::SeqCst) == 1);
     Ok(())
 }

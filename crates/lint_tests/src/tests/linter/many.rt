@@ -1,11 +1,11 @@
-// Many sources by many workers, and a source of a megabyte.
+// Tests of many sources with many workers, and of a source of a megabyte.
 use super::super::text_of;
-use super::over::{ALONE, Over, each_tells};
+use super::over::{ALONE, Over, tells};
 use arena_pool::PoolKind;
 use std::alloc::Global;
 use std::test::*;
 
-// Puts a source, and the lines of its report.
+// Appends a source to the input, and the lines of its report to the expected lines.
 fn put_source(alloc: Global, i: u32, input: &mut Vec<u8>, lines: &mut Vec<u8>) -> Result<(), Fail> {
     lines.extend_from_slice(format!(in alloc; "source {i}\n")?.as_bytes())?;
     if i % 3 == 2 {
@@ -18,7 +18,7 @@ fn put_source(alloc: Global, i: u32, input: &mut Vec<u8>, lines: &mut Vec<u8>) -
     Ok(())
 }
 
-// Ten thousand sources, of which each third is no program, and the lines of their reports.
+// Ten thousand sources, every third of which isn't a program, and the lines of their reports.
 fn ten_thousand(alloc: Global) -> Result<(Vec<u8>, Vec<u8>), Fail> {
     let mut input = Vec::new(alloc);
     let mut lines = Vec::new(alloc);
@@ -32,9 +32,7 @@ fn ten_thousand(alloc: Global) -> Result<(Vec<u8>, Vec<u8>), Fail> {
 
 const POOLS: &[(PoolKind, u32)] = &[
     (PoolKind::Standard, 64),
-    (PoolKind::Standard, 0),
     (PoolKind::FixedSize { bytes: 126_976 }, 1),
-    (PoolKind::FixedSize { bytes: 126_976 }, 64),
 ];
 
 #[test]
@@ -45,9 +43,8 @@ fn ten_thousand_sources_by_64_workers(rt: HostRuntime) -> Result<(), Fail> {
             kind: *kind,
             arenas: *arenas,
             workers: 64,
-            ..ALONE
         };
-        each_tells(&rt, rt.alloc(), over, 1 << 20, &input, (&lines, 0))?;
+        tells(&rt, rt.alloc(), over, 1 << 20, &input, &lines)?;
     }
     Ok(())
 }
@@ -64,5 +61,5 @@ fn a_source_of_a_megabyte(rt: HostRuntime) -> Result<(), Fail> {
         &[(b"source 0\n", 1), (b"undefined b\n", 16384)],
     );
     assert!(rt; input.len() == 1 << 20);
-    each_tells(&rt, rt.alloc(), ALONE, 1 << 30, &input, (&lines, 0))
+    tells(&rt, rt.alloc(), ALONE, 1 << 30, &input, &lines)
 }

@@ -1,7 +1,7 @@
-// What a gate is told of each source, beside the chunks that its arena asks for: that it begins, then its requests, then that it is
-// finished.
+// A test of the order of events for each source: the gate is told that it begins, then its arena requests chunks,
+// then the gate is told that it is finished.
 use super::super::text_of;
-use super::over::{ALONE, LINTERS, Over, lint_over};
+use super::over::{ALONE, linted_over};
 use arena_chunks::{ChunkSource, MemoryChunks};
 use arena_lint::Gate;
 use arena_pool::ChunkMaker;
@@ -9,14 +9,14 @@ use std::alloc::Global;
 use std::sync::atomic::{AtomicU64, Ordering};
 use std::test::*;
 
-/// No source has begun; one has; its arena has asked.
+/// The stages: no source has begun; one has begun; its arena has requested a chunk.
 const IDLE: u64 = 0;
 
 const BEGUN: u64 = 1;
 
 const ASKED: u64 = 2;
 
-/// The stage of one worker, how often something was told out of its turn, and how many sources are finished.
+/// The stage of the only worker, the number of events out of order, and the number of finished sources.
 #[derive(Drop)]
 struct Stage {
     at: AtomicU64,
@@ -25,21 +25,21 @@ struct Stage {
 }
 
 impl Stage {
-    // One stage comes behind another.
+    // Moves from one stage to another.
     fn comes(&self, from: u64, to: u64) {
         if self.at.swap(to, Ordering::SeqCst) != from {
             self.mixed_up.fetch_add(1, Ordering::SeqCst);
         }
     }
 
-    // The arena asks for a chunk: once, or again.
+    // The arena requests a chunk, for the first time or again.
     fn asks(&self) {
         if self.at.swap(ASKED, Ordering::SeqCst) == IDLE {
             self.mixed_up.fetch_add(1, Ordering::SeqCst);
         }
     }
 
-    // Whether so many sources are finished, and all was told in its turn.
+    // Whether `count` sources are finished, and all events came in order.
     fn is_over(&self, count: u64) -> bool {
         self.at.load(Ordering::SeqCst) == IDLE
             && self.mixed_up.load(Ordering::SeqCst) == 0
@@ -58,7 +58,7 @@ impl Gate for Stage {
     }
 }
 
-/// Memory, whose requests are told.
+/// A source of chunks that reports its requests to the stage.
 #[derive(Drop)]
 struct Chunks<'a> {
     memory: MemoryChunks,
@@ -103,20 +103,17 @@ fn each_source_in_its_turn(rt: HostRuntime) -> Result<(), Fail> {
         (b"1;", 2000),
     ];
     let input = text_of(&rt, rt.alloc(), parts);
-    for linter in LINTERS {
-        let stage = Stage {
-            at: AtomicU64::new(IDLE),
-            mixed_up: AtomicU64::new(0),
-            finished: AtomicU64::new(0),
-        };
-        let maker = Maker {
-            alloc: rt.alloc(),
-            stage: &stage,
-        };
-        let over = Over { linter, ..ALONE };
-        let told = lint_over(&rt, rt.alloc(), over, maker, &stage, &input)?;
-        assert!(rt; told.is(b"source 0\nsource 1\nsource 2\n", 0));
-        assert!(rt; stage.is_over(3));
-    }
+    let stage = Stage {
+        at: AtomicU64::new(IDLE),
+        mixed_up: AtomicU64::new(0),
+        finished: AtomicU64::new(0),
+    };
+    let maker = Maker {
+        alloc: rt.alloc(),
+        stage: &stage,
+    };
+    let told = linted_over(&rt, rt.alloc(), ALONE, maker, &stage, &input)?;
+    assert!(rt; told.as_slice() == b"source 0\nsource 1\nsource 2\n".as_slice());
+    assert!(rt; stage.is_over(3));
     Ok(())
 }

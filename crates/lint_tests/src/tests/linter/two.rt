@@ -1,4 +1,4 @@
-// Two texts, one after another on an arena that doesn't grow.
+// A test of two texts that are linted one after the other in an arena that doesn't grow.
 use super::super::fixed;
 use super::super::reports::reported;
 use arena_lint::lint_two;

@@ -1,4 +1,4 @@
-// An interner, a scoped table, and both side by side, each in an arena of its own. It always stands there.
+// An interner, a scoped table, and both together, each in an arena of its own, in which it is always held.
 ghost use Rattle.arena_symbols.specs.Named.{AreNames};
 ghost use Rattle.arena_symbols.specs.Names.{IsInternerIn};
 ghost use Rattle.arena_symbols.specs.Tables.{entry_item, IsTableIn};
@@ -31,7 +31,7 @@ impl<C: ChunkSource> Texts<C> {
         }
     }
 
-    // The number of a text that isn't too long.
+    // Interns a text if it isn't too long, and returns its number.
     pub(super) fn intern(&mut self, text: &str) -> Grown<u32> {
         if text.len() >= 1 << 32 {
             return Err(AllocError::CapacityOverflow);
@@ -43,7 +43,7 @@ impl<C: ChunkSource> Texts<C> {
         self.symbols.find(&self.a, text)
     }
 
-    // The text with a number, if there is one.
+    // Returns the text with this number, if there is one.
     pub(super) fn text(&self, id: u32) -> Option<&str> {
         if id >= self.symbols.len() {
             return None;
@@ -98,10 +98,6 @@ impl<C: ChunkSource> Nest<C> {
     pub(super) fn in_last(&self, id: u32) -> bool {
         self.scopes.in_last(&self.a, id)
     }
-
-    pub(super) fn depth(&self) -> u32 {
-        self.scopes.depth()
-    }
 }
 
 #[derive(Drop)]
@@ -135,7 +131,7 @@ impl<C: ChunkSource> Both<C> {
         self.names.run(alloc, &mut self.a, calls, replies)
     }
 
-    // Declares a name that isn't too long.
+    // Declares a name if it isn't too long.
     pub(super) fn declare(&mut self, name: &str, value: u32) -> Grown<bool> {
         if name.len() >= 1 << 32 {
             return Err(AllocError::CapacityOverflow);
@@ -143,15 +139,11 @@ impl<C: ChunkSource> Both<C> {
         self.names.declare(&mut self.a, name, value)
     }
 
-    // What a name that isn't too long means in a scope of its own.
+    // Returns what a name means in a scope of its own, if it isn't too long.
     pub(super) fn in_own_scope(&mut self, name: &str, value: u32) -> Grown<Option<u32>> {
         if name.len() >= 1 << 32 {
             return Err(AllocError::CapacityOverflow);
         }
         self.names.in_own_scope(&mut self.a, name, value)
-    }
-
-    pub(super) fn resolve(&self, name: &str) -> Option<u32> {
-        self.names.resolve(&self.a, name)
     }
 }

@@ -1,4 +1,5 @@
-// One program, all that it begins with, and all that one other byte makes of it: each is judged as the grammar's rules judge it.
+// A test of one program, all its prefixes, and all texts that differ from it in one byte: each result is that of the
+// plain parser, which follows the grammar's rules.
 use super::super::same_at;
 use super::plain::plain;
 use std::alloc::Global;

@@ -1,4 +1,4 @@
-// A tree in an arena of its own. It always stands there.
+// A tree in an arena of its own, in which it is always held.
 ghost use Rattle.arena_tree.specs.Given.{IsTreeIn};
 
 use arena_chunks::{Allocator, ChunkSource};
@@ -23,7 +23,7 @@ impl<C: ChunkSource> Model for KeptTree<C> {
 }
 
 impl<C: ChunkSource> KeptTree<C> {
-    // The tree of a program.
+    // Returns the tree of a program.
     pub(super) fn of(rt: &impl Abort, mut a: Allocator<C>, src: &[u8]) -> KeptTree<C> {
         assert!(rt; src.len() <= 1 << 24);
         match Tree::parse(&mut a, src) {
@@ -32,17 +32,17 @@ impl<C: ChunkSource> KeptTree<C> {
         }
     }
 
-    // How many nodes are folded.
+    // Folds the tree, and returns the number of folded nodes.
     pub(super) fn fold(&mut self) -> u64 {
         self.tree.fold(&mut self.a)
     }
 
-    // Why it gets no copy in another arena.
+    // Returns why the tree can't be copied to another arena.
     pub(super) fn refused_in<D: ChunkSource>(&self, b: &mut Allocator<D>) -> Option<TreeErr> {
         self.tree.clone_in(&self.a, b).err()
     }
 
-    // A copy in another arena.
+    // Returns a copy in another arena.
     pub(super) fn copied<D: ChunkSource>(
         &self,
         rt: &impl Abort,
@@ -56,10 +56,5 @@ impl<C: ChunkSource> KeptTree<C> {
 
     pub(super) fn text(&self, rt: &impl Abort, alloc: Global) -> Bytes {
         self.tree.print(alloc, &self.a).ok().expect(rt, "memory")
-    }
-
-    // The arena's used bytes, its capacity, and where its data ends.
-    pub(super) fn extent(&self) -> (u64, u64, u64) {
-        (self.a.used_bytes(), self.a.capacity(), self.a.data_end())
     }
 }

@@ -1,10 +1,11 @@
-// A judge of texts that follows the grammar's rules word for word: what is still to be read stands on a stack of symbols.
+// A plain parser that follows the grammar's rules literally: the symbols that are still to be read are on a stack.
 use std::alloc::Global;
 use std::process::Abort;
 use std::vec::Vec;
 use tree_rules::Refused;
 
-/// A word that is being read: its place, whether it is a number, its value where that fits, and whether it has a needless zero.
+/// A word that is being read: its place, whether it is a number, its value if that fits, and whether it has a leading
+/// zero.
 #[derive(Clone, Copy)]
 struct Word {
     at: u64,
@@ -26,7 +27,8 @@ fn goes_on(word: Word, b: u8) -> bool {
     is_digit(b) || is_letter(b) && !word.number
 }
 
-// One byte more. A number's value is that of its digits. A name's tells it from `let`: its bytes as digits, where they are few.
+// The word with one more byte. A number's value is that of its digits. A name's value is that of its bytes as digits,
+// if they are few, and distinguishes it from `let`.
 fn longer(word: Word, b: u8) -> Word {
     let base = if word.number { 10 } else { 256 };
     let digit = if word.number { b.wrapping_sub(b'0') } else { b };
@@ -58,7 +60,7 @@ fn first(b: u8, at: u64) -> Word {
     longer(word, b)
 }
 
-// The token of a word: a number, one that is too big, a name, `let`, or none that a program has.
+// Returns the token of a word: a number, a number that is too large, a name, `let`, or one that no program has.
 fn token(word: Word) -> u8 {
     if word.number {
         if word.zero {
@@ -80,7 +82,7 @@ fn sign(b: u8) -> u8 {
     }
 }
 
-/// The symbols that are still to be read, the next one last, and how many are open.
+/// The symbols that are still to be read, with the next one last, and the nesting depth.
 #[derive(Drop)]
 struct Rest {
     symbols: Vec<u8>,
@@ -102,7 +104,7 @@ impl Rest {
         self.open = self.open.saturating_sub(1);
     }
 
-    // statements: none more, or one and others
+    // Statements: none, or one and others.
     fn statements(&mut self, rt: &impl Abort, token: u8) -> Option<bool> {
         match token {
             b'l' => {
@@ -139,7 +141,7 @@ impl Rest {
         }
     }
 
-    // More terms, or more factors, where one of these signs stands.
+    // More terms, or more factors, if the next token is one of their signs.
     fn more(&mut self, rt: &impl Abort, symbols: &[u8], stands: bool) -> Option<bool> {
         if stands {
             self.put(rt, symbols);
@@ -148,7 +150,7 @@ impl Rest {
         None
     }
 
-    // A token that stands for itself.
+    // A symbol that is a token.
     fn itself(&mut self, symbol: u8, token: u8) -> bool {
         if token == b')' || token == b'}' {
             self.closes();
@@ -156,7 +158,7 @@ impl Rest {
         symbol == token
     }
 
-    // Whether the symbol is, or begins with, the token; none where the next symbol decides.
+    // Whether the symbol is the token or begins with it; `None` if the next symbol decides.
     fn step(&mut self, rt: &impl Abort, symbol: u8, token: u8) -> Option<bool> {
         match symbol {
             b'S' => self.statements(rt, token),
@@ -206,7 +208,7 @@ impl Rest {
         None
     }
 
-    // Where a word ends.
+    // Reads the word that has ended, if there is one.
     fn word(&mut self, rt: &impl Abort, word: Option<Word>) -> Option<Refused> {
         match word {
             Some(w) => self.refused(rt, token(w), w.at),
@@ -215,7 +217,7 @@ impl Rest {
     }
 }
 
-/// Why a text is refused, and where.
+/// Returns why and where a text is refused.
 pub fn plain(rt: &impl Abort, alloc: Global, src: &[u8]) -> Option<Refused> {
     let mut rest = Rest {
         symbols: Vec::new(alloc),

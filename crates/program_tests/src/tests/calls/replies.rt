@@ -1,11 +1,11 @@
-// Lines of calls and the replies that the rules give.
+// Tests of lines of calls, and of the replies that follow from the rules.
 use super::{Asked, CALLS, ends_so, holds, run_over};
 use arena_chunks::RefusingChunks;
 use std::alloc::Global;
 use std::process::Abort;
 use std::test::Fail;
 
-// Lines of calls, and the replies that the rules give.
+// Lines of calls, and the expected replies.
 fn rows() -> &'static [(&'static str, &'static str)] {
     ROWS
 }
@@ -13,7 +13,7 @@ fn rows() -> &'static [(&'static str, &'static str)] {
 const ROWS: &[(&str, &str)] = &[
     // no calls
     ("", ""),
-    // the greatest numbers, between empty lines
+    // the largest numbers, between empty lines
     (
         "\nread 4294967295\n\nalloc 4294967295 18446744073709551615 18446744073709551615 255\n\
          write 0 18446744073709551615 -\n\n",
@@ -36,7 +36,7 @@ const ROWS: &[(&str, &str)] = &[
         "placed 20352 refused 0\nplaced 20288 refused 0\nplaced 36848 refused 0\nnumber 16448\n\
          number 49024\nplaced 86048 refused 0\nnumber 114496\ndone\nnumber 65472\nnumber 0\n",
     ),
-    // bad layouts
+    // invalid layouts
     (
         "alloc 0 1 1 0\nalloc 1 1 0 0\nalloc 1 1 3 0\nalloc 1 9223372036854775808 1 0\n\
          alloc 0 1 3 0\nshrink 9 1 3\n",
@@ -54,7 +54,7 @@ const ROWS: &[(&str, &str)] = &[
          placed 13835058055282163712 refused 0\nplaced 13835058055282950063 refused 0\n\
          allocerr refused 0\nnumber 1031808\n",
     ),
-    // empty block given back beside another
+    // an empty block given back next to another
     (
         "alloc 0 4 1 7\nalloc 1 0 1 0\ndealloc 1\nused\n",
         "placed 20412 refused 0\nplaced 20412 refused 0\ndone\nnumber 4\n",
@@ -77,7 +77,7 @@ const ROWS: &[(&str, &str)] = &[
         "placed 20316 refused 0\nplaced 20316 refused 0\nnumber 100\ndone\nplaced 20316 refused 0\n\
          placed 20366 refused 0\nnumber 50\n",
     ),
-    // grown where it is
+    // grown in place
     (
         "alloc 0 10 1 1\ngrow 0 11 1 2\nread 0\n",
         "placed 20406 refused 0\nplaced 20405 refused 0\nbytes 0101010101010101010102\n",
@@ -90,7 +90,7 @@ const ROWS: &[(&str, &str)] = &[
          number 16320\nnumber 10\nno such name\nbytes 01010101010101010101\nplaced 20402 refused 0\n\
          done\nnumber 10\n",
     ),
-    // a block placed since in the marked part
+    // a block that was placed after the mark in the marked part
     (
         "alloc 0 10 1 1\nalloc 1 6 1 2\nmark 5\ndealloc 1\nalloc 2 2 1 3\nback 5\nread 2\nused\n",
         "placed 20406 refused 0\nplaced 20400 refused 0\ndone\ndone\nplaced 20404 refused 0\ndone\n\
@@ -103,7 +103,7 @@ const ROWS: &[(&str, &str)] = &[
         "done\nplaced 20415 refused 0\nname taken\ndone\ndone\nnumber 0\nno such name\nno such name\n\
          placed 16 refused 0\ndone\nno such name\n",
     ),
-    // a block grown since
+    // a block that was grown after the mark
     (
         "alloc 0 4 1 1\nmark 0\ngrow 0 5 1 2\nback 0\nread 0\nused\n",
         "placed 20412 refused 0\ndone\nplaced 20411 refused 0\ndone\nno such name\nnumber 4\n",
@@ -122,7 +122,7 @@ fn replies_that_the_rules_give(rt: HostRuntime) -> Result<(), Fail> {
     Ok(())
 }
 
-// The requests that are refused, by number, the calls, the replies, and the requests that are told.
+// The numbers of the requests that are refused, the calls, the replies, and the requests that were made.
 const REFUSING: &[(&[u64], &str, &str, &[(u64, u64)])] = &[
     // half the size after a refusal
     (
@@ -131,14 +131,14 @@ const REFUSING: &[(&[u64], &str, &str, &[(u64, u64)])] = &[
         "placed 4096 refused 0\nplaced 36684 refused 1\n",
         &[(16320, 16), (32704, 16), (16320, 16)],
     ),
-    // no half below the least size
+    // the size isn't halved below the least size
     (
         &[1],
         "alloc 0 1 1 0\nallocated\nalloc 0 1 1 0\n",
         "allocerr refused 1\nnumber 0\nplaced 20415 refused 0\n",
         &[(16320, 16), (16320, 16)],
     ),
-    // nothing asked for a size past all chunks
+    // no request for a size above that of all chunks
     (
         &[],
         "alloc 0 9223372036854775807 1 0\n",

@@ -1,61 +1,52 @@
-// The engine on the tables of the rules: in an arena that grows, in arenas that don't, of more and more bytes, and over
-// sources that refuse one request after another.
+// Tests of the engine: on the tables of the rules in an arena that grows, and in small arenas that don't grow, where a
+// script is served as far as there is room for its blocks, even if it costs more.
 ghost use Rattle.std.specs.Prelude.{◌≡◌, IfOk};
 ghost use Rattle.arena_rules.specs.State.{used_bytes};
 
-use super::tables::tables;
-use super::{plain, script_of};
+use super::tables::{A_LIST_AND_A_TEXT, tables};
+use super::{script_of, told};
 use crate::tests::holds;
-use arena_chunks::{Allocator, ChunkSource, MemoryChunks, RefusingChunks};
+use arena_chunks::{Allocator, ChunkSource, MemoryChunks};
 use arena_rules::OutOfMemory;
 use arena_script::run_script;
-use script_rules::{Ended, Outcome, Script, ScriptReply};
+use script_lines::parse_scripts;
+use script_rules::{Ended, Outcome, Script};
 use std::alloc::Global;
 use std::process::Abort;
 use std::test::Fail;
 
-// A table that costs more isn't served in arenas that grow, since tests have no such memory.
-const MOST_BYTES: u64 = 1 << 20;
-
-// What the first commands cost, so many.
-pub(super) fn cost_of(costs: &[u64], count: usize) -> u64 {
-    let mut sum = 0u64;
-    for cost in costs.iter().take(count) {
-        sum = sum.saturating_add(*cost);
-    }
-    sum
-}
-
-// Whether an outcome's replies are the first ones of these.
-fn are_first(outcome: &Outcome, replies: &[ScriptReply]) -> bool {
-    let told = outcome.replies.as_slice();
-    let mut i = 0;
-    for reply in told {
-        if i >= replies.len() || *reply != replies[i] {
-            return false;
-        }
-        i += 1;
-    }
-    true
-}
-
-// Runs a script, which answers the first of these replies.
-pub(super) fn run<C: ChunkSource + Drop>(
-    rt: &impl Abort,
-    alloc: Global,
-    mut a: Allocator<C>,
-    script: &Script,
-    replies: &[ScriptReply],
-) -> Outcome
+fn in_arena<C: ChunkSource + Drop>(alloc: Global, mut a: Allocator<C>, script: &Script) -> Outcome
     requires { used_bytes a.memory.state ≡ 0 }
 {
-    let outcome = run_script(alloc, &mut a, script);
-    holds(rt, are_first(&outcome, replies), "first replies");
-    outcome
+    run_script(alloc, &mut a, script)
 }
 
-// An arena that doesn't grow, of 16 bytes for each step.
-pub(super) fn fixed(alloc: Global, step: u16) -> Result<Allocator<MemoryChunks>, OutOfMemory>
+#[test]
+fn each_table_is_served_in_an_arena_that_grows(rt: HostRuntime) -> Result<(), Fail> {
+    let alloc = rt.alloc();
+    for table in tables() {
+        let script = script_of(alloc, table)?;
+        let a = Allocator::new(alloc, MemoryChunks::new(alloc, 1 << 20));
+        let outcome = in_arena(alloc, a, &script);
+        holds(&rt, outcome.ended == Ended::Done, table.script);
+        told(&rt, alloc, table, outcome.replies)?;
+    }
+    Ok(())
+}
+
+// The bytes that a script uses of an arena that grows.
+#[test]
+fn a_list_and_a_text_use_16_bytes(rt: HostRuntime) -> Result<(), Fail> {
+    let alloc = rt.alloc();
+    let script = script_of(alloc, &A_LIST_AND_A_TEXT)?;
+    let a = Allocator::new(alloc, MemoryChunks::new(alloc, 1 << 20));
+    let outcome = in_arena(alloc, a, &script);
+    holds(&rt, outcome.used == 16, "16 bytes");
+    Ok(())
+}
+
+// An arena of `step` times 16 bytes that doesn't grow.
+fn fixed(alloc: Global, step: u16) -> Result<Allocator<MemoryChunks>, OutOfMemory>
     ensures { IfOk result (λ a. used_bytes a.memory.state ≡ 0) }
 {
     let Ok(region) = vec![in alloc; 0u8; 16 * (step as usize + 3)] else {
@@ -70,97 +61,50 @@ pub(super) fn fixed(alloc: Global, step: u16) -> Result<Allocator<MemoryChunks>,
     Ok(a)
 }
 
-// Done with all replies, or full where the bytes are fewer than the first command that wasn't served has cost.
-fn goes_as_far(outcome: &Outcome, costs: &[u64], bytes: u64) -> bool {
-    let served = outcome.replies.as_slice().len();
-    match outcome.ended {
-        Ended::Done => served == costs.len(),
-        Ended::Full => bytes < cost_of(costs, served.saturating_add(1)),
-        _ => false,
-    }
-}
+// A script, the least number of steps of 16 bytes in which it ends `done`, and the number of its commands that are
+// served with one step less. A first push takes 4 bytes, a first pair 144, and a copy of one pair 72.
+type Row = (&'static str, u16, usize);
 
-#[test]
-fn each_table_is_served_in_an_arena_that_grows(rt: HostRuntime) -> Result<(), Fail> {
-    let alloc = rt.alloc();
-    for table in tables() {
-        let cost = cost_of(table.costs, table.costs.len());
-        if cost > MOST_BYTES {
-            continue;
-        }
-        let script = script_of(alloc, table)?;
-        let replies = plain(&rt, alloc, table, &script)?;
-        let a = Allocator::new(alloc, MemoryChunks::new(alloc, 4 * MOST_BYTES));
-        let outcome = run(&rt, alloc, a, &script, replies.as_slice());
-        holds(&rt, goes_as_far(&outcome, table.costs, cost), table.script);
-        holds(&rt, outcome.used <= cost, table.script);
-    }
-    Ok(())
-}
+const ROWS: &[Row] = &[
+    ("script\nbits 0 256\ncopy 0 1\n", 4, 1),
+    ("script\nvalue 0 1\nvalue 1 2\n", 1, 0),
+    (
+        "script\nlist 0\npush 0 1\ncopy 0 1\ncopy 0 2\ncopy 0 3\ncopy 0 4\n",
+        2,
+        5,
+    ),
+    (
+        "script\ntext 0\nappend 0 4142434445464748494a4b4c4d4e4f5051\n",
+        2,
+        1,
+    ),
+    ("script\nmap 0\nbind 0 1 1\ncopy 0 1\n", 14, 2),
+];
 
-// From no bytes on, by 16, to past what the table costs: full or done, and done where its cost fits.
-#[test]
-fn each_table_is_served_as_far_as_the_bytes_go(rt: HostRuntime) -> Result<(), Fail> {
-    let alloc = rt.alloc();
-    for table in tables() {
-        let script = script_of(alloc, table)?;
-        let replies = plain(&rt, alloc, table, &script)?;
-        for step in 0..96u16 {
-            let outcome = run(&rt, alloc, fixed(alloc, step)?, &script, replies.as_slice());
-            holds(
-                &rt,
-                goes_as_far(&outcome, table.costs, 16 * step as u64),
-                table.script,
-            );
-        }
-    }
-    Ok(())
-}
-
-// An arena whose source refuses so many requests, from one on.
-pub(super) fn refusing(
+// Checks how a script ends in `steps` steps of 16 bytes, and the number of its replies.
+fn ends_so(
+    rt: &impl Abort,
     alloc: Global,
-    from: u64,
-    count: u64,
-) -> Result<Allocator<RefusingChunks>, OutOfMemory>
-    ensures { IfOk result (λ a. used_bytes a.memory.state ≡ 0) }
-{
-    let mut refuse = Vec::new(alloc);
-    for i in 0..count {
-        if refuse.push(from.saturating_add(i)).is_err() {
-            return Err(OutOfMemory);
-        }
-    }
-    Ok(Allocator::new(alloc, RefusingChunks::new(alloc, refuse)))
+    script: &Script,
+    steps: u16,
+    (ended, served): (Ended, usize),
+) -> Result<(), Fail> {
+    let outcome = in_arena(alloc, fixed(alloc, steps)?, script);
+    holds(rt, outcome.ended == ended, "how it ends");
+    holds(rt, outcome.replies.as_slice().len() == served, "replies");
+    Ok(())
 }
 
-// The first request that is refused, and how many are.
-const REFUSALS: &[(u64, u64)] = &[(1, 0), (1, 1), (1, 2), (1, 3), (2, 1), (3, 1), (4, 1)];
-
-// A later one alone is followed by one for a smaller chunk, which is granted.
-fn may_end_so(ended: Ended, from: u64, count: u64) -> bool {
-    match ended {
-        Ended::Done => true,
-        Ended::Refused => count > 0 && from == 1,
-        _ => false,
-    }
-}
-
-// The first requests are refused, so many, or a later one alone: refused or done, with the first replies.
 #[test]
-fn each_table_is_served_as_far_as_chunks_are_granted(rt: HostRuntime) -> Result<(), Fail> {
+fn a_script_is_served_where_its_blocks_have_place(rt: HostRuntime) -> Result<(), Fail> {
     let alloc = rt.alloc();
-    for table in tables() {
-        if cost_of(table.costs, table.costs.len()) > MOST_BYTES {
-            continue;
-        }
-        let script = script_of(alloc, table)?;
-        let replies = plain(&rt, alloc, table, &script)?;
-        for (from, count) in REFUSALS {
-            let a = refusing(alloc, *from, *count)?;
-            let outcome = run(&rt, alloc, a, &script, replies.as_slice());
-            holds(&rt, may_end_so(outcome.ended, *from, *count), table.script);
-        }
+    for (text, steps, served) in ROWS {
+        let mut scripts = parse_scripts(alloc, text.as_bytes())?;
+        let script = scripts.pop().ok_or("no script")?;
+        let all = script.as_slice().len();
+        ends_so(&rt, alloc, &script, *steps, (Ended::Done, all))?;
+        let fewer = steps.saturating_sub(1);
+        ends_so(&rt, alloc, &script, fewer, (Ended::Full, *served))?;
     }
     Ok(())
 }

@@ -1,6 +1,7 @@
-// Scripts with what they answer and what their commands cost.
+// Tables of scripts, with their replies and the costs of their commands.
+use crate::tests::rows::{LIST_AND_TEXT, LIST_AND_TEXT_TOLD, SETS_AND_MAPS, SETS_AND_MAPS_TOLD};
 
-// A script by itself, its text when it is done, and the cost of each command.
+// A script, the text of its outcome, and the cost of each command.
 pub(super) struct Table {
     pub(super) script: &'static str,
     pub(super) text: &'static str,
@@ -18,13 +19,12 @@ const TABLES: &[Table] = &[
     MAPS_AND_VALUES,
     A_LIST_AND_A_TEXT,
     BITS_AND_A_MAP,
-    A_LARGE_SET,
     OF_NAMES,
     OF_KINDS,
     OF_PLACES_AND_BYTES,
 ];
 
-// Each command where it is served.
+// Each command on lists, where it is served.
 const LISTS: Table = Table {
     script: "\
         script\nlist 4\nshow 4\npop 4\ninsert 4 0 7\ninsert 4 0 8\ninsert 4 2 9\nshow 4\nput 4 2 6\nremove 4 0\n\
@@ -45,7 +45,7 @@ const TEXTS: Table = Table {
     costs: &[32, 0, 8, 0, 4, 4, 0, 0, 48, 0, 0],
 };
 
-// A set of no capacity has no word, and one of capacity 1 has 64 bits, of which `ones` and `has` see one.
+// A set of capacity 0 has no word. A set of capacity 1 has 64 bits, of which `ones` and `has` see one.
 const BITS: Table = Table {
     script: "\
         script\nbits 0 0\nshow 0\nbits 1 1\nshow 1\nset 1 9\nhas 1 9\nones 1\nshow 1\nset 1 0\nhas 1 0\nunset 1 9\n\
@@ -70,31 +70,16 @@ const MAPS_AND_VALUES: Table = Table {
 };
 
 // The examples of the documents.
-const A_LIST_AND_A_TEXT: Table = Table {
-    script: "script\nlist 1\npush 1 5\npush 1 6\nat 1 1\nat 1 2\nlist 1\ntext 2\nbyte 2 104\nbyte 2 200\nshow 2\npop 2\n",
-    text: "\
-        script 0\ndone\ndone\ndone\nnumber 6\nout of range\nname taken\ndone\ndone\nnot ascii\nbytes 68\nwrong kind\n\
-        ended done\n",
+pub(super) const A_LIST_AND_A_TEXT: Table = Table {
+    script: LIST_AND_TEXT,
+    text: LIST_AND_TEXT_TOLD,
     costs: &[0, 24, 24, 0, 0, 0, 32, 4, 0, 0, 0],
 };
 
 const BITS_AND_A_MAP: Table = Table {
-    script: "\
-        script\nbits 0 65\nset 0 0\nset 0 64\nones 0\nshow 0\nset 0 128\nbits 1 1\nunion 1 0\nones 1\nhas 1 64\n\
-        map 2\nbind 2 9 1\nbind 2 9 4\nfind 2 8\nshow 2\ncopy 2 3\nunbind 2 9\nshow 3\n",
-    text: "\
-        script 0\ndone\ndone\ndone\nnumbers 0 64\n\
-        printed 00000001_00000000_00000000_00000000_00000000_00000000_00000000_00000000_00000001\nout of range\ndone\n\
-        done\nnumbers 0\nfalse\ndone\nnothing\nnumber 1\nnothing\nnumbers 9 4\ndone\nnumber 4\nnumbers 9 4\n\
-        ended done\n",
+    script: SETS_AND_MAPS,
+    text: SETS_AND_MAPS_TOLD,
     costs: &[23, 0, 0, 0, 0, 0, 15, 0, 0, 0, 0, 256, 0, 0, 0, 256, 0, 0],
-};
-
-// Its cost is that of 67,108,864 words, which no program's arena has.
-const A_LARGE_SET: Table = Table {
-    script: "script\nbits 0 4294967295\nbits 1 1\n",
-    text: "script 0\ndone\ndone\nended done\n",
-    costs: &[536_870_919, 15],
 };
 
 // Refusals, in their order: of names, of kinds, and then those of a command.
@@ -127,10 +112,4 @@ const OF_PLACES_AND_BYTES: Table = Table {
         script 0\ndone\nout of range\nout of range\nout of range\nout of range\ndone\nnot ascii\nnot ascii\nnumber 0\n\
         done\ndone\nout of range\nfalse\nended done\n",
     costs: &[0, 0, 0, 0, 0, 32, 0, 0, 0, 15, 0, 0, 0],
-};
-
-pub(super) const A_RUN: Table = Table {
-    script: "script\nlist 1\npush 1 5\npush 2 5\n",
-    text: "script 0\ndone\ndone\nno such name\nended done\n",
-    costs: &[0, 24, 0],
 };

@@ -1,8 +1,8 @@
-// Words that are claimed, by one seat after another and by many threads at once.
+// Tests of words that are claimed, by one seat after another and by many threads at once.
 ghost use Rattle.std.specs.Prelude.{◌≡◌, ◌≤◌, All, IfOk};
 
 use arena_pool::{ClaimErr, ClaimSeat, Claims};
-use example_collections::{claim_all, claim_by_two};
+use example_collections::claim_all;
 use std::alloc::Global;
 use std::process::Abort;
 use std::test::*;
@@ -13,8 +13,8 @@ const WORKERS: usize = 64;
 
 const WORDS: u32 = 10_000;
 
-// Claims one word after another. Before each a new seat looks at every word; afterwards it tries the word, and is joined: whether by
-// none of its calls any word was claimed, or let go.
+// Claims the words in order. Before each claim a new seat looks at every word; after it, that seat tries to claim the
+// word, and is joined. Returns whether the calls of the new seats claimed or released no word.
 fn one_after_another(claims: &Claims, seat: ClaimSeat, words: u32) -> bool
     requires seat { seat.table ≡ claims.now }
     requires words { words ≤ claims.now.words }
@@ -37,14 +37,14 @@ fn one_after_another(claims: &Claims, seat: ClaimSeat, words: u32) -> bool
 
 #[test]
 fn words_are_claimed_alone(rt: HostRuntime) {
-    for words in [1, 2, 9] {
+    for words in [1, 9] {
         let made = Claims::new(rt.alloc(), words);
         let (claims, seat) = made.ok().expect(&rt, "claims");
         assert!(rt; one_after_another(&claims, seat, words));
     }
 }
 
-// A seat for each worker.
+// Returns a seat for each worker.
 fn seats(alloc: Global, claims: &Claims, seat: ClaimSeat) -> Result<Vec<ClaimSeat>, ClaimErr>
     requires { seat.table ≡ claims.now }
     ensures { IfOk result (λ all. All (λ s. s.table ≡ claims.now) all.items) }
@@ -58,7 +58,7 @@ fn seats(alloc: Global, claims: &Claims, seat: ClaimSeat) -> Result<Vec<ClaimSea
     Ok(all)
 }
 
-// Each worker goes through all words. What each of them claimed.
+// Each worker tries to claim all words. Returns what each of them claimed.
 fn crowd<R: Threads + Abort + Sync>(rt: &R, alloc: Global) -> Vec<Result<Vec<u32>, ClaimErr>> {
     let (claims, seat) = Claims::new(alloc, WORDS).ok().expect(rt, "claims");
     let seats = seats(alloc, &claims, seat).ok().expect(rt, "seats");
@@ -75,7 +75,7 @@ fn crowd<R: Threads + Abort + Sync>(rt: &R, alloc: Global) -> Vec<Result<Vec<u32
     claimed.ok().expect(rt, "words")
 }
 
-// Counts words. Whether all of them have counts.
+// Counts the words. Returns whether each of them has a count.
 fn count(counts: &mut [u8], words: &[u32]) -> bool {
     for word in words {
         let Some(count) = counts.get_mut(*word as usize) else {
@@ -94,11 +94,4 @@ fn threads_claim_each_word_once(rt: HostRuntime) {
         assert!(rt; count(&mut counts, &words));
     }
     assert!(rt; counts.iter().all(|count| *count == 1));
-}
-
-#[test]
-fn two_threads_claim_all_words(rt: HostRuntime) {
-    let shared_out = claim_by_two(&rt, rt.alloc(), WORDS);
-    let (ours, theirs) = shared_out.ok().expect(&rt, "words");
-    assert_eq!(rt; ours.len().saturating_add(theirs.len()), WORDS as usize);
 }

@@ -1,14 +1,12 @@
-// Bare arenas with their loans, one after another and in many threads.
+// Tests of bare arenas with their loans, one after another and in many threads.
 ghost use Rattle.std.specs.Prelude.{◌≡◌, ◌%◌, ◌≤◌, None};
 ghost use Rattle.arena_pool.specs.Names.{IsBlankOf};
 ghost use Rattle.arena_pool.specs.declared.kind.PoolKind.TheVariants.{Standard, FixedSize};
 
-use super::{VALUES, are_values, is_nine, marks};
+use super::{VALUES, are_values, marks};
 use crate::tests::{Counted, holds};
 use arena_pool::{ChunkMaker, FixedSizeAllocatorPool, MOST_LENT, PoolName, StandardAllocatorPool};
-use example_collections::{
-    all_through_fixed, all_through_standard, through_fixed, through_standard,
-};
+use example_collections::{all_through_fixed, all_through_standard, through_standard};
 use std::alloc::Global;
 use std::marker::Brand;
 use std::process::Abort;
@@ -18,13 +16,13 @@ use std::sync::ledger::Blank;
 use std::test::*;
 use std::thread::Threads;
 
-// A pool's maker was asked for so many sources: one for each arena that was made.
+// Checks the number of sources that the pool's maker made, one for each arena.
 fn are_made(rt: &impl Abort, made: &AtomicU64, arenas: u32) {
     let count = made.load(Ordering::SeqCst);
     holds(rt, count == u64::from(arenas), "a source for each arena");
 }
 
-// Three arenas are lent at once: with two alone this would wait without end.
+// Checks that three arenas are lent at once. With only two this would wait forever.
 fn three_are_lent<K: ChunkMaker, L: PoolName, R: Wait + Abort>(
     rt: &R,
     pool: &FixedSizeAllocatorPool<K, L>,
@@ -43,7 +41,7 @@ fn three_are_lent<K: ChunkMaker, L: PoolName, R: Wait + Abort>(
     pool.add(rt, third, third_loan);
 }
 
-// An arena is lent, and comes back with a marked block. Then one of which nothing is used is lent, and doesn't come back.
+// An arena is lent, and comes back with a marked block. Then an empty arena is lent, and doesn't come back.
 fn one_comes_back<K: ChunkMaker, L: PoolName, R: Wait + Abort>(
     rt: &R,
     pool: &FixedSizeAllocatorPool<K, L>,
@@ -81,13 +79,12 @@ fn loans_of<L: PoolName + Send + Sync, R: Threads + Wait + Abort + Sync>(
     if arenas == 3 {
         three_are_lent(rt, &pool);
     }
-    is_nine(rt, through_fixed(rt, &pool, 9u32));
     are_values(rt, all_through_fixed(rt, alloc, &pool, &VALUES));
     one_comes_back(rt, &pool);
     are_made(rt, &made, arenas);
 }
 
-// The arena of before is lent, with its chunk, and doesn't come back.
+// The earlier arena is lent, with its chunk, and doesn't come back.
 fn first_is_lost<K: ChunkMaker, L: PoolName, R: Wait + Abort>(
     rt: &R,
     pool: &StandardAllocatorPool<K, L>,
@@ -123,7 +120,7 @@ fn loans_without_end<L: PoolName + Send + Sync, R: Threads + Wait + Abort + Sync
     let pool = StandardAllocatorPool::<Counted<'_>, L>::new(alloc, arenas, maker, blank);
     let pool = pool.ok().expect(rt, "a pool");
     are_made(rt, &made, arenas);
-    is_nine(rt, through_standard(rt, &pool, 9u32));
+    holds(rt, through_standard(rt, &pool, 9u32) == Some(9), "a nine");
     first_is_lost(rt, &pool);
     next_is_new(rt, &pool);
     are_made(rt, &made, 2);

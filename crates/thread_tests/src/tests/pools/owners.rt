@@ -1,4 +1,4 @@
-// Arenas with two owners, which give up one after the other and at once.
+// Tests of arenas with two owners, which give up one after the other or at once.
 ghost use Rattle.std.specs.Prelude.{◌≡◌, IfSome};
 
 use super::{MARKED, wait_until};
@@ -6,7 +6,7 @@ use crate::tests::holds;
 use arena_chunks::{Allocator, ChunkSource, MemoryChunks};
 use arena_place::Layout;
 use arena_pool::{Owner, share};
-use example_collections::{alone, freed, freed_by_two};
+use example_collections::{alone, freed};
 use std::alloc::Global;
 use std::process::Abort;
 use std::sync::Wait;
@@ -21,7 +21,7 @@ fn new_arena(alloc: Global) -> Allocator<MemoryChunks> {
     Allocator::new(alloc, MemoryChunks::new(alloc, 1 << 20))
 }
 
-// One owner gives up, and then the other.
+// One owner gives up, and then the other, which gets the arena.
 fn later_frees<C: ChunkSource + Drop>(rt: &impl Abort, first: Owner<C>, second: Owner<C>) {
     let second = alone(second).err().expect(rt, "an arena of two owners");
     holds(rt, freed(first).is_none(), "the first frees nothing");
@@ -36,13 +36,13 @@ fn the_later_frees_the_arena(rt: HostRuntime) {
     later_frees(&rt, first, second);
 }
 
-// Comes back once two threads are here.
+// Returns once two threads have called it.
 fn meet<R: Wait>(rt: &R, here: &AtomicU64) {
     here.fetch_add(1, Ordering::SeqCst);
     wait_until(rt, here, 2);
 }
 
-// Two threads own the arena, meet, and give up. The arena, where exactly one of them freed it.
+// Two threads own the arena, meet, and give up. Returns the arena if exactly one of them got it.
 fn freed_at_once<C: ChunkSource + Drop + Send, R: Threads + Wait + Sync>(
     rt: &R,
     alloc: Global,
@@ -70,7 +70,7 @@ fn freed_at_once<C: ChunkSource + Drop + Send, R: Threads + Wait + Sync>(
     }
 }
 
-// Whether an arena that two threads own is freed by exactly one of them, with the bytes that it had.
+// Whether exactly one of two threads that own an arena gets it, with the bytes that it had.
 fn is_freed_once<R: Threads + Wait + Abort + Sync>(rt: &R, alloc: Global, mark: u8) -> bool {
     let layout = Layout::new(MARKED, 1).expect(rt, "a layout");
     let mut a = new_arena(alloc);
@@ -91,11 +91,4 @@ fn each_shared_arena_is_freed_once(rt: HostRuntime) {
             "its bytes",
         );
     }
-}
-
-#[test]
-fn one_of_two_threads_frees_the_arena(rt: HostRuntime) {
-    let freed = freed_by_two(&rt, rt.alloc(), new_arena(rt.alloc()));
-    let (ours, theirs) = freed.ok().expect(&rt, "owners");
-    holds(&rt, ours.is_some() != theirs.is_some(), "one arena");
 }

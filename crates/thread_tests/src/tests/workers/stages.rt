@@ -1,4 +1,5 @@
-// What a gate and a job are told of each script, in its turn: that it begins, then the script itself, then that it is finished.
+// A test of the order of calls for each script: the gate is told that it begins, then the job runs it, then the gate
+// is told that it is finished.
 use arena_chunks::{Allocator, ChunkSource};
 use arena_script::{Job, run_script};
 use script_rules::{Command, Outcome, Script};
@@ -7,7 +8,7 @@ use std::alloc::Global;
 use std::sync::atomic::{AtomicU64, Ordering};
 use std::test::*;
 
-/// A script that hasn't begun, that has, that was run, and that is finished.
+/// The stages of a script: not begun, begun, run, and finished.
 const NEW: u64 = 0;
 
 const BEGUN: u64 = 1;
@@ -16,7 +17,7 @@ const RUN: u64 = 2;
 
 const FINISHED: u64 = 3;
 
-/// Something was told of it out of its turn.
+/// A call for the script came out of order.
 const MIXED_UP: u64 = 4;
 
 /// The stage of each script.
@@ -26,7 +27,7 @@ pub(super) struct Stages {
 }
 
 impl Stages {
-    /// So many scripts that haven't begun.
+    /// Returns `count` scripts that haven't begun.
     pub(super) fn of(alloc: Global, count: usize) -> Result<Stages, Fail> {
         let mut all = Vec::new(alloc);
         for _ in 0..count {
@@ -35,7 +36,7 @@ impl Stages {
         Ok(Stages { all })
     }
 
-    // A script comes from one stage to another.
+    // Moves a script from one stage to another.
     fn comes(&self, number: u64, from: u64, to: u64) {
         let Some(stage) = self.all.get(number as usize) else {
             return;
@@ -45,7 +46,7 @@ impl Stages {
         }
     }
 
-    /// Whether all scripts went through each stage once.
+    /// Whether each script went through each stage once.
     pub(super) fn are_over(&self) -> bool {
         self.all
             .iter()
@@ -66,7 +67,7 @@ impl Gate for Stages {
 impl<C: ChunkSource> Job<C> for Stages {
     ghost worked = { λ script outcome. Unit {0} };
 
-    // A script's first command has its number.
+    // A script's first command contains its number.
     fn run(&self, alloc: Global, a: &mut Allocator<C>, script: &Script) -> Outcome {
         if let Some(Command::MakeValue { value, .. }) = script.as_slice().first() {
             self.comes(*value, BEGUN, RUN);

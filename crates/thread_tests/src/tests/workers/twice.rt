@@ -1,4 +1,5 @@
-// Two copies of one script, twice over one pool, by few workers and many: the same lines each time, and the pool's counts then.
+// Tests of two copies of a script that run twice over one pool, with few workers and many: the replies are the same
+// each time, and the pool's counts are as expected.
 ghost use Rattle.std.specs.Prelude.{◌≡◌, None};
 ghost use Rattle.arena_pool.specs.Names.{IsBlankOf};
 
@@ -27,7 +28,7 @@ const LINES: &str = "\
 script 0\ndone\ndone\ndone\nnumber 6\nout of range\nname taken\ndone\ndone\nnot ascii\nbytes 68\nwrong kind\nended done\n\
 script 1\ndone\ndone\ndone\nnumber 6\nout of range\nname taken\ndone\ndone\nnot ascii\nbytes 68\nwrong kind\nended done\n";
 
-// A pool's kind, its arenas, and the workers. After each run all arenas are stored, and no other was made.
+// A pool's kind, its arenas, and the workers. After each run all arenas are stored, and no further one was made.
 #[derive(Clone, Copy)]
 struct Row {
     kind: PoolKind,

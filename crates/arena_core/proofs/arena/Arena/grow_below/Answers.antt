@@ -78,7 +78,7 @@ returns-in-Some g c =
     c.move_down.ensures.state c.move_down.ensures.statistics c.move_down.ensures.bytes
     (rw c.move_down.ensures.state (ap (λ (p : ℕ). block_in mid.state p c.args.layout.size c.args.layout.align) at))
 
--- There is no room for what is wanted more.
+-- There is no room for the growth.
 pub returns-in-None : goal.returns-in-None
 returns-in-None g c =
     let here : IsHere c.args.self.now.state c.args.block.addr c.args.block.size c.args.block.align c.args.layout.size c.args.layout.align =

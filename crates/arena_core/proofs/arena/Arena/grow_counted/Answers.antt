@@ -42,7 +42,7 @@ overflow_sub-more g c =
       up_ge c.args.layout.size g.row.MIN_ALIGN (min_align_positive g.row.MIN_ALIGN c.self.invariant.valid.min_align),
     )
 
--- What is wanted more is no layout.
+-- The growth isn't a valid layout.
 pub returns-in_default : goal.returns-in_default
 returns-in_default g c =
     let here : IsHere c.args.self.now.state c.args.block.addr c.args.block.size c.args.block.align c.args.layout.size c.args.layout.align =
@@ -119,7 +119,7 @@ returns-in-Some-place g c =
     (cursor_view g.row.MIN_ALIGN c.self-2.inside c.args.self.now c.in-Some-place.addr c.self-2.inside.newest.bytes.low c.self-2.view_is)
     c.move_down.ensures.state c.move_down.ensures.statistics c.move_down.ensures.bytes c.move_down.ensures.block
 
--- ---- Further down, or again
+-- ---- Further down, or by a new allocation
 
 pub grow_below-slow-requires : goal.grow_below-slow-requires
 grow_below-slow-requires g c =

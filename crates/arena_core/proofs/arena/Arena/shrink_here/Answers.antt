@@ -8,7 +8,7 @@ use Rattle.arena_core.proofs.ResizeSteps.{shrinks_still, shrinks_up}
 use Rattle.arena_core.proofs.CursorMoveLemmas.{is_shrunk, shrunk, shrunk_still, shrunk_up}
 use Rattle.arena_core.proofs.arena.Arena.shrink_here.Goals as goal
 
--- ---- Where it is
+-- ---- In place
 
 pub returns-then-block-self : goal.returns-then-block-self
 returns-then-block-self g c =

@@ -1,4 +1,4 @@
--- `put` takes the last byte of the room, and puts it before the bytes that are ready. Assumes `Logic`.
+-- `put` takes the last byte of the room, and makes it the first of the ready bytes. Assumes `Logic`.
 use Rattle.std.proofs.Common.{◌≡◌, ◌+◌, ◌^◌, List, [], ◌∷◌, length, refl, sym, ◌∙◌, arith}
 use seplogic.Ra.Ura.{Ura}
 use base.Fraction.{full_share}

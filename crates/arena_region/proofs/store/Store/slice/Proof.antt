@@ -1,4 +1,4 @@
--- `slice` shows a part of the bytes that are ready. Assumes `Logic`.
+-- `slice` shows a part of the ready bytes. Assumes `Logic`.
 use Rattle.std.proofs.Common.{◌≡◌, ◌+◌, ◌-◌, ◌*◌, ◌^◌, ◌≤◌, List, [], ◌∷◌, length, take, length-take-le, length-drop, refl, sym, ap, ◌∙◌, arith}
 use lib.ListN.{drop as drop_l}
 use seplogic.Ra.Ura.{Ura}

@@ -1,4 +1,4 @@
--- `slice_mut` lends a part of the bytes that are ready, and the memory follows it. Assumes `Logic`.
+-- `slice_mut` lends a part of the ready bytes, and the memory follows it. Assumes `Logic`.
 use Rattle.std.proofs.Common.{◌≡◌, ℕ, ◌+◌, ◌-◌, ◌*◌, ◌^◌, ◌<◌, ◌≤◌, List, [], ◌∷◌, length, take, length-take-le, length-drop, refl, sym, ◌∙◌, arith}
 use lib.ListN.{drop as drop_l}
 use seplogic.Ra.Ura.{Ura}
@@ -66,7 +66,7 @@ module _ {M : Type 1} {𝓤 : Ura M} (𝓛 : Logic 𝓤) (at_mem : Memory → SP
   abbrev held : Clauses 𝓤 ended
   held = F.clauses 𝓛 at_mem run
 
-  -- all but the part
+  -- everything but the part
   abbrev Rest : St.Denot → ℕ → ℕ → ℕ → ℕ → List Val → ℕ → ℕ → ℕ → Fml
   Rest d rb ro b o vs i k n =
       fsep (Around 𝓛 b (o + d.room) d.ready i k n)

@@ -10,7 +10,7 @@ returns-in_default-clause-answer g c = rw (← c.get.ensures, c.in_default.is) r
 pub returns-in_default-clause-ended : goal.returns-in_default-clause-ended
 returns-in_default-clause-ended g c = λ _. sym (remove_absent c.args.self.now c.args.name (sym c.get.ensures ∙ c.in_default.is))
 
--- what the arena answers of the block
+-- what the arena returns for the block
 pub returns-then-not-is_held_place-clause-answer : goal.returns-then-not-is_held_place-clause-answer
 returns-then-not-is_held_place-clause-answer g c =
     let held : c.is_held_place.result ≡ is_left c.args.arena.now.state c.args.self.now c.args.name = c.is_held_place.ensures

@@ -1,0 +1,117 @@
+pub use Rattle.arena_rules.specs.Rounding
+pub use Rattle.arena_rules.specs.State
+pub use Rattle.arena_rules.specs.Moves
+pub use Rattle.arena_rules.specs.Blocks
+pub use Rattle.arena_rules.specs.Asking as RequestRules
+pub use Rattle.arena_rules.specs.Statistics
+pub use Rattle.arena_rules.specs.Used
+pub use Rattle.arena_rules.specs.Doubling
+pub use Rattle.arena_rules.specs.Back
+pub use Rattle.arena_chunks.specs.Memory
+pub use Rattle.arena_chunks.specs.Source
+pub use Rattle.arena_chunks.specs.Frame
+pub use Rattle.arena_chunks.specs.Answers
+pub use Rattle.arena_chunks.specs.BlockCalls
+pub use Rattle.arena_chunks.specs.Resizes
+pub use Rattle.arena_chunks.specs.Finding
+pub use Rattle.arena_chunks.specs.Checkpoints
+pub use Rattle.arena_chunks.specs.Creating
+pub use Rattle.arena_chunks.specs.Asking as Requests
+pub use Rattle.arena_chunks.specs.Runs
+pub use Rattle.arena_chunks.specs.Replies
+pub use Rattle.arena_items.specs.Layout
+pub use Rattle.arena_items.specs.ByteForms
+pub use Rattle.arena_items.specs.LayoutLaws
+pub use Rattle.arena_items.specs.NumberForms
+pub use Rattle.arena_items.specs.FormLaws
+pub use Rattle.arena_items.specs.NumberLaws
+pub use Rattle.arena_items.specs.OptionLaws
+pub use Rattle.arena_items.specs.PairLaws
+pub use Rattle.arena_items.specs.HandleLaws
+pub use Rattle.arena_items.specs.Values
+pub use Rattle.arena_items.specs.Placing
+pub use Rattle.arena_items.specs.Typed
+pub use Rattle.arena_items.specs.Room
+pub use Rattle.arena_items.specs.Costs
+pub use Rattle.arena_items.specs.Denied
+pub use Rattle.arena_items.specs.Footprint
+pub use Rattle.arena_items.specs.FootprintLaws
+pub use Rattle.arena_items.specs.FrameLaw
+pub use Rattle.arena_vec.specs.Growth as VecGrowth
+pub use Rattle.arena_vec.specs.Held
+pub use Rattle.arena_vec.specs.Storage
+pub use Rattle.arena_vec.specs.Vecs
+pub use Rattle.arena_vec.specs.Changes as VecChanges
+pub use Rattle.arena_vec.specs.Credit
+pub use Rattle.arena_vec.specs.Extending
+pub use Rattle.arena_vec.specs.Draining
+pub use Rattle.arena_vec.specs.Filtering
+pub use Rattle.arena_vec.specs.Comparing
+pub use Rattle.arena_vec.specs.Splicing
+pub use Rattle.arena_text.specs.Growth as TextGrowth
+pub use Rattle.arena_text.specs.Builders
+pub use Rattle.arena_text.specs.Changes as TextChanges
+pub use Rattle.arena_bits.specs.Bits
+pub use Rattle.arena_bits.specs.Sets as BitSets
+pub use Rattle.arena_hash.specs.Fx
+pub use Rattle.arena_hash.specs.Finite
+pub use Rattle.arena_hash.specs.Contents
+pub use Rattle.arena_hash.specs.Policy
+pub use Rattle.arena_hash.specs.Maps
+pub use Rattle.arena_hash.specs.Accounts
+pub use Rattle.arena_hash.specs.Changes as MapChanges
+pub use Rattle.arena_hash.specs.Collecting
+pub use Rattle.arena_hash.specs.Sets as MapSets
+pub use Rattle.arena_hash.specs.AgreeLaws
+pub use Rattle.arena_clone.specs.Asks
+pub use Rattle.arena_clone.specs.Copies
+pub use Rattle.arena_clone.specs.FlatLaws
+pub use Rattle.arena_clone.specs.Dummies
+pub use Rattle.arena_clone.specs.AskBytes
+pub use Rattle.arena_clone.specs.Kinds
+pub use Rattle.arena_clone.specs.KindLaws
+pub use Rattle.arena_clone.specs.EitherKind
+pub use Rattle.arena_clone.specs.EitherLaws
+pub use Rattle.arena_clone.specs.Alike
+pub use Rattle.arena_clone.specs.Origins
+pub use Rattle.arena_clone.specs.MapKind
+pub use Rattle.arena_clone.specs.KeyLaws
+pub use Rattle.arena_clone.specs.MapLaws
+pub use Rattle.arena_clone.specs.MapCopies
+pub use Rattle.arena_symbols.specs.Interner
+pub use Rattle.arena_symbols.specs.Scoping
+pub use Rattle.arena_symbols.specs.Paying
+pub use Rattle.arena_symbols.specs.Asks as SymbolAsks
+pub use Rattle.arena_symbols.specs.Listing
+pub use Rattle.arena_symbols.specs.Names as SymbolNames
+pub use Rattle.arena_symbols.specs.Interning
+pub use Rattle.arena_symbols.specs.Tables as SymbolTables
+pub use Rattle.arena_symbols.specs.TableCalls
+pub use Rattle.arena_symbols.specs.NameLaws
+pub use Rattle.arena_symbols.specs.TableLaws
+pub use Rattle.arena_symbols.specs.Named
+pub use Rattle.arena_symbols.specs.Calls
+pub use Rattle.arena_symbols.specs.Serving as SymbolServing
+pub use Rattle.arena_pool.specs.Kinds as PoolKinds
+pub use Rattle.arena_pool.specs.Pool
+pub use Rattle.arena_pool.specs.Names as PoolNames
+pub use Rattle.arena_pool.specs.Lending
+pub use Rattle.arena_pool.specs.Claiming
+pub use Rattle.arena_pool.specs.Sharing
+pub use Rattle.arena_pool.specs.GivingUp
+pub use Rattle.arena_workers.specs.Working
+pub use Rattle.arena_workers.specs.Starving
+pub use Rattle.arena_store.specs.declared.block.Block as BlockType
+pub use Rattle.arena_store.specs.declared.block.ArenaErr as ArenaErrType
+pub use Rattle.arena_chunks.specs.declared.allocator.text.Str as StrType
+pub use Rattle.arena_items.specs.declared.item.Item as ItemTrait
+pub use Rattle.arena_items.specs.declared.boxes.Box as BoxType
+pub use Rattle.arena_items.specs.declared.slices.BoxSlice as BoxSliceType
+pub use Rattle.arena_items.specs.declared.placing.ItemErr as ItemErrType
+pub use Rattle.arena_items.specs.declared.room.AllocError as AllocErrorType
+pub use Rattle.arena_vec.specs.declared.vec.Vec as VecType
+pub use Rattle.arena_text.specs.declared.text.StringBuilder as StringBuilderType
+pub use Rattle.arena_bits.specs.declared.set.BitSet as BitSetType
+pub use Rattle.arena_hash.specs.declared.map.HashMap as HashMapType
+pub use Rattle.arena_symbols.specs.declared.symbols.Symbols as SymbolsType
+pub use Rattle.arena_symbols.specs.declared.scopes.Scopes as ScopesType

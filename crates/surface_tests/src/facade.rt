@@ -1,0 +1,28 @@
+// All by one name: types, traits, laws, and what contracts say of them.
+ghost use Rattle.std.specs.Prelude.{◌≡◌, ◌^◌, ◌≤◌, ◌++◌, [], ◌∷◌, OnOk};
+ghost use Rattle.arena.specs.Frame.{AreBlocksApart};
+ghost use Rattle.arena.specs.Values.{IsBoxIn, box_value};
+ghost use Rattle.arena.specs.Vecs.{IsVecIn, vec_list};
+
+use arena::laws::items::frame_law;
+use arena::{Allocator, Box, ChunkSource, Grown, Item, Vec};
+
+/// Appends a value to a vector, next to a box.
+pub fn push_beside<T: Item, U: Item, C: ChunkSource>(
+    a: &mut Allocator<C>,
+    vec: &mut Vec<T>,
+    other: Box<U>,
+    value: T,
+) -> Grown<()>
+    requires small { T.SIZE ≤ 2 ^ 24 }
+    requires vec { IsVecIn T.Item a.old.memory vec.old }
+    requires other { IsBoxIn U.Item a.old.memory other }
+    requires apart { AreBlocksApart other.block vec.old.raw.block }
+    ensures list { let list = vec_list T.Item a.old.memory vec.old ++ value ∷ [] in
+        OnOk result (vec_list T.Item a.new.memory vec.new ≡ list) }
+    ensures held { IsBoxIn U.Item a.new.memory other }
+    ensures other { box_value U.Item a.new.memory other ≡ box_value U.Item a.old.memory other }
+{
+    frame_law::<Box<U>>();
+    vec.push(a, value)
+}
