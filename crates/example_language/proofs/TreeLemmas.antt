@@ -1,0 +1,147 @@
+-- What calls on a tree's nodes leave of its names, and the other way round.
+use Rattle.std.proofs.Common.{◌≡◌, ℕ, zero, suc, ◌+◌, ◌<◌, List, [], ◌∷◌, ◌++◌, length, Some, refl, sym, ap, subst, arith}
+use Rattle.std.proofs.Common.{Result, slice_get, ◌⊎◌, inl, inr}
+use Rattle.std.specs.List.{AllByRecursion}
+use Rattle.std.proofs.lemmas.List.Elements.{All-push, All-weaker}
+use Rattle.std.proofs.lemmas.Option.{none-some, same_Some}
+use Rattle.arena.specs.AllocErrorType.{AllocError}
+use Rattle.arena.specs.BlockType.{Block}
+use Rattle.arena.specs.Frame.{AreAllApart, Frame}
+use Rattle.arena.specs.Interning.{Interns}
+use Rattle.arena.specs.Memory.{Memory}
+use Rattle.arena.specs.Source.{View}
+use Rattle.arena.specs.SymbolNames.{IsInternerIn, names_footprint, own_blocks}
+use Rattle.arena.specs.SymbolsType.{Symbols}
+use Rattle.arena.specs.Values.{bytes_of}
+use Rattle.arena.specs.VecType.{Vec}
+use Rattle.arena.specs.Vecs.{IsVecIn, vec_list}
+use Rattle.arena.proofs.BlockLayers.{apart_both, frame_reflexive, frame_then, frame_weaken, frame_forget}
+use Rattle.arena.proofs.BlockLayers.{frame_beside, frame_behind}
+use Rattle.arena.proofs.SymbolLayers.{all_turned}
+use Rattle.arena.proofs.VecLayers.{length-elements}
+use Rattle.example_language.specs.Nodes.{node_item, node_of}
+use Rattle.example_language.specs.Trees.{IsAfter, AreOrdered, AreNodesIn, IsTreeIn, tree_blocks, Moves, IsBuilt, AreBelow}
+use Rattle.example_language.specs.declared.nodes.Node.{Node}
+use Rattle.example_language.specs.declared.trees.Tree.{Tree}
+
+-- ---- Lists of nodes
+
+pub list_length : (memory : Memory) (nodes : Vec Node) → length (vec_list node_item memory nodes) ≡ nodes.raw.len
+list_length memory nodes = length-elements 12 node_of nodes.raw.len (bytes_of memory nodes.raw.block)
+
+none_ordered : AreOrdered []
+none_ordered at n here = absurd (none-some n here)
+
+-- an item of a list to which one was appended
+got : {T : Type 0} (xs : List T) (y : T) (i : ℕ) (x : T) → slice_get (xs ++ y ∷ []) i ≡ Some x
+    → (slice_get xs i ≡ Some x) ⊎ ((i ≡ length xs) × (y ≡ x))
+got [] y zero x e = inr (refl, same_Some y x e)
+got [] y (suc i) x e = absurd (none-some x e)
+got (z ∷ xs) y zero x e = inl e
+got (z ∷ xs) y (suc i) x e = elim (got xs y i x e) [ inl before ↦ inl before | inr last ↦ inr (ap suc last.0, last.1) ]
+
+more_ordered : (nodes : List Node) (node : Node) → AreOrdered nodes → IsAfter (length nodes) node
+    → AreOrdered (nodes ++ node ∷ [])
+more_ordered nodes node ordered after at n here = elim (got nodes node at n here) [
+  | inl before ↦ ordered at n before
+  | inr last ↦ subst (IsAfter at) last.1 (subst (λ (k : ℕ). IsAfter k node) (sym last.0) after)
+]
+
+-- a vector without values
+pub no_nodes : {memory : Memory} {nodes : Vec Node} → IsVecIn node_item memory nodes → vec_list node_item memory nodes ≡ []
+    → AreNodesIn memory nodes
+no_nodes held none = record { held = held; ordered = subst AreOrdered (sym none) none_ordered }
+
+-- a node was appended
+pub one_node : {old new : Memory} {nodes more : Vec Node} (node : Node) → AreNodesIn old nodes → IsAfter nodes.raw.len node
+    → IsVecIn node_item new more → vec_list node_item new more ≡ vec_list node_item old nodes ++ node ∷ []
+    → AreNodesIn new more
+one_node {old = old} {nodes = nodes} node are after held is = record {
+  held = held;
+  ordered = subst AreOrdered (sym is) (more_ordered (vec_list node_item old nodes) node are.ordered
+      (subst (λ (k : ℕ). IsAfter k node) (sym (list_length old nodes)) after));
+}
+
+-- nothing changed
+pub same_nodes : {old new : Memory} {nodes after : Vec Node} → after ≡ nodes → new ≡ old → AreNodesIn old nodes
+    → AreNodesIn new after
+same_nodes {old = old} {after = after} handle memory are =
+    subst (λ (m : Memory). AreNodesIn m after) (sym memory) (subst (AreNodesIn old) (sym handle) are)
+
+-- ---- Calls
+
+pub tree_stays : {memory : Memory} {tree : Tree} → IsTreeIn memory tree → Moves memory memory tree tree
+tree_stays {memory = memory} {tree = tree} held =
+    record { held = held; frame = frame_reflexive memory (tree_blocks memory tree) }
+
+-- A call on the nodes alone, which leaves the names.
+pub nodes_moved : {old new : Memory} (tree : Tree) {nodes : Vec Node} → AreNodesIn new nodes
+    → Frame old new (tree.nodes.raw.block ∷ []) (nodes.raw.block ∷ []) → IsInternerIn new tree.names
+    → names_footprint new tree.names ≡ names_footprint old tree.names
+    → AreAllApart (names_footprint new tree.names) (nodes.raw.block ∷ []) → Moves old new tree (record tree { nodes = nodes })
+nodes_moved {old = old} {new = new} tree {nodes = nodes} are frame names same apart = record {
+  held = record { nodes = are; names = names; apart = apart };
+  frame = subst (λ (blocks : List Block). Frame old new (tree_blocks old tree) (nodes.raw.block ∷ blocks)) (sym same)
+      (frame_beside old new (tree.nodes.raw.block ∷ []) (nodes.raw.block ∷ []) (names_footprint old tree.names) frame);
+}
+
+-- A call that interns a text writes blocks of the interner alone.
+pub interned : {old new : View} {names after : Symbols} {text : List ℕ} {result : Result ℕ AllocError}
+    → Interns old new names after text result
+    → Frame old.memory new.memory (names_footprint old.memory names) (names_footprint new.memory after)
+interned {names = names} {after = after} interns = rw interns.texts.1.blocks
+    (frame_weaken _ _ (own_blocks names) _ (own_blocks after ++ interns.texts.0) _
+    (λ addr k some apart. (apart.0, (apart.1.0, tt)))
+    (λ addr k some apart rest. (rest.0, (rest.1.0, apart_both addr k _ _ apart.1.1 rest.1.1))) interns.texts.1.frame)
+
+-- It leaves the nodes.
+pub names_moved : {old new : View} (tree : Tree) {names : Symbols} {text : List ℕ} {result : Result ℕ AllocError}
+    → IsTreeIn old.memory tree → Interns old new tree.names names text result → IsVecIn node_item new.memory tree.nodes
+    → vec_list node_item new.memory tree.nodes ≡ vec_list node_item old.memory tree.nodes
+    → AreAllApart (tree.nodes.raw.block ∷ []) (names_footprint new.memory names)
+    → Moves old.memory new.memory tree (record tree { names = names })
+names_moved {old = old} {new = new} tree {names = names} held interns nodes same apart = record {
+  held = record {
+    nodes = record { held = nodes; ordered = subst AreOrdered (sym same) held.nodes.ordered };
+    names = interns.held;
+    apart = all_turned (tree.nodes.raw.block ∷ []) (names_footprint new.memory names) apart;
+  };
+  frame = frame_behind old.memory new.memory (names_footprint old.memory tree.names) (names_footprint new.memory names)
+      (tree.nodes.raw.block ∷ []) (interned interns);
+}
+
+-- ---- Trees that are built
+
+-- n addresses as a block
+abbrev range : ℕ → ℕ → Block
+range addr n = record { generation = 0; addr = addr; size = n; align = 1 }
+
+-- Blocks that are apart from all others, as empty ones are, need no call.
+pub frame_of_none : (memory : Memory) (blocks : List Block) → ((others : List Block) → AreAllApart blocks others)
+    → Frame memory memory [] blocks
+frame_of_none memory blocks apart =
+    frame_weaken memory memory [] [] [] blocks (λ addr n some none. none)
+    (λ addr n some none rest. (all_turned blocks (range addr n ∷ []) (apart (range addr n ∷ []))).0)
+    (frame_reflexive memory [])
+
+pub built_then : {old mid new : Memory} {tree after : Tree} → IsBuilt old mid tree → Moves mid new tree after
+    → IsBuilt old new after
+built_then {old = old} {mid = mid} {new = new} {tree = tree} {after = after} built moves = record {
+  held = moves.held;
+  frame = frame_then old mid new [] (tree_blocks mid tree) (tree_blocks new after) built.frame moves.frame;
+}
+
+pub others_stay : {old new : Memory} {tree : Tree} → IsBuilt old new tree → Frame old new [] []
+others_stay {old = old} {new = new} {tree = tree} built = frame_forget old new [] (tree_blocks new tree) built.frame
+
+-- one more index below one more
+pub below_more : (n m : ℕ) (indices : List ℕ) (index : ℕ) → AreBelow n indices → index ≡ n → m ≡ n + 1
+    → AreBelow m (indices ++ index ∷ [])
+below_more n m indices index below is more =
+    All-push (λ (i : ℕ). i < m) indices index
+    (All-weaker (λ (i : ℕ). i < n) (λ (i : ℕ). i < m) (λ i less. omega arith) indices below) (omega arith)
+
+-- Plain values have no conditions to be held.
+pub all_plain : {A : Type 0} (xs : List A) → AllByRecursion (λ (x : A). Unit {0}) xs
+all_plain [] = tt
+all_plain (x ∷ xs) = (tt, all_plain xs)

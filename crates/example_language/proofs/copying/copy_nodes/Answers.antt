@@ -1,0 +1,28 @@
+use Rattle.std.proofs.Common.{◌≡◌, [], sym, subst, ◌∙◌}
+use Rattle.std.proofs.lemmas.List.{map-id}
+use Rattle.arena.specs.Vecs.{vec_list}
+use Rattle.arena.proofs.BlockLayers.{frame_forget}
+use Rattle.example_language.specs.Nodes.{node_item}
+use Rattle.example_language.specs.Trees.{AreOrdered}
+use Rattle.example_language.proofs.TreeLemmas.{all_plain}
+use Rattle.example_language.proofs.copying.copy_nodes.Goals as goal
+
+pub clone_in-requires-clause-held : goal.clone_in-requires-clause-held
+clone_in-requires-clause-held g c = (c.requires.held, all_plain _)
+
+pub returns-in_err-copy-clause-others : goal.returns-in_err-copy-clause-others
+returns-in_err-copy-clause-others g c =
+    let copy = c.in_err-copy.ensures in frame_forget _ _ [] copy.blocks copy.placed.frame
+
+pub returns-clause-nodes : goal.returns-clause-nodes
+returns-clause-nodes g c =
+    let made = c.in_ok-copy.ensures.made in
+    let same : vec_list node_item c.clone_in.new.to.memory c.in_ok-copy.copy
+    ≡ vec_list node_item c.args.from.now.memory c.args.nodes.now = sym (map-id _) ∙ made.means ∙ map-id _ ∙ map-id _ in
+    record { held = made.held.0; ordered = subst AreOrdered (sym same) c.requires.ordered }
+
+pub returns-clause-list : goal.returns-clause-list
+returns-clause-list g c = sym (map-id _) ∙ c.in_ok-copy.ensures.made.means ∙ map-id _ ∙ map-id _
+
+pub returns-clause-others : goal.returns-clause-others
+returns-clause-others g c = let copy = c.in_ok-copy.ensures in frame_forget _ _ [] copy.blocks copy.placed.frame
